@@ -16,6 +16,8 @@ mod out_of_memory;
 mod script;
 mod sink;
 mod source;
+#[cfg(test)]
+mod tests;
 
 pub use failed::Failed;
 pub use held::Held;
