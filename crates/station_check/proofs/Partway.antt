@@ -2,7 +2,7 @@
 use Rattle.std.proofs.Common.{◌≡◌, ℕ, ◌+◌, List, [], ◌∷◌, ◌++◌, take, drop, length, Option, refl, sym, ap, subst, ◌∙◌, append_assoc, arith}
 use Rattle.std.specs.Io.KnownBytes.{Appends}
 use Rattle.std.proofs.lemmas.List.{append-nil, take-append-drop, take_at, take_all}
-use Rattle.byte_ends.specs.Ends.{AppendsSome}
+use Rattle.byte_ends.specs.Sink.{AppendsSome}
 use Rattle.byte_ends.proofs.Writing.{appends_none, appends_then}
 use Rattle.station_check.specs.Printing.{Prints, PrintsSome}
 

@@ -4,7 +4,7 @@ use Rattle.std.specs.Prelude.{slice_get, Some, None}
 use Rattle.std.specs.List.{join_with_byte}
 use Rattle.std.proofs.lemmas.List.{drop_more}
 use Rattle.std.proofs.lemmas.Option.{slice_get_within, get_or_from_slice_get}
-use Rattle.gsi_word.specs.Gsi.{GsiWord}
+use Rattle.gsi_word.specs.Words.{GsiWord}
 use Rattle.station_check.specs.Texts.{word_text, words_from}
 
 -- a line of five fields: four that each have a blank after them, and the last with the line feed

@@ -1,10 +1,10 @@
 -- The lines that end a run: a refusal, and what a run reports of its answer (profile).
 use Rattle.std.specs.Prelude.{◌≡◌, ℕ, Bool, true, false, List, [], ◌∷◌, ◌++◌, Option, Result, Ok, Err, codes, decimal}
 use Rattle.std.specs.Io.KnownBytes.{Appends}
-use Rattle.gsi_file.specs.declared.lines.FileKind.{FileKind}
-use Rattle.gsi_file.specs.declared.lines.FileKind.TheVariants.{Read, FileTooLong, LineTooLong, Byte, Word, FirstWord}
-use Rattle.gsi_file.specs.declared.lines.FileFault.{FileFault}
-use Rattle.gsi_file.specs.declared.lines.FileFault.TheVariants as file
+use Rattle.gsi_file.specs.declared.file_fault.FileKind.{FileKind}
+use Rattle.gsi_file.specs.declared.file_fault.FileKind.TheVariants.{Read, FileTooLong, LineTooLong, Byte, Word, FirstWord}
+use Rattle.gsi_file.specs.declared.file_fault.FileFault.{FileFault}
+use Rattle.gsi_file.specs.declared.file_fault.FileFault.TheVariants as file
 use Rattle.station_check.specs.declared.fault.Fault.{Fault}
 use Rattle.station_check.specs.declared.fault.Fault.TheVariants.{Gsi, Write, Memory}
 

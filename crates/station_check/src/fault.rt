@@ -1,6 +1,6 @@
 //! Why a run is refused.
 
-use gsi_file::lines::FileFault;
+use gsi_file::FileFault;
 use thiserror::Error;
 
 /// The first fault that stands.

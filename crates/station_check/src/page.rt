@@ -6,9 +6,9 @@
 ghost use Rattle.std.specs.Prelude.{◌≡◌, ◌≤◌, ◌+◌, ◌++◌, ◌∷◌, [], length, OnOk, OnErr, ℕ, decimal};
 ghost use Rattle.std.specs.Prelude.{◌<◌, ◌^◌};
 ghost use Rattle.arrayvec.specs.ArrayVec.{array_vec_len};
-ghost use Rattle.byte_ends.specs.Ends.{failed_after};
+ghost use Rattle.byte_ends.specs.Sink.{failed_after};
 ghost use Rattle.station_check.specs.Printing.{Prints, PrintsSome};
-ghost use Rattle.gsi_word.specs.Gsi.{sign_byte};
+ghost use Rattle.gsi_word.specs.Words.{sign_byte};
 ghost use Rattle.station_check.specs.Texts.{word_text};
 
 use arrayvec::ArrayVec;

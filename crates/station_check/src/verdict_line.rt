@@ -6,7 +6,7 @@ ghost use Rattle.station_check.specs.VerdictLines.{file_kind_text, file_fault_te
 
 use crate::fault::Fault;
 use arrayvec::ArrayVec;
-use gsi_file::lines::{FileFault, FileKind};
+use gsi_file::{FileFault, FileKind};
 use itoa::Buffer;
 
 /// Bytes that a verdict's line has room for.

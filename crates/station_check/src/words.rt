@@ -2,9 +2,9 @@
 
 ghost use Rattle.std.specs.Prelude.{◌≡◌, ◌≢◌, ◌↔◌, [], List, Option, Bool, IsTrue, IfSome, OnOk, OnErr, Result, Err, ℕ};
 ghost use Rattle.std.specs.Io.KnownBytes.{Appends};
-ghost use Rattle.byte_ends.specs.Ends.{failed_after, AppendsSome};
-ghost use Rattle.gsi_word.specs.Blocks.{block_words};
-ghost use Rattle.gsi_file.specs.Outcome.{Outcome, file_outcome};
+ghost use Rattle.byte_ends.specs.Sink.{failed_after, AppendsSome};
+ghost use Rattle.gsi_word.specs.BlockViews.{block_of};
+ghost use Rattle.gsi_file.specs.FileAnswers.{FileAnswers, file_answers};
 ghost use Rattle.gsi_file.specs.ToCome.{ToCome};
 ghost use Rattle.gsi_file.specs.Standing.{to_come};
 ghost use Rattle.station_check.specs.declared.fault.Fault.TheVariants.{Memory, Write};
@@ -16,7 +16,7 @@ use crate::fault::Fault;
 use crate::page::{Page, add_word, make_room};
 use crate::verdict_line::refusal_line;
 use byte_ends::{Failed, Sink, Source};
-use gsi_file::lines::Lines;
+use gsi_file::Lines;
 use gsi_word::Block;
 use itoa::Buffer;
 use std::alloc::Global;
@@ -24,8 +24,8 @@ use std::alloc::Global;
 /// Prints the words of one block.
 fn print_block<W: Sink>(page: &mut Page, writer: &mut W, number: u32, block: &Block<'_>) -> Result<(), Failed>
     ensures failed { W.failed writer.new ≡ failed_after (W.failed writer.old) result }
-    ensures ok { OnOk result (Prints (W.holds writer.old) page.old.items (W.holds writer.new) page.new.items (block_text number (block_words block.now))) }
-    ensures err { OnErr result (PrintsSome (W.holds writer.old) page.old.items (W.holds writer.new) (block_text number (block_words block.now))) }
+    ensures ok { OnOk result (Prints (W.holds writer.old) page.old.items (W.holds writer.new) page.new.items (block_text number (block_of block.now).words)) }
+    ensures err { OnErr result (PrintsSome (W.holds writer.old) page.old.items (W.holds writer.new) (block_text number (block_of block.now).words)) }
 {
     let mut digits = Buffer::new();
     let label = digits.format(number).as_bytes();
@@ -48,7 +48,7 @@ fn print_blocks<R: Source, W: Sink>(
     writer: &mut W,
 ) -> Result<u32, Fault>
     requires { (to_come R.told lines.old).number ≡ 0 }
-    ensures prints { IfSome (to_come R.told lines.old).outcome (AnswersWords result
+    ensures prints { IfSome (to_come R.told lines.old).answers (AnswersWords result
         (Prints (W.holds writer.old) page.old.items (W.holds writer.new) page.new.items)
         (PrintsSome (W.holds writer.old) page.old.items (W.holds writer.new))) }
     ensures failed { FailsAtWrite result (W.failed writer.old) (W.failed writer.new) }
@@ -92,7 +92,7 @@ fn is_write_fault(answer: &Result<u32, Fault>) -> bool
 /// Ends the text with what waits, whatever is answered but that a call of the writer failed already.
 fn end_text<W: Sink>(page: &mut Page, writer: &mut W, answer: Result<u32, Fault>) -> Result<u32, Fault>
     requires { answer ≢ Err Memory }
-    ensures writes { (old : Option (List ℕ)) (file : Outcome)
+    ensures writes { (old : Option (List ℕ)) (file : FileAnswers)
         → AnswersWords answer (Prints old [] (W.holds writer.old) page.old.items) (PrintsSome old [] (W.holds writer.old)) file
         → WritesWords result old (W.holds writer.new) file }
     ensures failed { (old : Bool) → FailsAtWrite answer old (W.failed writer.old) → FailsAtWrite result old (W.failed writer.new) }
@@ -118,7 +118,7 @@ fn end_text<W: Sink>(page: &mut Page, writer: &mut W, answer: Result<u32, Fault>
 /// `Gsi` for the first fault of the file, `Write` where a call of the writer failed, and `Memory`, with nothing
 /// written, where there is none for the one buffer.
 pub fn write_words<R: Source, W: Sink>(alloc: Global, gsi: R, writer: &mut W) -> Result<u32, Fault>
-    ensures writes { IfSome (R.told gsi) (λ told. WritesWords result (W.holds writer.old) (W.holds writer.new) (file_outcome told)) }
+    ensures writes { IfSome (R.told gsi) (λ told. WritesWords result (W.holds writer.old) (W.holds writer.new) (file_answers told)) }
     ensures failed { FailsAtWrite result (W.failed writer.old) (W.failed writer.new) }
     ensures memory { MemoryWritesNothing result (W.holds writer.old) (W.holds writer.new) }
 {

@@ -1,6 +1,6 @@
 use Rattle.std.proofs.Common.{◌≡◌, ℕ, List, [], ◌∷◌, ◌++◌, ap, ◌∙◌}
 use Rattle.std.specs.Prelude.{decimal}
-use Rattle.gsi_word.specs.Gsi.{sign_byte}
+use Rattle.gsi_word.specs.Words.{sign_byte}
 use Rattle.station_check.proofs.TextLaws.{line_of_fields}
 use Rattle.station_check.proofs.page.add_word.Goals as goal
 

@@ -6,7 +6,7 @@ use Rattle.station_check.proofs.words.print_blocks.Given as goal
 abbrev pub invariant-lines : goal.invariant-lines
 invariant-lines g l = record {
   number : (to_come g.R.Source.told l.lines).number ≡ l.count;
-  so_far : AreSoFar (to_come g.R.Source.told l.fn.lines).outcome (to_come g.R.Source.told l.lines).outcome l.count
+  so_far : AreSoFar (to_come g.R.Source.told l.fn.lines).answers (to_come g.R.Source.told l.lines).answers l.count
       (g.W.Sink.holds l.fn.writer) l.fn.page.items (g.W.Sink.holds l.writer) l.page.items;
   failed : g.W.Sink.failed l.writer ≡ g.W.Sink.failed l.fn.writer;
 }

@@ -1,0 +1,5 @@
+pub mod LineEnds
+pub mod Behind
+pub mod Fronts
+pub mod FirstBytes
+pub mod Finding

@@ -1,0 +1,4 @@
+pub mod Parts
+pub mod FileAnswers
+pub mod Filling
+pub mod Finding

@@ -1,0 +1,164 @@
+//! Reading a line: is it a block, or what is its first fault?
+//!
+//! A line is looked at twice, and each time from left to right. First all its bytes: whether each may stand in a line. Then
+//! the words: of printable bytes only the two digits, the information, the sign and the byte behind the word are left to
+//! be tested, so that the content of a word is looked at only once.
+
+ghost use Rattle.std.specs.Prelude.{◌≡◌, ◌≢◌, ◌↔◌, ◌≤◌, ◌+◌, length, take, drop, replicate, All, Any, IsTrue, IfOk, IfErr, OnOk};
+ghost use Rattle.std.specs.Bool.{OnTrue, OnFalse};
+ghost use Rattle.gsi_word.specs.Words.{IsPrintable};
+ghost use Rattle.gsi_word.specs.Blocks.{is_starred, width_of, word_bytes, AreWords, IsBlock, IsFirst};
+ghost use Rattle.gsi_word.specs.LineFaults.{IsByteFault, IsWordFault, IsLineFault};
+ghost use Rattle.gsi_word.specs.Layout.{begins_word, is_width, word_of, words_from, IsWordBytes, KeepsWords};
+ghost use Rattle.gsi_word.specs.BlockViews.{block_of};
+
+use crate::block::Block;
+use crate::line_fault::LineFault;
+use crate::word::{HEAD, index_of};
+
+/// The first byte of a GSI-16 line.
+const STAR: u8 = b'*';
+
+/// How many bytes the content of a word has in a GSI-8 line.
+const GSI_8: u8 = 8;
+
+/// How many bytes the content of a word has in a GSI-16 line.
+const GSI_16: u8 = 16;
+
+/// The index of the first word of a measurement block.
+const POINT_NUMBER: u8 = 11;
+
+/// The index of the first word of a code block.
+const CODE_NUMBER: u8 = 41;
+
+/// The block that a line is, or the line's first fault.
+///
+/// The line comes without its end, a carriage return or a line feed.
+pub fn read_block(line: &[u8]) -> Result<Block<'_>, LineFault>
+    ensures block { IfOk result (λ b. IsBlock line.now (block_of b)) }
+    ensures fault { IfErr result (IsLineFault line.now) }
+{
+    if let Err(at) = check_bytes(line) {
+        return Err(LineFault::Byte(at));
+    }
+    let bytes = word_bytes(line);
+    let width = width_of(line);
+    match count_words(bytes, width) {
+        Err(nth) => Err(LineFault::Word(nth)),
+        Ok(count) => {
+            if begins_block(bytes, width) {
+                Ok(Block {
+                    bytes,
+                    width,
+                    count,
+                })
+            } else {
+                Err(LineFault::FirstWord)
+            }
+        }
+    }
+}
+
+/// The place of the first byte, from 1, that may not stand in a line.
+fn check_bytes(line: &[u8]) -> Result<(), usize>
+    ensures printable { OnOk result (All IsPrintable line.now) }
+    ensures fault { IfErr result (IsByteFault line.now) }
+{
+    for (place, byte) in line.iter().enumerate() {
+        if *byte < b' ' || *byte > b'~' {
+            return Err(place + 1);
+        }
+    }
+    Ok(())
+}
+
+fn is_starred(line: &[u8]) -> bool
+    ensures { result ≡ is_starred line.now }
+{
+    !line.is_empty() && line[0] == STAR
+}
+
+fn width_of(line: &[u8]) -> u8
+    ensures value { result ≡ width_of line.now }
+    ensures known { IsTrue (is_width result) }
+{
+    if is_starred(line) { GSI_16 } else { GSI_8 }
+}
+
+fn word_bytes(line: &[u8]) -> &[u8]
+    ensures { result.now ≡ word_bytes line.now }
+{
+    if is_starred(line) { &line[1..] } else { line }
+}
+
+/// How many words the bytes are, or the place of the first, from 1, that is none.
+fn count_words(bytes: &[u8], width: u8) -> Result<usize, usize>
+    requires printable { All IsPrintable bytes.now }
+    requires known { IsTrue (is_width width) }
+    ensures words { IfOk result (λ n. AreWords width bytes.now (words_from width n bytes.now)) }
+    ensures kept { IfOk result (KeepsWords width bytes.now) }
+    ensures fault { IfErr result (IsWordFault width bytes.now) }
+{
+    let mut rest = bytes;
+    let mut count = 0;
+    'words: while begins_word(rest, width) {
+        rest = after_word(rest, width);
+        count += 1;
+    }
+    if count > 0 && is_blank(rest) {
+        Ok(count)
+    } else {
+        Err(count + 1)
+    }
+}
+
+/// Whether printable bytes begin with a word that ends them or has a blank after it.
+#[tactic(auto, unfolding(crate::specs::Layout::begins_word))]
+fn begins_word(bytes: &[u8], width: u8) -> bool
+    ensures test { result ≡ begins_word width bytes.now }
+    ensures long { OnTrue result (7 + width ≤ length bytes.now) }
+{
+    let size = HEAD + width as usize;
+    if bytes.len() < size {
+        return false;
+    }
+    if !bytes[0].is_ascii_digit() || !bytes[1].is_ascii_digit() {
+        return false;
+    }
+    if bytes[2..6].contains(&b' ') {
+        return false;
+    }
+    if bytes[6] != b'+' && bytes[6] != b'-' {
+        return false;
+    }
+    bytes.len() == size || bytes[size] == b' '
+}
+
+/// What stands behind the first word and the blank after it.
+fn after_word(bytes: &[u8], width: u8) -> &[u8]
+    requires { 7 + width ≤ length bytes.now }
+    ensures { result.now ≡ drop (8 + width) bytes.now }
+{
+    let size = HEAD + width as usize;
+    if bytes.len() == size {
+        &[]
+    } else {
+        &bytes[size + 1..]
+    }
+}
+
+fn is_blank(bytes: &[u8]) -> bool
+    ensures blank { OnTrue result (bytes.now ≡ replicate (length bytes.now) 32) }
+    ensures ink { OnFalse result (Any (λ b. b ≢ 32) bytes.now) }
+{
+    bytes.iter().all(|b| *b == b' ')
+}
+
+/// Whether the first word is a point number or a code number.
+fn begins_block(bytes: &[u8], width: u8) -> bool
+    requires { IsWordBytes width (take (7 + width) bytes.now) }
+    ensures { IsTrue result ↔ IsFirst (word_of (take (7 + width) bytes.now)) }
+{
+    let index = index_of(bytes);
+    index == POINT_NUMBER || index == CODE_NUMBER
+}
