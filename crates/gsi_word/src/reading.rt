@@ -1,8 +1,9 @@
 //! Reading a line: is it a block, or what is its first fault?
 //!
-//! A line is looked at twice, and each time from left to right. First all its bytes: whether each may stand in a line. Then
-//! the words: of printable bytes only the two digits, the information, the sign and the byte behind the word are left to
-//! be tested, so that the content of a word is looked at only once.
+//! A line is looked at twice, from left to right. First all its bytes: whether each may stand in a line. This loop has no
+//! early end, so that the compiler can test many bytes at once; only a line that fails is searched for its first bad byte.
+//! Then the words: of printable bytes only the two digits, the information, the sign and the byte behind the word are
+//! left to be tested, and the content is not looked at again.
 
 ghost use Rattle.std.specs.Prelude.{◌≡◌, ◌≢◌, ◌↔◌, ◌≤◌, ◌+◌, length, take, drop, replicate, All, Any, IsTrue, IfOk, IfErr, OnOk};
 ghost use Rattle.std.specs.Bool.{OnTrue, OnFalse};
@@ -59,11 +60,25 @@ pub fn read_block(line: &[u8]) -> Result<Block<'_>, LineFault>
     }
 }
 
-/// The place of the first byte, from 1, that may not stand in a line.
+/// Whether all bytes may stand in a line.
+fn are_printable(bytes: &[u8]) -> bool
+    ensures { IsTrue result ↔ All IsPrintable bytes.now }
+{
+    let mut stray = false;
+    for byte in bytes {
+        stray |= *byte < b' ' || *byte > b'~';
+    }
+    !stray
+}
+
+/// Whether all bytes may stand in a line, or the place of the first, from 1, that may not.
 fn check_bytes(line: &[u8]) -> Result<(), usize>
     ensures printable { OnOk result (All IsPrintable line.now) }
     ensures fault { IfErr result (IsByteFault line.now) }
 {
+    if are_printable(line) {
+        return Ok(());
+    }
     for (place, byte) in line.iter().enumerate() {
         if *byte < b' ' || *byte > b'~' {
             return Err(place + 1);
