@@ -7,6 +7,8 @@
 mod command_line;
 mod fault;
 mod page;
+#[cfg(test)]
+mod tests;
 mod verdict_line;
 mod words;
 
