@@ -63,7 +63,7 @@ fn add(page: &mut Page, bytes: &[u8])
 }
 
 /// Adds a number in plain decimals.
-#[tactic(auto, using(std::proofs::lemmas::Fmt::decimal_digit))]
+#[tactic(auto, using(std::proofs::lemmas::Fmt::decimal_digit, itoa::proofs::Decimal::decimal_two))]
 fn add_number(page: &mut Page, number: usize)
     requires { array_vec_len page.old + 20 ≤ PAGE }
     ensures items { page.new.items ≡ page.old.items ++ decimal number }
@@ -71,6 +71,9 @@ fn add_number(page: &mut Page, number: usize)
 {
     if number < 10 {
         page.push(b'0' + number as u8);
+    } else if number < 100 {
+        page.push(b'0' + (number / 10) as u8);
+        page.push(b'0' + (number % 10) as u8);
     } else {
         let mut digits = Buffer::new();
         add(page, digits.format(number).as_bytes());
