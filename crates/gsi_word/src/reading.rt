@@ -11,9 +11,11 @@ ghost use Rattle.gsi_word.specs.Blocks.{is_starred, width_of, word_bytes, AreWor
 ghost use Rattle.gsi_word.specs.LineFaults.{IsByteFault, IsWordFault, IsLineFault};
 ghost use Rattle.gsi_word.specs.Layout.{begins_word, is_width, word_of, words_from, IsWordBytes, KeepsWords};
 ghost use Rattle.gsi_word.specs.BlockViews.{block_of};
+ghost use Rattle.gsi_word.specs.Shapes.{shaped, IsShape};
 
 use crate::block::Block;
 use crate::line_fault::LineFault;
+use crate::shape::Shape;
 use crate::word::{HEAD, index_of};
 
 /// The first byte of a GSI-16 line.
@@ -38,6 +40,19 @@ pub fn read_block(line: &[u8]) -> Result<Block<'_>, LineFault>
     ensures block { IfOk result (λ b. IsBlock line.now (block_of b)) }
     ensures fault { IfErr result (IsLineFault line.now) }
 {
+    match read_shape(line) {
+        Ok(shape) => Ok(block_in(line, shape)),
+        Err(fault) => Err(fault),
+    }
+}
+
+/// The shape of the block that a line is, or the line's first fault, for a caller that looks at the words later.
+///
+/// The line comes without its end, as for [`read_block`].
+pub fn read_shape(line: &[u8]) -> Result<Shape, LineFault>
+    ensures shape { IfOk result (λ s. IsShape s line.now) }
+    ensures fault { IfErr result (IsLineFault line.now) }
+{
     if let Err(at) = check_bytes(line) {
         return Err(LineFault::Byte(at));
     }
@@ -47,15 +62,23 @@ pub fn read_block(line: &[u8]) -> Result<Block<'_>, LineFault>
         Err(nth) => Err(LineFault::Word(nth)),
         Ok(count) => {
             if begins_block(bytes, width) {
-                Ok(Block {
-                    bytes,
-                    width,
-                    count,
-                })
+                Ok(Shape { width, count })
             } else {
                 Err(LineFault::FirstWord)
             }
         }
+    }
+}
+
+/// The block of this shape that a line is.
+pub fn block_in(line: &[u8], shape: Shape) -> Block<'_>
+    requires { IsShape shape line.now }
+    ensures { block_of result ≡ shaped shape line.now }
+{
+    Block {
+        bytes: word_bytes(line),
+        width: shape.width,
+        count: shape.count,
     }
 }
 
