@@ -5,3 +5,4 @@ pub mod BlockLaws
 pub mod NameLaws
 pub mod DecimalLaws
 pub mod FoundLaws
+pub mod PrintableLaws

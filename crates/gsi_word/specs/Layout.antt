@@ -1,6 +1,7 @@
 -- Where the words of a line and the parts of a word lie in their bytes.
 use Rattle.std.specs.Prelude.{◌≡◌, ℕ, zero, suc, ◌+◌, ◌-◌, ◌*◌, ◌<◌, ◌≤◌, Bool, ◌&&◌, ◌||◌, not, nat_le, ◌==◌, IsTrue, List, [], ◌∷◌, length, take, drop, slice_index}
 use Rattle.std.specs.Char.{is_ascii_digit}
+use Rattle.std.specs.Int.{is_in_range}
 use Rattle.std.specs.List.{list_any}
 use Rattle.gsi_word.specs.Words.{GsiWord, IsWord}
 
@@ -12,6 +13,10 @@ word_of bytes = record {
   negative = slice_index bytes 6 == 45;
   content = drop 7 bytes;
 }
+
+-- whether a byte may stand in a line
+abbrev pub is_printable : ℕ → Bool
+is_printable b = is_in_range 32 126 b
 
 -- whether printable bytes begin with a word of this width that ends them or has a blank after it
 unfoldable pub begins_word : ℕ → List ℕ → Bool

@@ -1,15 +1,16 @@
 //! Reading a line: is it a block, or what is its first fault?
 //!
-//! A line is looked at twice, and each time from left to right. First all its bytes: whether each may stand in a line. Then
-//! the words: of printable bytes only the two digits, the information, the sign and the byte behind the word are left to
-//! be tested, so that the content of a word is looked at only once.
+//! A line is looked at twice, from left to right. First all its bytes: whether each may stand in a line. This loop has no
+//! early end, so that the compiler can test many bytes at once; only a line that fails is searched for its first bad byte.
+//! Then the words: of printable bytes only the two digits, the information, the sign and the byte behind the word are
+//! left to be tested, and the content is not looked at again.
 
-ghost use Rattle.std.specs.Prelude.{◌≡◌, ◌≢◌, ◌↔◌, ◌≤◌, ◌+◌, length, take, drop, replicate, All, Any, IsTrue, IfOk, IfErr, OnOk};
+ghost use Rattle.std.specs.Prelude.{◌≡◌, ◌≢◌, ◌↔◌, ◌⊎◌, ◌≤◌, ◌+◌, length, drop, replicate, All, Any, IsTrue, IfOk, IfErr, OnOk};
 ghost use Rattle.std.specs.Bool.{OnTrue, OnFalse};
 ghost use Rattle.gsi_word.specs.Words.{IsPrintable};
-ghost use Rattle.gsi_word.specs.Blocks.{is_starred, width_of, word_bytes, AreWords, IsBlock, IsFirst};
+ghost use Rattle.gsi_word.specs.Blocks.{is_starred, width_of, word_bytes, AreWords, IsBlock};
 ghost use Rattle.gsi_word.specs.LineFaults.{IsByteFault, IsWordFault, IsLineFault};
-ghost use Rattle.gsi_word.specs.Layout.{begins_word, is_width, word_of, words_from, IsWordBytes, KeepsWords};
+ghost use Rattle.gsi_word.specs.Layout.{begins_word, is_printable, is_width, words_from, KeepsWords};
 ghost use Rattle.gsi_word.specs.BlockViews.{block_of};
 ghost use Rattle.gsi_word.specs.Shapes.{shaped, IsShape};
 
@@ -60,13 +61,8 @@ pub fn read_shape(line: &[u8]) -> Result<Shape, LineFault>
     let width = width_of(line);
     match count_words(bytes, width) {
         Err(nth) => Err(LineFault::Word(nth)),
-        Ok(count) => {
-            if begins_block(bytes, width) {
-                Ok(Shape { width, count })
-            } else {
-                Err(LineFault::FirstWord)
-            }
-        }
+        Ok(_) if !is_first_index(index_of(bytes)) => Err(LineFault::FirstWord),
+        Ok(count) => Ok(Shape { width, count }),
     }
 }
 
@@ -82,25 +78,48 @@ pub fn block_in(line: &[u8], shape: Shape) -> Block<'_>
     }
 }
 
-/// The place of the first byte, from 1, that may not stand in a line.
+/// Whether a byte may stand in a line: a blank or a visible character of ASCII.
+fn is_printable(byte: u8) -> bool
+    ensures { result ≡ is_printable byte }
+{
+    (b' '..=b'~').contains(&byte)
+}
+
+/// Whether all bytes may stand in a line.
+fn are_printable(bytes: &[u8]) -> bool
+    ensures { IsTrue result ↔ All IsPrintable bytes.now }
+{
+    let mut stray = false;
+    for byte in bytes {
+        stray |= !is_printable(*byte);
+    }
+    !stray
+}
+
+/// Whether all bytes may stand in a line, or the place of the first, from 1, that may not.
 fn check_bytes(line: &[u8]) -> Result<(), usize>
     ensures printable { OnOk result (All IsPrintable line.now) }
     ensures fault { IfErr result (IsByteFault line.now) }
 {
+    if are_printable(line) {
+        return Ok(());
+    }
     for (place, byte) in line.iter().enumerate() {
-        if *byte < b' ' || *byte > b'~' {
+        if !is_printable(*byte) {
             return Err(place + 1);
         }
     }
     Ok(())
 }
 
+/// Whether the line is GSI-16.
 fn is_starred(line: &[u8]) -> bool
     ensures { result ≡ is_starred line.now }
 {
     !line.is_empty() && line[0] == STAR
 }
 
+/// How many bytes the content of each word of the line has.
 fn width_of(line: &[u8]) -> u8
     ensures value { result ≡ width_of line.now }
     ensures known { IsTrue (is_width result) }
@@ -108,6 +127,7 @@ fn width_of(line: &[u8]) -> u8
     if is_starred(line) { GSI_16 } else { GSI_8 }
 }
 
+/// The part of the line in which its words stand.
 fn word_bytes(line: &[u8]) -> &[u8]
     ensures { result.now ≡ word_bytes line.now }
 {
@@ -170,6 +190,7 @@ fn after_word(bytes: &[u8], width: u8) -> &[u8]
     }
 }
 
+/// Whether there are only blanks.
 fn is_blank(bytes: &[u8]) -> bool
     ensures blank { OnTrue result (bytes.now ≡ replicate (length bytes.now) 32) }
     ensures ink { OnFalse result (Any (λ b. b ≢ 32) bytes.now) }
@@ -177,11 +198,9 @@ fn is_blank(bytes: &[u8]) -> bool
     bytes.iter().all(|b| *b == b' ')
 }
 
-/// Whether the first word is a point number or a code number.
-fn begins_block(bytes: &[u8], width: u8) -> bool
-    requires { IsWordBytes width (take (7 + width) bytes.now) }
-    ensures { IsTrue result ↔ IsFirst (word_of (take (7 + width) bytes.now)) }
+/// Whether a word of this index begins a block: a point number or a code number.
+fn is_first_index(index: u8) -> bool
+    ensures { IsTrue result ↔ ((index ≡ 11) ⊎ (index ≡ 41)) }
 {
-    let index = index_of(bytes);
     index == POINT_NUMBER || index == CODE_NUMBER
 }

@@ -1,5 +1,5 @@
-use Rattle.gsi_word.proofs.BlockLaws.{first_bytes}
+use Rattle.gsi_word.proofs.BlockLaws.{first_index}
 use Rattle.gsi_word.proofs.reading.read_shape.Goals as goal
 
-pub begins_block-requires : goal.begins_block-requires
-begins_block-requires c = first_bytes c.width_of-width.result c.in-Ok.count c.word_bytes-bytes.result.now c.in-Ok.ensures.kept
+pub index_of-requires : goal.index_of-requires
+index_of-requires c = first_index c.width_of-width.result c.in-Ok.field-0 c.word_bytes-bytes.result.now c.in-Ok.ensures.kept
