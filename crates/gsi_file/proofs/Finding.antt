@@ -85,9 +85,10 @@ file_too_long (Some a) (Some b) room h0 left line h lt e s =
 
 -- of more bytes without an end, the longest line and a byte that doesn't end it
 plain_at : (h : List ℕ) (line : ℕ) → 1024 < line → line ≤ length h → HasNoEnd (take line h) → HasNoEnd (take 1024 h) × (is_line_end (slice_index h 1024) ≡ false)
-plain_at h line long inside plain =
-    ( subst (λ (zs : List ℕ). HasNoEnd zs) (take-take 1024 line h (omega arith)) (All-take (λ b. is_line_end b ≡ false) 1024 (take line h) plain),
-      ap is_line_end (sym (get_or-take line h 1024 0 long)) ∙ plain 1024 0 (omega (arith, taken line h inside)) )
+plain_at h line long inside plain = (
+  subst (λ (zs : List ℕ). HasNoEnd zs) (take-take 1024 line h (omega arith)) (All-take (λ b. is_line_end b ≡ false) 1024 (take line h) plain),
+  ap is_line_end (sym (get_or-take line h 1024 0 long)) ∙ plain 1024 0 (omega (arith, taken line h inside)),
+)
 
 -- one byte too many in the line
 pub line_too_long : (told0 told : Option Told) (room : ℕ) (h0 : List ℕ) (left from line : ℕ) (h : List ℕ) → 1024 < line → line ≤ left → line ≤ length h → HasNoEnd (take line h) → Searching told0 told room h0 left from h →

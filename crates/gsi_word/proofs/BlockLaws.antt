@@ -1,7 +1,8 @@
 -- A block kept as bytes, a width and a number of words.
 use Rattle.std.proofs.Common.{◌≡◌, ℕ, zero, suc, ◌+◌, ◌-◌, ◌*◌, ◌<◌, ◌≤◌, List, length, take, drop, IsTrue, subst, Some, None, refl, ap, ◌∙◌, arith}
 use Rattle.std.specs.Prelude.{slice_get}
-use Rattle.gsi_word.specs.Layout.{word_of, words_from, is_width, IsWordBytes, IsWholeWord, KeepsWords}
+use Rattle.std.proofs.lemmas.List.{length-take, get_or-take}
+use Rattle.gsi_word.specs.Layout.{word_of, words_from, is_width, HasIndex, IsWordBytes, IsWholeWord, KeepsWords}
 use Rattle.gsi_word.proofs.RunLaws.{drop_words}
 
 pub slice_get-words_from : (width count i : ℕ) (bytes : List ℕ) → i < count → slice_get (words_from width count bytes) i ≡ Some (word_of (take (7 + width) (drop ((8 + width) * i) bytes)))
@@ -17,11 +18,20 @@ slice_get-words_from_past width zero i bytes le = refl
 slice_get-words_from_past width (suc n) zero bytes le = absurd (omega arith)
 slice_get-words_from_past width (suc n) (suc i) bytes le = slice_get-words_from_past width n i (drop (8 + width) bytes) (omega arith)
 
--- The first word of a block stands first.
-pub first_bytes : (width count : ℕ) (bytes : List ℕ) → KeepsWords width bytes count → IsWordBytes width (take (7 + width) bytes)
-first_bytes width count bytes kept =
+index_of_take : (n : ℕ) (bytes : List ℕ) → 2 ≤ n → HasIndex (take n bytes) → HasIndex bytes
+index_of_take n bytes le h =
+    record {
+      long = omega (arith, h.long, length-take n bytes);
+      tens = subst (λ (b : ℕ). (48 ≤ b) × (b ≤ 57)) (get_or-take n bytes 0 0 (omega arith)) h.tens;
+      ones = subst (λ (b : ℕ). (48 ≤ b) × (b ≤ 57)) (get_or-take n bytes 1 0 (omega arith)) h.ones;
+    }
+
+-- The bytes of a block begin with the two digits of its first word.
+pub first_index : (width count : ℕ) (bytes : List ℕ) → KeepsWords width bytes count → HasIndex bytes
+first_index width count bytes kept =
     let none : (8 + width) * 0 ≡ 0 = omega arith in
-    subst (λ (k : ℕ). IsWordBytes width (take (7 + width) (drop k bytes))) none (kept.each 0 kept.some_word)
+    let first : IsWordBytes width (take (7 + width) bytes) = subst (λ (k : ℕ). IsWordBytes width (take (7 + width) (drop k bytes))) none (kept.each 0 kept.some_word) in
+    index_of_take (7 + width) bytes (omega arith) first.digits
 
 -- the place of a word as the code computes it
 word_place : (width i : ℕ) → (7 + width + 1) * i ≡ (8 + width) * i

@@ -1,7 +1,7 @@
 -- Bytes that may stand in a line: the fact and its test.
-use Rattle.std.proofs.Common.{◌≡◌, ℕ, true, List, All}
+use Rattle.std.proofs.Common.{◌≡◌, ◌∙◌, sym, ℕ, true, false, List, All}
 use Rattle.std.specs.List.{list_all}
-use Rattle.std.proofs.lemmas.Bool.{leb-true, le-leb, and_parts, and_from}
+use Rattle.std.proofs.lemmas.Bool.{false≢true, leb-true, le-leb, and_parts, and_from}
 use Rattle.std.proofs.lemmas.List.Elements.{All-weaker}
 use Rattle.std.proofs.lemmas.List.Sums.{AllPass-from_list_all, list_all-from_AllPass}
 use Rattle.gsi_word.specs.Words.{IsPrintable}
@@ -18,3 +18,6 @@ printable_from_test bytes h = All-weaker (λ b. is_printable b ≡ true) IsPrint
 
 pub test_from_printable : (bytes : List ℕ) → All IsPrintable bytes → list_all is_printable bytes ≡ true
 test_from_printable bytes h = list_all-from_AllPass is_printable bytes (All-weaker IsPrintable (λ b. is_printable b ≡ true) true_test bytes h)
+
+pub no_printable : (b : ℕ) → is_printable b ≡ false → ¬ IsPrintable b
+no_printable b e h = false≢true (sym e ∙ true_test b h)

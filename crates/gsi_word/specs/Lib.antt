@@ -6,3 +6,4 @@ pub mod Angles
 pub mod FoundWords
 pub mod Layout
 pub mod BlockViews
+pub mod Shapes

@@ -13,6 +13,7 @@ pub mod found;
 pub mod laws;
 pub mod line_fault;
 pub mod reading;
+pub mod shape;
 pub mod word;
 
 pub use angle::AngleFault;
@@ -20,5 +21,6 @@ pub use block::Block;
 pub use decimal::decimal_number;
 pub use found::Found;
 pub use line_fault::LineFault;
-pub use reading::read_block;
+pub use reading::{block_in, read_block, read_shape};
+pub use shape::Shape;
 pub use word::Word;

@@ -5,16 +5,18 @@
 //! Then the words: of printable bytes only the two digits, the information, the sign and the byte behind the word are
 //! left to be tested, and the content is not looked at again.
 
-ghost use Rattle.std.specs.Prelude.{◌≡◌, ◌≢◌, ◌↔◌, ◌≤◌, ◌+◌, length, take, drop, replicate, All, Any, IsTrue, IfOk, IfErr, OnOk};
+ghost use Rattle.std.specs.Prelude.{◌≡◌, ◌≢◌, ◌↔◌, ◌⊎◌, ◌≤◌, ◌+◌, length, drop, replicate, All, Any, IsTrue, IfOk, IfErr, OnOk};
 ghost use Rattle.std.specs.Bool.{OnTrue, OnFalse};
 ghost use Rattle.gsi_word.specs.Words.{IsPrintable};
-ghost use Rattle.gsi_word.specs.Blocks.{is_starred, width_of, word_bytes, AreWords, IsBlock, IsFirst};
+ghost use Rattle.gsi_word.specs.Blocks.{is_starred, width_of, word_bytes, AreWords, IsBlock};
 ghost use Rattle.gsi_word.specs.LineFaults.{IsByteFault, IsWordFault, IsLineFault};
-ghost use Rattle.gsi_word.specs.Layout.{begins_word, is_width, word_of, words_from, IsWordBytes, KeepsWords};
+ghost use Rattle.gsi_word.specs.Layout.{begins_word, is_printable, is_width, words_from, KeepsWords};
 ghost use Rattle.gsi_word.specs.BlockViews.{block_of};
+ghost use Rattle.gsi_word.specs.Shapes.{shaped, IsShape};
 
 use crate::block::Block;
 use crate::line_fault::LineFault;
+use crate::shape::Shape;
 use crate::word::{HEAD, index_of};
 
 /// The first byte of a GSI-16 line.
@@ -39,6 +41,19 @@ pub fn read_block(line: &[u8]) -> Result<Block<'_>, LineFault>
     ensures block { IfOk result (λ b. IsBlock line.now (block_of b)) }
     ensures fault { IfErr result (IsLineFault line.now) }
 {
+    match read_shape(line) {
+        Ok(shape) => Ok(block_in(line, shape)),
+        Err(fault) => Err(fault),
+    }
+}
+
+/// The shape of the block that a line is, or the line's first fault, for a caller that looks at the words later.
+///
+/// The line comes without its end, as for [`read_block`].
+pub fn read_shape(line: &[u8]) -> Result<Shape, LineFault>
+    ensures shape { IfOk result (λ s. IsShape s line.now) }
+    ensures fault { IfErr result (IsLineFault line.now) }
+{
     if let Err(at) = check_bytes(line) {
         return Err(LineFault::Byte(at));
     }
@@ -46,18 +61,28 @@ pub fn read_block(line: &[u8]) -> Result<Block<'_>, LineFault>
     let width = width_of(line);
     match count_words(bytes, width) {
         Err(nth) => Err(LineFault::Word(nth)),
-        Ok(count) => {
-            if begins_block(bytes, width) {
-                Ok(Block {
-                    bytes,
-                    width,
-                    count,
-                })
-            } else {
-                Err(LineFault::FirstWord)
-            }
-        }
+        Ok(_) if !is_first_index(index_of(bytes)) => Err(LineFault::FirstWord),
+        Ok(count) => Ok(Shape { width, count }),
     }
+}
+
+/// The block of this shape that a line is.
+pub fn block_in(line: &[u8], shape: Shape) -> Block<'_>
+    requires { IsShape shape line.now }
+    ensures { block_of result ≡ shaped shape line.now }
+{
+    Block {
+        bytes: word_bytes(line),
+        width: shape.width,
+        count: shape.count,
+    }
+}
+
+/// Whether a byte may stand in a line: a blank or a visible character of ASCII.
+fn is_printable(byte: u8) -> bool
+    ensures { result ≡ is_printable byte }
+{
+    (b' '..=b'~').contains(&byte)
 }
 
 /// Whether all bytes may stand in a line.
@@ -66,7 +91,7 @@ fn are_printable(bytes: &[u8]) -> bool
 {
     let mut stray = false;
     for byte in bytes {
-        stray |= *byte < b' ' || *byte > b'~';
+        stray |= !is_printable(*byte);
     }
     !stray
 }
@@ -80,19 +105,21 @@ fn check_bytes(line: &[u8]) -> Result<(), usize>
         return Ok(());
     }
     for (place, byte) in line.iter().enumerate() {
-        if *byte < b' ' || *byte > b'~' {
+        if !is_printable(*byte) {
             return Err(place + 1);
         }
     }
     Ok(())
 }
 
+/// Whether the line is GSI-16.
 fn is_starred(line: &[u8]) -> bool
     ensures { result ≡ is_starred line.now }
 {
     !line.is_empty() && line[0] == STAR
 }
 
+/// How many bytes the content of each word of the line has.
 fn width_of(line: &[u8]) -> u8
     ensures value { result ≡ width_of line.now }
     ensures known { IsTrue (is_width result) }
@@ -100,6 +127,7 @@ fn width_of(line: &[u8]) -> u8
     if is_starred(line) { GSI_16 } else { GSI_8 }
 }
 
+/// The part of the line in which its words stand.
 fn word_bytes(line: &[u8]) -> &[u8]
     ensures { result.now ≡ word_bytes line.now }
 {
@@ -162,6 +190,7 @@ fn after_word(bytes: &[u8], width: u8) -> &[u8]
     }
 }
 
+/// Whether there are only blanks.
 fn is_blank(bytes: &[u8]) -> bool
     ensures blank { OnTrue result (bytes.now ≡ replicate (length bytes.now) 32) }
     ensures ink { OnFalse result (Any (λ b. b ≢ 32) bytes.now) }
@@ -169,11 +198,9 @@ fn is_blank(bytes: &[u8]) -> bool
     bytes.iter().all(|b| *b == b' ')
 }
 
-/// Whether the first word is a point number or a code number.
-fn begins_block(bytes: &[u8], width: u8) -> bool
-    requires { IsWordBytes width (take (7 + width) bytes.now) }
-    ensures { IsTrue result ↔ IsFirst (word_of (take (7 + width) bytes.now)) }
+/// Whether a word of this index begins a block: a point number or a code number.
+fn is_first_index(index: u8) -> bool
+    ensures { IsTrue result ↔ ((index ≡ 11) ⊎ (index ≡ 41)) }
 {
-    let index = index_of(bytes);
     index == POINT_NUMBER || index == CODE_NUMBER
 }

@@ -1,4 +1,4 @@
-use Rattle.std.proofs.Common.{◌≤◌, sym, ◌∙◌, arith}
+use Rattle.std.proofs.Common.{sym, ◌∙◌, arith}
 use Rattle.gsi_file.proofs.LineEnds.{plain_chunk, plain_more}
 use Rattle.gsi_file.proofs.line_end.line_end.Goals as goal
 

@@ -1,6 +1,6 @@
-use Rattle.std.proofs.Common.{◌≡◌, ◌<◌, ◌≤◌, ◌+◌, Bool, true, false, length, take, sym, ap, subst, ◌∙◌, arith}
+use Rattle.std.proofs.Common.{false, sym, subst, ◌∙◌, arith}
 use Rattle.gsi_file.specs.declared.search.Found.{Found}
-use Rattle.gsi_file.specs.Finding.{HasFound, SameAnswers}
+use Rattle.gsi_file.specs.Finding.{HasFound}
 use Rattle.gsi_file.proofs.Finding.{Searching, fails, file_too_long, line_too_long, found_ended, found_at_end, passes, ends_by, none_plain}
 use Rattle.gsi_file.proofs.search.find_line.Goals as goal
 
@@ -11,7 +11,7 @@ returns-then-has_ink g c =
     let h = c.search.buffer in
     let s : Searching (told c.args.reader.now) (told c.search.reader) c.args.room c.args.buffer.now c.search.left line h = record { short = omega arith; inside = omega arith; fits = omega arith; most = c.search.invariant.most; plain = c.line_end-line.ensures.plain; same = c.search.invariant.same } in
     subst (λ (f : Found). HasFound (told c.args.reader.now) (told c.search.reader) c.args.room c.args.buffer.now h f) (sym c.ended.ensures)
-      (found_ended _ _ _ _ c.search.left line h (omega arith) (omega arith) (c.line_end-line.ensures.end c.if-line-seen.true) (sym c.has_ink.ensures ∙ c.if-has_ink.true) s)
+    (found_ended _ _ _ _ c.search.left line h (omega arith) (omega arith) (c.line_end-line.ensures.end c.if-line-seen.true) (sym c.has_ink.ensures ∙ c.if-has_ink.true) s)
 
 pub search-preserved-then-line-seen : goal.search-preserved-then-line-seen
 search-preserved-then-line-seen g c =
@@ -20,7 +20,11 @@ search-preserved-then-line-seen g c =
     let h = c.search.buffer in
     let s : Searching (told c.args.reader.now) (told c.search.reader) c.args.room c.args.buffer.now c.search.left line h = record { short = omega arith; inside = omega arith; fits = omega arith; most = c.search.invariant.most; plain = c.line_end-line.ensures.plain; same = c.search.invariant.same } in
     record {
-      short = omega arith; inside = omega arith; fits = omega arith; most = omega (arith, c.search.invariant.most); plain = none_plain c.drop_front.new.self;
+      short = omega arith;
+      inside = omega arith;
+      fits = omega arith;
+      most = omega (arith, c.search.invariant.most);
+      plain = none_plain c.drop_front.new.self;
       same = rw c.drop_front.ensures (passes _ _ _ _ c.search.left line h (omega arith) (omega arith) (c.line_end-line.ensures.end c.if-line-seen.true) (sym c.has_ink.ensures ∙ c.if-has_ink.false) s);
     }
 
@@ -42,7 +46,7 @@ returns-then-has_ink-2 g c =
     let h = c.search.buffer in
     let s : Searching (told c.args.reader.now) (told c.search.reader) c.args.room c.args.buffer.now c.search.left line h = record { short = omega arith; inside = omega arith; fits = omega arith; most = c.search.invariant.most; plain = c.line_end-line.ensures.plain; same = c.search.invariant.same } in
     subst (λ (f : Found). HasFound (told c.args.reader.now) (told c.fill.new.from) c.args.room c.args.buffer.now c.fill.new.self f) (sym c.at_end.ensures)
-      (found_at_end _ (told c.search.reader) (told c.fill.new.from) _ _ c.search.left line h c.fill.new.self c.in-Ok-eq0.field-0 (omega arith) c.in-Ok-eq0.field-0-test (sym c.has_ink-in-Ok-eq0.ensures ∙ c.if-has_ink-2.true) s c.in-Ok-eq0.ensures)
+    (found_at_end _ (told c.search.reader) (told c.fill.new.from) _ _ c.search.left line h c.fill.new.self c.in-Ok-eq0.field-0 (omega arith) c.in-Ok-eq0.field-0-test (sym c.has_ink-in-Ok-eq0.ensures ∙ c.if-has_ink-2.true) s c.in-Ok-eq0.ensures)
 
 pub returns-in-Ok-eq0 : goal.returns-in-Ok-eq0
 returns-in-Ok-eq0 g c =
