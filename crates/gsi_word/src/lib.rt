@@ -13,6 +13,8 @@ pub mod found;
 pub mod laws;
 pub mod line_fault;
 pub mod reading;
+#[cfg(test)]
+mod tests;
 pub mod word;
 
 pub use angle::AngleFault;
