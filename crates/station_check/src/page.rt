@@ -63,7 +63,7 @@ fn add(page: &mut Page, bytes: &[u8])
 }
 
 /// Adds a number in plain decimals.
-#[tactic(auto, using(std::proofs::lemmas::Fmt::decimal_digit, itoa::proofs::Decimal::decimal_two))]
+#[tactic(auto, using(std::proofs::lemmas::Fmt::decimal_digit))]
 fn add_number(page: &mut Page, number: usize)
     requires { array_vec_len page.old + 20 ≤ PAGE }
     ensures items { page.new.items ≡ page.old.items ++ decimal number }

@@ -9,7 +9,7 @@ use Rattle.station_check.proofs.words.print_block.Goals as goal
 pub printing-preserved : goal.printing-preserved
 printing-preserved g c =
     let words = (block_of c.args.block.now).words in
-    let word = sym c.word.ensures ∙ c.in-Some.is in
+    let word = sym c.word.ensures.value ∙ c.in-Some.is in
     record {
       text = partway_more _ _ _ _ _ _ _ _ _ c.make_room.new.page.items _ c.printing.invariant.text c.in-Ok.ensures.ok
           (c.add_word.ensures c.args.number (c.as_bytes-label.ensures.value ∙ c.format.ensures.text)) (next_word c.args.number c.printing.place words c.in-Some.word word);
@@ -23,4 +23,4 @@ pub returns-clause-ok : goal.returns-clause-ok
 returns-clause-ok g c =
     let words = (block_of c.args.block.now).words in
     partway_all _ _ _ _ _ _ c.printing.invariant.text
-        (ap (λ (r : _). words_from c.args.number (c.printing.place + 1) r) (drop_all c.printing.place words (omega (arith, c.len-place-end.ensures.count, c.printing-test.false))))
+        (ap (λ (r : _). words_from c.args.number (c.printing.place + 1) r) (drop_all c.printing.place words (omega (arith, c.len-place-end.ensures.value, c.printing-test.false))))
