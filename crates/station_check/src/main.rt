@@ -10,6 +10,7 @@ mod page;
 #[cfg(test)]
 mod tests;
 mod verdict_line;
+mod word_line;
 mod words;
 
 use byte_ends::{OfRead, OfWrite};

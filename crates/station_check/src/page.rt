@@ -1,130 +1,112 @@
 //! A page: the bytes of a text that wait to be written together.
 //!
 //! Text is put into the page piece by piece, with one copy of each byte, and the page is written out whole when it
-//! has no room for one more line. So a writer gets few and large pieces, whatever the text's lines are.
+//! has no room for one more line. So a writer gets few and large pieces, whatever the text's lines are. Nothing is
+//! cleaned between two pages: what stands behind the bytes that wait is never looked at.
 
-ghost use Rattle.std.specs.Prelude.{◌≡◌, ◌≤◌, ◌+◌, ◌++◌, ◌∷◌, [], length, OnOk, OnErr, ℕ, decimal};
-ghost use Rattle.std.specs.Prelude.{◌<◌, ◌^◌};
-ghost use Rattle.arrayvec.specs.ArrayVec.{array_vec_len};
-ghost use Rattle.byte_ends.specs.Sink.{failed_after};
-ghost use Rattle.station_check.specs.Printing.{Prints, PrintsSome};
-ghost use Rattle.gsi_word.specs.Words.{sign_byte};
-ghost use Rattle.station_check.specs.Texts.{word_text};
-
-use arrayvec::ArrayVec;
 use byte_ends::{Failed, Sink};
-use gsi_word::Word;
-use itoa::Buffer;
+use std::marker::Model;
 
 /// Bytes that a page has room for.
-const PAGE: usize = 8192;
+pub const PAGE: usize = 8_192;
 
-/// Bytes that the line of a word never passes: a block's number of ten digits at most, two numbers of twenty, four
-/// bytes of information, a sign, sixteen bytes of content, four blanks and the line feed.
-const LONGEST_LINE: usize = 76;
+/// Bytes that wait to be written together.
+#[derive(Drop)]
+pub struct Page {
+    bytes: [u8; PAGE],
+    len: usize,
+}
 
-pub type Page = ArrayVec<u8, PAGE>;
+impl Model for Page {
+    ghost use Rattle.std.specs.Prelude.{◌≡◌, ◌≤◌, ℕ, List, length, take};
+    ghost use Rattle.station_check.specs.declared.page.TheConstants.{PAGE};
 
-/// Writes out all that waits, with nothing left to wait.
-pub fn write_out<W: Sink>(page: &mut Page, writer: &mut W) -> Result<(), Failed>
-    ensures failed { W.failed writer.new ≡ failed_after (W.failed writer.old) result }
-    ensures ok { OnOk result (Prints (W.holds writer.old) page.old.items (W.holds writer.new) [] []) }
-    ensures empty { OnOk result (page.new.items ≡ []) }
-    ensures err { OnErr result (PrintsSome (W.holds writer.old) page.old.items (W.holds writer.new) []) }
-{
-    match writer.write_all(page.as_slice()) {
-        Ok(()) => {
-            page.clear();
-            Ok(())
+    ghost Value = { List ℕ };
+
+    ghost view = { λ p. take p.len p.bytes };
+
+    ghost invariant = { λ p. (p.len ≤ PAGE) × (length p.bytes ≡ PAGE) };
+}
+
+impl Page {
+    ghost use Rattle.std.specs.Prelude.{◌≡◌, ◌<◌, ◌≤◌, ◌+◌, ◌++◌, ◌∷◌, [], length, OnOk, OnErr};
+    ghost use Rattle.std.specs.Io.KnownBytes.{Appends};
+    ghost use Rattle.byte_ends.specs.Sink.{failed_after, AppendsSome};
+    ghost use Rattle.station_check.specs.Printing.{Prints, PrintsSome};
+
+    /// A page on which nothing waits.
+    pub fn new() -> Page
+        ensures { result ≡ [] }
+    {
+        Page {
+            bytes: [0; PAGE],
+            len: 0,
         }
-        Err(_) => Err(Failed),
     }
-}
 
-/// Sees that the page has room for one more line.
-pub fn make_room<W: Sink>(page: &mut Page, writer: &mut W) -> Result<(), Failed>
-    ensures failed { W.failed writer.new ≡ failed_after (W.failed writer.old) result }
-    ensures ok { OnOk result (Prints (W.holds writer.old) page.old.items (W.holds writer.new) page.new.items []) }
-    ensures room { OnOk result (array_vec_len page.new + LONGEST_LINE ≤ PAGE) }
-    ensures err { OnErr result (PrintsSome (W.holds writer.old) page.old.items (W.holds writer.new) []) }
-{
-    if page.remaining_capacity() < LONGEST_LINE {
-        return write_out(page, writer);
+    /// The bytes that wait.
+    pub fn bytes(&self) -> &[u8]
+        ensures value { result.now ≡ self.now }
+        ensures fits { length result.now ≤ PAGE }
+    {
+        &self.bytes[..self.len]
     }
-    Ok(())
-}
 
-fn add(page: &mut Page, bytes: &[u8])
-    requires { array_vec_len page.old + length bytes.now ≤ PAGE }
-    ensures items { page.new.items ≡ page.old.items ++ bytes.now }
-    ensures len { array_vec_len page.new ≡ array_vec_len page.old + length bytes.now }
-{
-    page.try_extend_from_slice(bytes).unwrap();
-}
-
-/// Adds a number in plain decimals.
-#[tactic(auto, using(std::proofs::lemmas::Fmt::decimal_digit))]
-fn add_number(page: &mut Page, number: usize)
-    requires { array_vec_len page.old + 20 ≤ PAGE }
-    ensures items { page.new.items ≡ page.old.items ++ decimal number }
-    ensures len { array_vec_len page.new ≤ array_vec_len page.old + 20 }
-{
-    if number < 10 {
-        page.push(b'0' + number as u8);
-    } else if number < 100 {
-        page.push(b'0' + (number / 10) as u8);
-        page.push(b'0' + (number % 10) as u8);
-    } else {
-        let mut digits = Buffer::new();
-        add(page, digits.format(number).as_bytes());
+    /// Adds a byte.
+    pub fn push(&mut self, byte: u8)
+        requires { length self.old < PAGE }
+        ensures { self.new ≡ self.old ++ byte ∷ [] }
+    {
+        self.bytes[self.len] = byte;
+        self.len += 1;
     }
-}
 
-/// Adds bytes, and a blank after them.
-fn add_field(page: &mut Page, bytes: &[u8])
-    requires { array_vec_len page.old + length bytes.now < PAGE }
-    ensures items { page.new.items ≡ page.old.items ++ (bytes.now ++ 32 ∷ []) }
-    ensures len { array_vec_len page.new ≡ array_vec_len page.old + length bytes.now + 1 }
-{
-    add(page, bytes);
-    page.push(b' ');
-}
+    /// Adds bytes.
+    pub fn extend(&mut self, bytes: &[u8])
+        requires { length self.old + length bytes.now ≤ PAGE }
+        ensures { self.new ≡ self.old ++ bytes.now }
+    {
+        let end = self.len + bytes.len();
+        self.bytes[self.len..end].copy_from_slice(bytes);
+        self.len = end;
+    }
 
-/// Adds a number in plain decimals, and a blank after it.
-fn add_number_field(page: &mut Page, number: usize)
-    requires { array_vec_len page.old + 21 ≤ PAGE }
-    ensures items { page.new.items ≡ page.old.items ++ (decimal number ++ 32 ∷ []) }
-    ensures len { array_vec_len page.new ≤ array_vec_len page.old + 21 }
-{
-    add_number(page, number);
-    page.push(b' ');
-}
+    fn clear(&mut self)
+        ensures { self.new ≡ [] }
+    {
+        self.len = 0;
+    }
 
-fn sign_of(word: &Word<'_>) -> u8
-    ensures { result ≡ sign_byte word.now.negative }
-{
-    if word.negative() { b'-' } else { b'+' }
-}
+    /// Writes out all that waits, with nothing left to wait.
+    pub fn write_out<W: Sink>(&mut self, writer: &mut W) -> Result<(), Failed>
+        ensures failed { W.failed writer.new ≡ failed_after (W.failed writer.old) result }
+        ensures ok { OnOk result (Appends (W.holds writer.old) (W.holds writer.new) self.old) }
+        ensures empty { OnOk result (self.new ≡ []) }
+        ensures err { OnErr result (AppendsSome (W.holds writer.old) (W.holds writer.new) self.old) }
+    {
+        match writer.write_all(self.bytes()) {
+            Ok(()) => {
+                self.clear();
+                Ok(())
+            }
+            Err(_) => Err(Failed),
+        }
+    }
 
-/// Adds the sign and the content of a word, and ends the line.
-fn add_value(page: &mut Page, word: &Word<'_>)
-    requires { array_vec_len page.old + 18 ≤ PAGE }
-    ensures { page.new.items ≡ page.old.items ++ (sign_byte word.now.negative ∷ (word.now.content ++ 10 ∷ [])) }
-{
-    page.push(sign_of(word));
-    add(page, word.content());
-    page.push(b'\n');
-}
-
-/// Adds the line of a word, of a block whose number is written `label`.
-pub fn add_word(page: &mut Page, label: &[u8], nth: usize, word: &Word<'_>)
-    requires room { array_vec_len page.old + LONGEST_LINE ≤ PAGE }
-    requires label { length label.now ≤ 10 }
-    ensures { (number : ℕ) → label.now ≡ decimal number → page.new.items ≡ page.old.items ++ word_text number nth word.now }
-{
-    add_field(page, label);
-    add_number_field(page, nth);
-    add_number_field(page, usize::from(word.index()));
-    add_field(page, word.info());
-    add_value(page, word);
+    /// Sees that there is room for this many bytes more.
+    pub fn make_room<W: Sink>(&mut self, bytes: usize, writer: &mut W) -> Result<(), Failed>
+        requires { bytes ≤ PAGE }
+        ensures failed { W.failed writer.new ≡ failed_after (W.failed writer.old) result }
+        ensures ok { OnOk result (Prints (W.holds writer.old) self.old (W.holds writer.new) self.new []) }
+        ensures room { OnOk result (length self.new + bytes ≤ PAGE) }
+        ensures err { OnErr result (PrintsSome (W.holds writer.old) self.old (W.holds writer.new) []) }
+    {
+        if PAGE - self.bytes().len() >= bytes {
+            return Ok(());
+        }
+        match self.write_out(writer) {
+            Ok(()) => Ok(()),
+            Err(_) => Err(Failed),
+        }
+    }
 }

@@ -13,8 +13,9 @@ ghost use Rattle.station_check.specs.Printing.{Prints, PrintsSome};
 ghost use Rattle.station_check.specs.Words.{AnswersWords, WritesWords, MemoryWritesNothing, FailsAtWrite, RunsWords};
 
 use crate::fault::Fault;
-use crate::page::{Page, add_word, make_room};
+use crate::page::Page;
 use crate::verdict_line::refusal_line;
+use crate::word_line::{LONGEST_WORD_LINE, add_word};
 use byte_ends::{Failed, Sink, Source};
 use gsi_file::Lines;
 use gsi_word::Block;
@@ -24,8 +25,8 @@ use std::alloc::Global;
 /// Prints the words of one block.
 fn print_block<W: Sink>(page: &mut Page, writer: &mut W, number: u32, block: &Block<'_>) -> Result<(), Failed>
     ensures failed { W.failed writer.new ≡ failed_after (W.failed writer.old) result }
-    ensures ok { OnOk result (Prints (W.holds writer.old) page.old.items (W.holds writer.new) page.new.items (block_text number (block_of block.now).words)) }
-    ensures err { OnErr result (PrintsSome (W.holds writer.old) page.old.items (W.holds writer.new) (block_text number (block_of block.now).words)) }
+    ensures ok { OnOk result (Prints (W.holds writer.old) page.old (W.holds writer.new) page.new (block_text number (block_of block.now).words)) }
+    ensures err { OnErr result (PrintsSome (W.holds writer.old) page.old (W.holds writer.new) (block_text number (block_of block.now).words)) }
 {
     let mut digits = Buffer::new();
     let label = digits.format(number).as_bytes();
@@ -33,7 +34,7 @@ fn print_block<W: Sink>(page: &mut Page, writer: &mut W, number: u32, block: &Bl
         let Some(word) = block.word(place) else {
             unreachable!()
         };
-        match make_room(page, writer) {
+        match page.make_room(LONGEST_WORD_LINE, writer) {
             Ok(()) => add_word(page, label, place + 1, &word),
             Err(_) => return Err(Failed),
         }
@@ -49,8 +50,8 @@ fn print_blocks<R: Source, W: Sink>(
 ) -> Result<u32, Fault>
     requires { (to_come R.told lines.old).number ≡ 0 }
     ensures prints { IfSome (to_come R.told lines.old).answers (AnswersWords result
-        (Prints (W.holds writer.old) page.old.items (W.holds writer.new) page.new.items)
-        (PrintsSome (W.holds writer.old) page.old.items (W.holds writer.new))) }
+        (Prints (W.holds writer.old) page.old (W.holds writer.new) page.new)
+        (PrintsSome (W.holds writer.old) page.old (W.holds writer.new))) }
     ensures failed { FailsAtWrite result (W.failed writer.old) (W.failed writer.new) }
     ensures not_memory { result ≢ Err Memory }
 {
@@ -70,10 +71,10 @@ fn print_blocks<R: Source, W: Sink>(
 /// Writes out what waits, and flushes the writer.
 fn finish<W: Sink>(page: &mut Page, writer: &mut W) -> Result<(), Failed>
     ensures failed { W.failed writer.new ≡ failed_after (W.failed writer.old) result }
-    ensures ok { OnOk result (Appends (W.holds writer.old) (W.holds writer.new) page.old.items) }
-    ensures err { OnErr result (AppendsSome (W.holds writer.old) (W.holds writer.new) page.old.items) }
+    ensures ok { OnOk result (Appends (W.holds writer.old) (W.holds writer.new) page.old) }
+    ensures err { OnErr result (AppendsSome (W.holds writer.old) (W.holds writer.new) page.old) }
 {
-    match writer.write_all(page.as_slice()) {
+    match page.write_out(writer) {
         Ok(()) => match writer.flush() {
             Ok(()) => Ok(()),
             Err(_) => Err(Failed),
@@ -93,7 +94,7 @@ fn is_write_fault(answer: &Result<u32, Fault>) -> bool
 fn end_text<W: Sink>(page: &mut Page, writer: &mut W, answer: Result<u32, Fault>) -> Result<u32, Fault>
     requires { answer ≢ Err Memory }
     ensures writes { (old : Option (List ℕ)) (file : FileAnswers)
-        → AnswersWords answer (Prints old [] (W.holds writer.old) page.old.items) (PrintsSome old [] (W.holds writer.old)) file
+        → AnswersWords answer (Prints old [] (W.holds writer.old) page.old) (PrintsSome old [] (W.holds writer.old)) file
         → WritesWords result old (W.holds writer.new) file }
     ensures failed { (old : Bool) → FailsAtWrite answer old (W.failed writer.old) → FailsAtWrite result old (W.failed writer.new) }
     ensures not_memory { result ≢ Err Memory }

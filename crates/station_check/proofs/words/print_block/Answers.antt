@@ -11,7 +11,7 @@ printing-preserved g c =
     let words = (block_of c.args.block.now).words in
     let word = sym c.word.ensures.value ∙ c.in-Some.is in
     record {
-      text = partway_more _ _ _ _ _ _ _ _ _ c.make_room.new.page.items _ c.printing.invariant.text c.in-Ok.ensures.ok
+      text = partway_more _ _ _ _ _ _ _ _ _ c.make_room.new.self _ c.printing.invariant.text c.in-Ok.ensures.ok
           (c.add_word.ensures c.args.number (c.as_bytes-label.ensures.value ∙ c.format.ensures.text)) (next_word c.args.number c.printing.place words c.in-Some.word word);
       failed = c.in-Ok.ensures.failed ∙ c.printing.invariant.failed;
     }

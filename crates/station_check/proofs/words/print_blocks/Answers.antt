@@ -20,7 +20,7 @@ pub returns-in-Err-print_block-clause-prints : goal.returns-in-Err-print_block-c
 returns-in-Err-print_block-clause-prints g c =
     let given = rw (c.in-Ok-Some.is, c.in-Ok-Some.field-0-is) at c.next.follows.holds-at-none in
     let number = given.0.counted ∙ ap (λ n. n + 1) c.lines.invariant.number in
-    block_cut _ _ _ c.lines.count c.in-Ok-Some.line.number given.0.line (block_of c.in-Ok-Some.line.block) _ _ _ _ _ c.print_block.new.page.items c.lines.invariant.so_far given.0.takes given.0.is_block number c.in-Err-print_block.ensures.err
+    block_cut _ _ _ c.lines.count c.in-Ok-Some.line.number given.0.line (block_of c.in-Ok-Some.line.block) _ _ _ _ _ c.print_block.new.page c.lines.invariant.so_far given.0.takes given.0.is_block number c.in-Err-print_block.ensures.err
 
 pub returns-in-Err-clause-prints : goal.returns-in-Err-clause-prints
 returns-in-Err-clause-prints g c =
