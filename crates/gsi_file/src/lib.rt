@@ -4,12 +4,15 @@
 mod buffer;
 mod file_fault;
 mod hand;
+pub mod laws;
 mod limits;
 mod line;
 mod line_end;
 mod lines;
 mod out_of_memory;
 mod search;
+#[cfg(test)]
+mod tests;
 
 pub use file_fault::{FileFault, FileKind};
 pub use limits::{LONGEST_FILE, LONGEST_LINE};

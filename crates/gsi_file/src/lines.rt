@@ -4,6 +4,7 @@ ghost use Rattle.std.specs.Prelude.{◌≤◌, ◌+◌, ◌/◌, List, ℕ, IfOk
 ghost use Rattle.gsi_word.specs.Shapes.{IsShape};
 ghost use Rattle.gsi_word.specs.LineFaults.{IsLineFault};
 ghost use Rattle.gsi_file.specs.ToCome.{IsFileFault};
+ghost use Rattle.gsi_file.specs.declared.limits.TheConstants.{LONGEST_FILE};
 
 use crate::buffer::Buffer;
 use crate::file_fault::{FileFault, FileKind};
@@ -38,7 +39,7 @@ pub struct Lines<R> {
     room: usize,
     state: State,
     // a line takes two bytes, or all that may be taken
-    ghost counted: { count + (room + 1) / 2 ≤ 8388608 },
+    ghost counted: { count + (room + 1) / 2 ≤ LONGEST_FILE / 2 },
 }
 
 fn kind_of(fault: LineFault) -> FileKind
@@ -74,6 +75,7 @@ impl<R: Source> Lines<R> {
     /// Reads nothing.
     pub fn new(alloc: Global, reader: R) -> Result<Lines<R>, OutOfMemory>
         ensures number { IfOk result (λ l. (to_come R.told l).number ≡ 0) }
+        ensures room { IfOk result (λ l. bytes_left l ≡ LONGEST_FILE) }
         ensures answers { IfSome (R.told reader) (λ told. IfOk result (λ l. (to_come R.told l).answers ≡ Some (file_answers told))) }
     {
         match Buffer::new(alloc) {
