@@ -6,3 +6,4 @@ pub mod NameLaws
 pub mod DecimalLaws
 pub mod FoundLaws
 pub mod PrintableLaws
+pub mod AngleLaws

@@ -1,6 +1,6 @@
 -- The angle that a word holds, in units of 0.00001 gon (GSI manual; the accepted bytes of unit and input mode are profile).
-use Rattle.std.specs.Prelude.{◌==◌, ℕ, ◌+◌, ◌-◌, ◌*◌, nat_le, Bool, ◌||◌, not, List, fold, Option, Some, None, Result, Ok, Err, if◌then◌else◌, slice_index}
-use Rattle.std.specs.List.{list_all}
+use Rattle.std.specs.Prelude.{◌≡◌, ◌≤◌, ◌==◌, ℕ, ◌+◌, ◌-◌, ◌*◌, nat_le, Bool, false, IsTrue, ◌||◌, not, List, fold, Option, Some, None, Result, Ok, Err, if◌then◌else◌, slice_index}
+use Rattle.std.specs.List.{list_all, AllPass}
 use Rattle.std.specs.Char.{is_ascii_digit}
 use Rattle.gsi_word.specs.declared.angle.AngleFault.{AngleFault}
 use Rattle.gsi_word.specs.declared.angle.AngleFault.TheVariants.{Unit as WrongUnit, InputMode, Sign, Digits, Range}
@@ -38,3 +38,12 @@ angle_of w =
     (if not (is_input_mode (slice_index w.info 2)) then Err InputMode else
     (if w.negative then Err Sign else
     angle_within_turn (decimal_number w.content)))
+
+-- The word holds this angle, in units.
+pub record IsAngle (w : GsiWord) (units : ℕ) : Type 0 where
+  pub gon : IsTrue (is_gon w)
+  pub input_mode : IsTrue (is_input_mode (slice_index w.info 2))
+  pub sign : w.negative ≡ false
+  pub digits : AllPass is_ascii_digit w.content
+  pub value : units ≡ decimal_value w.content
+  pub within_turn : units ≤ last_unit

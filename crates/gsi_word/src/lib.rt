@@ -14,6 +14,8 @@ pub mod laws;
 pub mod line_fault;
 pub mod reading;
 pub mod shape;
+#[cfg(test)]
+mod tests;
 pub mod word;
 
 pub use angle::AngleFault;
