@@ -3,3 +3,4 @@ pub mod Behind
 pub mod Fronts
 pub mod FirstBytes
 pub mod Finding
+pub mod AnswerLaws

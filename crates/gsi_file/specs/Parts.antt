@@ -1,8 +1,8 @@
--- The parts and the lines of bytes.
+-- The parts and the lines of the bytes of a file (profile).
 use Rattle.std.specs.Prelude.{◌≡◌, ℕ, ◌-◌, Bool, false, All, not, ◌||◌, ◌==◌, List, length, take, filter}
 use Rattle.std.specs.List.{slice_split, list_any}
 
--- a byte that ends a line
+-- A carriage return ends a line, and so does a line feed: after both of them stands an empty part.
 abbrev pub is_line_end : ℕ → Bool
 is_line_end b = b == 10 || b == 13
 
@@ -10,11 +10,11 @@ is_line_end b = b == 10 || b == 13
 abbrev pub HasNoEnd : List ℕ → Type 0
 HasNoEnd bytes = All (λ b. is_line_end b ≡ false) bytes
 
--- the pieces between the bytes that end lines
+-- the pieces before, between and after the bytes that end lines
 abbrev pub parts : List ℕ → List (List ℕ)
 parts bytes = slice_split is_line_end bytes
 
--- whether a part has a byte other than a blank
+-- whether a part has a byte other than a blank: only then it is a line, and numbered
 abbrev pub has_ink : List ℕ → Bool
 has_ink part = list_any (λ b. not (b == 32)) part
 
@@ -22,10 +22,10 @@ has_ink part = list_any (λ b. not (b == 32)) part
 abbrev pub front_of : {A : Type 0} → List A → List A
 front_of xs = take (length xs - 1) xs
 
--- the numbered lines
+-- the lines, of which the first has number 1; the last part may lack a byte that ends it
 abbrev pub numbered_lines : List ℕ → List (List ℕ)
 numbered_lines bytes = filter has_ink (parts bytes)
 
--- those that a line end ended
+-- the lines that a byte has ended: those of all parts but the last
 abbrev pub ended_lines : List ℕ → List (List ℕ)
 ended_lines bytes = filter has_ink (front_of (parts bytes))

@@ -1,9 +1,13 @@
 //! The numbered lines of a field file, one by one.
+//!
+//! A line is found, tested and counted first, and all that a fault changes is written then. Only after that the block is
+//! lent, and it is seen by the shape that the test has found, so that no line is read twice.
 
 ghost use Rattle.std.specs.Prelude.{◌≤◌, ◌+◌, ◌/◌, List, ℕ, IfOk, IfErr};
 ghost use Rattle.gsi_word.specs.Shapes.{IsShape};
 ghost use Rattle.gsi_word.specs.LineFaults.{IsLineFault};
 ghost use Rattle.gsi_file.specs.ToCome.{IsFileFault};
+ghost use Rattle.gsi_file.specs.declared.limits.TheConstants.{LONGEST_FILE};
 
 use crate::buffer::Buffer;
 use crate::file_fault::{FileFault, FileKind};
@@ -38,9 +42,10 @@ pub struct Lines<R> {
     room: usize,
     state: State,
     // a line takes two bytes, or all that may be taken
-    ghost counted: { count + (room + 1) / 2 ≤ 8388608 },
+    ghost counted: { count + (room + 1) / 2 ≤ LONGEST_FILE / 2 },
 }
 
+/// The fault of a line as one of the file.
 fn kind_of(fault: LineFault) -> FileKind
     ensures { (line : List ℕ) → IsLineFault line fault → IsFileFault line result }
 {
@@ -71,9 +76,10 @@ impl<R: Source> Lines<R> {
     ghost use Rattle.gsi_file.specs.ToCome.{ToCome, Answers, FindsNext};
     ghost use Rattle.gsi_file.specs.Standing.{to_come, line_found, bytes_left, Progresses, LineProgresses};
 
-    /// Reads nothing.
+    /// Takes the one buffer, and reads nothing. Where there is no memory the reader is dropped.
     pub fn new(alloc: Global, reader: R) -> Result<Lines<R>, OutOfMemory>
         ensures number { IfOk result (λ l. (to_come R.told l).number ≡ 0) }
+        ensures room { IfOk result (λ l. bytes_left l ≡ LONGEST_FILE) }
         ensures answers { IfSome (R.told reader) (λ told. IfOk result (λ l. (to_come R.told l).answers ≡ Some (file_answers told))) }
     {
         match Buffer::new(alloc) {

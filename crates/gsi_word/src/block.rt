@@ -3,7 +3,7 @@
 ghost use Rattle.gsi_word.specs.Layout.{KeepsWords};
 
 use crate::found::Found;
-use crate::word::{HEAD, Word};
+use crate::word::{CONTENT, Word};
 
 /// A block: a line of at least one word, of which the first is a point number or a code number.
 #[derive(Drop)]
@@ -46,7 +46,7 @@ impl<'a> Block<'a> {
         ensures well_formed { IfSome result (IsWord (block_of self.now).width) }
     {
         if i < self.count {
-            let size = HEAD + self.width as usize;
+            let size = CONTENT + self.width as usize;
             let start = (size + 1) * i;
             Some(Word {
                 bytes: &self.bytes[start..start + size],

@@ -17,7 +17,7 @@ ghost use Rattle.gsi_word.specs.Shapes.{shaped, IsShape};
 use crate::block::Block;
 use crate::line_fault::LineFault;
 use crate::shape::Shape;
-use crate::word::{HEAD, index_of};
+use crate::word::{CONTENT, INFO, SIGN, index_of};
 
 /// The first byte of a GSI-16 line.
 const STAR: u8 = b'*';
@@ -161,17 +161,17 @@ fn begins_word(bytes: &[u8], width: u8) -> bool
     ensures test { result ≡ begins_word width bytes.now }
     ensures long { OnTrue result (7 + width ≤ length bytes.now) }
 {
-    let size = HEAD + width as usize;
+    let size = CONTENT + width as usize;
     if bytes.len() < size {
         return false;
     }
     if !bytes[0].is_ascii_digit() || !bytes[1].is_ascii_digit() {
         return false;
     }
-    if bytes[2..6].contains(&b' ') {
+    if bytes[INFO..SIGN].contains(&b' ') {
         return false;
     }
-    if bytes[6] != b'+' && bytes[6] != b'-' {
+    if bytes[SIGN] != b'+' && bytes[SIGN] != b'-' {
         return false;
     }
     bytes.len() == size || bytes[size] == b' '
@@ -182,7 +182,7 @@ fn after_word(bytes: &[u8], width: u8) -> &[u8]
     requires { 7 + width ≤ length bytes.now }
     ensures { result.now ≡ drop (8 + width) bytes.now }
 {
-    let size = HEAD + width as usize;
+    let size = CONTENT + width as usize;
     if bytes.len() == size {
         &[]
     } else {

@@ -8,8 +8,14 @@ use crate::angle::{AngleFault, GON, LAST_UNIT};
 use crate::decimal::decimal_number;
 use std::marker::Model;
 
-/// How many bytes of a word stand before its content: two digits, four bytes of information and the sign.
-pub(crate) const HEAD: usize = 7;
+/// Where the information of a word begins, behind the two digits of its index.
+pub(crate) const INFO: usize = 2;
+
+/// Where the sign of a word stands, behind four bytes of information.
+pub(crate) const SIGN: usize = 6;
+
+/// Where the content of a word begins, behind the sign.
+pub(crate) const CONTENT: usize = 7;
 
 /// A word of a block: its bytes in the line.
 #[derive(Drop)]
@@ -48,14 +54,14 @@ impl<'a> Word<'a> {
         ensures four_bytes { length result.now ≡ 4 }
         ensures visible { All IsGraphic result.now }
     {
-        &self.bytes[2..6]
+        &self.bytes[INFO..SIGN]
     }
 
     /// Whether the sign is minus.
     pub fn negative(&self) -> bool
         ensures { result ≡ self.now.negative }
     {
-        self.bytes[6] == b'-'
+        self.bytes[SIGN] == b'-'
     }
 
     /// The 8 or 16 bytes of content.
@@ -64,7 +70,7 @@ impl<'a> Word<'a> {
         ensures width { (length result.now ≡ 8) ⊎ (length result.now ≡ 16) }
         ensures printable { All IsPrintable result.now }
     {
-        &self.bytes[7..]
+        &self.bytes[CONTENT..]
     }
 
     /// The name or code that the content holds: without the zeros before it, at least one byte kept.
