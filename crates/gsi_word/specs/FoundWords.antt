@@ -1,4 +1,4 @@
--- The words of one index in a block.
+-- The words of one index in a block: what a search for an index is to find.
 use Rattle.std.specs.Prelude.{◌==◌, ℕ, List, [], ◌∷◌, filter}
 use Rattle.gsi_word.specs.declared.found.Found.{Found}
 use Rattle.gsi_word.specs.declared.found.Found.TheVariants.{Absent, One, Twice}

@@ -1,4 +1,5 @@
--- The first fault of a line that is no block, as a fact about the whole line.
+-- The first fault of a line that is no block, as a fact about the whole line. That bytes come before words, and all words
+-- before the first one's index, is profile.
 use Rattle.std.specs.Prelude.{◌≡◌, ◌≢◌, ℕ, ◌+◌, List, [], ◌∷◌, ◌++◌, length, All, Any, ◌⊎◌}
 use Rattle.std.specs.List.{flat_map}
 use Rattle.gsi_word.specs.declared.line_fault.LineFault.{LineFault}

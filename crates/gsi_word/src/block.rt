@@ -6,7 +6,7 @@ use crate::found::Found;
 use crate::word::{CONTENT, Word};
 
 /// A block: a line of at least one word, of which the first is a point number or a code number.
-#[derive(Drop)]
+#[derive(Clone, Copy, Debug)]
 pub struct Block<'a> {
     /// The line, without the `*` before the words.
     pub(crate) bytes: &'a [u8],

@@ -3,7 +3,7 @@
 use crate::word::Word;
 
 /// The words of one index in a block.
-#[derive(Drop)]
+#[derive(Debug, Drop)]
 pub enum Found<'a> {
     /// No word has the index.
     Absent,

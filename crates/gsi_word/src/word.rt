@@ -18,7 +18,7 @@ pub(crate) const SIGN: usize = 6;
 pub(crate) const CONTENT: usize = 7;
 
 /// A word of a block: its bytes in the line.
-#[derive(Drop)]
+#[derive(Debug, Drop)]
 pub struct Word<'a> {
     pub(crate) bytes: &'a [u8],
 }
