@@ -1,0 +1,14 @@
+//! The kernel of the checker: a station as it was measured, a sheet as somebody adjusted it, and the verdict on both.
+//!
+//! A `Station` has the observed directions of one station, a `Sheet` the directions and orientations that an
+//! adjustment gave them, all over one denominator.
+#![tactic(auto)]
+
+mod limits;
+mod name;
+
+pub use limits::{
+    LARGEST_ANGLE, LARGEST_DENOMINATOR, LARGEST_RESIDUAL, LARGEST_RESIDUAL_LIMIT,
+    LARGEST_SET_NUMBER, LARGEST_TURN, LONGEST_NAME, MOST_ROWS, MOST_SETS, MOST_TARGETS, TURN,
+};
+pub use name::Name;
