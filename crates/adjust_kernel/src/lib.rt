@@ -6,9 +6,13 @@
 
 mod limits;
 mod name;
+mod row;
+mod sheet;
 
 pub use limits::{
     LARGEST_ANGLE, LARGEST_DENOMINATOR, LARGEST_RESIDUAL, LARGEST_RESIDUAL_LIMIT,
     LARGEST_SET_NUMBER, LARGEST_TURN, LONGEST_NAME, MOST_ROWS, MOST_SETS, MOST_TARGETS, TURN,
 };
 pub use name::Name;
+pub use row::{Direction, Orientation, Row};
+pub use sheet::Sheet;
