@@ -1,6 +1,5 @@
 -- Residuals of directions and orientations against the readings (textbook, scaled by a denominator so that all numbers are whole).
-use Rattle.std.specs.Prelude.{◌≡◌, ℕ, List, ℤ, pos, ◌+ℤ◌, ◌≤ℤ◌, ◌==◌, slice_index_or}
-use Rattle.std.proofs.Common.{neg_ℤ}
+use Rattle.std.specs.Prelude.{◌≡◌, ℕ, List, ℤ, pos, ◌+ℤ◌, ◌==◌, slice_index_or}
 use lib.IntN.{◌*ℤ◌, ◌-ℤ◌}
 use Rattle.adjust_kernel.specs.declared.limits.TheConstants.{TURN}
 use Rattle.adjust_kernel.specs.Readings.{Reading}
@@ -43,8 +42,3 @@ set_sum c readings s = int_sum_where (λ r. r.set == s) (residual c) readings
 pub record IsBalanced (c : Choice) (readings : List Reading) : Type 0 where
   pub targets : (t : ℕ) → target_sum c readings t ≡ pos 0
   pub sets : (s : ℕ) → set_sum c readings s ≡ pos 0
-
--- the number is at most m in size
-pub record IsWithin (m : ℕ) (z : ℤ) : Type 0 where
-  pub low : neg_ℤ (pos m) ≤ℤ z
-  pub high : z ≤ℤ pos m

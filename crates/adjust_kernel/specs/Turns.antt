@@ -1,14 +1,15 @@
 -- Least squares over all full turns too: what a residual limit adds.
-use Rattle.std.specs.Prelude.{◌≡◌, ℕ, ◌≤◌, ◌*◌, List, [], ◌∷◌, length, map, ℤ, ◌+ℤ◌, ◌≤ℤ◌}
+use Rattle.std.specs.Prelude.{◌≡◌, ℕ, ◌≤◌, ◌*◌, List, [], ◌∷◌, length, map, ℤ, pos, ◌+ℤ◌, ◌≤ℤ◌}
 use Rattle.std.specs.List.{AllByRecursion}
 use lib.IntN.{◌-ℤ◌}
 use Rattle.adjust_kernel.specs.Readings.{Reading}
-use Rattle.adjust_kernel.specs.Residuals.{Choice, residual, sum_of_squares, IsWithin}
+use Rattle.adjust_kernel.specs.Residuals.{Choice, residual, sum_of_squares}
+use Rattle.adjust_kernel.specs.Within.{IsWithin}
 use Rattle.adjust_kernel.specs.Sums.{square_times}
 
 -- no residual is above the limit, which is in half units
 abbrev pub IsLimited : ℕ → Choice → List Reading → Type 0
-IsLimited limit c readings = AllByRecursion (λ r. IsWithin (limit * c.denominator) (residual c r)) readings
+IsLimited limit c readings = AllByRecursion (λ r. IsWithin (pos (limit * c.denominator)) (residual c r)) readings
 
 -- the readings with these full turns, one for each, in place of their own
 abbrev pub with_turns : List Reading → List ℤ → List Reading
