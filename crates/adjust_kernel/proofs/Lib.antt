@@ -1,1 +1,13 @@
 pub mod Examples
+pub mod Ring
+pub mod SumLaws
+pub mod LeastLaws
+pub mod BetterLaws
+pub mod UniqueLaws
+pub mod DividedLaws
+pub mod BalanceLaws
+pub mod SquareBounds
+pub mod ReachLaws
+pub mod NearLaws
+pub mod PairedTurns
+pub mod ChangeBounds
