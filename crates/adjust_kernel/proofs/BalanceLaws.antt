@@ -1,8 +1,8 @@
 -- Where the sums of the targets and sets that there are vanish, all do.
-use Rattle.std.proofs.Common.{◌≡◌, ℕ, ◌+◌, ◌<◌, ◌≤◌, Bool, true, false, cond, eqb, List, [], ◌∷◌, ℤ, pos, ◌+ℤ◌, arith, ap, refl, sym, ◌∙◌}
+use Rattle.std.proofs.Common.{◌≡◌, ℕ, ◌<◌, ◌≤◌, cond, eqb, List, [], ◌∷◌, ℤ, pos, ◌+ℤ◌, arith, refl}
 use Rattle.std.specs.List.{AllByRecursion}
 use Rattle.std.proofs.lemmas.Bool.{ne_eqb}
-use Rattle.adjust_kernel.specs.Sums.{int_sum_by, int_sum_where}
+use Rattle.adjust_kernel.specs.Sums.{int_sum_where}
 use native.Mathlib.Decide.{dec_lt}
 
 none_pass : {X : Type 0} (key : X → ℕ) (f : X → ℤ) (n : ℕ) (xs : List X) → AllByRecursion (λ x. key x < n) xs → (k : ℕ) → n ≤ k → int_sum_where (λ x. eqb (key x) k) f xs ≡ pos 0

@@ -1,13 +1,13 @@
 -- Where a sum of residuals does not vanish, moving that target or set by its mean residual lowers the sum of squares.
-use Rattle.std.proofs.Common.{◌≡◌, ◌≢◌, ℕ, suc, zero, ◌+◌, ◌*◌, ◌≤◌, ◌<◌, Bool, true, false, cond, eqb, ltb, List, [], ◌∷◌, ℤ, pos, negsuc, ◌+ℤ◌, neg_ℤ, ◌≤ℤ◌, ◌<ℤ◌, arith, ap, refl, sym, ◌∙◌}
-use Rattle.std.proofs.Math.IntN.{◌*ℤ◌, ◌-ℤ◌, *ℤ-zero, +ℤ_idl}
+use Rattle.std.proofs.Common.{◌≡◌, ◌≢◌, ℕ, suc, zero, ◌+◌, ◌*◌, ◌≤◌, Bool, true, false, cond, eqb, List, [], ◌∷◌, ℤ, pos, negsuc, ◌+ℤ◌, ◌<ℤ◌, arith, ap, refl, sym, ◌∙◌}
+use Rattle.std.proofs.Math.IntN.{◌*ℤ◌, ◌-ℤ◌}
 use Rattle.std.proofs.lemmas.Int.{ints}
 use Rattle.adjust_kernel.specs.Readings.{Reading}
-use Rattle.adjust_kernel.specs.Sums.{int_sum_by, int_sum_where, squared}
+use Rattle.adjust_kernel.specs.Sums.{int_sum_where, squared}
 use Rattle.adjust_kernel.specs.Residuals.{Choice, residual, sum_of_squares, unrolled, target_sum, set_sum}
 use Rattle.adjust_kernel.specs.Least.{HasBetter}
-use Rattle.adjust_kernel.proofs.Ring.{num, ◌⊕◌, ◌⊖◌, ◌⊗◌, same_value, at_most_value}
-use Rattle.adjust_kernel.proofs.SumLaws.{int_sum_by-same, int_sum_by-add, int_sum_by-sub, int_sum_by-scale, int_sum_by-not_negative}
+use Rattle.adjust_kernel.proofs.Ring.{num, ◌⊕◌, ◌⊖◌, ◌⊗◌, same_value}
+use Rattle.adjust_kernel.proofs.SumLaws.{int_sum_by-same, int_sum_by-add, int_sum_by-sub, int_sum_by-scale}
 
 -- how many pass
 abbrev passing : {X : Type 0} → (X → Bool) → List X → ℕ
@@ -110,8 +110,8 @@ at_set m d b a o y s =
     let x = num (cond b s (pos 0)) in
     same_value (num (pos m) ⊗ num a ⊖ (num (pos m) ⊗ num o ⊕ x) ⊖ num (pos (d * m)) ⊗ num y) (num (pos m) ⊗ (num a ⊖ num o ⊖ num (pos d) ⊗ num y) ⊖ x) (omega arith)
 
-pub target_moves : (c : Choice) (readings : List Reading) (t : ℕ) → 1 ≤ c.denominator → target_sum c readings t ≢ pos 0 → HasBetter c readings
-target_moves c readings t h k =
+pub target_sum_has_better : (c : Choice) (readings : List Reading) (t : ℕ) → 1 ≤ c.denominator → target_sum c readings t ≢ pos 0 → HasBetter c readings
+target_sum_has_better c readings t h k =
     let p : Reading → Bool = λ r. eqb r.target t in
     let n : ℕ = passing p readings in
     let s : ℤ = target_sum c readings t in
@@ -122,8 +122,8 @@ target_moves c readings t h k =
     } in
     moved_is_better c other p readings refl (λ r. at_target n c.denominator (p r) (c.direction r.target) (c.orientation r.set) (unrolled r) s) h k
 
-pub set_moves : (c : Choice) (readings : List Reading) (t : ℕ) → 1 ≤ c.denominator → set_sum c readings t ≢ pos 0 → HasBetter c readings
-set_moves c readings t h k =
+pub set_sum_has_better : (c : Choice) (readings : List Reading) (t : ℕ) → 1 ≤ c.denominator → set_sum c readings t ≢ pos 0 → HasBetter c readings
+set_sum_has_better c readings t h k =
     let p : Reading → Bool = λ r. eqb r.set t in
     let n : ℕ = passing p readings in
     let s : ℤ = set_sum c readings t in

@@ -1,6 +1,6 @@
 -- How far a residual can change where no residual is above the limit and the other sum of squares isn't greater:
 -- by less than 253,000 half units, the square of which is above 4 * 4,000 * 2,000^2.
-use Rattle.std.proofs.Common.{◌≡◌, ℕ, ◌+◌, ◌*◌, ◌≤◌, List, length, ℤ, pos, negsuc, ◌+ℤ◌, ◌≤ℤ◌, arith, ap, refl, sym, ◌∙◌}
+use Rattle.std.proofs.Common.{◌≡◌, ℕ, ◌*◌, ◌≤◌, List, length, ℤ, pos, negsuc, ◌+ℤ◌, ◌≤ℤ◌, arith}
 use Rattle.std.proofs.Math.IntN.{◌*ℤ◌, ◌-ℤ◌}
 use Rattle.std.proofs.Math.Nat.{mul-le-mul}
 use Rattle.std.specs.List.{AllByRecursion}
@@ -8,7 +8,7 @@ use Rattle.std.proofs.lemmas.Int.{ints}
 use Rattle.adjust_kernel.specs.declared.limits.TheConstants.{MOST_ROWS, LARGEST_RESIDUAL_LIMIT}
 use Rattle.adjust_kernel.specs.Sums.{int_sum_by, squared}
 use Rattle.adjust_kernel.specs.Within.{IsWithin}
-use Rattle.adjust_kernel.proofs.Ring.{num, ◌⊕◌, ◌⊖◌, ◌⊗◌, same_value}
+use Rattle.adjust_kernel.proofs.Ring.{num, ◌⊕◌, ◌⊗◌, same_value}
 use Rattle.adjust_kernel.proofs.SumLaws.{int_sum_by-add, int_sum_by-scale, AllByRecursion-map}
 use Rattle.adjust_kernel.proofs.LeastLaws.{squared-not_negative}
 use Rattle.adjust_kernel.proofs.SquareBounds.{int_sum_by-at_most, int_sum_by-below, each-at_most, squared_difference, within_squared, squared_within}

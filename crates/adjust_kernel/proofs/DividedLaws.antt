@@ -1,11 +1,10 @@
 -- Where the sets and targets fall into two parts, one part can be turned alone.
-use Rattle.std.proofs.Common.{◌≡◌, ◌≢◌, ◌⊎◌, inl, inr, ℕ, suc, zero, ◌+◌, ◌*◌, ◌≤◌, ◌<◌, Bool, true, false, cond, List, [], ◌∷◌, ℤ, pos, negsuc, ◌+ℤ◌, neg_ℤ, ◌≤ℤ◌, ◌<ℤ◌, arith, ap, refl, sym, ◌∙◌}
+use Rattle.std.proofs.Common.{◌≡◌, ◌≢◌, ◌⊎◌, inl, inr, ℕ, ◌<◌, Bool, true, false, List, ℤ, pos, ◌+ℤ◌, arith, ap, refl, ◌∙◌}
 use Rattle.std.proofs.Math.IntN.{◌*ℤ◌, ◌-ℤ◌}
-use Rattle.std.specs.List.{AllByRecursion}
 use Rattle.std.proofs.lemmas.Int.{ints}
 use Rattle.adjust_kernel.specs.Readings.{Reading}
-use Rattle.adjust_kernel.specs.Sums.{int_sum_by, squared}
-use Rattle.adjust_kernel.specs.Residuals.{Choice, residual, sum_of_squares, unrolled}
+use Rattle.adjust_kernel.specs.Sums.{squared}
+use Rattle.adjust_kernel.specs.Residuals.{Choice, residual, unrolled}
 use Rattle.adjust_kernel.specs.Least.{HasAnother}
 use Rattle.adjust_kernel.proofs.SumLaws.{AllByRecursion-map, int_sum_by-same_at}
 use Rattle.adjust_kernel.specs.Connected.{IsDivided, HasMember}
@@ -53,8 +52,8 @@ module _ (sets targets : ℕ) (c : Choice) (readings : List Reading) (d : IsDivi
   different true e = moves false (ap (λ b. lift b false) e) d.second_part
   different false e = moves true (ap (λ b. lift b true) e) d.first_part
 
-  pub has_another : HasAnother sets targets c readings
-  has_another = record {
+  pub divided_has_another : HasAnother sets targets c readings
+  divided_has_another = record {
     other = turned;
     denominator = refl;
     first = let e = lift_same b0 in omega (arith, ints);

@@ -1,12 +1,12 @@
 -- Where all sums of residuals vanish, the sum of squares is least.
-use Rattle.std.proofs.Common.{◌≡◌, ℕ, suc, zero, ◌+◌, ◌*◌, ◌≤◌, ◌<◌, Bool, true, false, cond, eqb, ltb, List, [], ◌∷◌, ℤ, pos, negsuc, ◌+ℤ◌, neg_ℤ, ◌≤ℤ◌, ◌<ℤ◌, arith, ap, refl, sym, ◌∙◌}
+use Rattle.std.proofs.Common.{◌≡◌, ℕ, ◌*◌, List, ℤ, pos, negsuc, ◌+ℤ◌, ◌≤ℤ◌, arith, ap, sym, ◌∙◌}
 use Rattle.std.proofs.Math.IntN.{◌*ℤ◌, ◌-ℤ◌, *ℤ-zero, +ℤ_idl}
 use Rattle.std.proofs.lemmas.Int.{ints}
 use Rattle.adjust_kernel.specs.Readings.{Reading}
-use Rattle.adjust_kernel.specs.Sums.{int_sum_by, int_sum_where, squared}
-use Rattle.adjust_kernel.specs.Residuals.{Choice, residual, sum_of_squares, unrolled, IsBalanced, target_sum, set_sum}
+use Rattle.adjust_kernel.specs.Sums.{int_sum_by, squared}
+use Rattle.adjust_kernel.specs.Residuals.{Choice, residual, sum_of_squares, unrolled, IsBalanced}
 use Rattle.adjust_kernel.specs.Least.{IsLeast}
-use Rattle.adjust_kernel.proofs.Ring.{num, ◌⊕◌, ◌⊖◌, ◌⊗◌, same_value, at_most_value}
+use Rattle.adjust_kernel.proofs.Ring.{num, ◌⊕◌, ◌⊖◌, ◌⊗◌, same_value}
 use Rattle.adjust_kernel.proofs.SumLaws.{int_sum_by-same, int_sum_by-add, int_sum_by-sub, int_sum_by-scale, int_sum_by-not_negative, int_sum_by-keys}
 
 pub squared-not_negative : (z : ℤ) → pos 0 ≤ℤ squared z

@@ -11,3 +11,5 @@ pub mod ReachLaws
 pub mod NearLaws
 pub mod PairedTurns
 pub mod ChangeBounds
+pub mod TurnLaws
+pub mod PromiseLaws

@@ -1,6 +1,6 @@
 -- Where the readings join all sets and targets, and each reading's ends lie near whole turns from each other,
 -- each set and each target lies near whole turns from the first target. The readings' turns are here those between their two ends.
-use Rattle.std.proofs.Common.{◌≡◌, ◌⊎◌, inl, inr, ⊎_elim, ℕ, suc, zero, ◌+◌, ◌-◌, ◌*◌, ◌≤◌, ◌<◌, Bool, true, false, cond, eqb, List, ℤ, pos, ◌+ℤ◌, neg_ℤ, arith, ap, refl, sym, ◌∙◌, subst}
+use Rattle.std.proofs.Common.{◌≡◌, ◌⊎◌, inl, inr, ⊎_elim, ℕ, suc, zero, ◌+◌, ◌-◌, ◌*◌, ◌≤◌, ◌<◌, Bool, true, false, List, ℤ, pos, ◌+ℤ◌, arith, refl, sym, subst}
 use Rattle.std.proofs.Math.IntN.{◌*ℤ◌, ◌-ℤ◌}
 use Rattle.std.proofs.Math.Nat.{mul-le-mul}
 use Rattle.std.specs.List.{AllByRecursion}
@@ -129,7 +129,6 @@ module _ (sets targets q u : ℕ) (of_target of_set : ℕ → ℤ) where
 
     at_zero : (z : ℤ) → IsWithin (pos (0 * u)) (z -ℤ z -ℤ pos q *ℤ pos 0)
     at_zero z = record { low = omega (arith, ints); high = omega (arith, ints) }
-
 
     abbrev first_target : ℕ → Bool
     first_target = mark_too (λ t. false) 0

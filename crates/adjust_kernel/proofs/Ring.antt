@@ -1,7 +1,7 @@
 -- Polynomial identities and estimates over ℤ, by `omega arith` over ℕ.
-use Rattle.std.proofs.Common.{◌≡◌, ℕ, ◌+◌, ◌*◌, ◌≤◌, ◌<◌, ℤ, pos, negsuc, ◌+ℤ◌, neg_ℤ, ◌≤ℤ◌, ◌<ℤ◌, arith, ap, refl}
+use Rattle.std.proofs.Common.{◌≡◌, ℕ, ◌+◌, ◌*◌, ◌≤◌, ℤ, ◌+ℤ◌, neg_ℤ, ◌≤ℤ◌, arith, ap, refl}
 use lib.IntN.{◌*ℤ◌, ◌-ℤ◌}
-use borrow.Author.Differences.{up, down, sum_is_lem, product_is, neg_is, same_in, at_most_in, below_in}
+use borrow.Author.Differences.{up, down, sum_is_lem, product_is, neg_is, same_in, at_most_in}
 
 -- a polynomial, written out
 pub data Term : Type 0 where

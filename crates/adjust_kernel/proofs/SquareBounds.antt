@@ -1,12 +1,12 @@
 -- A change of each residual is small where the other sum is not greater.
-use Rattle.std.proofs.Common.{◌≡◌, ◌≢◌, ◌⊎◌, inl, inr, ⊎_elim, ℕ, suc, zero, ◌+◌, ◌*◌, ◌≤◌, ◌<◌, Bool, true, false, cond, eqb, ltb, List, [], ◌∷◌, length, ℤ, pos, negsuc, ◌+ℤ◌, neg_ℤ, ◌≤ℤ◌, ◌<ℤ◌, arith, ap, refl, sym, ◌∙◌}
-use Rattle.std.proofs.Math.IntN.{◌*ℤ◌, ◌-ℤ◌, *ℤ-zero, +ℤ_idl}
+use Rattle.std.proofs.Common.{◌≡◌, ℕ, suc, ◌*◌, ◌≤◌, List, [], ◌∷◌, length, ℤ, pos, negsuc, ◌+ℤ◌, ◌≤ℤ◌, arith}
+use Rattle.std.proofs.Math.IntN.{◌*ℤ◌, ◌-ℤ◌}
 use Rattle.std.proofs.Math.Nat.{mul-le-mul}
 use Rattle.std.specs.List.{AllByRecursion}
 use Rattle.std.proofs.lemmas.Int.{ints}
 use Rattle.adjust_kernel.specs.Sums.{int_sum_by, squared}
-use Rattle.adjust_kernel.proofs.Ring.{num, ◌⊕◌, ◌⊖◌, ◌⊗◌, same_value, at_most_value}
-use Rattle.adjust_kernel.proofs.SumLaws.{AllByRecursion-map, int_sum_by-same_at, int_sum_by-same, int_sum_by-add, int_sum_by-sub, int_sum_by-scale, int_sum_by-not_negative}
+use Rattle.adjust_kernel.proofs.Ring.{num, ◌⊕◌, ◌⊖◌, ◌⊗◌, same_value}
+use Rattle.adjust_kernel.proofs.SumLaws.{int_sum_by-not_negative}
 use Rattle.adjust_kernel.proofs.LeastLaws.{squared-not_negative}
 use Rattle.adjust_kernel.specs.Within.{IsWithin}
 use native.Mathlib.Decide.{dec_le}

@@ -1,15 +1,14 @@
 -- Where the sums are equal, every row moves by nothing; so what is joined moves alike.
-use Rattle.std.proofs.Common.{◌≡◌, ◌≢◌, ◌⊎◌, inl, inr, ℕ, suc, zero, ◌+◌, ◌*◌, ◌≤◌, ◌<◌, Bool, true, false, cond, eqb, ltb, List, [], ◌∷◌, ℤ, pos, negsuc, ◌+ℤ◌, neg_ℤ, ◌≤ℤ◌, ◌<ℤ◌, arith, ap, refl, sym, ◌∙◌}
-use Rattle.std.proofs.Math.IntN.{◌*ℤ◌, ◌-ℤ◌, *ℤ-zero, +ℤ_idl, ℤ_discrete}
+use Rattle.std.proofs.Common.{◌≡◌, inl, inr, ℕ, suc, zero, ◌<◌, Bool, true, false, List, [], ◌∷◌, ℤ, pos, negsuc, neg_ℤ, arith, ap, refl, ◌∙◌}
+use Rattle.std.proofs.Math.IntN.{◌*ℤ◌, ◌-ℤ◌, *ℤ-zero, ℤ_discrete}
 use Rattle.std.specs.List.{AllByRecursion}
 use Rattle.std.proofs.lemmas.Int.{ints}
 use Rattle.adjust_kernel.specs.Readings.{Reading}
-use Rattle.adjust_kernel.specs.Sums.{int_sum_by, int_sum_where, squared}
-use Rattle.adjust_kernel.specs.Residuals.{Choice, residual, sum_of_squares, unrolled, IsBalanced}
+use Rattle.adjust_kernel.specs.Sums.{int_sum_by, squared}
+use Rattle.adjust_kernel.specs.Residuals.{Choice, IsBalanced}
 use Rattle.adjust_kernel.specs.Least.{DiffersByRotation, IsUnique}
 use Rattle.adjust_kernel.specs.Connected.{IsDivided, IsConnected, HasMember}
-use Rattle.adjust_kernel.proofs.Ring.{num, ◌⊕◌, ◌⊖◌, ◌⊗◌, same_value, at_most_value}
-use Rattle.adjust_kernel.proofs.SumLaws.{AllByRecursion-map, int_sum_by-same_at, int_sum_by-not_negative}
+use Rattle.adjust_kernel.proofs.SumLaws.{AllByRecursion-map, int_sum_by-not_negative}
 use Rattle.adjust_kernel.proofs.LeastLaws.{squared-not_negative, squares-moved, moved, moved_direction, moved_orientation}
 
 abbrev is_yes : {A : Type 0} → Dec A → Bool
