@@ -1,4 +1,4 @@
-//! The kernel of the checker: stations, sheets, and the verdict on them.
+//! The adjustment of one station by directions: what a sheet claims, and whether it is the least-squares adjustment.
 #![tactic(auto)]
 
 mod limits;
