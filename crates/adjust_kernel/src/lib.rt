@@ -1,13 +1,26 @@
-//! The adjustment of one station by directions: what a sheet claims, and whether it is the least-squares adjustment.
+//! The kernel of the checker: a station as it was measured, a sheet as somebody adjusted it, and the verdict on both.
+//!
+//! A `Station` has the observed directions of one station, a `Sheet` the directions and orientations that an
+//! adjustment gave them, all over one denominator.
 #![tactic(auto)]
 
 mod limits;
+mod name;
 mod out_of_memory;
+mod row;
 mod running;
 mod scan;
+mod sheet;
 mod tally;
 
+pub use limits::{
+    LARGEST_ANGLE, LARGEST_DENOMINATOR, LARGEST_RESIDUAL, LARGEST_RESIDUAL_LIMIT,
+    LARGEST_SET_NUMBER, LARGEST_TURN, LONGEST_NAME, MOST_ROWS, MOST_SETS, MOST_TARGETS, TURN,
+};
+pub use name::Name;
 pub use out_of_memory::OutOfMemory;
+pub use row::{Direction, Orientation, Row};
 pub use running::Running;
 pub use scan::Scan;
+pub use sheet::Sheet;
 pub use tally::Tally;
