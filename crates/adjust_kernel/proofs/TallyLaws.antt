@@ -3,8 +3,8 @@ use Rattle.std.proofs.Common.{◌≡◌, ◌≢◌, ℕ, suc, zero, ◌+◌, ◌
 use Rattle.std.proofs.Math.IntN.{+ℤ_idr, ◌*ℤ◌}
 use Rattle.std.proofs.lemmas.Int.{ints}
 use Rattle.std.proofs.lemmas.Bool.{ne_eqb}
-use Rattle.std.proofs.lemmas.List.{get_or-set_same, get_or-set_other, length-set, length-append, get_or-replicate, length-replicate}
-use Rattle.std.proofs.lemmas.List.Elements.{All-set, All-weaker}
+use Rattle.std.proofs.lemmas.List.{get_or-set_same, get_or-set_other, length-set, length-append, get_or-replicate, take_more}
+use Rattle.std.proofs.lemmas.List.Elements.{All-set, All-weaker, All-replicate}
 use Rattle.adjust_kernel.specs.declared.tally.Added.{Added}
 use Rattle.adjust_kernel.specs.Sums.{int_sum_by, int_sum_where}
 use Rattle.adjust_kernel.specs.Within.{IsWithin}
@@ -58,8 +58,7 @@ still_within m n sums i z inside w all =
 
 -- nothing was added yet
 pub zeros_within : (n : ℕ) → All (IsWithin (pos 0)) (replicate n (pos 0))
-zeros_within n k d below =
-    subst (IsWithin (pos 0)) (sym (get_or-replicate n k (pos 0) d (let e = length-replicate n (pos 0) in omega arith))) (record { low = omega (arith, ints); high = omega (arith, ints) })
+zeros_within n = All-replicate (IsWithin (pos 0)) n (pos 0) (record { low = omega (arith, ints); high = omega (arith, ints) })
 
 pub zeros_are_sums : AreSumsOf [] (replicate 100 (pos 0)) (replicate 40 (pos 0)) 0
 zeros_are_sums = record {
