@@ -6,7 +6,9 @@
 
 mod limits;
 mod name;
+mod obs;
 mod out_of_memory;
+mod residual;
 mod row;
 mod running;
 mod scan;
@@ -18,6 +20,7 @@ pub use limits::{
     LARGEST_SET_NUMBER, LARGEST_TURN, LONGEST_NAME, MOST_ROWS, MOST_SETS, MOST_TARGETS, TURN,
 };
 pub use name::Name;
+pub use obs::Obs;
 pub use out_of_memory::OutOfMemory;
 pub use row::{Direction, Orientation, Row};
 pub use running::Running;
