@@ -54,7 +54,7 @@ Stands station sheet limit Datum = (choice_stated_by sheet).direction 0 ≢ pos 
 Stands station sheet limit (TargetSum n) = AtNth (IsFirstWhere (λ t. target_sum (choice_stated_by sheet) (readings station sheet) t ≢ pos 0) (length station.targets)) n
 Stands station sheet limit (SetSum n) = AtNth (IsFirstWhere (λ s. set_sum (choice_stated_by sheet) (readings station sheet) s ≢ pos 0) (length station.sets)) n
 Stands station sheet limit NotConnected = IsDivided (length station.sets) (length station.targets) (readings station sheet)
-Stands station sheet limit (Residual n) = IsSomeAnd limit (λ most. AtNth (IsFirstWhere (λ row. most * sheet.denominator < unsigned_abs (slice_index_or (residuals station sheet) row (pos 0))) (length (residuals station sheet))) n)
+Stands station sheet limit (Residual n) = IsSomeAnd limit (λ most. AtNth (IsFirstWhere (λ row. most * sheet.denominator < unsigned_abs (slice_index_or (residuals station sheet) row (pos 0))) (length (readings station sheet))) n)
 
 -- No fault of this kind stands, whatever its number.
 abbrev pub IsClearOf : StationValue → SheetValue → Option ℕ → KernelFault → Type 0
