@@ -1,4 +1,28 @@
-//! The adjustment of one station by directions: what a sheet claims, and whether it is the least-squares adjustment.
+//! The kernel of the checker: a station as it was measured, a sheet as somebody adjusted it, and the verdict on both.
+//!
+//! A `Station` has the observed directions of one station, a `Sheet` the directions and orientations that an
+//! adjustment gave them, all over one denominator.
 #![tactic(auto)]
 
-pub mod limits;
+mod accepted;
+mod kernel_fault;
+mod limits;
+mod name;
+mod obs;
+mod residual_limit;
+mod row;
+mod sheet;
+mod station;
+
+pub use accepted::Accepted;
+pub use kernel_fault::KernelFault;
+pub use limits::{
+    LARGEST_ANGLE, LARGEST_DENOMINATOR, LARGEST_RESIDUAL, LARGEST_RESIDUAL_LIMIT,
+    LARGEST_SET_NUMBER, LARGEST_TURN, LONGEST_NAME, MOST_ROWS, MOST_SETS, MOST_TARGETS, TURN,
+};
+pub use name::Name;
+pub use obs::Obs;
+pub use residual_limit::ResidualLimit;
+pub use row::{Direction, Orientation, Row};
+pub use sheet::Sheet;
+pub use station::Station;

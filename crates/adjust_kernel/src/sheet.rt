@@ -1,0 +1,169 @@
+//! The sheet of an adjustment.
+
+ghost use Rattle.std.specs.Prelude.{◌≡◌, ◌↔◌, IsTrue, IfSome, IfNone};
+ghost use Rattle.adjust_kernel.specs.Sheets.{IsSheet, IsDenominator, IsDirection, IsOrientation, IsRow, AreDirections, AreOrientations, AreRows};
+
+use crate::limits::{
+    LARGEST_ANGLE, LARGEST_DENOMINATOR, LARGEST_SET_NUMBER, LARGEST_TURN, MOST_ROWS, MOST_SETS,
+    MOST_TARGETS, TURN,
+};
+use crate::name::Name;
+use crate::row::{Direction, Orientation, Row};
+use std::marker::Model;
+
+/// What an adjustment answered for a station: a direction for each target and an orientation for each set, all over
+/// one denominator, and the observations with their full turns.
+///
+/// Its numbers are within the limits of a sheet, whatever is done with it. Whether it fits a station, and whether it
+/// is the least-squares adjustment, is for `check` to say.
+#[derive(Debug, Drop)]
+pub struct Sheet {
+    name: Name,
+    denominator: u64,
+    directions: Vec<Direction>,
+    orientations: Vec<Orientation>,
+    rows: Vec<Row>,
+}
+
+impl Model for Sheet {
+    ghost use Rattle.adjust_kernel.specs.Sheets.{SheetValue, IsSheet};
+
+    ghost Value = { SheetValue };
+
+    ghost view = { λ s. record { name = s.name; denominator = s.denominator; directions = s.directions.items; orientations = s.orientations.items; rows = s.rows.items } };
+
+    ghost invariant = { λ s. IsSheet (record { name = s.name; denominator = s.denominator; directions = s.directions.items; orientations = s.orientations.items; rows = s.rows.items }) };
+}
+
+impl Sheet {
+    /// The sheet with these parts, if all numbers are within a sheet's limits; otherwise the lists are dropped.
+    pub fn new(
+        name: Name,
+        denominator: u64,
+        directions: Vec<Direction>,
+        orientations: Vec<Orientation>,
+        rows: Vec<Row>,
+    ) -> Option<Sheet>
+        ensures some { IfSome result (λ sheet. sheet ≡ record { name = name; denominator = denominator; directions = directions.items; orientations = orientations.items; rows = rows.items }) }
+        ensures valid { IfSome result IsSheet }
+        ensures none { IfNone result (IsSheet (record { name = name; denominator = denominator; directions = directions.items; orientations = orientations.items; rows = rows.items }) → ⊥) }
+    {
+        let _ = name.bytes();
+        if is_denominator(denominator)
+            && are_directions(&directions)
+            && are_orientations(&orientations)
+            && are_rows(&rows)
+        {
+            return Some(Sheet {
+                name,
+                denominator,
+                directions,
+                orientations,
+                rows,
+            });
+        }
+        None
+    }
+
+    /// The station's name.
+    pub fn name(&self) -> Name
+        ensures value { result ≡ self.now.name }
+        ensures valid { IsSheet self.now }
+    {
+        self.name
+    }
+
+    /// What all directions and orientations are divided by.
+    pub fn denominator(&self) -> u64
+        ensures value { result ≡ self.now.denominator }
+        ensures valid { IsSheet self.now }
+    {
+        self.denominator
+    }
+
+    /// The directions, one for each target.
+    pub fn directions(&self) -> &[Direction]
+        ensures value { result.now ≡ self.now.directions }
+        ensures valid { IsSheet self.now }
+    {
+        &self.directions
+    }
+
+    /// The orientations, one for each set.
+    pub fn orientations(&self) -> &[Orientation]
+        ensures value { result.now ≡ self.now.orientations }
+        ensures valid { IsSheet self.now }
+    {
+        &self.orientations
+    }
+
+    /// The observations with their full turns.
+    pub fn rows(&self) -> &[Row]
+        ensures value { result.now ≡ self.now.rows }
+        ensures valid { IsSheet self.now }
+    {
+        &self.rows
+    }
+}
+
+// Whether a denominator is within its limits.
+fn is_denominator(denominator: u64) -> bool
+    ensures { IsTrue result ↔ IsDenominator denominator }
+{
+    1 <= denominator && denominator <= LARGEST_DENOMINATOR
+}
+
+// Whether a direction is one of a sheet. Its name is valid already.
+fn is_direction(direction: &Direction) -> bool
+    ensures { IsTrue result ↔ IsDirection direction.now }
+{
+    let _ = direction.name.bytes();
+    -LARGEST_ANGLE <= direction.value && direction.value <= LARGEST_ANGLE
+}
+
+// Whether an orientation is one of a sheet.
+fn is_orientation(orientation: &Orientation) -> bool
+    ensures { IsTrue result ↔ IsOrientation orientation.now }
+{
+    1 <= orientation.set
+        && orientation.set <= LARGEST_SET_NUMBER
+        && -LARGEST_ANGLE <= orientation.value
+        && orientation.value <= LARGEST_ANGLE
+}
+
+// Whether a row is one of a sheet. Its name is valid already.
+fn is_row(row: &Row) -> bool
+    ensures { IsTrue result ↔ IsRow row.now }
+{
+    let _ = row.target.bytes();
+    1 <= row.set
+        && row.set <= LARGEST_SET_NUMBER
+        && row.value < TURN
+        && -LARGEST_TURN <= row.turn
+        && row.turn <= LARGEST_TURN
+}
+
+// Whether these are the directions of a sheet.
+fn are_directions(directions: &[Direction]) -> bool
+    ensures { IsTrue result ↔ AreDirections directions.now }
+{
+    !directions.is_empty()
+        && directions.len() <= MOST_TARGETS
+        && directions.iter().all(is_direction)
+}
+
+// Whether these are the orientations of a sheet.
+fn are_orientations(orientations: &[Orientation]) -> bool
+    ensures { IsTrue result ↔ AreOrientations orientations.now }
+{
+    !orientations.is_empty()
+        && orientations.len() <= MOST_SETS
+        && orientations.iter().all(is_orientation)
+}
+
+// Whether these are the rows of a sheet.
+fn are_rows(rows: &[Row]) -> bool
+    ensures { IsTrue result ↔ AreRows rows.now }
+{
+    !rows.is_empty() && rows.len() <= MOST_ROWS && rows.iter().all(is_row)
+}
