@@ -4,6 +4,7 @@
 //! adjustment gave them, all over one denominator.
 #![tactic(auto)]
 
+mod connection;
 mod limits;
 mod name;
 mod obs;
