@@ -1,11 +1,12 @@
 -- Laws of sums of integers over a list.
-use Rattle.std.proofs.Common.{take, get_or, length, ◌++◌, ◌≡◌, ℕ, suc, zero, ◌+◌, ◌*◌, ◌≤◌, ◌<◌, Bool, true, false, cond, eqb, ltb, List, [], ◌∷◌, ℤ, pos, negsuc, ◌+ℤ◌, neg_ℤ, ◌≤ℤ◌, ◌<ℤ◌, arith, ap, refl, sym, ◌∙◌}
+use Rattle.std.proofs.Common.{take, get_or, length, ◌++◌, ◌≡◌, ℕ, suc, zero, ◌+◌, ◌≤◌, ◌<◌, Bool, true, false, cond, eqb, ltb, List, [], ◌∷◌, ℤ, pos, ◌+ℤ◌, ◌≤ℤ◌, arith, ap, refl, sym, ◌∙◌}
+use Rattle.std.specs.List.{AllByRecursion}
 use Rattle.std.proofs.lemmas.List.{take_more}
 use Rattle.std.proofs.Math.IntN.{◌*ℤ◌, ◌-ℤ◌, *ℤ-zero, +ℤ_idr}
 use Rattle.std.proofs.lemmas.Int.{ints}
 use Rattle.std.proofs.lemmas.Bool.Decides.{nat_tests}
-use Rattle.adjust_kernel.specs.Sums.{int_sum_by, int_sum_where, squared}
-use Rattle.adjust_kernel.proofs.Ring.{num, ◌⊕◌, ◌⊖◌, ◌⊗◌, same_value, at_most_value}
+use Rattle.adjust_kernel.specs.Sums.{int_sum_by, int_sum_where}
+use Rattle.adjust_kernel.proofs.Ring.{num, ◌⊕◌, ◌⊗◌, same_value}
 
 next_key : (k n : ℕ) (v : ℤ) (a : ℕ → ℤ) → cond (ltb k (suc n)) (v *ℤ a k) (pos 0) ≡ cond (ltb k n) (v *ℤ a k) (pos 0) +ℤ a n *ℤ cond (eqb k n) v (pos 0)
 next_key k n v a = grind (arith, nat_tests)
@@ -69,6 +70,20 @@ module _ {X : Type 0} where
       let n = above_all key xs in
       let le : above_all key xs ≤ n = omega arith in
       sym (sum_below_all key (λ x. f x *ℤ a (key x)) n xs le) ∙ sum_of_keys_below key f a xs h n
+
+-- where f and g agree at each element
+pub int_sum_by-same_at : {X : Type 0} (f g : X → ℤ) (xs : List X) → AllByRecursion (λ x. f x ≡ g x) xs → int_sum_by f xs ≡ int_sum_by g xs
+int_sum_by-same_at f g [] h = refl
+int_sum_by-same_at f g (x ∷ xs) h = λ i. h.0 i +ℤ int_sum_by-same_at f g xs h.1 i
+
+-- what holds of each element, with what follows from it
+pub AllByRecursion-map : {X : Type 0} (P Q : X → Type 0) → ((x : X) → P x → Q x) → (xs : List X) → AllByRecursion P xs → AllByRecursion Q xs
+AllByRecursion-map P Q f [] h = tt
+AllByRecursion-map P Q f (x ∷ xs) h = (f x h.0, AllByRecursion-map P Q f xs h.1)
+
+pub AllByRecursion-both : {X : Type 0} (P Q : X → Type 0) (xs : List X) → AllByRecursion P xs → AllByRecursion Q xs → AllByRecursion (λ x. P x × Q x) xs
+AllByRecursion-both P Q [] h k = tt
+AllByRecursion-both P Q (x ∷ xs) h k = ((h.0, k.0), AllByRecursion-both P Q xs h.1 k.1)
 
 -- one more element
 pub int_sum_by_more : {X : Type 0} (f : X → ℤ) (xs : List X) (i : ℕ) (d : X) → i < length xs → int_sum_by f (take (i + 1) xs) ≡ int_sum_by f (take i xs) +ℤ f (get_or xs i d)

@@ -36,18 +36,32 @@ pub record IsRow (r : Row) : Type 0 where
   pub value : r.value < TURN
   pub turn : IsWithin LARGEST_TURN r.turn
 
--- A sheet within the limits (profile): neither a target, a set nor a row is missing altogether, there are not too
--- many of them, and each number is in its range. Names and set numbers may repeat here; no station has such a list.
+-- the directions of a sheet (profile): some, not too many, each within the limits
+pub record AreDirections (directions : List Direction) : Type 0 where
+  pub some : 1 ≤ length directions
+  pub few : length directions ≤ MOST_TARGETS
+  pub each : All IsDirection directions
+
+-- the orientations of a sheet (profile): some, not too many, each within the limits
+pub record AreOrientations (orientations : List Orientation) : Type 0 where
+  pub some : 1 ≤ length orientations
+  pub few : length orientations ≤ MOST_SETS
+  pub each : All IsOrientation orientations
+
+-- the rows of a sheet (profile): some, not too many, each within the limits
+pub record AreRows (rows : List Row) : Type 0 where
+  pub some : 1 ≤ length rows
+  pub few : length rows ≤ MOST_ROWS
+  pub each : All IsRow rows
+
+-- what directions and orientations may be divided by (profile)
+abbrev pub IsDenominator : ℕ → Type 0
+IsDenominator d = (1 ≤ d) × (d ≤ LARGEST_DENOMINATOR)
+
+-- A sheet within the limits. Names and set numbers may repeat here; no station has such lists.
 pub record IsSheet (s : SheetValue) : Type 0 where
   pub name : IsName s.name
-  pub denominator_low : 1 ≤ s.denominator
-  pub denominator_high : s.denominator ≤ LARGEST_DENOMINATOR
-  pub some_directions : 1 ≤ length s.directions
-  pub few_directions : length s.directions ≤ MOST_TARGETS
-  pub directions : All IsDirection s.directions
-  pub some_orientations : 1 ≤ length s.orientations
-  pub few_orientations : length s.orientations ≤ MOST_SETS
-  pub orientations : All IsOrientation s.orientations
-  pub some_rows : 1 ≤ length s.rows
-  pub few_rows : length s.rows ≤ MOST_ROWS
-  pub rows : All IsRow s.rows
+  pub denominator : IsDenominator s.denominator
+  pub directions : AreDirections s.directions
+  pub orientations : AreOrientations s.orientations
+  pub rows : AreRows s.rows

@@ -1,6 +1,5 @@
 -- Least squares over all full turns too: what a residual limit adds.
-use Rattle.std.specs.Prelude.{◌≡◌, ℕ, ◌≤◌, ◌*◌, List, [], ◌∷◌, length, map, ℤ, pos, ◌+ℤ◌, ◌≤ℤ◌}
-use Rattle.std.specs.List.{AllByRecursion}
+use Rattle.std.specs.Prelude.{◌≡◌, ℕ, ◌≤◌, ◌*◌, List, [], ◌∷◌, All, length, map, ℤ, pos, ◌+ℤ◌, ◌≤ℤ◌}
 use lib.IntN.{◌-ℤ◌}
 use Rattle.adjust_kernel.specs.Readings.{Reading}
 use Rattle.adjust_kernel.specs.Residuals.{Choice, residual, sum_of_squares}
@@ -9,7 +8,7 @@ use Rattle.adjust_kernel.specs.Sums.{square_times}
 
 -- no residual is above the limit, which is in half units
 abbrev pub IsLimited : ℕ → Choice → List Reading → Type 0
-IsLimited limit c readings = AllByRecursion (λ r. IsWithin (pos (limit * c.denominator)) (residual c r)) readings
+IsLimited limit c readings = All (λ r. IsWithin (pos (limit * c.denominator)) (residual c r)) readings
 
 -- the readings with these full turns, one for each, in place of their own
 abbrev pub with_turns : List Reading → List ℤ → List Reading

@@ -10,12 +10,18 @@ mod name;
 mod obs;
 mod out_of_memory;
 mod residual;
+mod accepted;
+mod kernel_fault;
+mod residual_limit;
 mod row;
 mod running;
 mod scan;
 mod sheet;
 mod tally;
+mod station;
 
+pub use accepted::Accepted;
+pub use kernel_fault::KernelFault;
 pub use limits::{
     LARGEST_ANGLE, LARGEST_DENOMINATOR, LARGEST_RESIDUAL, LARGEST_RESIDUAL_LIMIT,
     LARGEST_SET_NUMBER, LARGEST_TURN, LONGEST_NAME, MOST_ROWS, MOST_SETS, MOST_TARGETS, TURN,
@@ -23,8 +29,10 @@ pub use limits::{
 pub use name::Name;
 pub use obs::Obs;
 pub use out_of_memory::OutOfMemory;
+pub use residual_limit::ResidualLimit;
 pub use row::{Direction, Orientation, Row};
 pub use running::Running;
 pub use scan::Scan;
 pub use sheet::Sheet;
 pub use tally::Tally;
+pub use station::Station;

@@ -1,7 +1,7 @@
 //! The sheet of an adjustment.
 
-ghost use Rattle.std.specs.Prelude.{◌≡◌, ◌↔◌, ◌≤◌, All, IsTrue, IsSome, IfSome, IfNone, length};
-ghost use Rattle.adjust_kernel.specs.Sheets.{SheetValue, IsSheet, IsDirection, IsOrientation, IsRow};
+ghost use Rattle.std.specs.Prelude.{◌≡◌, ◌↔◌, IsTrue, IfSome, IfNone};
+ghost use Rattle.adjust_kernel.specs.Sheets.{IsSheet, IsDenominator, IsDirection, IsOrientation, IsRow, AreDirections, AreOrientations, AreRows};
 
 use crate::limits::{
     LARGEST_ANGLE, LARGEST_DENOMINATOR, LARGEST_SET_NUMBER, LARGEST_TURN, MOST_ROWS, MOST_SETS,
@@ -108,7 +108,7 @@ impl Sheet {
 
 // Whether a denominator is within its limits.
 fn is_denominator(denominator: u64) -> bool
-    ensures { IsTrue result ↔ ((1 ≤ denominator) × (denominator ≤ LARGEST_DENOMINATOR)) }
+    ensures { IsTrue result ↔ IsDenominator denominator }
 {
     1 <= denominator && denominator <= LARGEST_DENOMINATOR
 }
@@ -145,7 +145,7 @@ fn is_row(row: &Row) -> bool
 
 // Whether these are the directions of a sheet.
 fn are_directions(directions: &[Direction]) -> bool
-    ensures { IsTrue result ↔ ((1 ≤ length directions.now) × (length directions.now ≤ MOST_TARGETS) × All IsDirection directions.now) }
+    ensures { IsTrue result ↔ AreDirections directions.now }
 {
     !directions.is_empty()
         && directions.len() <= MOST_TARGETS
@@ -154,7 +154,7 @@ fn are_directions(directions: &[Direction]) -> bool
 
 // Whether these are the orientations of a sheet.
 fn are_orientations(orientations: &[Orientation]) -> bool
-    ensures { IsTrue result ↔ ((1 ≤ length orientations.now) × (length orientations.now ≤ MOST_SETS) × All IsOrientation orientations.now) }
+    ensures { IsTrue result ↔ AreOrientations orientations.now }
 {
     !orientations.is_empty()
         && orientations.len() <= MOST_SETS
@@ -163,7 +163,7 @@ fn are_orientations(orientations: &[Orientation]) -> bool
 
 // Whether these are the rows of a sheet.
 fn are_rows(rows: &[Row]) -> bool
-    ensures { IsTrue result ↔ ((1 ≤ length rows.now) × (length rows.now ≤ MOST_ROWS) × All IsRow rows.now) }
+    ensures { IsTrue result ↔ AreRows rows.now }
 {
     !rows.is_empty() && rows.len() <= MOST_ROWS && rows.iter().all(is_row)
 }

@@ -1,0 +1,146 @@
+//! The station as it was measured.
+
+ghost use Rattle.std.specs.Prelude.{◌≡◌, ◌≢◌, ◌↔◌, AllPairs, IsTrue, IfSome, IfNone};
+ghost use Rattle.adjust_kernel.specs.Names.{IsName};
+ghost use Rattle.adjust_kernel.specs.Sheets.{IsSetNumber};
+ghost use Rattle.adjust_kernel.specs.Stations.{IsStation, AreTargets, AreSets};
+
+use crate::limits::{LARGEST_SET_NUMBER, MOST_SETS, MOST_TARGETS};
+use crate::name::{Name, same};
+use crate::obs::{Obs, are_obs};
+use std::marker::Model;
+
+/// What was observed at one station: its targets, its sets, and the two-face directions by set and target.
+///
+/// It keeps the rules of a station whatever is done with it: targets have different names and sets different numbers,
+/// the observations are in order, none stands twice, and no set and no target is without one.
+#[derive(Debug, Drop)]
+pub struct Station {
+    name: Name,
+    targets: Vec<Name>,
+    sets: Vec<u16>,
+    obs: Vec<Obs>,
+}
+
+impl Model for Station {
+    ghost use Rattle.adjust_kernel.specs.Stations.{StationValue, IsStation};
+
+    ghost Value = { StationValue };
+
+    ghost view = { λ s. record { name = s.name; targets = s.targets.items; sets = s.sets.items; obs = s.obs.items } };
+
+    ghost invariant = { λ s. IsStation (record { name = s.name; targets = s.targets.items; sets = s.sets.items; obs = s.obs.items }) };
+}
+
+impl Station {
+    /// The station with these parts, if they keep the rules of a station; otherwise the lists are dropped.
+    pub fn new(name: Name, targets: Vec<Name>, sets: Vec<u16>, obs: Vec<Obs>) -> Option<Station>
+        ensures some { IfSome result (λ station. station ≡ record { name = name; targets = targets.items; sets = sets.items; obs = obs.items }) }
+        ensures valid { IfSome result IsStation }
+        ensures none { IfNone result (IsStation (record { name = name; targets = targets.items; sets = sets.items; obs = obs.items }) → ⊥) }
+    {
+        let _ = name.bytes();
+        if are_targets(&targets) && are_sets(&sets) && are_obs(&obs, sets.len(), targets.len()) {
+            return Some(Station {
+                name,
+                targets,
+                sets,
+                obs,
+            });
+        }
+        None
+    }
+
+    /// Its name.
+    pub fn name(&self) -> Name
+        ensures value { result ≡ self.now.name }
+        ensures valid { IsStation self.now }
+    {
+        self.name
+    }
+
+    /// The names of its targets.
+    pub fn targets(&self) -> &[Name]
+        ensures value { result.now ≡ self.now.targets }
+        ensures valid { IsStation self.now }
+    {
+        &self.targets
+    }
+
+    /// The numbers of its sets.
+    pub fn sets(&self) -> &[u16]
+        ensures value { result.now ≡ self.now.sets }
+        ensures valid { IsStation self.now }
+    {
+        &self.sets
+    }
+
+    /// Its observations, by set and within a set by target.
+    pub fn obs(&self) -> &[Obs]
+        ensures value { result.now ≡ self.now.obs }
+        ensures valid { IsStation self.now }
+    {
+        &self.obs
+    }
+}
+
+// A name stays valid: whoever asks is told so.
+fn is_valid(name: &Name) -> bool
+    ensures { IsTrue result ↔ IsName name.now }
+{
+    let _ = name.bytes();
+    true
+}
+
+// Whether these are the targets of a station.
+fn are_targets(targets: &[Name]) -> bool
+    ensures { IsTrue result ↔ AreTargets targets.now }
+{
+    !targets.is_empty()
+        && targets.len() <= MOST_TARGETS
+        && targets.iter().all(is_valid)
+        && are_different_names(targets)
+}
+
+// Whether no name stands twice.
+fn are_different_names(names: &[Name]) -> bool
+    ensures { IsTrue result ↔ AllPairs (λ a b. a ≢ b) names.now }
+{
+    for place in 0..names.len() {
+        let name = names[place];
+        if names[..place].iter().any(|earlier| same(*earlier, name)) {
+            return false;
+        }
+    }
+    true
+}
+
+// Whether a number is one that a set may have.
+fn is_set_number(number: &u16) -> bool
+    ensures { IsTrue result ↔ IsSetNumber number.now }
+{
+    1 <= *number && *number <= LARGEST_SET_NUMBER
+}
+
+// Whether these are the numbers of a station's sets.
+fn are_sets(sets: &[u16]) -> bool
+    ensures { IsTrue result ↔ AreSets sets.now }
+{
+    !sets.is_empty()
+        && sets.len() <= MOST_SETS
+        && sets.iter().all(is_set_number)
+        && are_different_numbers(sets)
+}
+
+// Whether no number stands twice.
+fn are_different_numbers(numbers: &[u16]) -> bool
+    ensures { IsTrue result ↔ AllPairs (λ a b. a ≢ b) numbers.now }
+{
+    for place in 0..numbers.len() {
+        let number = numbers[place];
+        if numbers[..place].iter().any(|earlier| *earlier == number) {
+            return false;
+        }
+    }
+    true
+}
