@@ -6,6 +6,7 @@
 #![tactic(auto)]
 
 mod accepted;
+mod connection;
 mod kernel_fault;
 mod limits;
 mod name;
