@@ -9,6 +9,7 @@ mod accepted;
 mod connection;
 mod kernel_fault;
 mod limits;
+mod matching;
 mod name;
 mod obs;
 mod out_of_memory;
