@@ -4,21 +4,23 @@
 //! adjustment gave them, all over one denominator.
 #![tactic(auto)]
 
+mod accepted;
 mod connection;
+mod greatest;
+mod kernel_fault;
 mod limits;
 mod name;
 mod obs;
 mod out_of_memory;
 mod residual;
-mod accepted;
-mod kernel_fault;
 mod residual_limit;
 mod row;
 mod running;
 mod scan;
 mod sheet;
-mod tally;
 mod station;
+mod sums;
+mod tally;
 
 pub use accepted::Accepted;
 pub use kernel_fault::KernelFault;
@@ -34,5 +36,5 @@ pub use row::{Direction, Orientation, Row};
 pub use running::Running;
 pub use scan::Scan;
 pub use sheet::Sheet;
-pub use tally::Tally;
 pub use station::Station;
+pub use tally::Tally;
