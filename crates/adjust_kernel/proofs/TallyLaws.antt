@@ -8,11 +8,11 @@ use Rattle.std.proofs.lemmas.List.Elements.{All-set, All-weaker, All-replicate}
 use Rattle.adjust_kernel.specs.declared.tally.Added.{Added}
 use Rattle.adjust_kernel.specs.Sums.{int_sum_by, int_sum_where}
 use Rattle.adjust_kernel.specs.Within.{IsWithin}
-use Rattle.adjust_kernel.specs.Tallies.{AreSumsOf, added_of, all_added}
+use Rattle.adjust_kernel.specs.Tallies.{AreSumsOf, added_for_target, added_for_set, added_of, all_added}
 use Rattle.adjust_kernel.specs.declared.obs.Obs.{Obs}
 use Rattle.adjust_kernel.specs.declared.row.Row.{Row}
 use Rattle.adjust_kernel.specs.Readings.{Reading}
-use Rattle.adjust_kernel.specs.Residuals.{Choice, residual}
+use Rattle.adjust_kernel.specs.Residuals.{Choice, residual, target_sum, set_sum}
 use Rattle.adjust_kernel.specs.Pairs.{reading_of, readings_of}
 use Rattle.adjust_kernel.proofs.ReadingLaws.{length-readings_of, get_or-readings_of}
 use native.Mathlib.Decide.{ℕ_discrete}
@@ -87,3 +87,13 @@ all_added-more c obs rows n o r z same below value =
     ∙ ap (λ (x : Reading). all_added c (take n readings) ++ added_of c x ∷ []) (sym e)
     ∙ sym (map-append (added_of c) (take n readings) (get_or readings n d ∷ []))
     ∙ ap (all_added c) (sym (take_more readings n d inside))
+
+-- what was added for a target adds up to the target's sum
+pub added_for_target-all : (c : Choice) (rs : List Reading) (t : ℕ) → added_for_target (all_added c rs) t ≡ target_sum c rs t
+added_for_target-all c [] t = refl
+added_for_target-all c (r ∷ rs) t = ap (λ z. cond (eqb r.target t) (residual c r) (pos 0) +ℤ z) (added_for_target-all c rs t)
+
+-- what was added for a set adds up to the set's sum
+pub added_for_set-all : (c : Choice) (rs : List Reading) (s : ℕ) → added_for_set (all_added c rs) s ≡ set_sum c rs s
+added_for_set-all c [] s = refl
+added_for_set-all c (r ∷ rs) s = ap (λ z. cond (eqb r.set s) (residual c r) (pos 0) +ℤ z) (added_for_set-all c rs s)

@@ -1,6 +1,7 @@
 //! The greatest residual of a sheet, in size.
-ghost use Rattle.std.specs.Prelude.{◌≡◌, pos, ℕ};
-ghost use Rattle.adjust_kernel.specs.Greatest.{greatest_size, larger};
+ghost use Rattle.std.specs.Prelude.{◌≡◌, pos, ℕ, max};
+ghost use Rattle.std.specs.Int.RustNames.{unsigned_abs};
+ghost use Rattle.adjust_kernel.specs.Greatest.{greatest_size};
 ghost use Rattle.adjust_kernel.specs.Pairs.{ArePaired, choice_stated_by, readings_of};
 ghost use Rattle.adjust_kernel.specs.Within.{IsWithin};
 
@@ -12,7 +13,7 @@ use crate::sheet::Sheet;
 // The larger of a size and the size of a residual.
 fn larger_size(size: i128, residual: i128) -> i128
     requires { IsWithin LARGEST_RESIDUAL residual }
-    ensures { (known : ℕ) → size ≡ pos known → result ≡ pos (larger known residual) }
+    ensures { (known : ℕ) → size ≡ pos known → result ≡ pos (max known (unsigned_abs residual)) }
 {
     size.max(residual.abs())
 }

@@ -1,11 +1,14 @@
 //! The kernel of the checker: a station as it was measured, a sheet as somebody adjusted it, and the verdict on both.
 //!
 //! A `Station` has the observed directions of one station, a `Sheet` the directions and orientations that an
-//! adjustment gave them, all over one denominator.
+//! adjustment gave them, all over one denominator. `check` says whether the sheet is the least-squares adjustment of the
+//! station, or the first fault that stands.
 #![tactic(auto)]
 
 mod accepted;
 mod connection;
+mod difference;
+mod excess;
 mod greatest;
 mod kernel_fault;
 mod limits;
@@ -37,4 +40,4 @@ pub use running::Running;
 pub use scan::Scan;
 pub use sheet::Sheet;
 pub use station::Station;
-pub use tally::Tally;
+pub use tally::{Added, Tally};

@@ -1,9 +1,10 @@
 //! The residuals of a sheet, added up once in a tally, and the first target and the first set whose sum isn't 0.
 ghost use Rattle.std.specs.Prelude.{◌≡◌, ◌≢◌, ◌≤◌, ◌<◌, ℕ, pos, List, [], IfNone, IfSome};
-ghost use Rattle.adjust_kernel.specs.declared.tally.Added.{Added};
 ghost use Rattle.adjust_kernel.specs.Firsts.{IsFirstWhere};
 ghost use Rattle.adjust_kernel.specs.Pairs.{ArePaired, choice_stated_by, readings_of};
-ghost use Rattle.adjust_kernel.specs.Tallies.{added_for_target, added_for_set, all_added};
+ghost use Rattle.adjust_kernel.specs.Readings.{Reading};
+ghost use Rattle.adjust_kernel.specs.Residuals.{Choice, target_sum, set_sum};
+ghost use Rattle.adjust_kernel.specs.Tallies.{all_added};
 
 use crate::limits::{MOST_ROWS, MOST_SETS, MOST_TARGETS};
 use crate::obs::Obs;
@@ -28,8 +29,8 @@ pub fn add_residuals<T: Tally>(mut tally: T, sheet: &Sheet, obs: &[Obs]) -> T
 /// The first target from 0 whose residuals don't add to 0.
 pub fn first_uneven_target<T: Tally>(tally: &T, targets: u32) -> Option<u32>
     requires { targets ≤ MOST_TARGETS }
-    ensures none { IfNone result ((l : List Added) → T.StandsFor tally.now l → (t : ℕ) → t < targets → added_for_target l t ≡ pos 0) }
-    ensures some { IfSome result (λ n. (l : List Added) → T.StandsFor tally.now l → IsFirstWhere (λ t. added_for_target l t ≢ pos 0) targets n) }
+    ensures none { IfNone result ((c : Choice) (rs : List Reading) → T.StandsFor tally.now (all_added c rs) → (t : ℕ) → t < targets → target_sum c rs t ≡ pos 0) }
+    ensures some { IfSome result (λ n. (c : Choice) (rs : List Reading) → T.StandsFor tally.now (all_added c rs) → IsFirstWhere (λ t. target_sum c rs t ≢ pos 0) targets n) }
 {
     for target in 0..targets {
         if tally.target_sum(target) != 0 {
@@ -42,8 +43,8 @@ pub fn first_uneven_target<T: Tally>(tally: &T, targets: u32) -> Option<u32>
 /// The first set from 0 whose residuals don't add to 0.
 pub fn first_uneven_set<T: Tally>(tally: &T, sets: u32) -> Option<u32>
     requires { sets ≤ MOST_SETS }
-    ensures none { IfNone result ((l : List Added) → T.StandsFor tally.now l → (s : ℕ) → s < sets → added_for_set l s ≡ pos 0) }
-    ensures some { IfSome result (λ n. (l : List Added) → T.StandsFor tally.now l → IsFirstWhere (λ s. added_for_set l s ≢ pos 0) sets n) }
+    ensures none { IfNone result ((c : Choice) (rs : List Reading) → T.StandsFor tally.now (all_added c rs) → (s : ℕ) → s < sets → set_sum c rs s ≡ pos 0) }
+    ensures some { IfSome result (λ n. (c : Choice) (rs : List Reading) → T.StandsFor tally.now (all_added c rs) → IsFirstWhere (λ s. set_sum c rs s ≢ pos 0) sets n) }
 {
     for set in 0..sets {
         if tally.set_sum(set) != 0 {

@@ -2,10 +2,12 @@ use Rattle.std.proofs.Common.{arith, ◌≡◌, ◌≤◌, ◌<◌, ◌∙◌, a
 use Rattle.std.proofs.lemmas.Int.{ints, to_z-of_z}
 use Rattle.std.proofs.lemmas.List.{take_all}
 use Rattle.std.proofs.lemmas.List.Sums.{fold_more}
+use Rattle.std.specs.Prelude.{max}
+use Rattle.std.specs.Int.RustNames.{unsigned_abs}
 use Rattle.adjust_kernel.specs.Readings.{Reading}
 use Rattle.adjust_kernel.specs.Residuals.{residual}
 use Rattle.adjust_kernel.specs.Pairs.{choice_stated_by, readings_of}
-use Rattle.adjust_kernel.specs.Greatest.{greatest_size, larger}
+use Rattle.adjust_kernel.specs.Greatest.{greatest_size}
 use Rattle.adjust_kernel.proofs.ReadingLaws.{length-readings_of}
 use Rattle.adjust_kernel.proofs.greatest.greatest_residual.Goals as goal
 use mir.Syntax.{w128}
@@ -21,8 +23,8 @@ loop-row-preserved c =
     let inside : c.loop-row.row < length readings = let k = length-readings_of c.args.obs.now c.args.sheet.now.rows c.requires.same_length in omega (arith, c.loop-row-test.true) in
     to_z-of_z w128 c.larger_size-greatest.result out
     ∙ c.larger_size-greatest.ensures known c.loop-row.invariant
-    ∙ ap (λ z. pos (larger known z)) (to_z-of_z w128 c.row_residual.result fits ∙ c.row_residual.ensures.value d)
-    ∙ ap pos (sym (fold_more (λ (size : ℕ) (r : Reading). larger size (v r)) 0 readings c.loop-row.row d inside))
+    ∙ ap (λ z. pos (max known (unsigned_abs z))) (to_z-of_z w128 c.row_residual.result fits ∙ c.row_residual.ensures.value d)
+    ∙ ap pos (sym (fold_more (λ (size : ℕ) (r : Reading). max size (unsigned_abs (v r))) 0 readings c.loop-row.row d inside))
 
 pub returns : goal.returns
 returns c =
