@@ -7,6 +7,8 @@
 
 mod accepted;
 mod connection;
+mod excess;
+mod greatest;
 mod kernel_fault;
 mod limits;
 mod matching;
@@ -20,6 +22,7 @@ mod running;
 mod scan;
 mod sheet;
 mod station;
+mod sums;
 mod tally;
 
 pub use accepted::Accepted;
