@@ -7,7 +7,6 @@
 
 mod accepted;
 mod connection;
-mod difference;
 mod excess;
 mod greatest;
 mod kernel_fault;
