@@ -6,18 +6,27 @@ ghost use Rattle.adjust_kernel.specs.Pairs.{ArePaired, choice_stated_by, reading
 ghost use Rattle.adjust_kernel.specs.Residuals.{residual};
 ghost use Rattle.adjust_kernel.specs.Turns.{IsLimited};
 
-use crate::limits::{LARGEST_DENOMINATOR, LARGEST_RESIDUAL_LIMIT};
+use crate::limits::LARGEST_DENOMINATOR;
 use crate::obs::Obs;
 use crate::residual::row_residual;
 use crate::residual_limit::ResidualLimit;
 use crate::sheet::Sheet;
 
-// A limit in half units, times the denominator.
-fn scaled_limit(limit: ResidualLimit, denominator: u64) -> i128
+// Whether a scaled residual is in size above a limit.
+fn is_above(residual: i128, limit: ResidualLimit, denominator: u64) -> bool
     requires { denominator ≤ LARGEST_DENOMINATOR }
-    ensures { result ≡ pos (limit * denominator) }
+    ensures { IsTrue result ↔ (limit * denominator < unsigned_abs residual) }
 {
-    i128::from(limit.half_units()) * i128::from(denominator)
+    residual.unsigned_abs() > u128::from(limit.half_units()) * u128::from(denominator)
+}
+
+// Whether the residual of a row is in size above a limit.
+fn is_row_above(sheet: &Sheet, obs: &[Obs], limit: ResidualLimit, row: usize) -> bool
+    requires paired { ArePaired sheet.now obs.now }
+    requires row { row < length obs.now }
+    ensures { IsTrue result ↔ (limit * sheet.now.denominator < unsigned_abs (slice_index_or (map (residual (choice_stated_by sheet.now)) (readings_of obs.now sheet.now.rows)) row (pos 0))) }
+{
+    is_above(row_residual(sheet, obs, row), limit, sheet.denominator())
 }
 
 /// The first row from 0 whose scaled residual is in size above the limit times the denominator.
@@ -26,9 +35,8 @@ pub fn first_excess(sheet: &Sheet, obs: &[Obs], limit: ResidualLimit) -> Option<
     ensures none { IfNone result (IsLimited limit (choice_stated_by sheet.now) (readings_of obs.now sheet.now.rows)) }
     ensures some { IfSome result (λ n. IsFirstWhere (λ row. limit * sheet.now.denominator < unsigned_abs (slice_index_or (map (residual (choice_stated_by sheet.now)) (readings_of obs.now sheet.now.rows)) row (pos 0))) (length (readings_of obs.now sheet.now.rows)) n) }
 {
-    let most = scaled_limit(limit, sheet.denominator());
     for row in 0..obs.len() {
-        if row_residual(sheet, obs, row).abs() > most {
+        if is_row_above(sheet, obs, limit, row) {
             return Some(row);
         }
     }
