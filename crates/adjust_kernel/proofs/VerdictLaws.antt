@@ -1,5 +1,5 @@
 -- At most one verdict stands for a station, a sheet and a limit.
-use Rattle.std.proofs.Common.{◌≡◌, ◌≢◌, ℕ, suc, zero, ◌+◌, ◌*◌, ◌<◌, ◌≤◌, List, [], ◌∷◌, take, ℤ, pos, negsuc, Option, Some, None, Result, Ok, Err, arith, ap, refl, sym, ◌∙◌, subst, get_or}
+use Rattle.std.proofs.Common.{◌≡◌, ◌≢◌, ℕ, suc, zero, ◌+◌, ◌*◌, ◌<◌, ◌≤◌, List, [], ◌∷◌, length, take, ℤ, pos, negsuc, Option, Some, None, Result, Ok, Err, arith, ap, refl, sym, ◌∙◌, subst, get_or}
 use Rattle.std.specs.List.{slice_get}
 use Rattle.std.specs.Int.RustNames.{unsigned_abs}
 use Rattle.std.proofs.lemmas.Int.{ints}
@@ -68,8 +68,8 @@ module _ (station : StationValue) (sheet : SheetValue) where
       let small = size_within (most * sheet.denominator) (residual (choice_stated_by sheet) (get_or (readings station sheet) k any_reading)) (clear k any_reading f.inside) in
       let large = subst (λ z. most * sheet.denominator < unsigned_abs z) at f.here in
       omega arith where
-    any_reading : Reading
-    any_reading = record { set = 0; target = 0; value = 0; turn = pos 0 }
+        any_reading : Reading
+        any_reading = record { set = 0; target = 0; value = 0; turn = pos 0 }
 
   -- of two faults that stand, and that are looked for at one place in the order
   one_fault : (limit : Option ℕ) (f g : KernelFault) → order_of f ≡ order_of g → Stands station sheet limit f → Stands station sheet limit g → f ≡ g

@@ -10,6 +10,8 @@ ghost use Rattle.adjust_kernel.specs.Connected.{IsConnected};
 ghost use Rattle.adjust_kernel.specs.Matching.{Matches};
 ghost use Rattle.adjust_kernel.specs.Pairs.{choice_stated_by};
 ghost use Rattle.adjust_kernel.specs.Promises.{TellsOfSquares};
+ghost use Rattle.adjust_kernel.specs.Sheets.{IsSheet};
+ghost use Rattle.adjust_kernel.specs.Stations.{IsStation};
 ghost use Rattle.adjust_kernel.specs.Tallies.{all_added};
 ghost use Rattle.adjust_kernel.specs.Turns.{IsLimited};
 ghost use Rattle.adjust_kernel.specs.Verdict.{IsVerdict, TargetsAddUp, SetsAddUp, acceptance_of, readings};
@@ -19,7 +21,7 @@ use crate::connection::is_connected;
 use crate::excess::first_excess;
 use crate::greatest::greatest_residual;
 use crate::kernel_fault::KernelFault;
-use crate::limits::MOST_ROWS;
+use crate::limits::{LARGEST_RESIDUAL_LIMIT, MOST_ROWS};
 use crate::matching::matches_station;
 use crate::residual_limit::ResidualLimit;
 use crate::running::Running;
@@ -73,6 +75,9 @@ fn verdict_of<T: Tally>(
     requires nothing { T.StandsFor tally [] }
     requires room { T.room tally ≡ MOST_ROWS }
     ensures verdict { IsVerdict station.now sheet.now residual result }
+    ensures valid_station { IsStation station.now }
+    ensures valid_sheet { IsSheet sheet.now }
+    ensures valid_limit { OnOk result (IfSome residual (λ most. most ≤ LARGEST_RESIDUAL_LIMIT)) }
 {
     matches_station(station, sheet)?;
     adds_up(tally, station, sheet)?;
@@ -125,10 +130,11 @@ fn keeps_limit(
     requires sets { SetsAddUp station.now sheet.now }
     requires connected { IsConnected (length station.now.sets) (length station.now.targets) (readings station.now sheet.now) }
     ensures ok { OnOk result (IfSome residual (λ most. IsLimited most (choice_stated_by sheet.now) (readings station.now sheet.now))) }
+    ensures valid { OnOk result (IfSome residual (λ most. most ≤ LARGEST_RESIDUAL_LIMIT)) }
     ensures err { IfErr result (λ fault. IsVerdict station.now sheet.now residual (Err fault)) }
 {
     if let Some(limit) = residual {
-        if let Some(row) = first_excess(sheet, station.obs(), limit) {
+        if let Some(row) = first_excess(sheet, station.obs(), limit.half_units()) {
             return Err(KernelFault::Residual(row as u32 + 1));
         }
     }
