@@ -11,6 +11,7 @@ mod excess;
 mod greatest;
 mod kernel_fault;
 mod limits;
+mod matching;
 mod name;
 mod obs;
 mod out_of_memory;
