@@ -42,13 +42,12 @@ impl Tally for Scan {
     }
 
     fn add(&mut self, target: u32, set: u32, residual: i128) {
-        self.added
-            .push(Added {
-                target,
-                set,
-                residual,
-            })
-            .unwrap();
+        let added = Added {
+            target,
+            set,
+            residual,
+        };
+        self.added.push(added).unwrap();
     }
 
     fn target_sum(&self, target: u32) -> i128 {
