@@ -145,3 +145,6 @@ fn are_different_numbers(numbers: &[u16]) -> bool
     }
     true
 }
+
+#[cfg(test)]
+mod tests;

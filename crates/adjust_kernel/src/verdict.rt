@@ -155,3 +155,6 @@ fn acceptance(station: &Station, sheet: &Sheet) -> Accepted
         denominator: sheet.denominator(),
     }
 }
+
+#[cfg(test)]
+mod tests;
