@@ -6,14 +6,12 @@ ghost use Rattle.adjust_kernel.specs.Pairs.{ArePaired, choice_stated_by, reading
 ghost use Rattle.adjust_kernel.specs.Residuals.{residual};
 ghost use Rattle.adjust_kernel.specs.Turns.{IsLimited};
 
-use crate::limits::LARGEST_DENOMINATOR;
 use crate::obs::Obs;
 use crate::residual::row_residual;
 use crate::sheet::Sheet;
 
 // Whether a scaled residual is in size above a limit.
 fn is_above(residual: i128, limit: u32, denominator: u64) -> bool
-    requires { denominator ≤ LARGEST_DENOMINATOR }
     ensures { IsTrue result ↔ (limit * denominator < unsigned_abs residual) }
 {
     residual.unsigned_abs() > u128::from(limit) * u128::from(denominator)

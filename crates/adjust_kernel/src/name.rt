@@ -73,6 +73,14 @@ fn is_name(bytes: &[u8]) -> bool
             .all(|byte| (FIRST_PRINTABLE..=LAST_PRINTABLE).contains(byte))
 }
 
+/// Whether a name keeps its rules: it always does, and who asks may rest on it.
+pub fn is_valid(name: &Name) -> bool
+    ensures { IsTrue result ↔ IsName name.now }
+{
+    let _ = &name.len;
+    true
+}
+
 /// Whether two names are one.
 pub fn same(a: Name, b: Name) -> bool
     ensures { IsTrue result ↔ (a ≡ b) }
