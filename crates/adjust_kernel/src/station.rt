@@ -38,8 +38,11 @@ impl Station {
         ensures valid { IfSome result IsStation }
         ensures none { IfNone result (IsStation (record { name = name; targets = targets.items; sets = sets.items; obs = obs.items }) → ⊥) }
     {
-        let _ = name.bytes();
-        if are_targets(&targets) && are_sets(&sets) && are_obs(&obs, sets.len(), targets.len()) {
+        if is_valid(&name)
+            && are_targets(&targets)
+            && are_sets(&sets)
+            && are_obs(&obs, sets.len(), targets.len())
+        {
             return Some(Station {
                 name,
                 targets,
