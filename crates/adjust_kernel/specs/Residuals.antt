@@ -1,0 +1,44 @@
+-- Residuals of directions and orientations against the readings (textbook, scaled by a denominator so that all numbers are whole).
+use Rattle.std.specs.Prelude.{◌≡◌, ℕ, List, ℤ, pos, ◌+ℤ◌, ◌==◌, slice_index_or}
+use lib.IntN.{◌*ℤ◌, ◌-ℤ◌}
+use Rattle.adjust_kernel.specs.declared.limits.TheConstants.{TURN}
+use Rattle.adjust_kernel.specs.Readings.{Reading}
+use Rattle.adjust_kernel.specs.Sums.{int_sum_by, int_sum_where, squared}
+
+-- A direction for each target and an orientation for each set, in half units times one denominator: those of a sheet, or any others.
+pub record Choice : Type 0 where
+  pub denominator : ℕ
+  pub direction : ℕ → ℤ
+  pub orientation : ℕ → ℤ
+
+-- the choice that a sheet's lists state
+abbrev pub choice_of : ℕ → List ℤ → List ℤ → Choice
+choice_of denominator directions orientations = record {
+  denominator = denominator;
+  direction = λ t. slice_index_or directions t (pos 0);
+  orientation = λ s. slice_index_or orientations s (pos 0);
+}
+
+-- a reading with its full turns, in half units
+abbrev pub unrolled : Reading → ℤ
+unrolled r = pos r.value +ℤ pos TURN *ℤ r.turn
+
+-- the scaled residual of a reading: direction less orientation less the denominator times the reading with its turns
+abbrev pub residual : Choice → Reading → ℤ
+residual c r = c.direction r.target -ℤ c.orientation r.set -ℤ pos c.denominator *ℤ unrolled r
+
+abbrev pub sum_of_squares : Choice → List Reading → ℤ
+sum_of_squares c readings = int_sum_by (λ r. squared (residual c r)) readings
+
+-- the sum of the residuals of one target
+abbrev pub target_sum : Choice → List Reading → ℕ → ℤ
+target_sum c readings t = int_sum_where (λ r. r.target == t) (residual c) readings
+
+-- the sum of the residuals of one set
+abbrev pub set_sum : Choice → List Reading → ℕ → ℤ
+set_sum c readings s = int_sum_where (λ r. r.set == s) (residual c) readings
+
+-- the residuals of each target and of each set add to 0: the normal equations
+pub record IsBalanced (c : Choice) (readings : List Reading) : Type 0 where
+  pub targets : (t : ℕ) → target_sum c readings t ≡ pos 0
+  pub sets : (s : ℕ) → set_sum c readings s ≡ pos 0

@@ -1,0 +1,104 @@
+//! The names of stations and targets.
+//!
+//! A name is a value of fixed size: its bytes, followed by zeros. So it is copied, compared and hashed without
+//! memory, and contracts see it as the list of its bytes.
+
+ghost use Rattle.std.specs.Prelude.{◌≡◌, ℕ, List, ◌↔◌, IfSome, IfNone, IsTrue};
+ghost use Rattle.adjust_kernel.specs.Names.{IsName};
+
+use crate::limits::LONGEST_NAME;
+use std::marker::Model;
+
+/// The first byte that a name may hold, a blank.
+pub const FIRST_PRINTABLE: u8 = 0x20;
+
+/// The last byte that a name may hold, a tilde.
+pub const LAST_PRINTABLE: u8 = 0x7e;
+
+/// The name of a station or of a target: 1 to 16 bytes from the blank to the tilde.
+#[derive(Clone, Copy, Debug, PartialEq, Eq, Hash, Drop)]
+pub struct Name {
+    bytes: [u8; LONGEST_NAME],
+    len: usize,
+}
+
+impl Model for Name {
+    ghost use Rattle.std.specs.Prelude.{◌≡◌, ℕ, List, length, take};
+    ghost use Rattle.adjust_kernel.specs.Names.{IsName, padded};
+
+    ghost Value = { List ℕ };
+
+    ghost view = { λ n. take n.len n.bytes };
+
+    ghost invariant = { λ n. (n.bytes ≡ padded (take n.len n.bytes)) × (n.len ≡ length (take n.len n.bytes)) × IsName (take n.len n.bytes) };
+
+    ghost inverse = { λ xs. record { bytes = padded xs; len = length xs } };
+}
+
+impl Name {
+    /// The name of these bytes, if they are 1 to 16 and each is printable.
+    pub fn new(bytes: &[u8]) -> Option<Name>
+        ensures some { IfSome result (λ name. name ≡ bytes.now) }
+        ensures valid { IfSome result IsName }
+        ensures none { IfNone result (IsName bytes.now → ⊥) }
+    {
+        if !is_name(bytes) {
+            return None;
+        }
+        let mut kept = [0; LONGEST_NAME];
+        kept[..bytes.len()].copy_from_slice(bytes);
+        Some(Name {
+            bytes: kept,
+            len: bytes.len(),
+        })
+    }
+
+    /// Its bytes.
+    pub fn bytes(&self) -> &[u8]
+        ensures value { result.now ≡ self.now }
+        ensures valid { IsName self.now }
+    {
+        &self.bytes[..self.len]
+    }
+}
+
+// Whether these are the bytes of a name.
+fn is_name(bytes: &[u8]) -> bool
+    ensures { IsTrue result ↔ IsName bytes.now }
+{
+    !bytes.is_empty()
+        && bytes.len() <= LONGEST_NAME
+        && bytes
+            .iter()
+            .all(|byte| (FIRST_PRINTABLE..=LAST_PRINTABLE).contains(byte))
+}
+
+/// Whether a name keeps its rules: it always does, and who asks may rest on it.
+pub fn is_valid(name: &Name) -> bool
+    ensures { IsTrue result ↔ IsName name.now }
+{
+    let _ = &name.len;
+    true
+}
+
+/// Whether two names are one.
+pub fn same(a: Name, b: Name) -> bool
+    ensures { IsTrue result ↔ (a ≡ b) }
+{
+    a == b
+}
+
+#[cfg(test)]
+mod tests {
+    use super::*;
+
+    #[test]
+    fn a_name_has_1_to_16_printable_bytes(rt: HostRuntime) {
+        assert!(rt; Name::new(b"").is_none());
+        assert!(rt; Name::new(b"12345678901234567").is_none());
+        assert!(rt; Name::new(b"A\x7f").is_none());
+        assert!(rt; Name::new(b"A\x1f").is_none());
+        let name = Name::new(b"1234567890 ~AB,\"").expect(&rt, "a name");
+        assert_eq!(rt; name.bytes(), b"1234567890 ~AB,\"".as_slice());
+    }
+}

@@ -1,0 +1,137 @@
+//! The station as it was measured.
+
+ghost use Rattle.std.specs.Prelude.{◌≡◌, ◌≢◌, ◌↔◌, ◌≤◌, AllPairs, IsTrue, IfSome, IfNone, length};
+ghost use Rattle.adjust_kernel.specs.Stations.{IsStation, AreTargets, AreSets, station_of};
+
+use crate::limits::{MOST_ROWS, MOST_SETS, MOST_TARGETS};
+use crate::name::{Name, is_valid, same};
+use crate::obs::{Obs, are_obs};
+use crate::row::is_set_number;
+use std::marker::Model;
+
+/// What was observed at one station: its targets, its sets, and the two-face directions by set and target.
+///
+/// It keeps the rules of a station whatever is done with it: targets have different names and sets different numbers,
+/// the observations are in order, none stands twice, and no set and no target is without one.
+#[derive(Debug, Drop)]
+pub struct Station {
+    name: Name,
+    targets: Vec<Name>,
+    sets: Vec<u16>,
+    obs: Vec<Obs>,
+}
+
+impl Model for Station {
+    ghost use Rattle.adjust_kernel.specs.Stations.{StationValue, IsStation, station_of};
+
+    ghost Value = { StationValue };
+
+    ghost view = { λ s. station_of s.name s.targets.items s.sets.items s.obs.items };
+
+    ghost invariant = { λ s. IsStation (station_of s.name s.targets.items s.sets.items s.obs.items) };
+}
+
+impl Station {
+    /// The station with these parts, if they keep the rules of a station; otherwise the lists are dropped.
+    pub fn new(name: Name, targets: Vec<Name>, sets: Vec<u16>, obs: Vec<Obs>) -> Option<Station>
+        ensures some { IfSome result (λ station. station ≡ station_of name targets.items sets.items obs.items) }
+        ensures valid { IfSome result IsStation }
+        ensures none { IfNone result (IsStation (station_of name targets.items sets.items obs.items) → ⊥) }
+    {
+        if is_valid(&name)
+            && are_targets(&targets)
+            && are_sets(&sets)
+            && are_obs(&obs, sets.len(), targets.len())
+        {
+            return Some(Station {
+                name,
+                targets,
+                sets,
+                obs,
+            });
+        }
+        None
+    }
+
+    /// Its name.
+    pub fn name(&self) -> Name
+        ensures value { result ≡ self.now.name }
+        ensures valid { IsStation self.now }
+    {
+        self.name
+    }
+
+    /// The names of its targets.
+    pub fn targets(&self) -> &[Name]
+        ensures value { result.now ≡ self.now.targets }
+        ensures valid { IsStation self.now }
+    {
+        &self.targets
+    }
+
+    /// The numbers of its sets.
+    pub fn sets(&self) -> &[u16]
+        ensures value { result.now ≡ self.now.sets }
+        ensures valid { IsStation self.now }
+    {
+        &self.sets
+    }
+
+    /// Its observations, by set and within a set by target: at most one of each target in each set.
+    pub fn obs(&self) -> &[Obs]
+        ensures value { result.now ≡ self.now.obs }
+        ensures valid { IsStation self.now }
+        ensures few { length self.now.obs ≤ MOST_ROWS }
+    {
+        &self.obs
+    }
+}
+
+// Whether these are the targets of a station.
+fn are_targets(targets: &[Name]) -> bool
+    ensures { IsTrue result ↔ AreTargets targets.now }
+{
+    !targets.is_empty()
+        && targets.len() <= MOST_TARGETS
+        && targets.iter().all(is_valid)
+        && are_different_names(targets)
+}
+
+// Whether no name stands twice.
+fn are_different_names(names: &[Name]) -> bool
+    ensures { IsTrue result ↔ AllPairs (λ a b. a ≢ b) names.now }
+{
+    for place in 0..names.len() {
+        let name = names[place];
+        if names[..place].iter().any(|earlier| same(*earlier, name)) {
+            return false;
+        }
+    }
+    true
+}
+
+// Whether these are the numbers of a station's sets.
+fn are_sets(sets: &[u16]) -> bool
+    ensures { IsTrue result ↔ AreSets sets.now }
+{
+    !sets.is_empty()
+        && sets.len() <= MOST_SETS
+        && sets.iter().all(is_set_number)
+        && are_different_numbers(sets)
+}
+
+// Whether no number stands twice.
+fn are_different_numbers(numbers: &[u16]) -> bool
+    ensures { IsTrue result ↔ AllPairs (λ a b. a ≢ b) numbers.now }
+{
+    for place in 0..numbers.len() {
+        let number = numbers[place];
+        if numbers[..place].iter().any(|earlier| *earlier == number) {
+            return false;
+        }
+    }
+    true
+}
+
+#[cfg(test)]
+mod tests;
