@@ -4,14 +4,20 @@
 //! adjustment gave them, all over one denominator.
 #![tactic(auto)]
 
-mod accepted;
-mod kernel_fault;
+mod connection;
 mod limits;
 mod name;
 mod obs;
+mod out_of_memory;
+mod residual;
+mod accepted;
+mod kernel_fault;
 mod residual_limit;
 mod row;
+mod running;
+mod scan;
 mod sheet;
+mod tally;
 mod station;
 
 pub use accepted::Accepted;
@@ -22,7 +28,11 @@ pub use limits::{
 };
 pub use name::Name;
 pub use obs::Obs;
+pub use out_of_memory::OutOfMemory;
 pub use residual_limit::ResidualLimit;
 pub use row::{Direction, Orientation, Row};
+pub use running::Running;
+pub use scan::Scan;
 pub use sheet::Sheet;
+pub use tally::Tally;
 pub use station::Station;

@@ -1,0 +1,68 @@
+-- One more residual in running sums.
+use Rattle.std.proofs.Common.{◌≡◌, ◌≢◌, ℕ, suc, zero, ◌+◌, ◌*◌, ◌≤◌, ◌<◌, Bool, true, false, cond, eqb, List, [], ◌∷◌, ◌++◌, length, replicate, set, get_or, All, ℤ, pos, neg_ℤ, ◌+ℤ◌, ◌≤ℤ◌, arith, ap, refl, sym, ◌∙◌, subst, eq-eqb}
+use Rattle.std.proofs.Math.IntN.{+ℤ_idr, ◌*ℤ◌}
+use Rattle.std.proofs.lemmas.Int.{ints}
+use Rattle.std.proofs.lemmas.Bool.{ne_eqb}
+use Rattle.std.proofs.lemmas.List.{get_or-set_same, get_or-set_other, length-set, length-append, get_or-replicate, take_more}
+use Rattle.std.proofs.lemmas.List.Elements.{All-set, All-weaker, All-replicate}
+use Rattle.adjust_kernel.specs.declared.tally.Added.{Added}
+use Rattle.adjust_kernel.specs.Sums.{int_sum_by, int_sum_where}
+use Rattle.adjust_kernel.specs.Within.{IsWithin}
+use Rattle.adjust_kernel.specs.Tallies.{AreSumsOf}
+use native.Mathlib.Decide.{ℕ_discrete}
+
+-- a sum with one more element
+pub int_sum_by-push : {X : Type 0} (f : X → ℤ) (xs : List X) (x : X) → int_sum_by f (xs ++ x ∷ []) ≡ int_sum_by f xs +ℤ f x
+int_sum_by-push f [] x = omega (arith, ints)
+int_sum_by-push f (y ∷ xs) x = let e = int_sum_by-push f xs x in omega (arith, ints)
+
+-- the sums of all keys below a count, with one more element
+one_more : {X : Type 0} (key : X → ℕ) (f : X → ℤ) (sums : List ℤ) (l : List X) (x : X) (count : ℕ) → key x < length sums
+    → ((k : ℕ) → k < count → get_or sums k (pos 0) ≡ int_sum_where (λ a. eqb (key a) k) f l)
+    → (k : ℕ) → k < count → get_or (set sums (key x) (get_or sums (key x) (pos 0) +ℤ f x)) k (pos 0) ≡ int_sum_where (λ a. eqb (key a) k) f (l ++ x ∷ [])
+one_more key f sums l x count inside h k below = by (ℕ_discrete k (key x))
+  where
+    by : Dec (k ≡ key x) → get_or (set sums (key x) (get_or sums (key x) (pos 0) +ℤ f x)) k (pos 0) ≡ int_sum_where (λ a. eqb (key a) k) f (l ++ x ∷ [])
+    by (yes e) =
+        ap (λ (n : ℕ). get_or (set sums (key x) (get_or sums (key x) (pos 0) +ℤ f x)) n (pos 0)) e
+        ∙ get_or-set_same sums (key x) (get_or sums (key x) (pos 0) +ℤ f x) (pos 0) inside
+        ∙ ap (λ z. z +ℤ f x) (ap (λ (n : ℕ). get_or sums n (pos 0)) (sym e) ∙ h k below)
+        ∙ ap (λ b. int_sum_where (λ a. eqb (key a) k) f l +ℤ cond b (f x) (pos 0)) (sym (eq-eqb (key x) k (sym e)))
+        ∙ sym (int_sum_by-push (λ a. cond (eqb (key a) k) (f a) (pos 0)) l x)
+    by (no n) =
+        get_or-set_other sums (key x) k (get_or sums (key x) (pos 0) +ℤ f x) (pos 0) n
+        ∙ h k below
+        ∙ sym (+ℤ_idr (int_sum_where (λ a. eqb (key a) k) f l))
+        ∙ ap (λ b. int_sum_where (λ a. eqb (key a) k) f l +ℤ cond b (f x) (pos 0)) (sym (ne_eqb (key x) k (λ e. n (sym e))))
+        ∙ sym (int_sum_by-push (λ a. cond (eqb (key a) k) (f a) (pos 0)) l x)
+
+pub keeps_sums : (targets sets : List ℤ) (taken : ℕ) (l : List Added) (x : Added) → length targets ≡ 100 → length sets ≡ 40 → x.target < 100 → x.set < 40 → AreSumsOf l targets sets taken
+    → AreSumsOf (l ++ x ∷ []) (set targets x.target (get_or targets x.target (pos 0) +ℤ x.residual)) (set sets x.set (get_or sets x.set (pos 0) +ℤ x.residual)) (taken + 1)
+keeps_sums targets sets taken l x a b p q s = record {
+  number = let e = length-append l (x ∷ []) in let n = s.number in omega arith;
+  of_targets = one_more (λ (y : Added). y.target) (λ y. y.residual) targets l x 100 (omega arith) s.of_targets;
+  of_sets = one_more (λ (y : Added). y.set) (λ y. y.residual) sets l x 40 (omega arith) s.of_sets;
+}
+
+-- each sum of n elements grows by one element at most
+pub still_within : (m n : ℕ) (sums : List ℤ) (i : ℕ) (z : ℤ) → i < length sums → IsWithin (pos m) z → All (IsWithin (pos (m * n))) sums → All (IsWithin (pos (m * (n + 1)))) (set sums i (get_or sums i (pos 0) +ℤ z))
+still_within m n sums i z inside w all =
+    All-set (IsWithin (pos (m * (n + 1)))) sums i (get_or sums i (pos 0) +ℤ z) (let v = all i (pos 0) inside in sum_within (get_or sums i (pos 0)) v)
+    (All-weaker (IsWithin (pos (m * n))) (IsWithin (pos (m * (n + 1)))) more sums all)
+  where
+    sum_within : (y : ℤ) → IsWithin (pos (m * n)) y → IsWithin (pos (m * (n + 1))) (y +ℤ z)
+    sum_within y v = let a = v.low in let b = v.high in let c = w.low in let d = w.high in record { low = omega (arith, ints); high = omega (arith, ints) }
+
+    more : (y : ℤ) → IsWithin (pos (m * n)) y → IsWithin (pos (m * (n + 1))) y
+    more y v = let a = v.low in let b = v.high in record { low = omega (arith, ints); high = omega (arith, ints) }
+
+-- nothing was added yet
+pub zeros_within : (n : ℕ) → All (IsWithin (pos 0)) (replicate n (pos 0))
+zeros_within n = All-replicate (IsWithin (pos 0)) n (pos 0) (record { low = omega (arith, ints); high = omega (arith, ints) })
+
+pub zeros_are_sums : AreSumsOf [] (replicate 100 (pos 0)) (replicate 40 (pos 0)) 0
+zeros_are_sums = record {
+  number = refl;
+  of_targets = λ t below. get_or-replicate 100 t (pos 0) (pos 0) below;
+  of_sets = λ s below. get_or-replicate 40 s (pos 0) (pos 0) below;
+}

@@ -1,0 +1,68 @@
+//! Scaled residuals: what is left of a direction, less the orientation, against the reading.
+//!
+//! Everything is in half units times the sheet's denominator, so that all numbers are whole. Each step has its own
+//! bound, and no step is near the end of 128 bits.
+ghost use Rattle.std.specs.Prelude.{◌≡◌, ◌≤◌, ◌<◌, pos, ◌*ℤ◌, length};
+ghost use Rattle.adjust_kernel.specs.Within.{IsWithin};
+ghost use Rattle.adjust_kernel.specs.Stations.{IsObs};
+ghost use Rattle.adjust_kernel.specs.Pairs.{reading_of, choice_stated_by};
+ghost use Rattle.adjust_kernel.specs.Residuals.{residual};
+ghost use Rattle.adjust_kernel.specs.Residuals as Residuals;
+
+use crate::limits::{LARGEST_ANGLE, LARGEST_DENOMINATOR, LARGEST_RESIDUAL, LARGEST_TURN, TURN};
+use crate::obs::Obs;
+use crate::sheet::Sheet;
+
+// No reading with its full turns is larger than this, in half units.
+const LARGEST_READING: i128 = (LARGEST_TURN as i128 + 1) * TURN as i128;
+
+// A reading with its full turns.
+fn unrolled(obs: &Obs, turn: i8) -> i128
+    requires value { obs.now.value < TURN }
+    requires turn { IsWithin LARGEST_TURN turn }
+    ensures value { result ≡ Residuals.unrolled (reading_of obs.now turn) }
+    ensures bound { IsWithin LARGEST_READING result }
+{
+    i128::from(obs.value) + i128::from(TURN) * i128::from(turn)
+}
+
+// A reading with its full turns, times the denominator.
+fn scaled(denominator: u64, reading: i128) -> i128
+    requires denominator { denominator ≤ LARGEST_DENOMINATOR }
+    requires reading { IsWithin LARGEST_READING reading }
+    ensures value { result ≡ (pos denominator *ℤ reading) }
+    ensures bound { IsWithin (pos LARGEST_DENOMINATOR *ℤ LARGEST_READING) result }
+{
+    i128::from(denominator) * reading
+}
+
+// The direction of a target.
+fn direction_of(sheet: &Sheet, target: u32) -> i128
+    requires { target < length sheet.now.directions }
+    ensures value { result ≡ (choice_stated_by sheet.now).direction target }
+    ensures bound { IsWithin LARGEST_ANGLE result }
+{
+    sheet.directions()[target as usize].value
+}
+
+// The orientation of a set.
+fn orientation_of(sheet: &Sheet, set: u32) -> i128
+    requires { set < length sheet.now.orientations }
+    ensures value { result ≡ (choice_stated_by sheet.now).orientation set }
+    ensures bound { IsWithin LARGEST_ANGLE result }
+{
+    sheet.orientations()[set as usize].value
+}
+
+/// The scaled residual of an observation, which the sheet reads with these full turns.
+pub fn residual_at(sheet: &Sheet, obs: &Obs, turn: i8) -> i128
+    requires obs { IsObs (length sheet.now.orientations) (length sheet.now.directions) obs.now }
+    requires turn { IsWithin LARGEST_TURN turn }
+    ensures value { result ≡ residual (choice_stated_by sheet.now) (reading_of obs.now turn) }
+    ensures bound { IsWithin LARGEST_RESIDUAL result }
+{
+    let direction = direction_of(sheet, obs.target);
+    let orientation = orientation_of(sheet, obs.set);
+    let reading = scaled(sheet.denominator(), unrolled(obs, turn));
+    direction - orientation - reading
+}
