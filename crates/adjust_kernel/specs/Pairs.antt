@@ -19,3 +19,18 @@ abbrev pub readings_of : List Obs → List Row → List Reading
 readings_of [] rows = []
 readings_of (o ∷ obs) [] = []
 readings_of (o ∷ obs) (r ∷ rows) = reading_of o r.turn ∷ readings_of obs rows
+
+-- what a row of a sheet and an observation of a station have to agree in: the number of the set, the name of the target,
+-- and the direction
+pub record Key : Type 0 where
+  pub set : ℕ
+  pub target : List ℕ
+  pub value : ℕ
+
+-- the key of a row
+abbrev pub key_of_row : Row → Key
+key_of_row r = record { set = r.set; target = r.target; value = r.value }
+
+-- the key of an observation, by the station's numbers of sets and names of targets
+abbrev pub key_of_obs : List ℕ → List (List ℕ) → Obs → Key
+key_of_obs sets targets o = record { set = slice_index_or sets o.set 0; target = slice_index_or targets o.target []; value = o.value }

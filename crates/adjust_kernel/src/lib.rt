@@ -1,24 +1,25 @@
 //! The kernel of the checker: a station as it was measured, a sheet as somebody adjusted it, and the verdict on both.
 //!
 //! A `Station` has the observed directions of one station, a `Sheet` the directions and orientations that an
-//! adjustment gave them, all over one denominator.
+//! adjustment gave them, all over one denominator. `check` says whether the sheet is the least-squares adjustment of the
+//! station, or the first fault that stands.
 #![tactic(auto)]
 
+mod accepted;
 mod connection;
+mod kernel_fault;
 mod limits;
 mod name;
 mod obs;
 mod out_of_memory;
 mod residual;
-mod accepted;
-mod kernel_fault;
 mod residual_limit;
 mod row;
 mod running;
 mod scan;
 mod sheet;
-mod tally;
 mod station;
+mod tally;
 
 pub use accepted::Accepted;
 pub use kernel_fault::KernelFault;
@@ -34,5 +35,5 @@ pub use row::{Direction, Orientation, Row};
 pub use running::Running;
 pub use scan::Scan;
 pub use sheet::Sheet;
-pub use tally::Tally;
 pub use station::Station;
+pub use tally::{Added, Tally};

@@ -1,4 +1,4 @@
-use Rattle.std.proofs.Common.{pos, ℤ, arith, ◌∙◌, ◌≡◌, ap, FitsSigned}
+use Rattle.std.proofs.Common.{pos, arith, ◌∙◌, ◌≡◌, ap, FitsSigned}
 use mir.Syntax.{w8, w128}
 use mir.Val.{to_z, of_z}
 use Rattle.std.proofs.Math.IntN.{◌*ℤ◌}

@@ -1,0 +1,99 @@
+-- The verdict on a sheet of a station: the first fault in the order in which they are looked for, or the acceptance.
+-- An office may state a residual limit.
+use Rattle.std.specs.Prelude.{◌≡◌, ◌≢◌, ℕ, ℤ, pos, ◌+◌, ◌*◌, ◌<◌, List, length, map, slice_index_or, Option, Result, Ok, Err, IfSome, IsSomeAnd}
+use Rattle.std.specs.Int.RustNames.{unsigned_abs}
+use Rattle.adjust_kernel.specs.declared.accepted.Accepted.{Accepted}
+use Rattle.adjust_kernel.specs.declared.kernel_fault.KernelFault.{KernelFault}
+use Rattle.adjust_kernel.specs.declared.kernel_fault.KernelFault.TheVariants.{Name, TargetRow, SetRow, ObsRow, Datum, TargetSum, SetSum, NotConnected, Residual}
+use Rattle.adjust_kernel.specs.Connected.{IsConnected, IsDivided}
+use Rattle.adjust_kernel.specs.Firsts.{IsFirstDifference, IsFirstWhere}
+use Rattle.adjust_kernel.specs.Greatest.{greatest_size}
+use Rattle.adjust_kernel.specs.Pairs.{Key, choice_stated_by, readings_of, key_of_row, key_of_obs}
+use Rattle.adjust_kernel.specs.Readings.{Reading}
+use Rattle.adjust_kernel.specs.Residuals.{residual, target_sum, set_sum}
+use Rattle.adjust_kernel.specs.Sheets.{SheetValue}
+use Rattle.adjust_kernel.specs.Stations.{StationValue}
+use Rattle.adjust_kernel.specs.Turns.{IsLimited}
+
+-- the names of the targets, as the sheet has them
+abbrev pub names_of : SheetValue → List (List ℕ)
+names_of sheet = map (λ d. d.name) sheet.directions
+
+-- the numbers of the sets, as the sheet has them
+abbrev pub numbers_of : SheetValue → List ℕ
+numbers_of sheet = map (λ o. o.set) sheet.orientations
+
+-- what the rows of the sheet say was observed
+abbrev pub keys_of : SheetValue → List Key
+keys_of sheet = map key_of_row sheet.rows
+
+-- what was observed
+abbrev pub observed : StationValue → List Key
+observed station = map (key_of_obs station.sets station.targets) station.obs
+
+-- the observations of the station with the full turns of the sheet
+abbrev pub readings : StationValue → SheetValue → List Reading
+readings station sheet = readings_of station.obs sheet.rows
+
+-- the scaled residuals of the sheet, row by row
+abbrev pub residuals : StationValue → SheetValue → List ℤ
+residuals station sheet = map (residual (choice_stated_by sheet)) (readings station sheet)
+
+-- P holds of the place that is the n-th, counted from 1
+abbrev pub AtNth : (ℕ → Type 0) → ℕ → Type 0
+AtNth P n = (place : ℕ) × (n ≡ place + 1) × P place
+
+-- This fault stands (profile, but for the sums and the connection, which are the textbook's): something is not as it
+-- has to be, and a number counts from 1 and is the least that stands.
+abbrev pub Stands : StationValue → SheetValue → Option ℕ → KernelFault → Type 0
+Stands station sheet limit Name = sheet.name ≢ station.name
+Stands station sheet limit (TargetRow n) = AtNth (IsFirstDifference (names_of sheet) station.targets) n
+Stands station sheet limit (SetRow n) = AtNth (IsFirstDifference (numbers_of sheet) station.sets) n
+Stands station sheet limit (ObsRow n) = AtNth (IsFirstDifference (keys_of sheet) (observed station)) n
+Stands station sheet limit Datum = (choice_stated_by sheet).direction 0 ≢ pos 0
+Stands station sheet limit (TargetSum n) = AtNth (IsFirstWhere (λ t. target_sum (choice_stated_by sheet) (readings station sheet) t ≢ pos 0) (length station.targets)) n
+Stands station sheet limit (SetSum n) = AtNth (IsFirstWhere (λ s. set_sum (choice_stated_by sheet) (readings station sheet) s ≢ pos 0) (length station.sets)) n
+Stands station sheet limit NotConnected = IsDivided (length station.sets) (length station.targets) (readings station sheet)
+Stands station sheet limit (Residual n) = IsSomeAnd limit (λ most. AtNth (IsFirstWhere (λ row. most * sheet.denominator < unsigned_abs (slice_index_or (residuals station sheet) row (pos 0))) (length (readings station sheet))) n)
+
+-- No fault of this kind stands, whatever its number.
+abbrev pub IsClearOf : StationValue → SheetValue → Option ℕ → KernelFault → Type 0
+IsClearOf station sheet limit Name = sheet.name ≡ station.name
+IsClearOf station sheet limit (TargetRow n) = names_of sheet ≡ station.targets
+IsClearOf station sheet limit (SetRow n) = numbers_of sheet ≡ station.sets
+IsClearOf station sheet limit (ObsRow n) = keys_of sheet ≡ observed station
+IsClearOf station sheet limit Datum = (choice_stated_by sheet).direction 0 ≡ pos 0
+IsClearOf station sheet limit (TargetSum n) = (t : ℕ) → t < length station.targets → target_sum (choice_stated_by sheet) (readings station sheet) t ≡ pos 0
+IsClearOf station sheet limit (SetSum n) = (s : ℕ) → s < length station.sets → set_sum (choice_stated_by sheet) (readings station sheet) s ≡ pos 0
+IsClearOf station sheet limit NotConnected = IsConnected (length station.sets) (length station.targets) (readings station sheet)
+IsClearOf station sheet limit (Residual n) = IfSome limit (λ most. IsLimited most (choice_stated_by sheet) (readings station sheet))
+
+-- the order in which the faults are looked for
+abbrev pub order_of : KernelFault → ℕ
+order_of Name = 1
+order_of (TargetRow n) = 2
+order_of (SetRow n) = 3
+order_of (ObsRow n) = 4
+order_of Datum = 5
+order_of (TargetSum n) = 6
+order_of (SetSum n) = 7
+order_of NotConnected = 8
+order_of (Residual n) = 9
+
+-- what is said of a sheet that is accepted
+abbrev pub acceptance_of : StationValue → SheetValue → Accepted
+acceptance_of station sheet = record {
+  name = station.name;
+  sets = length station.sets;
+  targets = length station.targets;
+  directions = length station.obs;
+  greatest = pos (greatest_size (choice_stated_by sheet) (readings station sheet));
+  denominator = sheet.denominator;
+}
+
+-- The verdict: a fault that stands, where none stands that is looked for before it; or the acceptance, where none stands.
+abbrev pub IsVerdict : StationValue → SheetValue → Option ℕ → Result Accepted KernelFault → Type 0
+IsVerdict station sheet limit (Err fault) =
+    Stands station sheet limit fault × ((other : KernelFault) → order_of other < order_of fault → IsClearOf station sheet limit other)
+IsVerdict station sheet limit (Ok accepted) =
+    ((other : KernelFault) → IsClearOf station sheet limit other) × (accepted ≡ acceptance_of station sheet)
