@@ -1,0 +1,4 @@
+pub mod Complete
+pub mod Turning
+pub mod Totals
+pub mod Means

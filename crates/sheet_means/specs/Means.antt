@@ -1,0 +1,26 @@
+-- The sheet of means of a complete station (textbook): each direction is the mean over the sets of the readings less the mean of the
+-- first target's, and each orientation what is then left on the mean, all times sets times targets.
+use Rattle.std.specs.Prelude.{◌≡◌, ℕ, ◌*◌, ◌<◌, List, All, length, map, ℤ, pos}
+use lib.IntN.{◌*ℤ◌, ◌-ℤ◌}
+use Rattle.adjust_kernel.specs.Pairs.{choice_stated_by, readings_of, key_of_row, key_of_obs}
+use Rattle.adjust_kernel.specs.Readings.{Reading}
+use Rattle.adjust_kernel.specs.Residuals.{Choice}
+use Rattle.adjust_kernel.specs.Sheets.{SheetValue}
+use Rattle.adjust_kernel.specs.Stations.{StationValue}
+use Rattle.sheet_means.specs.Totals.{target_total, set_total, whole_total}
+use Rattle.sheet_means.specs.Turning.{IsTurned}
+
+-- the directions and orientations are the means of these readings, over sets times targets
+pub record AreMeans (sets targets : ℕ) (readings : List Reading) (c : Choice) : Type 0 where
+  pub denominator : c.denominator ≡ sets * targets
+  pub directions : (t : ℕ) → t < targets → c.direction t ≡ pos targets *ℤ (target_total readings t -ℤ target_total readings 0)
+  pub orientations : (s : ℕ) → s < sets → c.orientation s ≡ whole_total readings -ℤ pos sets *ℤ set_total readings s -ℤ pos targets *ℤ target_total readings 0
+
+-- The sheet of means: of this station, with its targets, sets and observations in their order, the full turns of each reading, and the means.
+pub record IsMeansSheet (station : StationValue) (sheet : SheetValue) : Type 0 where
+  pub name : sheet.name ≡ station.name
+  pub targets : map (λ d. d.name) sheet.directions ≡ station.targets
+  pub sets : map (λ o. o.set) sheet.orientations ≡ station.sets
+  pub rows : map key_of_row sheet.rows ≡ map (key_of_obs station.sets station.targets) station.obs
+  pub turned : All (IsTurned station.obs) (readings_of station.obs sheet.rows)
+  pub means : AreMeans (length station.sets) (length station.targets) (readings_of station.obs sheet.rows) (choice_stated_by sheet)

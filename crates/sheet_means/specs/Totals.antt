@@ -1,0 +1,17 @@
+-- Sums of readings with their full turns, over all sets, over all targets, and over all.
+use Rattle.std.specs.Prelude.{ℕ, List, ℤ, ◌==◌}
+use Rattle.adjust_kernel.specs.Sums.{int_sum_by, int_sum_where}
+use Rattle.adjust_kernel.specs.Readings.{Reading}
+use Rattle.adjust_kernel.specs.Residuals.{unrolled}
+
+-- the readings of one target, added over all sets
+abbrev pub target_total : List Reading → ℕ → ℤ
+target_total readings t = int_sum_where (λ r. r.target == t) unrolled readings
+
+-- the readings of one set, added over all targets
+abbrev pub set_total : List Reading → ℕ → ℤ
+set_total readings s = int_sum_where (λ r. r.set == s) unrolled readings
+
+-- all readings added
+abbrev pub whole_total : List Reading → ℤ
+whole_total readings = int_sum_by unrolled readings
