@@ -1,1 +1,4 @@
 pub mod CompleteLaws
+pub mod GridLaws
+pub mod BalanceOfMeans
+pub mod ConnectedLaws
