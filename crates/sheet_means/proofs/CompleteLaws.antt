@@ -13,17 +13,17 @@ use native.Mathlib.Decide.{dec_lt}
 abbrev pub place_of : ℕ → Obs → ℕ
 place_of targets o = o.set * targets + o.target
 
-abbrev any_obs : Obs
+abbrev pub any_obs : Obs
 any_obs = record { set = 0; target = 0; value = 0 }
 
-place_below : (s t sets targets : ℕ) → s < sets → t < targets → s * targets + t < sets * targets
+pub place_below : (s t sets targets : ℕ) → s < sets → t < targets → s * targets + t < sets * targets
 place_below s t sets targets h k = let e : suc s * targets ≤ sets * targets = mul-le-mul h (omega arith) in omega arith
 
 before_place : (targets : ℕ) (a b : Obs) → a.target < targets → IsBefore a b → place_of targets a < place_of targets b
 before_place targets a b h (inl lt) = let e : suc a.set * targets ≤ b.set * targets = mul-le-mul lt (omega arith) in omega arith
 before_place targets a b h (inr e) = let f : a.set * targets ≡ b.set * targets = ap (λ n. n * targets) e.0 in omega (arith, e.1)
 
-same_place : (s t s' t' targets : ℕ) → t < targets → t' < targets → s * targets + t ≡ s' * targets + t' → (s ≡ s') × (t ≡ t')
+pub same_place : (s t s' t' targets : ℕ) → t < targets → t' < targets → s * targets + t ≡ s' * targets + t' → (s ≡ s') × (t ≡ t')
 same_place s t s' t' targets h k e = by (dec_lt s s') (dec_lt s' s)
   where
     by : Dec (s < s') → Dec (s' < s) → (s ≡ s') × (t ≡ t')
@@ -58,7 +58,7 @@ module _ (sets targets : ℕ) (obs : List Obs) (within : All (IsObs sets targets
   place-below i h = let w = within i any_obs h in place_below (at i).set (at i).target sets targets w.set w.target
 
   -- with all observations, each is at its place
-  place-full : length obs ≡ sets * targets → (i : ℕ) → i < length obs → place_of targets (at i) ≡ i
+  pub place-full : length obs ≡ sets * targets → (i : ℕ) → i < length obs → place_of targets (at i) ≡ i
   place-full full i h =
       let j : ℕ = length obs - 1 - i in
       let e = climb i j (omega arith) in

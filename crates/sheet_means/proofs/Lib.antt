@@ -2,3 +2,4 @@ pub mod CompleteLaws
 pub mod GridLaws
 pub mod BalanceOfMeans
 pub mod ConnectedLaws
+pub mod ValueLaws

@@ -5,10 +5,18 @@ use lib.IntN.{◌*ℤ◌, ◌-ℤ◌}
 use Rattle.adjust_kernel.specs.Pairs.{choice_stated_by, readings_of, key_of_row, key_of_obs}
 use Rattle.adjust_kernel.specs.Readings.{Reading}
 use Rattle.adjust_kernel.specs.Residuals.{Choice}
-use Rattle.adjust_kernel.specs.Sheets.{SheetValue}
+use Rattle.adjust_kernel.specs.Sheets.{SheetValue, IsRow}
+use Rattle.adjust_kernel.specs.declared.row.Row.{Row}
+use Rattle.adjust_kernel.specs.Within.{IsWithin}
+use Rattle.sheet_means.specs.declared.turn.TheConstants.{MOST_TURNS}
 use Rattle.adjust_kernel.specs.Stations.{StationValue}
 use Rattle.sheet_means.specs.Totals.{target_total, set_total, whole_total}
 use Rattle.sheet_means.specs.Turning.{IsTurned}
+
+-- a row of the sheet of means: a row of a sheet, with few full turns
+pub record IsMeansRow (r : Row) : Type 0 where
+  pub row : IsRow r
+  pub turn : IsWithin MOST_TURNS r.turn
 
 -- the directions and orientations are the means of these readings, over sets times targets
 pub record AreMeans (sets targets : ℕ) (readings : List Reading) (c : Choice) : Type 0 where

@@ -1,5 +1,10 @@
 //! The sheet of a complete station: the means of its sets, which the kernel accepts.
 #![tactic(auto)]
 
+mod angle;
 mod complete;
+mod fault;
+mod rows;
 mod turn;
+
+pub use fault::MeansFault;
