@@ -1,6 +1,6 @@
 -- Marks that spread along the observations.
-use Rattle.std.proofs.Common.{◌≡◌, ◌≢◌, ◌⊎◌, inl, inr, ℕ, suc, zero, ◌+◌, ◌-◌, ◌≤◌, ◌<◌, Bool, true, false, not, cond, eqb, ltb, List, [], ◌∷◌, length, get_or, set, All, replicate, ⊎_elim, add-zero, arith, ap, refl, sym, ◌∙◌}
-use Rattle.std.specs.List.{AllByRecursion, Contains, count_by}
+use Rattle.std.proofs.Common.{◌≡◌, ◌⊎◌, inl, inr, ℕ, ◌+◌, ◌-◌, ◌<◌, Bool, true, false, cond, ltb, List, [], ◌∷◌, length, set, All, replicate, ⊎_elim, add-zero, arith, ap, sym, ◌∙◌}
+use Rattle.std.specs.List.{AllByRecursion}
 use Rattle.std.proofs.lemmas.Bool.Decides.{nat_tests}
 use Rattle.std.proofs.lemmas.List.Elements.{All-from_recursion, recursion_from_All, All-contains}
 use Rattle.std.proofs.lemmas.List.{get_or-set_same, get_or-set_other, length-set, length-replicate, get_or-replicate, get_or_past}
@@ -8,7 +8,7 @@ use native.Mathlib.Decide.{ℕ_discrete, dec_lt}
 use Rattle.adjust_kernel.specs.declared.obs.Obs.{Obs}
 use Rattle.adjust_kernel.specs.declared.row.Row.{Row}
 use Rattle.adjust_kernel.specs.Connected.{IsDivided, AllWithin, HasMember}
-use Rattle.adjust_kernel.specs.Marks.{AreAlike, IsOpenEnd, IsOpen, mark}
+use Rattle.adjust_kernel.specs.Marks.{AreAlike, IsOpen, mark}
 use Rattle.adjust_kernel.specs.Pairs.{readings_of}
 use Rattle.adjust_kernel.specs.Stations.{IsObs}
 

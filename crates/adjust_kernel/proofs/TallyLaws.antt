@@ -1,14 +1,20 @@
 -- One more residual in running sums.
-use Rattle.std.proofs.Common.{◌≡◌, ℕ, ◌+◌, ◌*◌, ◌<◌, cond, eqb, List, [], ◌∷◌, ◌++◌, length, replicate, set, get_or, All, ℤ, pos, ◌+ℤ◌, arith, ap, refl, sym, ◌∙◌, eq-eqb}
-use Rattle.std.proofs.Math.IntN.{+ℤ_idr}
+use Rattle.std.proofs.Common.{◌≡◌, ◌≢◌, ℕ, suc, zero, ◌+◌, ◌*◌, ◌≤◌, ◌<◌, Bool, true, false, cond, eqb, List, [], ◌∷◌, ◌++◌, length, map, take, replicate, set, get_or, All, ℤ, pos, neg_ℤ, ◌+ℤ◌, ◌≤ℤ◌, arith, ap, refl, sym, ◌∙◌, subst, eq-eqb}
+use Rattle.std.proofs.Math.IntN.{+ℤ_idr, ◌*ℤ◌}
 use Rattle.std.proofs.lemmas.Int.{ints}
 use Rattle.std.proofs.lemmas.Bool.{ne_eqb}
-use Rattle.std.proofs.lemmas.List.{get_or-set_same, get_or-set_other, length-append, get_or-replicate}
+use Rattle.std.proofs.lemmas.List.{map-append, get_or-set_same, get_or-set_other, length-set, length-append, get_or-replicate, take_more}
 use Rattle.std.proofs.lemmas.List.Elements.{All-set, All-weaker, All-replicate}
 use Rattle.adjust_kernel.specs.declared.tally.Added.{Added}
 use Rattle.adjust_kernel.specs.Sums.{int_sum_by, int_sum_where}
 use Rattle.adjust_kernel.specs.Within.{IsWithin}
-use Rattle.adjust_kernel.specs.Tallies.{AreSumsOf}
+use Rattle.adjust_kernel.specs.Tallies.{AreSumsOf, added_for_target, added_for_set, added_of, all_added}
+use Rattle.adjust_kernel.specs.declared.obs.Obs.{Obs}
+use Rattle.adjust_kernel.specs.declared.row.Row.{Row}
+use Rattle.adjust_kernel.specs.Readings.{Reading}
+use Rattle.adjust_kernel.specs.Residuals.{Choice, residual, target_sum, set_sum}
+use Rattle.adjust_kernel.specs.Pairs.{reading_of, readings_of}
+use Rattle.adjust_kernel.proofs.ReadingLaws.{length-readings_of, get_or-readings_of}
 use native.Mathlib.Decide.{ℕ_discrete}
 
 -- a sum with one more element
@@ -66,3 +72,28 @@ zeros_are_sums = record {
   of_targets = λ t below. get_or-replicate 100 t (pos 0) (pos 0) below;
   of_sets = λ s below. get_or-replicate 40 s (pos 0) (pos 0) below;
 }
+
+-- what one more row adds
+pub all_added-more : (c : Choice) (obs : List Obs) (rows : List Row) (n : ℕ) (o : Obs) (r : Row) (z : ℤ) → length obs ≡ length rows → n < length obs
+    → ((d : Reading) → z ≡ residual c (get_or (readings_of obs rows) n d))
+    → all_added c (take n (readings_of obs rows)) ++ record { target = (get_or obs n o).target; set = (get_or obs n o).set; residual = z } ∷ [] ≡ all_added c (take (n + 1) (readings_of obs rows))
+all_added-more c obs rows n o r z same below value =
+    let readings = readings_of obs rows in
+    let d : Reading = record { set = 0; target = 0; value = 0; turn = pos 0 } in
+    let e : get_or readings n d ≡ reading_of (get_or obs n o) (get_or rows n r).turn = get_or-readings_of obs rows n o r d same below in
+    let inside : n < length readings = let k = length-readings_of obs rows same in omega arith in
+    let f : z ≡ residual c (reading_of (get_or obs n o) (get_or rows n r).turn) = value d ∙ ap (residual c) e in
+    ap (λ (v : ℤ). all_added c (take n readings) ++ record { target = (get_or obs n o).target; set = (get_or obs n o).set; residual = v } ∷ []) f
+    ∙ ap (λ (x : Reading). all_added c (take n readings) ++ added_of c x ∷ []) (sym e)
+    ∙ sym (map-append (added_of c) (take n readings) (get_or readings n d ∷ []))
+    ∙ ap (all_added c) (sym (take_more readings n d inside))
+
+-- what was added for a target adds up to the target's sum
+pub added_for_target-all : (c : Choice) (rs : List Reading) (t : ℕ) → added_for_target (all_added c rs) t ≡ target_sum c rs t
+added_for_target-all c [] t = refl
+added_for_target-all c (r ∷ rs) t = ap (λ z. cond (eqb r.target t) (residual c r) (pos 0) +ℤ z) (added_for_target-all c rs t)
+
+-- what was added for a set adds up to the set's sum
+pub added_for_set-all : (c : Choice) (rs : List Reading) (s : ℕ) → added_for_set (all_added c rs) s ≡ set_sum c rs s
+added_for_set-all c [] s = refl
+added_for_set-all c (r ∷ rs) s = ap (λ z. cond (eqb r.set s) (residual c r) (pos 0) +ℤ z) (added_for_set-all c rs s)

@@ -1,5 +1,5 @@
 -- What a verdict tells of least squares, case by case.
-use Rattle.std.proofs.Common.{◌≡◌, ℕ, suc, ◌≤◌, ◌<◌, List, [], ◌∷◌, length, All, map, Option, Some, None, Result, Ok, Err, arith, ap, sym, ◌∙◌, subst}
+use Rattle.std.proofs.Common.{ℕ, suc, ◌≤◌, List, [], ◌∷◌, length, All, Option, Some, None, Result, Ok, Err, arith}
 use Rattle.std.specs.Prelude.{IfSome}
 use Rattle.std.proofs.lemmas.List.Elements.{All-cons}
 use Rattle.adjust_kernel.specs.declared.accepted.Accepted.{Accepted}
@@ -10,7 +10,7 @@ use Rattle.adjust_kernel.specs.declared.obs.Obs.{Obs}
 use Rattle.adjust_kernel.specs.declared.row.Row.{Row}
 use Rattle.adjust_kernel.specs.Pairs.{choice_stated_by, readings_of}
 use Rattle.adjust_kernel.specs.Promises.{TellsOfSquares}
-use Rattle.adjust_kernel.specs.Readings.{Reading, IsPlaced}
+use Rattle.adjust_kernel.specs.Readings.{IsPlaced}
 use Rattle.adjust_kernel.specs.Sheets.{SheetValue, IsSheet}
 use Rattle.adjust_kernel.specs.Stations.{StationValue, IsStation, IsObs}
 use Rattle.adjust_kernel.specs.Verdict.{IsVerdict, IsClearOf, readings}

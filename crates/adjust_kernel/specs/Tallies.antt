@@ -1,7 +1,9 @@
 -- What a tally stands for: the residuals that were added to it, each with the places of its target and set.
-use Rattle.std.specs.Prelude.{◌≡◌, ℕ, List, ℤ, pos, ◌<◌, ◌==◌, length, slice_index_or}
+use Rattle.std.specs.Prelude.{◌≡◌, ℕ, List, ℤ, pos, ◌<◌, ◌==◌, length, map, slice_index_or}
 use Rattle.adjust_kernel.specs.declared.limits.TheConstants.{MOST_TARGETS, MOST_SETS}
 use Rattle.adjust_kernel.specs.declared.tally.Added.{Added}
+use Rattle.adjust_kernel.specs.Readings.{Reading}
+use Rattle.adjust_kernel.specs.Residuals.{Choice, residual}
 use Rattle.adjust_kernel.specs.Sums.{int_sum_where}
 
 -- the sum of the residuals that were added for a target
@@ -17,3 +19,11 @@ pub record AreSumsOf (l : List Added) (targets sets : List ℤ) (taken : ℕ) : 
   pub number : length l ≡ taken
   pub of_targets : (t : ℕ) → t < MOST_TARGETS → slice_index_or targets t (pos 0) ≡ added_for_target l t
   pub of_sets : (s : ℕ) → s < MOST_SETS → slice_index_or sets s (pos 0) ≡ added_for_set l s
+
+-- a reading's residual, with the places of its target and set
+abbrev pub added_of : Choice → Reading → Added
+added_of c r = record { target = r.target; set = r.set; residual = residual c r }
+
+-- the residuals of all readings, as one pass over them adds them
+abbrev pub all_added : Choice → List Reading → List Added
+all_added c readings = map (added_of c) readings

@@ -8,28 +8,13 @@ use Rattle.adjust_kernel.specs.declared.kernel_fault.KernelFault.TheVariants.{Na
 use Rattle.adjust_kernel.specs.Connected.{IsConnected, IsDivided}
 use Rattle.adjust_kernel.specs.Firsts.{IsFirstDifference, IsFirstWhere}
 use Rattle.adjust_kernel.specs.Greatest.{greatest_size}
-use Rattle.adjust_kernel.specs.Pairs.{Key, choice_stated_by, readings_of, key_of_row, key_of_obs}
+use Rattle.adjust_kernel.specs.Matching.{names_of, numbers_of, keys_of, observed}
+use Rattle.adjust_kernel.specs.Pairs.{choice_stated_by, readings_of}
 use Rattle.adjust_kernel.specs.Readings.{Reading}
 use Rattle.adjust_kernel.specs.Residuals.{residual, target_sum, set_sum}
 use Rattle.adjust_kernel.specs.Sheets.{SheetValue}
 use Rattle.adjust_kernel.specs.Stations.{StationValue}
 use Rattle.adjust_kernel.specs.Turns.{IsLimited}
-
--- the names of the targets, as the sheet has them
-abbrev pub names_of : SheetValue → List (List ℕ)
-names_of sheet = map (λ d. d.name) sheet.directions
-
--- the numbers of the sets, as the sheet has them
-abbrev pub numbers_of : SheetValue → List ℕ
-numbers_of sheet = map (λ o. o.set) sheet.orientations
-
--- what the rows of the sheet say was observed
-abbrev pub keys_of : SheetValue → List Key
-keys_of sheet = map key_of_row sheet.rows
-
--- what was observed
-abbrev pub observed : StationValue → List Key
-observed station = map (key_of_obs station.sets station.targets) station.obs
 
 -- the observations of the station with the full turns of the sheet
 abbrev pub readings : StationValue → SheetValue → List Reading

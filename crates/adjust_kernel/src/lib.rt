@@ -7,8 +7,11 @@
 
 mod accepted;
 mod connection;
+mod excess;
+mod greatest;
 mod kernel_fault;
 mod limits;
+mod matching;
 mod name;
 mod obs;
 mod out_of_memory;
@@ -19,6 +22,7 @@ mod running;
 mod scan;
 mod sheet;
 mod station;
+mod sums;
 mod tally;
 
 pub use accepted::Accepted;

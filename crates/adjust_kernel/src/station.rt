@@ -1,11 +1,11 @@
 //! The station as it was measured.
 
-ghost use Rattle.std.specs.Prelude.{◌≡◌, ◌≢◌, ◌↔◌, AllPairs, IsTrue, IfSome, IfNone};
+ghost use Rattle.std.specs.Prelude.{◌≡◌, ◌≢◌, ◌↔◌, ◌≤◌, AllPairs, IsTrue, IfSome, IfNone, length};
 ghost use Rattle.adjust_kernel.specs.Names.{IsName};
 ghost use Rattle.adjust_kernel.specs.Sheets.{IsSetNumber};
 ghost use Rattle.adjust_kernel.specs.Stations.{IsStation, AreTargets, AreSets};
 
-use crate::limits::{LARGEST_SET_NUMBER, MOST_SETS, MOST_TARGETS};
+use crate::limits::{LARGEST_SET_NUMBER, MOST_ROWS, MOST_SETS, MOST_TARGETS};
 use crate::name::{Name, same};
 use crate::obs::{Obs, are_obs};
 use std::marker::Model;
@@ -75,10 +75,11 @@ impl Station {
         &self.sets
     }
 
-    /// Its observations, by set and within a set by target.
+    /// Its observations, by set and within a set by target: at most one of each target in each set.
     pub fn obs(&self) -> &[Obs]
         ensures value { result.now ≡ self.now.obs }
         ensures valid { IsStation self.now }
+        ensures few { length self.now.obs ≤ MOST_ROWS }
     {
         &self.obs
     }

@@ -1,0 +1,10 @@
+use Rattle.std.proofs.Common.{◌≡◌, ◌+◌, take}
+use Rattle.adjust_kernel.specs.Pairs.{choice_stated_by, readings_of}
+use Rattle.adjust_kernel.specs.Tallies.{all_added}
+use Rattle.adjust_kernel.proofs.sums.add_residuals.Given as goal
+
+abbrev pub invariant-loop-row : goal.invariant-loop-row
+invariant-loop-row g l = record {
+  stands : g.T.Tally.StandsFor l.tally (all_added (choice_stated_by l.sheet) (take l.row (readings_of l.obs l.sheet.rows)));
+  room : g.T.Tally.room l.tally + l.row ≡ 4_000;
+}
