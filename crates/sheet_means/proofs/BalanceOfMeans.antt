@@ -7,7 +7,7 @@ use Rattle.adjust_kernel.specs.Residuals.{Choice, residual, unrolled, target_sum
 use Rattle.adjust_kernel.proofs.Ring.{num, ◌⊕◌, ◌⊖◌, ◌⊗◌, same_value}
 use Rattle.sheet_means.specs.Totals.{target_total, set_total, whole_total}
 use Rattle.sheet_means.specs.Means.{AreMeans}
-use Rattle.sheet_means.proofs.GridLaws.{sum_below, sum_below-same, sum_below-sub, sum_below-scale, sum_below-const, sum_below-swap, AreGrid, at, sum_of_all, sum_of_target, sum_of_set}
+use Rattle.sheet_means.proofs.GridLaws.{sum_below, sum_below-same, sum_below-sub, sum_below-scale, sum_below-const, sum_below-swap, AreGrid, at, sum_of_all, sum_of_target, sum_of_set, whole_by_sets}
 
 -- what is left over of a target, and of a set
 target_left : (s t : ℕ) (c f g : ℤ) → pos s *ℤ (pos t *ℤ (c -ℤ f)) -ℤ (pos s *ℤ g -ℤ pos s *ℤ g -ℤ pos s *ℤ (pos t *ℤ f)) -ℤ pos (s * t) *ℤ c ≡ pos 0
@@ -28,9 +28,6 @@ module _ (sets targets : ℕ) (readings : List Reading) (grid : AreGrid sets tar
   abbrev F : ℤ
   F = target_total readings 0
 
-  G_by_sets : G ≡ sum_below sets (λ s. set_total readings s)
-  G_by_sets = sum_of_all sets targets readings grid unrolled ∙ sum_below-same sets (λ s. sum_below targets (x s)) (λ s. set_total readings s) (λ s h. sym (sum_of_set sets targets readings grid unrolled s h))
-
   G_by_targets : G ≡ sum_below targets (λ t. target_total readings t)
   G_by_targets =
       sum_of_all sets targets readings grid unrolled
@@ -42,7 +39,7 @@ module _ (sets targets : ℕ) (readings : List Reading) (grid : AreGrid sets tar
       sum_below-same sets c.orientation (λ s. G -ℤ pos sets *ℤ set_total readings s -ℤ pos targets *ℤ F) means.orientations
       ∙ sum_below-sub sets (λ s. G -ℤ pos sets *ℤ set_total readings s) (λ s. pos targets *ℤ F)
       ∙ (λ i. sum_below-sub sets (λ s. G) (λ s. pos sets *ℤ set_total readings s) i -ℤ sum_below-const sets (pos targets *ℤ F) i)
-      ∙ (λ i. sum_below-const sets G i -ℤ (sum_below-scale sets (pos sets) (λ s. set_total readings s) ∙ ap (λ z. pos sets *ℤ z) (sym G_by_sets)) i -ℤ pos sets *ℤ (pos targets *ℤ F))
+      ∙ (λ i. sum_below-const sets G i -ℤ (sum_below-scale sets (pos sets) (λ s. set_total readings s) ∙ ap (λ z. pos sets *ℤ z) (sym (whole_by_sets sets targets readings grid))) i -ℤ pos sets *ℤ (pos targets *ℤ F))
 
   directions_sum : sum_below targets c.direction ≡ pos targets *ℤ (G -ℤ pos targets *ℤ F)
   directions_sum =

@@ -8,6 +8,8 @@ use Rattle.std.proofs.lemmas.Bool.Decides.{nat_tests}
 use Rattle.std.proofs.lemmas.List.{take_all}
 use Rattle.adjust_kernel.specs.Sums.{int_sum_by, int_sum_where}
 use Rattle.adjust_kernel.specs.Readings.{Reading}
+use Rattle.adjust_kernel.specs.Residuals.{unrolled}
+use Rattle.sheet_means.specs.Totals.{reading_at, set_total, whole_total}
 use Rattle.adjust_kernel.proofs.Ring.{num, ◌⊕◌, ◌⊖◌, ◌⊗◌, same_value}
 use Rattle.adjust_kernel.proofs.SumLaws.{int_sum_by_more}
 use native.Mathlib.Decide.{ℕ_discrete}
@@ -80,7 +82,7 @@ pub record AreGrid (sets targets : ℕ) (readings : List Reading) : Type 0 where
 
 module _ (sets targets : ℕ) (readings : List Reading) (grid : AreGrid sets targets readings) where
   abbrev pub at : ℕ → ℕ → Reading
-  at s t = get_or readings (s * targets + t) any_reading
+  at s t = reading_at readings targets s t
 
   pub inside : (s t : ℕ) → s < sets → t < targets → s * targets + t < length readings
   inside s t h k = let e : suc s * targets ≤ sets * targets = mul-le-mul h (omega arith) in let f = grid.long in omega arith
@@ -124,3 +126,7 @@ module _ (sets targets : ℕ) (readings : List Reading) (grid : AreGrid sets tar
       (λ j l. sum_below-same targets (λ k. cond (eqb (at j k).set s) (f (at j k)) (pos 0)) (λ k. cond (eqb j s) (f (at j k)) (pos 0)) (λ k m. ap (λ n. cond (eqb n s) (f (at j k)) (pos 0)) (grid.at_place j k l m).0)
       ∙ sum_below-where (eqb j s) targets (λ k. f (at j k)))
       ∙ sum_below-only sets s (λ j. sum_below targets (λ k. f (at j k))) h
+
+  -- all readings are those of the sets together
+  pub whole_by_sets : whole_total readings ≡ sum_below sets (set_total readings)
+  whole_by_sets = sum_of_all unrolled ∙ sum_below-same sets (λ s. sum_below targets (λ t. unrolled (at s t))) (set_total readings) (λ s h. sym (sum_of_set unrolled s h))

@@ -3,3 +3,6 @@ pub mod GridLaws
 pub mod BalanceOfMeans
 pub mod ConnectedLaws
 pub mod ValueLaws
+pub mod RowLaws
+pub mod MeansRowLaws
+pub mod SumLoops

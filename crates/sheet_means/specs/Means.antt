@@ -2,7 +2,8 @@
 -- first target's, and each orientation what is then left on the mean, all times sets times targets.
 use Rattle.std.specs.Prelude.{◌≡◌, ℕ, ◌*◌, ◌<◌, List, All, length, map, ℤ, pos}
 use lib.IntN.{◌*ℤ◌, ◌-ℤ◌}
-use Rattle.adjust_kernel.specs.Pairs.{choice_stated_by, readings_of, key_of_row, key_of_obs}
+use Rattle.adjust_kernel.specs.Matching.{key_of_row, names_of, numbers_of, keys_of, observed}
+use Rattle.adjust_kernel.specs.Pairs.{choice_stated_by, readings_of}
 use Rattle.adjust_kernel.specs.Readings.{Reading}
 use Rattle.adjust_kernel.specs.Residuals.{Choice}
 use Rattle.adjust_kernel.specs.Sheets.{SheetValue, IsRow}
@@ -18,6 +19,12 @@ pub record IsMeansRow (r : Row) : Type 0 where
   pub row : IsRow r
   pub turn : IsWithin MOST_TURNS r.turn
 
+-- the rows of the sheet of means: those of the station's observations in their order, with the full turns of each
+pub record AreMeansRows (station : StationValue) (rows : List Row) : Type 0 where
+  pub keys : map key_of_row rows ≡ observed station
+  pub turned : All (IsTurned station.obs) (readings_of station.obs rows)
+  pub each : All IsMeansRow rows
+
 -- the directions and orientations are the means of these readings, over sets times targets
 pub record AreMeans (sets targets : ℕ) (readings : List Reading) (c : Choice) : Type 0 where
   pub denominator : c.denominator ≡ sets * targets
@@ -27,8 +34,8 @@ pub record AreMeans (sets targets : ℕ) (readings : List Reading) (c : Choice) 
 -- The sheet of means: of this station, with its targets, sets and observations in their order, the full turns of each reading, and the means.
 pub record IsMeansSheet (station : StationValue) (sheet : SheetValue) : Type 0 where
   pub name : sheet.name ≡ station.name
-  pub targets : map (λ d. d.name) sheet.directions ≡ station.targets
-  pub sets : map (λ o. o.set) sheet.orientations ≡ station.sets
-  pub rows : map key_of_row sheet.rows ≡ map (key_of_obs station.sets station.targets) station.obs
+  pub targets : names_of sheet ≡ station.targets
+  pub sets : numbers_of sheet ≡ station.sets
+  pub rows : keys_of sheet ≡ observed station
   pub turned : All (IsTurned station.obs) (readings_of station.obs sheet.rows)
   pub means : AreMeans (length station.sets) (length station.targets) (readings_of station.obs sheet.rows) (choice_stated_by sheet)

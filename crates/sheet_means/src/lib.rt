@@ -5,6 +5,7 @@ mod angle;
 mod complete;
 mod fault;
 mod rows;
+mod totals;
 mod turn;
 
 pub use fault::MeansFault;

@@ -1,10 +1,11 @@
 //! The rows of the sheet of means: the observations with their full turns.
-ghost use Rattle.std.specs.Prelude.{◌≡◌, All, map, length, IfOk};
-ghost use Rattle.adjust_kernel.specs.Pairs.{key_of_row, key_of_obs, reading_of, readings_of};
+ghost use Rattle.std.specs.Prelude.{◌≡◌, length, IfOk};
+ghost use Rattle.adjust_kernel.specs.Matching.{key_of_row, key_of_obs};
+ghost use Rattle.adjust_kernel.specs.Pairs.{reading_of};
 ghost use Rattle.adjust_kernel.specs.Stations.{IsObs};
 ghost use Rattle.sheet_means.specs.Complete.{IsComplete};
 ghost use Rattle.sheet_means.specs.Turning.{IsTurned};
-ghost use Rattle.sheet_means.specs.Means.{IsMeansRow};
+ghost use Rattle.sheet_means.specs.Means.{IsMeansRow, AreMeansRows};
 
 use crate::angle::angle_difference;
 use crate::turn::turn_of;
@@ -32,9 +33,7 @@ fn row_of(station: &Station, obs: &Obs) -> Row
 /// The rows of a complete station.
 pub fn rows_of(alloc: Global, station: &Station) -> Result<Vec<Row>, AllocError>
     requires complete { IsComplete station.now }
-    ensures keys { IfOk result (λ rows. map key_of_row rows.items ≡ map (key_of_obs station.now.sets station.now.targets) station.now.obs) }
-    ensures turned { IfOk result (λ rows. All (IsTurned station.now.obs) (readings_of station.now.obs rows.items)) }
-    ensures rows { IfOk result (λ rows. All IsMeansRow rows.items) }
+    ensures { IfOk result (λ rows. AreMeansRows station.now rows.items) }
 {
     let mut rows = Vec::with_capacity(alloc, station.obs().len())?;
     for obs in station.obs() {
