@@ -6,3 +6,4 @@ pub mod ValueLaws
 pub mod RowLaws
 pub mod MeansRowLaws
 pub mod SumLoops
+pub mod EachLaws

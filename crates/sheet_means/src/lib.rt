@@ -1,6 +1,7 @@
 //! The sheet of a complete station: the means of its sets, which the kernel accepts.
 #![tactic(auto)]
 
+mod adjusted;
 mod angle;
 mod complete;
 mod fault;
