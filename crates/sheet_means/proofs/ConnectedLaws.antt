@@ -1,10 +1,9 @@
 -- A complete station is connected: each set and each target shares a reading with the first of the other kind.
-use Rattle.std.proofs.Common.{◌≡◌, ◌⊎◌, ⊎_elim, ℕ, ◌+◌, ◌*◌, ◌<◌, Bool, true, false, List, get_or, arith, ap, refl, sym, ◌∙◌}
-use Rattle.std.specs.List.{AllByRecursion}
+use Rattle.std.proofs.Common.{◌≡◌, ⊎_elim, ℕ, ◌+◌, ◌*◌, ◌<◌, Bool, true, false, List, ap, sym, ◌∙◌}
 use Rattle.std.proofs.lemmas.List.Elements.{All-from_recursion}
 use Rattle.adjust_kernel.specs.Readings.{Reading}
 use Rattle.adjust_kernel.specs.Connected.{IsConnected, IsDivided, HasMember}
-use Rattle.sheet_means.proofs.GridLaws.{AreGrid, any_reading, at, inside}
+use Rattle.sheet_means.proofs.GridLaws.{AreGrid, any_reading, inside}
 
 module _ (sets targets : ℕ) (readings : List Reading) (grid : AreGrid sets targets readings) (some_sets : 0 < sets) (some_targets : 0 < targets) where
   together : (d : IsDivided sets targets readings) (s t : ℕ) → s < sets → t < targets → d.part_of_set s ≡ d.part_of_target t

@@ -1,5 +1,5 @@
 -- Sums over the readings of a complete station: over its sets, and within a set over its targets.
-use Rattle.std.proofs.Common.{◌≡◌, ℕ, suc, zero, ◌+◌, ◌*◌, ◌≤◌, ◌<◌, Bool, true, false, cond, eqb, List, [], ◌∷◌, length, take, get_or, ℤ, pos, ◌+ℤ◌, arith, ap, refl, sym, ◌∙◌}
+use Rattle.std.proofs.Common.{◌≡◌, ℕ, suc, zero, ◌+◌, ◌*◌, ◌≤◌, ◌<◌, Bool, true, false, cond, eqb, List, length, take, get_or, ℤ, pos, ◌+ℤ◌, arith, ap, refl, sym, ◌∙◌}
 use Rattle.std.proofs.Math.IntN.{◌*ℤ◌, ◌-ℤ◌, *ℤ-zero}
 use Rattle.std.proofs.Math.Nat.{mul-le-mul}
 use Rattle.std.proofs.lemmas.Int.{ints}
@@ -10,7 +10,7 @@ use Rattle.adjust_kernel.specs.Sums.{int_sum_by, int_sum_where}
 use Rattle.adjust_kernel.specs.Readings.{Reading}
 use Rattle.adjust_kernel.specs.Residuals.{unrolled}
 use Rattle.sheet_means.specs.Totals.{reading_at, set_total, whole_total}
-use Rattle.adjust_kernel.proofs.Ring.{num, ◌⊕◌, ◌⊖◌, ◌⊗◌, same_value}
+use Rattle.adjust_kernel.proofs.Ring.{num, ◌⊕◌, ◌⊗◌, same_value}
 use Rattle.adjust_kernel.proofs.SumLaws.{int_sum_by_more}
 use native.Mathlib.Decide.{ℕ_discrete}
 

@@ -7,3 +7,4 @@ pub mod RowLaws
 pub mod MeansRowLaws
 pub mod SumLoops
 pub mod EachLaws
+pub mod MeansSheetLaws

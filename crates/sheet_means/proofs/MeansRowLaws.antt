@@ -1,9 +1,8 @@
 -- The readings of a complete station with the rows of its sheet of means: one of each set and target, in order.
-use Rattle.std.proofs.Common.{◌≡◌, ℕ, ◌+◌, ◌*◌, ◌<◌, ◌≤◌, List, [], All, length, map, get_or, ℤ, pos, ◌+ℤ◌, arith, ap, refl, sym, ◌∙◌}
+use Rattle.std.proofs.Common.{◌≡◌, ℕ, ◌+◌, ◌*◌, ◌<◌, List, [], length, get_or, ℤ, pos, ◌+ℤ◌, arith, ap, sym, ◌∙◌}
 use lib.IntN.{◌*ℤ◌}
 use Rattle.std.proofs.lemmas.List.{length-map, get_or-map}
 use Rattle.adjust_kernel.specs.declared.limits.TheConstants.{TURN}
-use Rattle.adjust_kernel.specs.declared.obs.Obs.{Obs}
 use Rattle.adjust_kernel.specs.declared.row.Row.{Row}
 use Rattle.adjust_kernel.specs.Matching.{Key, key_of_row, key_of_obs}
 use Rattle.adjust_kernel.specs.Pairs.{reading_of, readings_of}
@@ -12,10 +11,10 @@ use Rattle.adjust_kernel.specs.Residuals.{unrolled}
 use Rattle.adjust_kernel.specs.Stations.{StationValue, IsStation}
 use Rattle.adjust_kernel.proofs.ReadingLaws.{length-readings_of, get_or-readings_of}
 use Rattle.sheet_means.specs.Complete.{IsComplete}
-use Rattle.sheet_means.specs.Means.{AreMeansRows, IsMeansRow}
-use Rattle.sheet_means.proofs.CompleteLaws.{any_obs, at_place, full_where_complete, place_below}
+use Rattle.sheet_means.specs.Means.{AreMeansRows}
+use Rattle.sheet_means.proofs.CompleteLaws.{any_obs, at_place, full_where_complete}
 use Rattle.sheet_means.proofs.ValueLaws.{place_inside}
-use Rattle.sheet_means.proofs.GridLaws.{AreGrid, any_reading, sum_below, sum_of_all, sum_of_target, sum_of_set}
+use Rattle.sheet_means.proofs.GridLaws.{AreGrid, any_reading}
 
 abbrev pub any_row : Row
 any_row = record { set = 0; target = []; value = 0; turn = pos 0 }
@@ -28,7 +27,7 @@ module _ (station : StationValue) (valid : IsStation station) (complete : IsComp
   abbrev pub T : ℕ
   T = length station.targets
 
-  same_length : length station.obs ≡ length rows
+  pub same_length : length station.obs ≡ length rows
   same_length = sym (length-map station.obs (key_of_obs station.sets station.targets)) ∙ ap length (sym means.keys) ∙ length-map rows key_of_row
 
   pub row_inside : (s t : ℕ) → s < length station.sets → t < T → s * T + t < length rows

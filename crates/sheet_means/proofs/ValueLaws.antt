@@ -1,5 +1,5 @@
 -- In a complete station the direction of a set and target stands at its place.
-use Rattle.std.proofs.Common.{◌≡◌, ◌≢◌, ℕ, suc, zero, ◌+◌, ◌*◌, ◌<◌, Bool, true, false, cond, eqb, List, [], ◌∷◌, length, get_or, Option, Some, None, ℤ, pos, arith, ap, refl, sym, ◌∙◌}
+use Rattle.std.proofs.Common.{◌≡◌, ◌≢◌, ℕ, suc, zero, ◌+◌, ◌*◌, ◌<◌, Bool, true, false, cond, eqb, List, [], ◌∷◌, length, get_or, Option, Some, pos, arith, ap, ◌∙◌}
 use Rattle.std.specs.Prelude.{◌&&◌, find}
 use Rattle.std.specs.Option.{option_map_or}
 use Rattle.std.proofs.lemmas.Bool.{ne_eqb}
@@ -8,7 +8,7 @@ use Rattle.adjust_kernel.specs.declared.obs.Obs.{Obs}
 use Rattle.adjust_kernel.specs.Stations.{StationValue, IsStation}
 use Rattle.sheet_means.specs.Complete.{IsComplete}
 use Rattle.sheet_means.specs.Turning.{value_of}
-use Rattle.sheet_means.proofs.CompleteLaws.{place_of, any_obs, place_below, place-full, at_place, full_where_complete}
+use Rattle.sheet_means.proofs.CompleteLaws.{any_obs, place_below, place-full, at_place, full_where_complete}
 use native.Mathlib.Decide.{ℕ_discrete}
 
 -- the first that passes is at place i

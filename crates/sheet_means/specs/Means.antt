@@ -1,8 +1,9 @@
 -- The sheet of means of a complete station (textbook): each direction is the mean over the sets of the readings less the mean of the
 -- first target's, and each orientation what is then left on the mean, all times sets times targets.
-use Rattle.std.specs.Prelude.{◌≡◌, ℕ, ◌*◌, ◌<◌, List, [], All, length, slice_index_or, map, ℤ, pos}
+use Rattle.std.specs.Prelude.{◌≡◌, ◌⊎◌, ℕ, ◌*◌, ◌<◌, ◌≤◌, List, [], All, length, slice_index_or, map, pos}
 use lib.IntN.{◌*ℤ◌, ◌-ℤ◌}
 use Rattle.adjust_kernel.specs.Matching.{key_of_row, names_of, numbers_of, keys_of, observed}
+use Rattle.adjust_kernel.specs.declared.limits.TheConstants.{MOST_ROWS}
 use Rattle.adjust_kernel.specs.Pairs.{choice_stated_by, readings_of}
 use Rattle.adjust_kernel.specs.Readings.{Reading}
 use Rattle.adjust_kernel.specs.Residuals.{Choice}
@@ -59,3 +60,15 @@ pub record IsMeansSheet (station : StationValue) (sheet : SheetValue) : Type 0 w
   pub rows : keys_of sheet ≡ observed station
   pub turned : All (IsTurned station.obs) (readings_of station.obs sheet.rows)
   pub means : AreMeans (length station.sets) (length station.targets) (readings_of station.obs sheet.rows) (choice_stated_by sheet)
+
+-- The numbers of the sheet are small: they are well within the ranges of the first version of sheets, and no reading has more than
+-- two full turns.
+pub record HasSmallNumbers (sheet : SheetValue) : Type 0 where
+  pub denominator : sheet.denominator ≤ MOST_ROWS
+  pub directions : All (λ d. IsWithin LARGEST_MEAN d.value) sheet.directions
+  pub orientations : All (λ o. IsWithin LARGEST_MEAN o.value) sheet.orientations
+  pub turns : All (λ r. IsWithin MOST_TURNS r.turn) sheet.rows
+
+-- no reading of the first set or of the first target has full turns
+abbrev pub IsUnturnedAtFirst : StationValue → SheetValue → Type 0
+IsUnturnedAtFirst station sheet = All (λ r. (r.set ≡ 0) ⊎ (r.target ≡ 0) → r.turn ≡ pos 0) (readings_of station.obs sheet.rows)

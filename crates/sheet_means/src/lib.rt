@@ -6,7 +6,9 @@ mod angle;
 mod complete;
 mod fault;
 mod rows;
+mod sheet;
 mod totals;
 mod turn;
 
 pub use fault::MeansFault;
+pub use sheet::means;

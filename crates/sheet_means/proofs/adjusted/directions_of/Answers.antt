@@ -1,5 +1,4 @@
-use Rattle.std.proofs.Common.{◌≡◌, ◌+◌, List, length, sym, subst}
-use Rattle.adjust_kernel.specs.declared.row.Direction.{Direction}
+use Rattle.std.proofs.Common.{◌+◌, sym, subst}
 use Rattle.adjust_kernel.specs.Pairs.{readings_of}
 use Rattle.sheet_means.specs.Means.{AreEach, IsMeansDirection}
 use Rattle.sheet_means.proofs.EachLaws.{each_more}

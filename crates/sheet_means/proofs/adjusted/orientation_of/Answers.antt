@@ -1,9 +1,9 @@
-use Rattle.std.proofs.Common.{◌≡◌, ◌<◌, ℕ, List, [], length, get_or, ℤ, pos, FitsSigned, to_z, of_z, arith, ap, sym, ◌∙◌}
+use Rattle.std.proofs.Common.{◌≡◌, ℕ, List, length, get_or, pos, FitsSigned, to_z, of_z, arith, ap, ◌∙◌}
 use Rattle.std.specs.Int.{w128}
 use Rattle.std.proofs.lemmas.Int.{ints, to_z-of_z}
 use Rattle.std.proofs.Math.IntN.{◌*ℤ◌, ◌-ℤ◌}
 use Rattle.adjust_kernel.specs.Pairs.{readings_of}
-use Rattle.sheet_means.specs.Totals.{set_total, target_total, whole_total}
+use Rattle.sheet_means.specs.Totals.{set_total}
 use Rattle.sheet_means.proofs.adjusted.orientation_of.Goals as goal
 
 pub returns : goal.returns

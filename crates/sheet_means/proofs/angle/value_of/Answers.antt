@@ -1,4 +1,4 @@
-use Rattle.std.proofs.Common.{◌≡◌, ◌<◌, pos, length, ℕ, ◌+◌, ◌*◌, get_or, FitsSigned, w64, arith, ap, sym, ◌∙◌}
+use Rattle.std.proofs.Common.{◌≡◌, pos, length, ◌+◌, ◌*◌, get_or, FitsSigned, w64, arith, ap, sym, ◌∙◌}
 use Rattle.std.proofs.lemmas.Int.{to_z-of_z}
 use Rattle.sheet_means.proofs.CompleteLaws.{any_obs}
 use Rattle.sheet_means.proofs.ValueLaws.{place_inside, value_of-at}

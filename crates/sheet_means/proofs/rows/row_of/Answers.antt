@@ -1,4 +1,4 @@
-use Rattle.std.proofs.Common.{◌≡◌, ◌<◌, length, get_or, ℕ, ℤ, List, w8, FitsSigned, arith, ap, sym, ◌∙◌, subst}
+use Rattle.std.proofs.Common.{get_or, ℕ, ℤ, List, w8, FitsSigned, arith, ap, sym, ◌∙◌, subst}
 use Rattle.std.proofs.lemmas.Int.{to_z-of_z, ints}
 use Rattle.adjust_kernel.specs.Names.{IsName}
 use Rattle.adjust_kernel.specs.Sheets.{IsSetNumber}

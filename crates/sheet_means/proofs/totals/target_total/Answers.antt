@@ -1,12 +1,12 @@
-use Rattle.std.proofs.Common.{◌≡◌, length, ℕ, ℤ, List, pos, to_z, arith, ap, subst, sym, ◌∙◌}
+use Rattle.std.proofs.Common.{◌≡◌, length, ℕ, to_z, arith, ap, subst, sym, ◌∙◌}
 use Rattle.std.specs.Int.{w128}
 use Rattle.std.proofs.lemmas.Int.{ints}
 use Rattle.adjust_kernel.specs.Pairs.{readings_of}
 use Rattle.adjust_kernel.specs.Residuals.{unrolled}
 use Rattle.adjust_kernel.specs.Within.{IsWithin}
 use Rattle.sheet_means.specs.declared.totals.TheConstants.{LARGEST_READING}
-use Rattle.sheet_means.specs.Totals.{reading_at, set_total}
-use Rattle.sheet_means.proofs.GridLaws.{sum_below, sum_of_set, sum_of_target, sum_of_all}
+use Rattle.sheet_means.specs.Totals.{reading_at}
+use Rattle.sheet_means.proofs.GridLaws.{sum_below, sum_of_target}
 use Rattle.sheet_means.proofs.MeansRowLaws.{grid}
 use Rattle.sheet_means.proofs.SumLoops.{sum_more}
 use Rattle.sheet_means.proofs.totals.target_total.Goals as goal

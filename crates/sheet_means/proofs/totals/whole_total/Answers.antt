@@ -1,11 +1,10 @@
-use Rattle.std.proofs.Common.{◌≡◌, length, ℕ, ℤ, List, pos, to_z, arith, ap, subst, sym, ◌∙◌}
+use Rattle.std.proofs.Common.{◌≡◌, length, ℕ, pos, to_z, arith, ap, subst, sym, ◌∙◌}
 use Rattle.std.specs.Int.{w128}
 use Rattle.std.proofs.lemmas.Int.{ints}
 use Rattle.adjust_kernel.specs.Pairs.{readings_of}
-use Rattle.adjust_kernel.specs.Residuals.{unrolled}
 use Rattle.adjust_kernel.specs.Within.{IsWithin}
 use Rattle.sheet_means.specs.declared.totals.TheConstants.{LARGEST_READING}
-use Rattle.sheet_means.specs.Totals.{reading_at, set_total}
+use Rattle.sheet_means.specs.Totals.{set_total}
 use lib.IntN.{◌*ℤ◌}
 use Rattle.adjust_kernel.specs.declared.limits.TheConstants.{MOST_TARGETS}
 use Rattle.sheet_means.proofs.GridLaws.{sum_below, whole_by_sets}
