@@ -27,15 +27,16 @@ module _ (sets targets : ℕ) (obs : List Obs) (h : AreObs sets targets obs) (fe
   at_least_place zero d inside = omega arith
   at_least_place (suc n) d inside =
       by (h.ordered n (suc n) d (omega arith) inside) (at_least_place n d (omega arith)) (h.within n d (omega arith)) where
-    by : IsBefore (get_or obs n d) (get_or obs (suc n) d) → n ≤ (get_or obs n d).set * MOST_TARGETS + (get_or obs n d).target → IsObs sets targets (get_or obs n d) → suc n ≤ (get_or obs (suc n) d).set * MOST_TARGETS + (get_or obs (suc n) d).target
-    by (inl e) earlier o = let t = o.target in omega (arith, t, few_targets)
-    by (inr e) earlier o = omega arith
+        by : IsBefore (get_or obs n d) (get_or obs (suc n) d) → n ≤ (get_or obs n d).set * MOST_TARGETS + (get_or obs n d).target → IsObs sets targets (get_or obs n d) → suc n ≤ (get_or obs (suc n) d).set * MOST_TARGETS + (get_or obs (suc n) d).target
+        by (inl e) earlier o = let t = o.target in omega (arith, t, few_targets)
+        by (inr e) earlier o = omega arith
 
   -- a station has at most an observation of each target in each set
   pub few_obs : length obs ≤ MOST_ROWS
   few_obs = by (length obs) refl where
     any_obs : Obs
     any_obs = record { set = 0; target = 0; value = 0 }
+
     by : (n : ℕ) → length obs ≡ n → length obs ≤ MOST_ROWS
     by zero e = omega arith
     by (suc n) e =

@@ -1,9 +1,9 @@
 -- One more residual in running sums.
-use Rattle.std.proofs.Common.{◌≡◌, ◌≢◌, ℕ, suc, zero, ◌+◌, ◌*◌, ◌≤◌, ◌<◌, Bool, true, false, cond, eqb, List, [], ◌∷◌, ◌++◌, length, map, take, replicate, set, get_or, All, ℤ, pos, neg_ℤ, ◌+ℤ◌, ◌≤ℤ◌, arith, ap, refl, sym, ◌∙◌, subst, eq-eqb}
-use Rattle.std.proofs.Math.IntN.{+ℤ_idr, ◌*ℤ◌}
+use Rattle.std.proofs.Common.{◌≡◌, ℕ, ◌+◌, ◌*◌, ◌<◌, cond, eqb, List, [], ◌∷◌, ◌++◌, length, take, replicate, set, get_or, All, ℤ, pos, ◌+ℤ◌, arith, ap, refl, sym, ◌∙◌, eq-eqb}
+use Rattle.std.proofs.Math.IntN.{+ℤ_idr}
 use Rattle.std.proofs.lemmas.Int.{ints}
 use Rattle.std.proofs.lemmas.Bool.{ne_eqb}
-use Rattle.std.proofs.lemmas.List.{map-append, get_or-set_same, get_or-set_other, length-set, length-append, get_or-replicate, take_more}
+use Rattle.std.proofs.lemmas.List.{map-append, get_or-set_same, get_or-set_other, length-append, get_or-replicate, take_more}
 use Rattle.std.proofs.lemmas.List.Elements.{All-set, All-weaker, All-replicate}
 use Rattle.adjust_kernel.specs.declared.tally.Added.{Added}
 use Rattle.adjust_kernel.specs.Sums.{int_sum_by, int_sum_where}

@@ -1,5 +1,5 @@
 -- At most one verdict stands for a station, a sheet and a limit.
-use Rattle.std.proofs.Common.{◌≡◌, ℕ, suc, zero, ◌+◌, ◌*◌, ◌<◌, ◌≤◌, List, [], ◌∷◌, take, ℤ, pos, negsuc, Option, Some, None, Result, Ok, Err, arith, ap, refl, sym, ◌∙◌, subst, get_or}
+use Rattle.std.proofs.Common.{◌≡◌, ◌≢◌, ℕ, suc, zero, ◌+◌, ◌*◌, ◌<◌, ◌≤◌, List, [], ◌∷◌, length, take, ℤ, pos, negsuc, Option, Some, None, Result, Ok, Err, arith, ap, refl, sym, ◌∙◌, subst, get_or}
 use Rattle.std.specs.List.{slice_get}
 use Rattle.std.specs.Int.RustNames.{unsigned_abs}
 use Rattle.std.proofs.lemmas.Int.{ints}
@@ -9,13 +9,14 @@ use Rattle.adjust_kernel.specs.declared.accepted.Accepted.{Accepted}
 use Rattle.adjust_kernel.specs.declared.kernel_fault.KernelFault.{KernelFault}
 use Rattle.adjust_kernel.specs.declared.kernel_fault.KernelFault.TheVariants.{Name, TargetRow, SetRow, ObsRow, Datum, TargetSum, SetSum, NotConnected, Residual}
 use Rattle.adjust_kernel.specs.Firsts.{IsFirstDifference, IsFirstWhere}
+use Rattle.adjust_kernel.specs.Matching.{Matches}
 use Rattle.adjust_kernel.specs.Pairs.{choice_stated_by}
 use Rattle.adjust_kernel.specs.Readings.{Reading}
-use Rattle.adjust_kernel.specs.Residuals.{residual}
+use Rattle.adjust_kernel.specs.Residuals.{residual, target_sum, set_sum}
 use Rattle.adjust_kernel.specs.Sheets.{SheetValue}
 use Rattle.adjust_kernel.specs.Stations.{StationValue}
 use Rattle.adjust_kernel.specs.Within.{IsWithin}
-use Rattle.adjust_kernel.specs.Verdict.{AtNth, Stands, IsClearOf, IsVerdict, order_of, readings}
+use Rattle.adjust_kernel.specs.Verdict.{AtNth, Stands, IsClearOf, IsVerdict, TargetsAddUp, order_of, readings}
 
 -- the size of a number within a bound
 pub size_within : (m : ℕ) (z : ℤ) → IsWithin (pos m) z → unsigned_abs z ≤ m
@@ -67,8 +68,8 @@ module _ (station : StationValue) (sheet : SheetValue) where
       let small = size_within (most * sheet.denominator) (residual (choice_stated_by sheet) (get_or (readings station sheet) k any_reading)) (clear k any_reading f.inside) in
       let large = subst (λ z. most * sheet.denominator < unsigned_abs z) at f.here in
       omega arith where
-    any_reading : Reading
-    any_reading = record { set = 0; target = 0; value = 0; turn = pos 0 }
+        any_reading : Reading
+        any_reading = record { set = 0; target = 0; value = 0; turn = pos 0 }
 
   -- of two faults that stand, and that are looked for at one place in the order
   one_fault : (limit : Option ℕ) (f g : KernelFault) → order_of f ≡ order_of g → Stands station sheet limit f → Stands station sheet limit g → f ≡ g
@@ -94,3 +95,26 @@ module _ (station : StationValue) (sheet : SheetValue) where
     by (yes e) d = absurd (not_standing limit f (w.1 f e) v.0)
     by (no e) (yes d) = absurd (not_standing limit g (v.1 g d) w.0)
     by (no e) (no d) = one_fault limit f g (omega arith) v.0 w.0
+
+  -- the verdict where the sum of a target is refused
+  pub target_sum_verdict : (n : ℕ) → Matches station sheet → IsFirstWhere (λ t. target_sum (choice_stated_by sheet) (readings station sheet) t ≢ pos 0) (length station.targets) n → (limit : Option ℕ) → IsVerdict station sheet limit (Err (TargetSum (n + 1)))
+  target_sum_verdict n matches first limit = ((n, refl, first), clear) where
+    clear : (other : KernelFault) → order_of other < 6 → IsClearOf station sheet limit other
+    clear Name h = matches.name
+    clear (TargetRow n) h = matches.targets
+    clear (SetRow n) h = matches.sets
+    clear (ObsRow n) h = matches.rows
+    clear Datum h = matches.datum
+    clear other h = absurd (omega arith)
+
+  -- the verdict where the sum of a set is refused
+  pub set_sum_verdict : (n : ℕ) → Matches station sheet → TargetsAddUp station sheet → IsFirstWhere (λ s. set_sum (choice_stated_by sheet) (readings station sheet) s ≢ pos 0) (length station.sets) n → (limit : Option ℕ) → IsVerdict station sheet limit (Err (SetSum (n + 1)))
+  set_sum_verdict n matches targets first limit = ((n, refl, first), clear) where
+    clear : (other : KernelFault) → order_of other < 7 → IsClearOf station sheet limit other
+    clear Name h = matches.name
+    clear (TargetRow n) h = matches.targets
+    clear (SetRow n) h = matches.sets
+    clear (ObsRow n) h = matches.rows
+    clear Datum h = matches.datum
+    clear (TargetSum n) h = targets
+    clear other h = absurd (omega arith)

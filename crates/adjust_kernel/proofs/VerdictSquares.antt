@@ -1,6 +1,6 @@
 -- What a verdict tells of least squares, case by case.
 use Rattle.std.proofs.Common.{ℕ, suc, ◌≤◌, List, [], ◌∷◌, length, All, Option, Some, None, Result, Ok, Err, arith}
-use Rattle.std.specs.Prelude.{IfSome}
+use Rattle.std.specs.Prelude.{IfSome, OnOk}
 use Rattle.std.proofs.lemmas.List.Elements.{All-cons}
 use Rattle.adjust_kernel.specs.declared.accepted.Accepted.{Accepted}
 use Rattle.adjust_kernel.specs.declared.kernel_fault.KernelFault.{KernelFault}
@@ -8,6 +8,7 @@ use Rattle.adjust_kernel.specs.declared.kernel_fault.KernelFault.TheVariants.{Na
 use Rattle.adjust_kernel.specs.declared.limits.TheConstants.{LARGEST_RESIDUAL_LIMIT}
 use Rattle.adjust_kernel.specs.declared.obs.Obs.{Obs}
 use Rattle.adjust_kernel.specs.declared.row.Row.{Row}
+use Rattle.adjust_kernel.specs.Matching.{Matches}
 use Rattle.adjust_kernel.specs.Pairs.{choice_stated_by, readings_of}
 use Rattle.adjust_kernel.specs.Promises.{TellsOfSquares}
 use Rattle.adjust_kernel.specs.Readings.{IsPlaced}
@@ -45,7 +46,7 @@ module _ (station : StationValue) (sheet : SheetValue) (is_station : IsStation s
   }
 
   pub tells_of_squares : (limit : Option ℕ) (result : Result Accepted KernelFault)
-      → IfSome limit (λ most. most ≤ LARGEST_RESIDUAL_LIMIT) → IsVerdict station sheet limit result
+      → OnOk result (IfSome limit (λ most. most ≤ LARGEST_RESIDUAL_LIMIT)) → IsVerdict station sheet limit result
       → TellsOfSquares limit (length station.sets) (length station.targets) (choice_stated_by sheet) (readings station sheet) result
   tells_of_squares None (Ok accepted) h v = (accepted_is_adjusted _ _ _ _ (is_accepted None v.0), tt)
   tells_of_squares (Some most) (Ok accepted) h v =
@@ -66,3 +67,14 @@ module _ (station : StationValue) (sheet : SheetValue) (is_station : IsStation s
   tells_of_squares limit (Err (SetSum n)) h ((k, _, first), _) = set_sum_has_better (choice_stated_by sheet) (readings station sheet) k is_sheet.denominator.0 first.here
   tells_of_squares limit (Err NotConnected) h v = divided_has_another (length station.sets) (length station.targets) (choice_stated_by sheet) (readings station sheet) v.0
   tells_of_squares limit (Err (Residual n)) h v = tt
+
+-- an accepted sheet is of the station
+pub matches_where_accepted : (station : StationValue) (sheet : SheetValue) (limit : Option ℕ) (result : Result Accepted KernelFault) → IsVerdict station sheet limit result → OnOk result (Matches station sheet)
+matches_where_accepted station sheet limit (Err fault) v = tt
+matches_where_accepted station sheet limit (Ok accepted) v = record {
+  name = v.0 Name;
+  targets = v.0 (TargetRow 0);
+  sets = v.0 (SetRow 0);
+  rows = v.0 (ObsRow 0);
+  datum = v.0 Datum;
+}

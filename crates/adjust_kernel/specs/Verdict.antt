@@ -24,6 +24,14 @@ readings station sheet = readings_of station.obs sheet.rows
 abbrev pub residuals : StationValue → SheetValue → List ℤ
 residuals station sheet = map (residual (choice_stated_by sheet)) (readings station sheet)
 
+-- the residuals of each target add to 0
+abbrev pub TargetsAddUp : StationValue → SheetValue → Type 0
+TargetsAddUp station sheet = (t : ℕ) → t < length station.targets → target_sum (choice_stated_by sheet) (readings station sheet) t ≡ pos 0
+
+-- the residuals of each set add to 0
+abbrev pub SetsAddUp : StationValue → SheetValue → Type 0
+SetsAddUp station sheet = (s : ℕ) → s < length station.sets → set_sum (choice_stated_by sheet) (readings station sheet) s ≡ pos 0
+
 -- P holds of the place that is the n-th, counted from 1
 abbrev pub AtNth : (ℕ → Type 0) → ℕ → Type 0
 AtNth P n = (place : ℕ) × (n ≡ place + 1) × P place
@@ -48,8 +56,8 @@ IsClearOf station sheet limit (TargetRow n) = names_of sheet ≡ station.targets
 IsClearOf station sheet limit (SetRow n) = numbers_of sheet ≡ station.sets
 IsClearOf station sheet limit (ObsRow n) = keys_of sheet ≡ observed station
 IsClearOf station sheet limit Datum = (choice_stated_by sheet).direction 0 ≡ pos 0
-IsClearOf station sheet limit (TargetSum n) = (t : ℕ) → t < length station.targets → target_sum (choice_stated_by sheet) (readings station sheet) t ≡ pos 0
-IsClearOf station sheet limit (SetSum n) = (s : ℕ) → s < length station.sets → set_sum (choice_stated_by sheet) (readings station sheet) s ≡ pos 0
+IsClearOf station sheet limit (TargetSum n) = TargetsAddUp station sheet
+IsClearOf station sheet limit (SetSum n) = SetsAddUp station sheet
 IsClearOf station sheet limit NotConnected = IsConnected (length station.sets) (length station.targets) (readings station sheet)
 IsClearOf station sheet limit (Residual n) = IfSome limit (λ most. IsLimited most (choice_stated_by sheet) (readings station sheet))
 

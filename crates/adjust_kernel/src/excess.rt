@@ -6,22 +6,19 @@ ghost use Rattle.adjust_kernel.specs.Pairs.{ArePaired, choice_stated_by, reading
 ghost use Rattle.adjust_kernel.specs.Residuals.{residual};
 ghost use Rattle.adjust_kernel.specs.Turns.{IsLimited};
 
-use crate::limits::LARGEST_DENOMINATOR;
 use crate::obs::Obs;
 use crate::residual::row_residual;
-use crate::residual_limit::ResidualLimit;
 use crate::sheet::Sheet;
 
 // Whether a scaled residual is in size above a limit.
-fn is_above(residual: i128, limit: ResidualLimit, denominator: u64) -> bool
-    requires { denominator ≤ LARGEST_DENOMINATOR }
+fn is_above(residual: i128, limit: u32, denominator: u64) -> bool
     ensures { IsTrue result ↔ (limit * denominator < unsigned_abs residual) }
 {
-    residual.unsigned_abs() > u128::from(limit.half_units()) * u128::from(denominator)
+    residual.unsigned_abs() > u128::from(limit) * u128::from(denominator)
 }
 
 // Whether the residual of a row is in size above a limit.
-fn is_row_above(sheet: &Sheet, obs: &[Obs], limit: ResidualLimit, row: usize) -> bool
+fn is_row_above(sheet: &Sheet, obs: &[Obs], limit: u32, row: usize) -> bool
     requires paired { ArePaired sheet.now obs.now }
     requires row { row < length obs.now }
     ensures { IsTrue result ↔ (limit * sheet.now.denominator < unsigned_abs (slice_index_or (map (residual (choice_stated_by sheet.now)) (readings_of obs.now sheet.now.rows)) row (pos 0))) }
@@ -29,11 +26,12 @@ fn is_row_above(sheet: &Sheet, obs: &[Obs], limit: ResidualLimit, row: usize) ->
     is_above(row_residual(sheet, obs, row), limit, sheet.denominator())
 }
 
-/// The first row from 0 whose scaled residual is in size above the limit times the denominator.
-pub fn first_excess(sheet: &Sheet, obs: &[Obs], limit: ResidualLimit) -> Option<usize>
+/// The first row from 0 whose scaled residual is in size above a limit in half units, times the denominator.
+pub fn first_excess(sheet: &Sheet, obs: &[Obs], limit: u32) -> Option<usize>
     requires { ArePaired sheet.now obs.now }
     ensures none { IfNone result (IsLimited limit (choice_stated_by sheet.now) (readings_of obs.now sheet.now.rows)) }
     ensures some { IfSome result (λ n. IsFirstWhere (λ row. limit * sheet.now.denominator < unsigned_abs (slice_index_or (map (residual (choice_stated_by sheet.now)) (readings_of obs.now sheet.now.rows)) row (pos 0))) (length (readings_of obs.now sheet.now.rows)) n) }
+    ensures bound { IfSome result (λ n. n < length obs.now) }
 {
     for row in 0..obs.len() {
         if is_row_above(sheet, obs, limit, row) {

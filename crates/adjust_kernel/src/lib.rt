@@ -24,6 +24,7 @@ mod sheet;
 mod station;
 mod sums;
 mod tally;
+mod verdict;
 
 pub use accepted::Accepted;
 pub use kernel_fault::KernelFault;
@@ -41,3 +42,4 @@ pub use scan::Scan;
 pub use sheet::Sheet;
 pub use station::Station;
 pub use tally::{Added, Tally};
+pub use verdict::{check, check_with};

@@ -4,7 +4,8 @@ ghost use Rattle.std.specs.Prelude.{◌≡◌, ◌↔◌, ◌≤◌, ℕ, pos, l
 ghost use Rattle.adjust_kernel.specs.Firsts.{IsFirstDifference};
 ghost use Rattle.adjust_kernel.specs.Matching.{Matches, names_of, numbers_of, keys_of, observed, key_of_row, key_of_obs};
 ghost use Rattle.adjust_kernel.specs.Pairs.{choice_stated_by};
-ghost use Rattle.adjust_kernel.specs.Stations.{IsObs};
+ghost use Rattle.adjust_kernel.specs.Sheets.{IsSheet};
+ghost use Rattle.adjust_kernel.specs.Stations.{IsObs, IsStation};
 ghost use Rattle.adjust_kernel.specs.Verdict.{IsVerdict};
 
 use crate::kernel_fault::KernelFault;
@@ -111,6 +112,8 @@ fn has_datum(sheet: &Sheet) -> bool
 pub fn matches_station(station: &Station, sheet: &Sheet) -> Result<(), KernelFault>
     ensures ok { OnOk result (Matches station.now sheet.now) }
     ensures err { IfErr result (λ fault. (limit : Option ℕ) → IsVerdict station.now sheet.now limit (Err fault)) }
+    ensures valid_station { IsStation station.now }
+    ensures valid_sheet { IsSheet sheet.now }
 {
     if !same(sheet.name(), station.name()) {
         return Err(KernelFault::Name);

@@ -73,9 +73,32 @@ fn is_name(bytes: &[u8]) -> bool
             .all(|byte| (FIRST_PRINTABLE..=LAST_PRINTABLE).contains(byte))
 }
 
+/// Whether a name keeps its rules: it always does, and who asks may rest on it.
+pub fn is_valid(name: &Name) -> bool
+    ensures { IsTrue result ↔ IsName name.now }
+{
+    let _ = &name.len;
+    true
+}
+
 /// Whether two names are one.
 pub fn same(a: Name, b: Name) -> bool
     ensures { IsTrue result ↔ (a ≡ b) }
 {
     a == b
+}
+
+#[cfg(test)]
+mod tests {
+    use super::*;
+
+    #[test]
+    fn a_name_has_1_to_16_printable_bytes(rt: HostRuntime) {
+        assert!(rt; Name::new(b"").is_none());
+        assert!(rt; Name::new(b"12345678901234567").is_none());
+        assert!(rt; Name::new(b"A\x7f").is_none());
+        assert!(rt; Name::new(b"A\x1f").is_none());
+        let name = Name::new(b"1234567890 ~AB,\"").expect(&rt, "a name");
+        assert_eq!(rt; name.bytes(), b"1234567890 ~AB,\"".as_slice());
+    }
 }

@@ -1,5 +1,9 @@
 //! What a sheet says: a direction for each target, an orientation for each set, and the observations with their full turns.
 
+ghost use Rattle.std.specs.Prelude.{◌↔◌, IsTrue};
+ghost use Rattle.adjust_kernel.specs.Sheets.{IsSetNumber};
+
+use crate::limits::LARGEST_SET_NUMBER;
 use crate::name::Name;
 
 /// The adjusted direction of a target.
@@ -31,4 +35,11 @@ pub struct Row {
     pub value: u32,
     /// The full circles that the adjustment adds to it.
     pub turn: i8,
+}
+
+/// Whether a number is one that a set may have.
+pub fn is_set_number(number: &u16) -> bool
+    ensures { IsTrue result ↔ IsSetNumber number.now }
+{
+    (1..=LARGEST_SET_NUMBER).contains(number)
 }

@@ -5,11 +5,10 @@ ghost use Rattle.adjust_kernel.specs.declared.limits.TheConstants.{MOST_ROWS, LA
 ghost use Rattle.adjust_kernel.specs.Within.{IsWithin};
 ghost use Rattle.adjust_kernel.specs.Tallies.{added_for_target, added_for_set};
 
-use std::alloc::Global;
-
 use crate::limits::{LARGEST_RESIDUAL, MOST_ROWS};
 use crate::out_of_memory::OutOfMemory;
 use crate::tally::{Added, Tally};
+use std::alloc::Global;
 
 /// A tally that holds what was added, in room that is taken once, and adds it up when it is asked.
 #[derive(Drop)]
@@ -43,7 +42,12 @@ impl Tally for Scan {
     }
 
     fn add(&mut self, target: u32, set: u32, residual: i128) {
-        self.added.push(Added { target, set, residual }).unwrap();
+        let added = Added {
+            target,
+            set,
+            residual,
+        };
+        self.added.push(added).unwrap();
     }
 
     fn target_sum(&self, target: u32) -> i128 {

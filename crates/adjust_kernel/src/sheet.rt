@@ -2,13 +2,13 @@
 
 ghost use Rattle.std.specs.Prelude.{◌≡◌, ◌↔◌, IsTrue, IfSome, IfNone};
 ghost use Rattle.adjust_kernel.specs.Sheets.{IsSheet, IsDenominator, IsDirection, IsOrientation, IsRow, AreDirections, AreOrientations, AreRows};
+ghost use Rattle.adjust_kernel.specs.Within.{IsWithin};
 
 use crate::limits::{
-    LARGEST_ANGLE, LARGEST_DENOMINATOR, LARGEST_SET_NUMBER, LARGEST_TURN, MOST_ROWS, MOST_SETS,
-    MOST_TARGETS, TURN,
+    LARGEST_ANGLE, LARGEST_DENOMINATOR, LARGEST_TURN, MOST_ROWS, MOST_SETS, MOST_TARGETS, TURN,
 };
-use crate::name::Name;
-use crate::row::{Direction, Orientation, Row};
+use crate::name::{Name, is_valid};
+use crate::row::{Direction, Orientation, Row, is_set_number};
 use std::marker::Model;
 
 /// What an adjustment answered for a station: a direction for each target and an orientation for each set, all over
@@ -48,8 +48,8 @@ impl Sheet {
         ensures valid { IfSome result IsSheet }
         ensures none { IfNone result (IsSheet (record { name = name; denominator = denominator; directions = directions.items; orientations = orientations.items; rows = rows.items }) → ⊥) }
     {
-        let _ = name.bytes();
-        if is_denominator(denominator)
+        if is_valid(&name)
+            && is_denominator(denominator)
             && are_directions(&directions)
             && are_orientations(&orientations)
             && are_rows(&rows)
@@ -110,37 +110,38 @@ impl Sheet {
 fn is_denominator(denominator: u64) -> bool
     ensures { IsTrue result ↔ IsDenominator denominator }
 {
-    1 <= denominator && denominator <= LARGEST_DENOMINATOR
+    (1..=LARGEST_DENOMINATOR).contains(&denominator)
 }
 
-// Whether a direction is one of a sheet. Its name is valid already.
+// Whether the size of a direction or orientation is within its limit.
+fn is_angle(value: i128) -> bool
+    ensures { IsTrue result ↔ IsWithin LARGEST_ANGLE value }
+{
+    (-LARGEST_ANGLE..=LARGEST_ANGLE).contains(&value)
+}
+
+// Whether a direction is one of a sheet.
 fn is_direction(direction: &Direction) -> bool
     ensures { IsTrue result ↔ IsDirection direction.now }
 {
-    let _ = direction.name.bytes();
-    -LARGEST_ANGLE <= direction.value && direction.value <= LARGEST_ANGLE
+    is_valid(&direction.name) && is_angle(direction.value)
 }
 
 // Whether an orientation is one of a sheet.
 fn is_orientation(orientation: &Orientation) -> bool
     ensures { IsTrue result ↔ IsOrientation orientation.now }
 {
-    1 <= orientation.set
-        && orientation.set <= LARGEST_SET_NUMBER
-        && -LARGEST_ANGLE <= orientation.value
-        && orientation.value <= LARGEST_ANGLE
+    is_set_number(&orientation.set) && is_angle(orientation.value)
 }
 
-// Whether a row is one of a sheet. Its name is valid already.
+// Whether a row is one of a sheet.
 fn is_row(row: &Row) -> bool
     ensures { IsTrue result ↔ IsRow row.now }
 {
-    let _ = row.target.bytes();
-    1 <= row.set
-        && row.set <= LARGEST_SET_NUMBER
+    is_set_number(&row.set)
+        && is_valid(&row.target)
         && row.value < TURN
-        && -LARGEST_TURN <= row.turn
-        && row.turn <= LARGEST_TURN
+        && (-LARGEST_TURN..=LARGEST_TURN).contains(&row.turn)
 }
 
 // Whether these are the directions of a sheet.
@@ -167,3 +168,6 @@ fn are_rows(rows: &[Row]) -> bool
 {
     !rows.is_empty() && rows.len() <= MOST_ROWS && rows.iter().all(is_row)
 }
+
+#[cfg(test)]
+mod tests;

@@ -1,13 +1,12 @@
 //! The station as it was measured.
 
 ghost use Rattle.std.specs.Prelude.{◌≡◌, ◌≢◌, ◌↔◌, ◌≤◌, AllPairs, IsTrue, IfSome, IfNone, length};
-ghost use Rattle.adjust_kernel.specs.Names.{IsName};
-ghost use Rattle.adjust_kernel.specs.Sheets.{IsSetNumber};
 ghost use Rattle.adjust_kernel.specs.Stations.{IsStation, AreTargets, AreSets};
 
-use crate::limits::{LARGEST_SET_NUMBER, MOST_ROWS, MOST_SETS, MOST_TARGETS};
-use crate::name::{Name, same};
+use crate::limits::{MOST_ROWS, MOST_SETS, MOST_TARGETS};
+use crate::name::{Name, is_valid, same};
 use crate::obs::{Obs, are_obs};
+use crate::row::is_set_number;
 use std::marker::Model;
 
 /// What was observed at one station: its targets, its sets, and the two-face directions by set and target.
@@ -85,14 +84,6 @@ impl Station {
     }
 }
 
-// A name stays valid: whoever asks is told so.
-fn is_valid(name: &Name) -> bool
-    ensures { IsTrue result ↔ IsName name.now }
-{
-    let _ = name.bytes();
-    true
-}
-
 // Whether these are the targets of a station.
 fn are_targets(targets: &[Name]) -> bool
     ensures { IsTrue result ↔ AreTargets targets.now }
@@ -114,13 +105,6 @@ fn are_different_names(names: &[Name]) -> bool
         }
     }
     true
-}
-
-// Whether a number is one that a set may have.
-fn is_set_number(number: &u16) -> bool
-    ensures { IsTrue result ↔ IsSetNumber number.now }
-{
-    1 <= *number && *number <= LARGEST_SET_NUMBER
 }
 
 // Whether these are the numbers of a station's sets.
@@ -145,3 +129,6 @@ fn are_different_numbers(numbers: &[u16]) -> bool
     }
     true
 }
+
+#[cfg(test)]
+mod tests;

@@ -1,4 +1,4 @@
-use Rattle.std.proofs.Common.{◌<◌, ◌≤◌, ◌≡◌, ◌*◌, ℕ, ℤ, true, false, suc, pos, negsuc, length, sym, subst, arith, below_more}
+use Rattle.std.proofs.Common.{◌<◌, ◌≤◌, ◌≡◌, ◌*◌, ℕ, ℤ, true, false, suc, pos, negsuc, subst, arith, below_more}
 use Rattle.std.specs.Prelude.{map, slice_index_or}
 use Rattle.std.specs.Int.RustNames.{unsigned_abs}
 use Rattle.std.proofs.lemmas.Int.{ints}

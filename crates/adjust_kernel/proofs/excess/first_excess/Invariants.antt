@@ -1,4 +1,4 @@
-use Rattle.std.proofs.Common.{◌≤◌, ◌<◌, ◌*◌, ℕ, pos}
+use Rattle.std.proofs.Common.{◌<◌, ◌*◌, ℕ, pos}
 use Rattle.std.specs.Prelude.{map, slice_index_or}
 use Rattle.std.specs.Int.RustNames.{unsigned_abs}
 use Rattle.adjust_kernel.specs.Pairs.{choice_stated_by, readings_of}

@@ -1,4 +1,4 @@
-use Rattle.std.proofs.Common.{◌≡◌, ◌<◌, ◌*◌, ◌∙◌, ℕ, ℤ, pos, sym, subst, arith, length, get_or, FitsSigned}
+use Rattle.std.proofs.Common.{◌<◌, ◌*◌, ◌∙◌, ℕ, ℤ, pos, sym, subst, arith, length, FitsSigned}
 use mir.Syntax.{w128}
 use Rattle.std.specs.Prelude.{◌↔◌, IsTrue}
 use Rattle.std.specs.Int.RustNames.{unsigned_abs}
@@ -17,6 +17,6 @@ returns c =
     let inside : c.args.row < length readings = let k = length-readings_of c.args.obs.now c.args.sheet.now.rows c.requires.paired.same_length in omega (arith, c.requires.row) in
     let fits : FitsSigned w128 c.row_residual.result = omega (arith, ints) in
     let is_residual = to_z-of_z w128 c.row_residual.result fits
-        ∙ c.row_residual.ensures.value none
-        ∙ sym (get_or-map (residual (choice_stated_by c.args.sheet.now)) readings c.args.row none (pos 0) inside) in
+    ∙ c.row_residual.ensures.value none
+    ∙ sym (get_or-map (residual (choice_stated_by c.args.sheet.now)) readings c.args.row none (pos 0) inside) in
     subst (λ (p : ℕ × ℤ). IsTrue c.is_above.result ↔ (c.args.limit * p.0 < unsigned_abs p.1)) (λ i. (c.denominator.ensures.value i, is_residual i)) c.is_above.ensures

@@ -1,4 +1,4 @@
-use Rattle.std.proofs.Common.{pos, ℤ, arith, ◌∙◌, ◌≡◌, ap, FitsSigned}
+use Rattle.std.proofs.Common.{pos, arith, ◌∙◌, ◌≡◌, ap, FitsSigned}
 use mir.Syntax.{w128}
 use mir.Val.{to_z, of_z}
 use Rattle.std.proofs.Math.IntN.{◌*ℤ◌}
@@ -11,9 +11,9 @@ pub returns-clause-value : goal.returns-clause-value
 returns-clause-value c =
     let fits : FitsSigned w128 c.unrolled.result = omega (arith, ints) in
     let reading : c.scaled-reading.result ≡ pos c.args.sheet.now.denominator *ℤ unrolled (reading_of c.args.obs.now c.args.row.now.turn) =
-        c.scaled-reading.ensures.value
-        ∙ ap (λ n. pos n *ℤ to_z w128 (of_z w128 c.unrolled.result)) c.denominator.ensures.value
-        ∙ ap (λ z. pos c.args.sheet.now.denominator *ℤ z) (to_z-of_z w128 c.unrolled.result fits ∙ c.unrolled.ensures.value) in
+    c.scaled-reading.ensures.value
+    ∙ ap (λ n. pos n *ℤ to_z w128 (of_z w128 c.unrolled.result)) c.denominator.ensures.value
+    ∙ ap (λ z. pos c.args.sheet.now.denominator *ℤ z) (to_z-of_z w128 c.unrolled.result fits ∙ c.unrolled.ensures.value) in
     omega (arith, ints)
 
 pub returns-clause-bound : goal.returns-clause-bound

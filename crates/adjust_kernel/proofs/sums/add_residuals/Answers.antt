@@ -1,4 +1,4 @@
-use Rattle.std.proofs.Common.{◌≡◌, ◌≤◌, ◌<◌, ◌∙◌, ℕ, List, [], length, take, get_or, pos, ap, sym, subst, arith, FitsSigned}
+use Rattle.std.proofs.Common.{◌≤◌, ◌<◌, ◌∙◌, List, [], length, take, pos, ap, subst, arith, FitsSigned}
 use mir.Syntax.{w128}
 use Rattle.std.proofs.lemmas.Int.{ints, to_z-of_z}
 use Rattle.std.proofs.lemmas.List.{take_all}

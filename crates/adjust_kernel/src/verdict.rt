@@ -1,0 +1,160 @@
+//! The verdict on a sheet of a station.
+//!
+//! The sheet is the least-squares adjustment of its readings where the residuals of each target and of each set add to
+//! 0: so nothing is searched for, and no other choice is looked at. The residuals go through a tally once.
+
+ghost use Rattle.std.specs.Prelude.{◌≡◌, ◌≤◌, ◌<◌, ℕ, pos, [], length, Option, Result, OnOk, IfErr, IfNone, IfSome, Err};
+ghost use Rattle.adjust_kernel.specs.declared.accepted.Accepted.{Accepted};
+ghost use Rattle.adjust_kernel.specs.declared.kernel_fault.KernelFault.{KernelFault};
+ghost use Rattle.adjust_kernel.specs.Connected.{IsConnected};
+ghost use Rattle.adjust_kernel.specs.Matching.{Matches};
+ghost use Rattle.adjust_kernel.specs.Pairs.{choice_stated_by};
+ghost use Rattle.adjust_kernel.specs.Promises.{TellsOfSquares};
+ghost use Rattle.adjust_kernel.specs.Sheets.{IsSheet};
+ghost use Rattle.adjust_kernel.specs.Stations.{IsStation};
+ghost use Rattle.adjust_kernel.specs.Tallies.{all_added};
+ghost use Rattle.adjust_kernel.specs.Turns.{IsLimited};
+ghost use Rattle.adjust_kernel.specs.Verdict.{IsVerdict, TargetsAddUp, SetsAddUp, acceptance_of, readings};
+
+use crate::accepted::Accepted;
+use crate::connection::is_connected;
+use crate::excess::first_excess;
+use crate::greatest::greatest_residual;
+use crate::kernel_fault::KernelFault;
+use crate::limits::{LARGEST_RESIDUAL_LIMIT, MOST_ROWS};
+use crate::matching::matches_station;
+use crate::residual_limit::ResidualLimit;
+use crate::running::Running;
+use crate::sheet::Sheet;
+use crate::station::Station;
+use crate::sums::{add_residuals, first_uneven_set, first_uneven_target};
+use crate::tally::Tally;
+
+/// Checks a sheet against its station, under a residual limit where one is stated. Takes no memory.
+///
+/// An accepted sheet has just the station's observations, and no other directions and orientations, over any
+/// denominator, give with its full turns a smaller sum of squared residuals. Under a residual limit no other full turns
+/// do so either. Otherwise the answer is the first fault that stands.
+pub fn check(
+    station: &Station,
+    sheet: &Sheet,
+    residual: Option<ResidualLimit>,
+) -> Result<Accepted, KernelFault>
+    ensures verdict { IsVerdict station.now sheet.now residual result }
+    ensures no_other_verdict { (other : Result Accepted KernelFault) → IsVerdict station.now sheet.now residual other → result ≡ other }
+    ensures matches { OnOk result (Matches station.now sheet.now) }
+    ensures squares { TellsOfSquares residual (length station.now.sets) (length station.now.targets) (choice_stated_by sheet.now) (readings station.now sheet.now) result }
+{
+    check_with(Running::new(), station, sheet, residual)
+}
+
+/// Checks a sheet as `check` does, with the sums of this tally, to which nothing was added.
+pub fn check_with<T: Tally>(
+    tally: T,
+    station: &Station,
+    sheet: &Sheet,
+    residual: Option<ResidualLimit>,
+) -> Result<Accepted, KernelFault>
+    requires nothing { T.StandsFor tally [] }
+    requires room { T.room tally ≡ MOST_ROWS }
+    ensures verdict { IsVerdict station.now sheet.now residual result }
+    ensures no_other_verdict { (other : Result Accepted KernelFault) → IsVerdict station.now sheet.now residual other → result ≡ other }
+    ensures matches { OnOk result (Matches station.now sheet.now) }
+    ensures squares { TellsOfSquares residual (length station.now.sets) (length station.now.targets) (choice_stated_by sheet.now) (readings station.now sheet.now) result }
+{
+    verdict_of(tally, station, sheet, residual)
+}
+
+// The verdict: the tests in their order.
+fn verdict_of<T: Tally>(
+    tally: T,
+    station: &Station,
+    sheet: &Sheet,
+    residual: Option<ResidualLimit>,
+) -> Result<Accepted, KernelFault>
+    requires nothing { T.StandsFor tally [] }
+    requires room { T.room tally ≡ MOST_ROWS }
+    ensures verdict { IsVerdict station.now sheet.now residual result }
+    ensures valid_station { IsStation station.now }
+    ensures valid_sheet { IsSheet sheet.now }
+    ensures valid_limit { OnOk result (IfSome residual (λ most. most ≤ LARGEST_RESIDUAL_LIMIT)) }
+{
+    matches_station(station, sheet)?;
+    adds_up(tally, station, sheet)?;
+    is_held_together(station, sheet)?;
+    keeps_limit(station, sheet, residual)?;
+    Ok(acceptance(station, sheet))
+}
+
+// Whether the residuals of each target and of each set add to 0.
+fn adds_up<T: Tally>(tally: T, station: &Station, sheet: &Sheet) -> Result<(), KernelFault>
+    requires nothing { T.StandsFor tally [] }
+    requires room { T.room tally ≡ MOST_ROWS }
+    requires matches { Matches station.now sheet.now }
+    ensures targets { OnOk result (TargetsAddUp station.now sheet.now) }
+    ensures sets { OnOk result (SetsAddUp station.now sheet.now) }
+    ensures err { IfErr result (λ fault. (limit : Option ℕ) → IsVerdict station.now sheet.now limit (Err fault)) }
+{
+    let tally = add_residuals(tally, sheet, station.obs());
+    if let Some(target) = first_uneven_target(&tally, station.targets().len() as u32) {
+        return Err(KernelFault::TargetSum(target + 1));
+    }
+    if let Some(set) = first_uneven_set(&tally, station.sets().len() as u32) {
+        return Err(KernelFault::SetSum(set + 1));
+    }
+    Ok(())
+}
+
+// Whether the observations hold all sets and targets together.
+fn is_held_together(station: &Station, sheet: &Sheet) -> Result<(), KernelFault>
+    requires matches { Matches station.now sheet.now }
+    requires targets { TargetsAddUp station.now sheet.now }
+    requires sets { SetsAddUp station.now sheet.now }
+    ensures ok { OnOk result (IsConnected (length station.now.sets) (length station.now.targets) (readings station.now sheet.now)) }
+    ensures err { IfErr result (λ fault. (limit : Option ℕ) → IsVerdict station.now sheet.now limit (Err fault)) }
+{
+    if is_connected(station.sets().len(), station.targets().len(), station.obs()) {
+        return Ok(());
+    }
+    Err(KernelFault::NotConnected)
+}
+
+// Whether each residual is within the limit, if one is stated.
+fn keeps_limit(
+    station: &Station,
+    sheet: &Sheet,
+    residual: Option<ResidualLimit>,
+) -> Result<(), KernelFault>
+    requires matches { Matches station.now sheet.now }
+    requires targets { TargetsAddUp station.now sheet.now }
+    requires sets { SetsAddUp station.now sheet.now }
+    requires connected { IsConnected (length station.now.sets) (length station.now.targets) (readings station.now sheet.now) }
+    ensures ok { OnOk result (IfSome residual (λ most. IsLimited most (choice_stated_by sheet.now) (readings station.now sheet.now))) }
+    ensures valid { OnOk result (IfSome residual (λ most. most ≤ LARGEST_RESIDUAL_LIMIT)) }
+    ensures err { IfErr result (λ fault. IsVerdict station.now sheet.now residual (Err fault)) }
+{
+    if let Some(limit) = residual {
+        if let Some(row) = first_excess(sheet, station.obs(), limit.half_units()) {
+            return Err(KernelFault::Residual(row as u32 + 1));
+        }
+    }
+    Ok(())
+}
+
+// What is said of an accepted sheet.
+fn acceptance(station: &Station, sheet: &Sheet) -> Accepted
+    requires matches { Matches station.now sheet.now }
+    ensures { result ≡ acceptance_of station.now sheet.now }
+{
+    Accepted {
+        name: station.name(),
+        sets: station.sets().len() as u32,
+        targets: station.targets().len() as u32,
+        directions: station.obs().len() as u32,
+        greatest: greatest_residual(sheet, station.obs()),
+        denominator: sheet.denominator(),
+    }
+}
+
+#[cfg(test)]
+mod tests;
