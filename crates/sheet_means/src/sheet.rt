@@ -62,3 +62,6 @@ pub fn means(alloc: Global, station: &Station) -> Result<Sheet, MeansFault>
     let orientations = orientations_of(alloc, station, &rows)?;
     Ok(sheet_of(station, directions, orientations, rows))
 }
+
+#[cfg(test)]
+mod tests;
