@@ -8,3 +8,4 @@ pub mod MeansRowLaws
 pub mod SumLoops
 pub mod EachLaws
 pub mod MeansSheetLaws
+pub mod OnlyLaws

@@ -1,6 +1,7 @@
 //! The sheet of means.
 ghost use Rattle.std.specs.Prelude.{◌≡◌, ◌↔◌, length, Ok, Err, None, IfOk, OnOk};
 ghost use Rattle.adjust_kernel.specs.Pairs.{readings_of};
+ghost use Rattle.adjust_kernel.specs.Sheets.{SheetValue};
 ghost use Rattle.adjust_kernel.specs.Verdict.{IsVerdict, acceptance_of};
 ghost use Rattle.sheet_means.specs.Complete.{IsComplete};
 ghost use Rattle.sheet_means.specs.Means.{AreEach, AreMeansRows, IsMeansDirection, IsMeansOrientation, IsMeansSheet, HasSmallNumbers, IsUnturnedAtFirst};
@@ -48,6 +49,7 @@ pub fn means(alloc: Global, station: &Station) -> Result<Sheet, MeansFault>
     ensures incomplete { (result ≡ Err MeansFault.Incomplete) ↔ (IsComplete station.now → ⊥) }
     ensures complete { OnOk result (IsComplete station.now) }
     ensures sheet { IfOk result (IsMeansSheet station.now) }
+    ensures only { IfOk result (λ sheet. (other : SheetValue) → IsMeansSheet station.now other → other ≡ sheet) }
 
     // Whatever memory there is, the kernel accepts the sheet.
     ensures accepted { IfOk result (λ sheet. IsVerdict station.now sheet None (Ok (acceptance_of station.now sheet))) }

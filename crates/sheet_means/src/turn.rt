@@ -7,7 +7,7 @@ ghost use Rattle.sheet_means.specs.Turning.{IsInHalfCircle};
 use adjust_kernel::TURN;
 
 /// Half units (0.005 mgon each) in half a circle.
-pub const HALF_TURN: i64 = 40_000_000;
+pub const HALF_TURN: i64 = TURN as i64 / 2;
 
 /// The largest number of full turns of a reading in a sheet of means.
 pub const MOST_TURNS: i8 = 2;

@@ -20,7 +20,7 @@ struct Worked<'a> {
 }
 
 fn name(rt: &impl Abort, number: u32) -> Name {
-    let digits = [b'0' + (number / 10) as u8, b'0' + (number % 10) as u8];
+    let digits = [b'0' + (number / 10 % 10) as u8, b'0' + (number % 10) as u8];
     Name::new(&digits).expect(rt, "a name")
 }
 
