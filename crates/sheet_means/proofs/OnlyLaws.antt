@@ -1,5 +1,5 @@
 -- A station has one sheet of means at most.
-use Rattle.std.proofs.Common.{◌≡◌, ℕ, ◌<◌, List, [], length, map, get_or, ℤ, pos, ◌+ℤ◌, ◌≤ℤ◌, ◌<ℤ◌, arith, ap, refl, sym, ◌∙◌, subst}
+use Rattle.std.proofs.Common.{◌≡◌, ℕ, ◌<◌, List, [], length, get_or, ℤ, pos, ◌+ℤ◌, ◌<ℤ◌, arith, ap, sym, ◌∙◌, subst}
 use Rattle.std.proofs.Math.IntN.{◌*ℤ◌, ◌-ℤ◌}
 use Rattle.std.proofs.lemmas.Int.{ints, by_lt_z}
 use Rattle.std.proofs.lemmas.List.{ext_get_or, length-map, get_or-map}
@@ -8,9 +8,8 @@ use Rattle.adjust_kernel.specs.declared.obs.Obs.{Obs}
 use Rattle.adjust_kernel.specs.declared.row.Direction.{Direction}
 use Rattle.adjust_kernel.specs.declared.row.Orientation.{Orientation}
 use Rattle.adjust_kernel.specs.declared.row.Row.{Row}
-use Rattle.adjust_kernel.specs.Matching.{Key, key_of_row, key_of_obs, observed}
-use Rattle.adjust_kernel.specs.Pairs.{readings_of, choice_stated_by}
-use Rattle.adjust_kernel.specs.Readings.{Reading}
+use Rattle.adjust_kernel.specs.Matching.{Key, key_of_row, key_of_obs}
+use Rattle.adjust_kernel.specs.Pairs.{readings_of}
 use Rattle.adjust_kernel.specs.Sheets.{SheetValue}
 use Rattle.adjust_kernel.specs.Stations.{StationValue}
 use Rattle.adjust_kernel.proofs.ReadingLaws.{length-readings_of, get_or-readings_of}
