@@ -2,7 +2,7 @@
 use Rattle.std.proofs.Common.{◌≡◌, ℕ, ◌+◌, ◌<◌, List, [], ◌∷◌, ◌++◌, length, get_or, arith, ap, refl, sym, ◌∙◌, subst}
 use Rattle.std.proofs.lemmas.List.{length-append, get_or_append_left}
 use Rattle.std.proofs.Math.Seq.{get_or-append_seam}
-use Rattle.sheet_means.specs.Means.{AreEach}
+use Rattle.sheet_means.specs.Parts.{AreEach}
 use native.Mathlib.Decide.{dec_lt}
 
 module _ {X : Type 0} (P : ℕ → X → Type 0) where

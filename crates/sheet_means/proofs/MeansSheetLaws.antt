@@ -20,7 +20,8 @@ use Rattle.adjust_kernel.specs.Verdict.{IsVerdict, IsClearOf, acceptance_of}
 use Rattle.adjust_kernel.specs.Within.{IsWithin}
 use Rattle.sheet_means.specs.declared.adjusted.TheConstants.{LARGEST_MEAN}
 use Rattle.sheet_means.specs.Complete.{IsComplete}
-use Rattle.sheet_means.specs.Means.{AreEach, AreMeans, AreMeansRows, IsMeansDirection, IsMeansOrientation, IsMeansSheet, HasSmallNumbers, IsUnturnedAtFirst}
+use Rattle.sheet_means.specs.Means.{AreMeans, IsMeansSheet, IsUnturnedAtFirst}
+use Rattle.sheet_means.specs.Parts.{AreEach, AreMeansRows, IsMeansDirection, IsMeansOrientation}
 use Rattle.sheet_means.specs.Turning.{IsInHalfCircle, IsTurned, angle_difference, value_of}
 use Rattle.sheet_means.proofs.BalanceOfMeans.{target_sums_vanish, set_sums_vanish, first_direction}
 use Rattle.sheet_means.proofs.CompleteLaws.{full_where_complete}
@@ -100,14 +101,6 @@ module _ (station : StationValue) (valid : IsStation station) (complete : IsComp
 
   some : 1 ≤ S * T
   some = mul-le-mul valid.sets.some valid.targets.some
-
-  pub has_small_numbers : HasSmallNumbers means_sheet
-  has_small_numbers = record {
-    denominator = few;
-    directions = λ k d h. (each_direction.at k d (omega (arith, each_direction.long))).bound;
-    orientations = λ k d h. (each_orientation.at k d (omega (arith, each_orientation.long))).bound;
-    turns = λ k d h. (means_rows.each k d h).turn;
-  }
 
   pub is_sheet : IsSheet means_sheet
   is_sheet = record {

@@ -9,7 +9,7 @@ use Rattle.adjust_kernel.specs.Pairs.{reading_of, readings_of}
 use Rattle.adjust_kernel.specs.Readings.{Reading}
 use Rattle.adjust_kernel.specs.Stations.{StationValue}
 use Rattle.sheet_means.specs.Turning.{IsTurned}
-use Rattle.sheet_means.specs.Means.{IsMeansRow}
+use Rattle.sheet_means.specs.Parts.{IsMeansRow}
 
 pub record AreRowsTo (station : StationValue) (rows : List Row) (n : ℕ) : Type 0 where
   pub keys : map key_of_row rows ≡ map (key_of_obs station.sets station.targets) (take n station.obs)

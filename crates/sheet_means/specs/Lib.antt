@@ -2,3 +2,4 @@ pub mod Complete
 pub mod Turning
 pub mod Totals
 pub mod Means
+pub mod Parts

@@ -1,50 +1,19 @@
--- The sheet of means of a complete station (textbook): each direction is the mean over the sets of the readings less the mean of the
--- first target's, and each orientation what is then left on the mean, all times sets times targets.
-use Rattle.std.specs.Prelude.{◌≡◌, ◌⊎◌, ℕ, ◌*◌, ◌<◌, ◌≤◌, List, [], All, length, slice_index_or, map, pos}
+-- The sheet of means of a complete station (textbook): each direction is the mean over the sets of the readings, less the first target's
+-- mean, and each orientation what is then left of a set's readings on the mean, all times sets times targets.
+use Rattle.std.specs.Prelude.{◌≡◌, ◌⊎◌, ℕ, ◌*◌, ◌<◌, ◌≤◌, List, All, length, pos}
 use lib.IntN.{◌*ℤ◌, ◌-ℤ◌}
-use Rattle.adjust_kernel.specs.Matching.{key_of_row, names_of, numbers_of, keys_of, observed}
 use Rattle.adjust_kernel.specs.declared.limits.TheConstants.{MOST_ROWS}
+use Rattle.adjust_kernel.specs.Matching.{names_of, numbers_of, keys_of, observed}
 use Rattle.adjust_kernel.specs.Pairs.{choice_stated_by, readings_of}
 use Rattle.adjust_kernel.specs.Readings.{Reading}
 use Rattle.adjust_kernel.specs.Residuals.{Choice}
-use Rattle.adjust_kernel.specs.Sheets.{SheetValue, IsRow}
-use Rattle.adjust_kernel.specs.declared.row.Direction.{Direction}
-use Rattle.adjust_kernel.specs.declared.row.Orientation.{Orientation}
-use Rattle.adjust_kernel.specs.declared.row.Row.{Row}
-use Rattle.sheet_means.specs.declared.adjusted.TheConstants.{LARGEST_MEAN}
-use Rattle.adjust_kernel.specs.Within.{IsWithin}
-use Rattle.sheet_means.specs.declared.turn.TheConstants.{MOST_TURNS}
+use Rattle.adjust_kernel.specs.Sheets.{SheetValue}
 use Rattle.adjust_kernel.specs.Stations.{StationValue}
+use Rattle.adjust_kernel.specs.Within.{IsWithin}
+use Rattle.sheet_means.specs.declared.adjusted.TheConstants.{LARGEST_MEAN}
+use Rattle.sheet_means.specs.declared.turn.TheConstants.{MOST_TURNS}
 use Rattle.sheet_means.specs.Totals.{target_total, set_total, whole_total}
 use Rattle.sheet_means.specs.Turning.{IsTurned}
-
--- a row of the sheet of means: a row of a sheet, with few full turns
-pub record IsMeansRow (r : Row) : Type 0 where
-  pub row : IsRow r
-  pub turn : IsWithin MOST_TURNS r.turn
-
--- the rows of the sheet of means: those of the station's observations in their order, with the full turns of each
-pub record AreMeansRows (station : StationValue) (rows : List Row) : Type 0 where
-  pub keys : map key_of_row rows ≡ observed station
-  pub turned : All (IsTurned station.obs) (readings_of station.obs rows)
-  pub each : All IsMeansRow rows
-
--- the list has so many elements, and the one at each place has the property at that place
-pub record AreEach {X : Type 0} (P : ℕ → X → Type 0) (count : ℕ) (xs : List X) : Type 0 where
-  pub long : length xs ≡ count
-  pub at : (k : ℕ) (d : X) → k < count → P k (slice_index_or xs k d)
-
--- the direction of the target at this place: its name, and the mean of its readings less that of the first target's
-pub record IsMeansDirection (station : StationValue) (readings : List Reading) (t : ℕ) (d : Direction) : Type 0 where
-  pub name : d.name ≡ slice_index_or station.targets t []
-  pub value : d.value ≡ pos (length station.targets) *ℤ (target_total readings t -ℤ target_total readings 0)
-  pub bound : IsWithin LARGEST_MEAN d.value
-
--- the orientation of the set at this place: its number, and the mean of what the directions leave of its readings
-pub record IsMeansOrientation (station : StationValue) (readings : List Reading) (s : ℕ) (o : Orientation) : Type 0 where
-  pub set : o.set ≡ slice_index_or station.sets s 0
-  pub value : o.value ≡ whole_total readings -ℤ pos (length station.sets) *ℤ set_total readings s -ℤ pos (length station.targets) *ℤ target_total readings 0
-  pub bound : IsWithin LARGEST_MEAN o.value
 
 -- the directions and orientations are the means of these readings, over sets times targets
 pub record AreMeans (sets targets : ℕ) (readings : List Reading) (c : Choice) : Type 0 where
@@ -52,7 +21,8 @@ pub record AreMeans (sets targets : ℕ) (readings : List Reading) (c : Choice) 
   pub directions : (t : ℕ) → t < targets → c.direction t ≡ pos targets *ℤ (target_total readings t -ℤ target_total readings 0)
   pub orientations : (s : ℕ) → s < sets → c.orientation s ≡ whole_total readings -ℤ pos sets *ℤ set_total readings s -ℤ pos targets *ℤ target_total readings 0
 
--- The sheet of means: of this station, with its targets, sets and observations in their order, the full turns of each reading, and the means.
+-- The sheet of means: of this station, with its targets, sets and observations in their order, the full turns of each reading, and
+-- the means.
 pub record IsMeansSheet (station : StationValue) (sheet : SheetValue) : Type 0 where
   pub name : sheet.name ≡ station.name
   pub targets : names_of sheet ≡ station.targets

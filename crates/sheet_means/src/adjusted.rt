@@ -4,7 +4,7 @@ ghost use lib.IntN.{◌*ℤ◌, ◌-ℤ◌};
 ghost use Rattle.adjust_kernel.specs.Pairs.{readings_of};
 ghost use Rattle.adjust_kernel.specs.Within.{IsWithin};
 ghost use Rattle.sheet_means.specs.Complete.{IsComplete};
-ghost use Rattle.sheet_means.specs.Means.{AreMeansRows, IsMeansDirection, IsMeansOrientation, AreEach};
+ghost use Rattle.sheet_means.specs.Parts.{AreMeansRows, IsMeansDirection, IsMeansOrientation, AreEach};
 ghost use Rattle.sheet_means.specs.Totals as Totals;
 
 use crate::totals::{LARGEST_READING, set_total, target_total, whole_total};

@@ -5,7 +5,7 @@ ghost use Rattle.adjust_kernel.specs.Pairs.{reading_of};
 ghost use Rattle.adjust_kernel.specs.Stations.{IsObs};
 ghost use Rattle.sheet_means.specs.Complete.{IsComplete};
 ghost use Rattle.sheet_means.specs.Turning.{IsTurned};
-ghost use Rattle.sheet_means.specs.Means.{IsMeansRow, AreMeansRows};
+ghost use Rattle.sheet_means.specs.Parts.{IsMeansRow, AreMeansRows};
 
 use crate::angle::angle_difference;
 use crate::turn::turn_of;

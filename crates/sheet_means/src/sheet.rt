@@ -4,7 +4,8 @@ ghost use Rattle.adjust_kernel.specs.Pairs.{readings_of};
 ghost use Rattle.adjust_kernel.specs.Sheets.{SheetValue};
 ghost use Rattle.adjust_kernel.specs.Verdict.{IsVerdict, acceptance_of};
 ghost use Rattle.sheet_means.specs.Complete.{IsComplete};
-ghost use Rattle.sheet_means.specs.Means.{AreEach, AreMeansRows, IsMeansDirection, IsMeansOrientation, IsMeansSheet, HasSmallNumbers, IsUnturnedAtFirst};
+ghost use Rattle.sheet_means.specs.Means.{IsMeansSheet, HasSmallNumbers, IsUnturnedAtFirst};
+ghost use Rattle.sheet_means.specs.Parts.{AreEach, AreMeansRows, IsMeansDirection, IsMeansOrientation};
 
 use crate::adjusted::{directions_of, orientations_of};
 use crate::complete::is_complete;

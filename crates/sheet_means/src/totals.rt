@@ -4,7 +4,7 @@ ghost use lib.IntN.{◌*ℤ◌};
 ghost use Rattle.adjust_kernel.specs.Within.{IsWithin};
 ghost use Rattle.adjust_kernel.specs.Pairs.{readings_of};
 ghost use Rattle.sheet_means.specs.Complete.{IsComplete};
-ghost use Rattle.sheet_means.specs.Means.{IsMeansRow, AreMeansRows};
+ghost use Rattle.sheet_means.specs.Parts.{IsMeansRow, AreMeansRows};
 ghost use Rattle.sheet_means.specs.Totals as Totals;
 ghost use Rattle.adjust_kernel.specs.Residuals as Residuals;
 

@@ -1,7 +1,7 @@
 use Rattle.std.proofs.Common.{◌+◌, List, sym, subst}
 use Rattle.adjust_kernel.specs.declared.row.Direction.{Direction}
 use Rattle.adjust_kernel.specs.Pairs.{readings_of}
-use Rattle.sheet_means.specs.Means.{AreEach, IsMeansDirection}
+use Rattle.sheet_means.specs.Parts.{AreEach, IsMeansDirection}
 use Rattle.sheet_means.proofs.EachLaws.{each_more}
 use Rattle.sheet_means.proofs.adjusted.directions_of.Goals as goal
 

@@ -1,5 +1,5 @@
 use Rattle.adjust_kernel.specs.Pairs.{readings_of}
-use Rattle.sheet_means.specs.Means.{AreEach, IsMeansDirection}
+use Rattle.sheet_means.specs.Parts.{AreEach, IsMeansDirection}
 use Rattle.sheet_means.proofs.adjusted.directions_of.Given as goal
 
 -- the directions of the first targets

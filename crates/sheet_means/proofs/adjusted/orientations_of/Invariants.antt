@@ -1,5 +1,5 @@
 use Rattle.adjust_kernel.specs.Pairs.{readings_of}
-use Rattle.sheet_means.specs.Means.{AreEach, IsMeansOrientation}
+use Rattle.sheet_means.specs.Parts.{AreEach, IsMeansOrientation}
 use Rattle.sheet_means.proofs.adjusted.orientations_of.Given as goal
 
 -- the orientations of the first sets

@@ -2,7 +2,7 @@ use Rattle.std.proofs.Common.{◌+◌, ◌*◌, ◌<◌, length, get_or, ℕ, Li
 use Rattle.std.specs.Int.{w128}
 use Rattle.std.proofs.lemmas.Int.{to_z-of_z}
 use Rattle.std.proofs.lemmas.List.{get_or_default}
-use Rattle.sheet_means.specs.Means.{IsMeansRow}
+use Rattle.sheet_means.specs.Parts.{IsMeansRow}
 use Rattle.sheet_means.proofs.MeansRowLaws.{row_inside, unrolled_at, unrolled_row, any_row}
 use Rattle.sheet_means.proofs.ValueLaws.{place_inside}
 use Rattle.sheet_means.proofs.totals.reading_at.Goals as goal
