@@ -4,7 +4,7 @@ use Rattle.std.proofs.lemmas.List.{get_or_default}
 use Rattle.adjust_kernel.specs.declared.obs.Obs.{Obs}
 use Rattle.adjust_kernel.specs.declared.limits.TheConstants.{MOST_ROWS, MOST_SETS, MOST_TARGETS}
 use Rattle.adjust_kernel.specs.Stations.{AreObs, IsBefore, IsObs}
-use Rattle.adjust_kernel.proofs.Pairs.{PairsBelow, pairs_more}
+use Rattle.adjust_kernel.proofs.EachTwo.{PairsBelow, pairs_more}
 
 before_both : (a b c : Obs) → IsBefore a b → IsBefore b c → IsBefore a c
 before_both a b c (inl e) (inl f) = inl (omega arith)

@@ -15,6 +15,16 @@ pub record SheetValue : Type 0 where
   pub orientations : List Orientation
   pub rows : List Row
 
+-- the sheet with these parts
+abbrev pub sheet_of : List ℕ → ℕ → List Direction → List Orientation → List Row → SheetValue
+sheet_of name denominator directions orientations rows = record {
+  name = name;
+  denominator = denominator;
+  directions = directions;
+  orientations = orientations;
+  rows = rows;
+}
+
 -- a number that a set may have
 abbrev pub IsSetNumber : ℕ → Type 0
 IsSetNumber number = (1 ≤ number) × (number ≤ LARGEST_SET_NUMBER)

@@ -12,6 +12,10 @@ pub record StationValue : Type 0 where
   pub sets : List ℕ
   pub obs : List Obs
 
+-- the station with these parts
+abbrev pub station_of : List ℕ → List (List ℕ) → List ℕ → List Obs → StationValue
+station_of name targets sets obs = record { name = name; targets = targets; sets = sets; obs = obs }
+
 -- an observation of one of this many sets and one of this many targets, with a direction on the circle
 pub record IsObs (sets targets : ℕ) (o : Obs) : Type 0 where
   pub set : o.set < sets

@@ -1,6 +1,7 @@
 -- Least squares over all full turns too: what a residual limit adds.
-use Rattle.std.specs.Prelude.{◌≡◌, ℕ, ◌≤◌, ◌*◌, List, [], ◌∷◌, All, length, map, ℤ, pos, ◌+ℤ◌, ◌≤ℤ◌}
+use Rattle.std.specs.Prelude.{◌≡◌, ℕ, ◌≤◌, ◌<◌, ◌*◌, List, [], ◌∷◌, All, length, map, slice_index_or, ℤ, pos, ◌+ℤ◌, ◌≤ℤ◌}
 use lib.IntN.{◌-ℤ◌}
+use Rattle.std.specs.Int.RustNames.{unsigned_abs}
 use Rattle.adjust_kernel.specs.Readings.{Reading}
 use Rattle.adjust_kernel.specs.Residuals.{Choice, residual, sum_of_squares}
 use Rattle.adjust_kernel.specs.Within.{IsWithin}
@@ -9,6 +10,10 @@ use Rattle.adjust_kernel.specs.Sums.{square_times}
 -- no residual is above the limit, which is in half units
 abbrev pub IsLimited : ℕ → Choice → List Reading → Type 0
 IsLimited limit c readings = All (λ r. IsWithin (pos (limit * c.denominator)) (residual c r)) readings
+
+-- the residual of the reading at this place is in size above the limit, which is in half units
+abbrev pub IsAbove : ℕ → Choice → List Reading → ℕ → Type 0
+IsAbove limit c readings place = limit * c.denominator < unsigned_abs (slice_index_or (map (residual c) readings) place (pos 0))
 
 -- the readings with these full turns, one for each, in place of their own
 abbrev pub with_turns : List Reading → List ℤ → List Reading

@@ -1,7 +1,6 @@
 -- The verdict on a sheet of a station: the first fault in the order in which they are looked for, or the acceptance.
 -- An office may state a residual limit.
-use Rattle.std.specs.Prelude.{◌≡◌, ◌≢◌, ℕ, ℤ, pos, ◌+◌, ◌*◌, ◌<◌, List, length, map, slice_index_or, Option, Result, Ok, Err, IfSome, IsSomeAnd}
-use Rattle.std.specs.Int.RustNames.{unsigned_abs}
+use Rattle.std.specs.Prelude.{◌≡◌, ◌≢◌, ℕ, pos, ◌+◌, ◌<◌, List, length, Option, Result, Ok, Err, IfSome, IsSomeAnd}
 use Rattle.adjust_kernel.specs.declared.accepted.Accepted.{Accepted}
 use Rattle.adjust_kernel.specs.declared.kernel_fault.KernelFault.{KernelFault}
 use Rattle.adjust_kernel.specs.declared.kernel_fault.KernelFault.TheVariants.{Name, TargetRow, SetRow, ObsRow, Datum, TargetSum, SetSum, NotConnected, Residual}
@@ -11,18 +10,14 @@ use Rattle.adjust_kernel.specs.Greatest.{greatest_size}
 use Rattle.adjust_kernel.specs.Matching.{names_of, numbers_of, keys_of, observed}
 use Rattle.adjust_kernel.specs.Pairs.{choice_stated_by, readings_of}
 use Rattle.adjust_kernel.specs.Readings.{Reading}
-use Rattle.adjust_kernel.specs.Residuals.{residual, target_sum, set_sum}
+use Rattle.adjust_kernel.specs.Residuals.{target_sum, set_sum}
 use Rattle.adjust_kernel.specs.Sheets.{SheetValue}
 use Rattle.adjust_kernel.specs.Stations.{StationValue}
-use Rattle.adjust_kernel.specs.Turns.{IsLimited}
+use Rattle.adjust_kernel.specs.Turns.{IsAbove, IsLimited}
 
 -- the observations of the station with the full turns of the sheet
 abbrev pub readings : StationValue → SheetValue → List Reading
 readings station sheet = readings_of station.obs sheet.rows
-
--- the scaled residuals of the sheet, row by row
-abbrev pub residuals : StationValue → SheetValue → List ℤ
-residuals station sheet = map (residual (choice_stated_by sheet)) (readings station sheet)
 
 -- the residuals of each target add to 0
 abbrev pub TargetsAddUp : StationValue → SheetValue → Type 0
@@ -47,7 +42,7 @@ Stands station sheet limit Datum = (choice_stated_by sheet).direction 0 ≢ pos 
 Stands station sheet limit (TargetSum n) = AtNth (IsFirstWhere (λ t. target_sum (choice_stated_by sheet) (readings station sheet) t ≢ pos 0) (length station.targets)) n
 Stands station sheet limit (SetSum n) = AtNth (IsFirstWhere (λ s. set_sum (choice_stated_by sheet) (readings station sheet) s ≢ pos 0) (length station.sets)) n
 Stands station sheet limit NotConnected = IsDivided (length station.sets) (length station.targets) (readings station sheet)
-Stands station sheet limit (Residual n) = IsSomeAnd limit (λ most. AtNth (IsFirstWhere (λ row. most * sheet.denominator < unsigned_abs (slice_index_or (residuals station sheet) row (pos 0))) (length (readings station sheet))) n)
+Stands station sheet limit (Residual n) = IsSomeAnd limit (λ most. AtNth (IsFirstWhere (IsAbove most (choice_stated_by sheet) (readings station sheet)) (length (readings station sheet))) n)
 
 -- No fault of this kind stands, whatever its number.
 abbrev pub IsClearOf : StationValue → SheetValue → Option ℕ → KernelFault → Type 0

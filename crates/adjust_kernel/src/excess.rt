@@ -4,7 +4,7 @@ ghost use Rattle.std.specs.Int.RustNames.{unsigned_abs};
 ghost use Rattle.adjust_kernel.specs.Firsts.{IsFirstWhere};
 ghost use Rattle.adjust_kernel.specs.Pairs.{ArePaired, choice_stated_by, readings_of};
 ghost use Rattle.adjust_kernel.specs.Residuals.{residual};
-ghost use Rattle.adjust_kernel.specs.Turns.{IsLimited};
+ghost use Rattle.adjust_kernel.specs.Turns.{IsAbove, IsLimited};
 
 use crate::obs::Obs;
 use crate::residual::row_residual;
@@ -21,7 +21,7 @@ fn is_above(residual: i128, limit: u32, denominator: u64) -> bool
 fn is_row_above(sheet: &Sheet, obs: &[Obs], limit: u32, row: usize) -> bool
     requires paired { ArePaired sheet.now obs.now }
     requires row { row < length obs.now }
-    ensures { IsTrue result ↔ (limit * sheet.now.denominator < unsigned_abs (slice_index_or (map (residual (choice_stated_by sheet.now)) (readings_of obs.now sheet.now.rows)) row (pos 0))) }
+    ensures { IsTrue result ↔ (IsAbove limit (choice_stated_by sheet.now) (readings_of obs.now sheet.now.rows) row) }
 {
     is_above(row_residual(sheet, obs, row), limit, sheet.denominator())
 }
@@ -30,7 +30,7 @@ fn is_row_above(sheet: &Sheet, obs: &[Obs], limit: u32, row: usize) -> bool
 pub fn first_excess(sheet: &Sheet, obs: &[Obs], limit: u32) -> Option<usize>
     requires { ArePaired sheet.now obs.now }
     ensures none { IfNone result (IsLimited limit (choice_stated_by sheet.now) (readings_of obs.now sheet.now.rows)) }
-    ensures some { IfSome result (λ n. IsFirstWhere (λ row. limit * sheet.now.denominator < unsigned_abs (slice_index_or (map (residual (choice_stated_by sheet.now)) (readings_of obs.now sheet.now.rows)) row (pos 0))) (length (readings_of obs.now sheet.now.rows)) n) }
+    ensures some { IfSome result (λ n. IsFirstWhere (IsAbove limit (choice_stated_by sheet.now) (readings_of obs.now sheet.now.rows)) (length (readings_of obs.now sheet.now.rows)) n) }
     ensures bound { IfSome result (λ n. n < length obs.now) }
 {
     for row in 0..obs.len() {

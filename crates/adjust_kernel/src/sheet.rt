@@ -1,7 +1,7 @@
 //! The sheet of an adjustment.
 
 ghost use Rattle.std.specs.Prelude.{◌≡◌, ◌↔◌, IsTrue, IfSome, IfNone};
-ghost use Rattle.adjust_kernel.specs.Sheets.{IsSheet, IsDenominator, IsDirection, IsOrientation, IsRow, AreDirections, AreOrientations, AreRows};
+ghost use Rattle.adjust_kernel.specs.Sheets.{IsSheet, IsDenominator, IsDirection, IsOrientation, IsRow, AreDirections, AreOrientations, AreRows, sheet_of};
 ghost use Rattle.adjust_kernel.specs.Within.{IsWithin};
 
 use crate::limits::{
@@ -26,13 +26,13 @@ pub struct Sheet {
 }
 
 impl Model for Sheet {
-    ghost use Rattle.adjust_kernel.specs.Sheets.{SheetValue, IsSheet};
+    ghost use Rattle.adjust_kernel.specs.Sheets.{SheetValue, IsSheet, sheet_of};
 
     ghost Value = { SheetValue };
 
-    ghost view = { λ s. record { name = s.name; denominator = s.denominator; directions = s.directions.items; orientations = s.orientations.items; rows = s.rows.items } };
+    ghost view = { λ s. sheet_of s.name s.denominator s.directions.items s.orientations.items s.rows.items };
 
-    ghost invariant = { λ s. IsSheet (record { name = s.name; denominator = s.denominator; directions = s.directions.items; orientations = s.orientations.items; rows = s.rows.items }) };
+    ghost invariant = { λ s. IsSheet (sheet_of s.name s.denominator s.directions.items s.orientations.items s.rows.items) };
 }
 
 impl Sheet {
@@ -44,9 +44,9 @@ impl Sheet {
         orientations: Vec<Orientation>,
         rows: Vec<Row>,
     ) -> Option<Sheet>
-        ensures some { IfSome result (λ sheet. sheet ≡ record { name = name; denominator = denominator; directions = directions.items; orientations = orientations.items; rows = rows.items }) }
+        ensures some { IfSome result (λ sheet. sheet ≡ sheet_of name denominator directions.items orientations.items rows.items) }
         ensures valid { IfSome result IsSheet }
-        ensures none { IfNone result (IsSheet (record { name = name; denominator = denominator; directions = directions.items; orientations = orientations.items; rows = rows.items }) → ⊥) }
+        ensures none { IfNone result (IsSheet (sheet_of name denominator directions.items orientations.items rows.items) → ⊥) }
     {
         if is_valid(&name)
             && is_denominator(denominator)

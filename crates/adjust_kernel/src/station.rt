@@ -1,7 +1,7 @@
 //! The station as it was measured.
 
 ghost use Rattle.std.specs.Prelude.{◌≡◌, ◌≢◌, ◌↔◌, ◌≤◌, AllPairs, IsTrue, IfSome, IfNone, length};
-ghost use Rattle.adjust_kernel.specs.Stations.{IsStation, AreTargets, AreSets};
+ghost use Rattle.adjust_kernel.specs.Stations.{IsStation, AreTargets, AreSets, station_of};
 
 use crate::limits::{MOST_ROWS, MOST_SETS, MOST_TARGETS};
 use crate::name::{Name, is_valid, same};
@@ -22,24 +22,27 @@ pub struct Station {
 }
 
 impl Model for Station {
-    ghost use Rattle.adjust_kernel.specs.Stations.{StationValue, IsStation};
+    ghost use Rattle.adjust_kernel.specs.Stations.{StationValue, IsStation, station_of};
 
     ghost Value = { StationValue };
 
-    ghost view = { λ s. record { name = s.name; targets = s.targets.items; sets = s.sets.items; obs = s.obs.items } };
+    ghost view = { λ s. station_of s.name s.targets.items s.sets.items s.obs.items };
 
-    ghost invariant = { λ s. IsStation (record { name = s.name; targets = s.targets.items; sets = s.sets.items; obs = s.obs.items }) };
+    ghost invariant = { λ s. IsStation (station_of s.name s.targets.items s.sets.items s.obs.items) };
 }
 
 impl Station {
     /// The station with these parts, if they keep the rules of a station; otherwise the lists are dropped.
     pub fn new(name: Name, targets: Vec<Name>, sets: Vec<u16>, obs: Vec<Obs>) -> Option<Station>
-        ensures some { IfSome result (λ station. station ≡ record { name = name; targets = targets.items; sets = sets.items; obs = obs.items }) }
+        ensures some { IfSome result (λ station. station ≡ station_of name targets.items sets.items obs.items) }
         ensures valid { IfSome result IsStation }
-        ensures none { IfNone result (IsStation (record { name = name; targets = targets.items; sets = sets.items; obs = obs.items }) → ⊥) }
+        ensures none { IfNone result (IsStation (station_of name targets.items sets.items obs.items) → ⊥) }
     {
-        let _ = name.bytes();
-        if are_targets(&targets) && are_sets(&sets) && are_obs(&obs, sets.len(), targets.len()) {
+        if is_valid(&name)
+            && are_targets(&targets)
+            && are_sets(&sets)
+            && are_obs(&obs, sets.len(), targets.len())
+        {
             return Some(Station {
                 name,
                 targets,

@@ -43,7 +43,8 @@ pub fn check(
     ensures verdict { IsVerdict station.now sheet.now residual result }
     ensures no_other_verdict { (other : Result Accepted KernelFault) → IsVerdict station.now sheet.now residual other → result ≡ other }
     ensures matches { OnOk result (Matches station.now sheet.now) }
-    ensures squares { TellsOfSquares residual (length station.now.sets) (length station.now.targets) (choice_stated_by sheet.now) (readings station.now sheet.now) result }
+    ensures squares { TellsOfSquares residual (length station.now.sets) (length station.now.targets)
+        (choice_stated_by sheet.now) (readings station.now sheet.now) result }
 {
     check_with(Running::new(), station, sheet, residual)
 }
@@ -60,7 +61,8 @@ pub fn check_with<T: Tally>(
     ensures verdict { IsVerdict station.now sheet.now residual result }
     ensures no_other_verdict { (other : Result Accepted KernelFault) → IsVerdict station.now sheet.now residual other → result ≡ other }
     ensures matches { OnOk result (Matches station.now sheet.now) }
-    ensures squares { TellsOfSquares residual (length station.now.sets) (length station.now.targets) (choice_stated_by sheet.now) (readings station.now sheet.now) result }
+    ensures squares { TellsOfSquares residual (length station.now.sets) (length station.now.targets)
+        (choice_stated_by sheet.now) (readings station.now sheet.now) result }
 {
     verdict_of(tally, station, sheet, residual)
 }

@@ -1,5 +1,5 @@
 use Rattle.std.proofs.Common.{◌≢◌}
-use Rattle.adjust_kernel.proofs.Pairs.{PairsBelow}
+use Rattle.adjust_kernel.proofs.EachTwo.{PairsBelow}
 use Rattle.adjust_kernel.proofs.station.are_different_numbers.Given as goal
 
 abbrev pub invariant-loop-place : goal.invariant-loop-place

@@ -1,0 +1,20 @@
+-- What the last answer of a file says of its source.
+use Rattle.std.proofs.Common.{◌≡◌, ℕ, Bool, true, false, cond, List, length, not, Option, None, Some, refl}
+use Rattle.std.specs.Prelude.{nat_lt}
+use Rattle.gsi_file.specs.declared.file_fault.FileKind.TheVariants.{Read, FileTooLong, LineTooLong}
+use Rattle.gsi_file.specs.FileAnswers.{is_within, shortest_front, answers_by, answers_within}
+
+-- a broken limit is no failed read
+no_read : (b : Bool) → Some (cond b FileTooLong LineTooLong) ≡ Some Read → ⊥
+no_read true e = cc
+no_read false e = cc
+
+failing_by : (room : ℕ) (bytes : List ℕ) (fails : Bool) (front : Option (List ℕ)) → (answers_by room bytes fails front).last ≡ Some Read → fails ≡ true
+failing_by room bytes true front e = refl
+failing_by room bytes false None e = cc
+failing_by room bytes false (Some front) e = absurd (no_read (nat_lt room (length front)) e)
+
+-- a failed read comes of a source that fails
+pub failing : (room : ℕ) (bytes : List ℕ) (fails : Bool) → (answers_within room bytes fails).last ≡ Some Read → fails ≡ true
+unfolding answers_within
+failing room bytes fails e = failing_by room bytes fails (shortest_front (λ front. not (is_within room front)) bytes) e

@@ -1,0 +1,53 @@
+-- A read behind the first bytes of a buffer.
+use Rattle.std.proofs.Common.{◌≡◌, ℕ, suc, ◌+◌, ◌-◌, ◌<◌, ◌≤◌, List, [], ◌∷◌, ◌++◌, length, take, drop, Option, None, Some, Result, Ok, Err, slice_range, MatchResult, refl, sym, ap, ◌∙◌, arith, length-take, drop-drop}
+use Rattle.std.specs.Prelude.{IfOk}
+use Rattle.std.proofs.lemmas.List.{drop-take, take-append-le}
+use Rattle.byte_ends.specs.Source.{Told, Reads}
+use Rattle.byte_ends.specs.declared.failed.Failed.{Failed}
+use Rattle.gsi_file.specs.Filling.{Grows, GivesTold, FailsTold}
+
+take_behind : (pre ys : List ℕ) (held n : ℕ) → length pre ≡ held → take (held + n) (pre ++ ys) ≡ pre ++ take n ys
+take_behind [] ys held n e = let z : held + n ≡ n = omega arith in ap (λ k. take k ys) z
+take_behind (x ∷ pre) ys held n e =
+    let s : held + n ≡ suc (length pre + n) = omega arith in
+    ap (λ k. take k (x ∷ (pre ++ ys))) s ∙ ap (λ zs. x ∷ zs) (take_behind pre ys (length pre) n refl)
+
+gives_told : (old new : Option Told) (mid : List ℕ) (n : ℕ) → 0 < length mid → Reads {E = Failed} old new (Ok n) mid → GivesTold old new (take n mid)
+gives_told None new mid n some h = tt
+gives_told (Some old) None mid n some h = h
+gives_told (Some old) (Some new) mid n some h = record { next = h.next; same = h.same; end = λ e lt. h.end e some }
+
+fails_told : (old new : Option Told) (mid : List ℕ) (e : Failed) → 0 < length mid → Reads {E = Failed} old new (Err e) mid → FailsTold old new
+fails_told None new mid e some h = tt
+fails_told (Some old) None mid e some h = h
+fails_told (Some old) (Some new) mid e some h =
+    let same : new ≡ old = h.unchanged in
+    let end = h.end some in
+    (sym (ap (λ (t : Told). t.bytes) same) ∙ end.0, sym (ap (λ (t : Told). t.fails) same) ∙ end.1, same)
+
+pub reads_behind : (old new : Option Told) (pre mid post : List ℕ) (held : ℕ) (r : Result ℕ Failed) → length pre ≡ held → 0 < length mid → IfOk r (λ n. n ≤ length mid) → Reads old new r mid →
+    MatchResult r (λ n. Grows old new pre (take (held + n) (pre ++ (mid ++ post))) n) (λ _. (take held (pre ++ (mid ++ post)) ≡ pre) × FailsTold old new)
+reads_behind old new pre mid post held (Ok n) e some le h = record {
+  given = take n mid;
+  now = take_behind pre (mid ++ post) held n e ∙ ap (λ zs. pre ++ zs) (take-append-le n mid post le);
+  count = omega (arith, length-take n mid);
+  told = gives_told old new mid n some h;
+}
+reads_behind old new pre mid post held (Err e') e some le h =
+    (take_whole pre (mid ++ post) held e, fails_told old new mid e' some h)
+  where
+    take_whole : (xs ys : List ℕ) (k : ℕ) → length xs ≡ k → take k (xs ++ ys) ≡ xs
+    take_whole [] ys k e = let z : k ≡ 0 = omega arith in ap (λ j. take j ys) z
+    take_whole (x ∷ xs) ys k e =
+        let s : k ≡ suc (length xs) = omega arith in
+        ap (λ j. take j (x ∷ (xs ++ ys))) s ∙ ap (λ zs. x ∷ zs) (take_whole xs ys (length xs) refl)
+
+pub slice_range_behind : (xs : List ℕ) (a e n : ℕ) → a + n ≤ e → slice_range xs (a + n) e ≡ drop n (slice_range xs a e)
+slice_range_behind xs a e n le =
+    let whole : n + (e - (a + n)) ≡ e - a = omega arith in
+    ap (take (e - (a + n))) (sym (drop-drop n a xs))
+    ∙ sym (drop-take n (e - (a + n)) (drop a xs))
+    ∙ ap (λ k. drop n (take k (drop a xs))) whole
+
+pub range_length : (xs : List ℕ) (a e : ℕ) → length (slice_range xs a e) ≤ e - a
+range_length xs a e = omega (arith, length-take (e - a) (drop a xs))

@@ -1,0 +1,165 @@
+-- The next line of what is in hand and what the source gives.
+use Rattle.std.proofs.Common.{◌≡◌, ℕ, zero, suc, ◌+◌, ◌-◌, ◌<◌, ◌≤◌, Bool, true, false, cond, List, [], ◌∷◌, ◌++◌, length, take, drop, Option, None, Some, refl, sym, ap, subst, ◌∙◌, arith, append_assoc, add-one, length-take, length-append, drop-cons}
+use Rattle.std.specs.Prelude.{slice_index}
+use Rattle.std.proofs.lemmas.List.{take-append-drop, take-take, take_all, get_or-take, append-nil}
+use Rattle.std.proofs.lemmas.List.Elements.{All-nil, All-take}
+use Rattle.byte_ends.specs.Source.{Told}
+use Rattle.gsi_file.specs.declared.file_fault.FileKind.TheVariants.{Read, FileTooLong, LineTooLong}
+use Rattle.gsi_file.specs.Parts.{is_line_end, has_ink, HasNoEnd}
+use Rattle.gsi_file.specs.FileAnswers.{answers_within}
+use Rattle.gsi_file.specs.Filling.{Grows, FailsTold}
+use Rattle.gsi_file.specs.Finding.{answers_in, SameAnswers, AnswersAre, AnswersBegin, HasFound}
+use Rattle.gsi_file.proofs.FirstBytes.{with_line, answers_end, answers_failed, answers_line, answers_long_file, answers_long_line}
+
+none_of : (xs : List ℕ) → length xs ≡ 0 → xs ≡ []
+none_of [] e = refl
+none_of (x ∷ xs) e = absurd (omega arith)
+
+-- bytes cut at a place
+cut : (h : List ℕ) (line : ℕ) (more : List ℕ) → line < length h → h ++ more ≡ take line h ++ (slice_index h line ∷ (drop (line + 1) h ++ more))
+cut h line more lt =
+    ap (λ zs. zs ++ more) (sym (take-append-drop line h) ∙ ap (λ zs. take line h ++ zs) (drop-cons h line 0 lt ∙ ap (λ k. slice_index h line ∷ drop k h) (sym (add-one line))))
+    ∙ append_assoc (take line h) (slice_index h line ∷ drop (line + 1) h) more
+
+taken : (line : ℕ) (h : List ℕ) → line ≤ length h → length (take line h) ≡ line
+taken line h le = omega (arith, length-take line h)
+
+-- what every step of the search keeps
+pub record Searching (told0 told : Option Told) (room : ℕ) (h0 : List ℕ) (left line : ℕ) (h : List ℕ) : Type 0 where
+  pub short : line ≤ 1024
+  pub inside : line ≤ length h
+  pub fits : line ≤ left
+  pub most : left ≤ room
+  pub plain : HasNoEnd (take line h)
+  pub same : SameAnswers told0 room h0 told left h
+
+-- the end of the source
+at_end : (a b c : Told) (room : ℕ) (h0 : List ℕ) (left line : ℕ) (h h' : List ℕ) → line ≡ length h → Searching (Some a) (Some b) room h0 left line h → Grows (Some b) (Some c) h h' 0 →
+    answers_in room h0 a ≡ record { lines = cond (has_ink (take line h')) (take line h' ∷ []) []; last = None }
+at_end a b c room h0 left line h h' e s g =
+    let none : g.given ≡ [] = none_of g.given g.count in
+    let end = g.told.end none (omega arith) in
+    let bytes : b.bytes ≡ [] = g.told.next ∙ ap (λ zs. zs ++ c.bytes) none ∙ end.0 in
+    let fails : b.fails ≡ false = sym g.told.same ∙ end.1 in
+    let whole : take line h ≡ h = take_all line h (omega arith) in
+    let kept : h' ≡ h = g.now ∙ ap (λ zs. h ++ zs) none ∙ append-nil h in
+    let plain : HasNoEnd h = subst (λ (zs : List ℕ). HasNoEnd zs) whole s.plain in
+    s.same
+    ∙ ap (λ zs. answers_within left (h ++ zs) b.fails) bytes
+    ∙ ap (λ zs. answers_within left zs b.fails) (append-nil h)
+    ∙ ap (answers_within left h) fails
+    ∙ answers_end left h plain (omega (arith, s.short)) (omega (arith, s.fits))
+    ∙ ap (λ (zs : List ℕ). record { lines = cond (has_ink zs) (zs ∷ []) []; last = None }) (sym (ap (take line) kept ∙ whole))
+
+pub ends : (told0 told told' : Option Told) (room : ℕ) (h0 : List ℕ) (left line : ℕ) (h h' : List ℕ) → line ≡ length h → Searching told0 told room h0 left line h → Grows told told' h h' 0 →
+    AnswersAre told0 room h0 told' (record { lines = cond (has_ink (take line h')) (take line h' ∷ []) []; last = None })
+ends None told told' room h0 left line h h' e s g = tt
+ends (Some a) None told' room h0 left line h h' e s g = absurd s.same
+ends (Some a) (Some b) None room h0 left line h h' e s g = absurd g.told
+ends (Some a) (Some b) (Some c) room h0 left line h h' e s g = at_end a b c room h0 left line h h' e s g
+
+-- a failed read
+pub fails : (told0 told told' : Option Told) (room : ℕ) (h0 : List ℕ) (left line : ℕ) (h : List ℕ) → line ≡ length h → Searching told0 told room h0 left line h → FailsTold told told' →
+    AnswersAre told0 room h0 told' (record { lines = []; last = Some Read })
+fails None told told' room h0 left line h e s f = tt
+fails (Some a) None told' room h0 left line h e s f = absurd s.same
+fails (Some a) (Some b) None room h0 left line h e s f = absurd f
+fails (Some a) (Some b) (Some c) room h0 left line h e s f =
+    let whole : take line h ≡ h = take_all line h (omega arith) in
+    let plain : HasNoEnd h = subst (λ (zs : List ℕ). HasNoEnd zs) whole s.plain in
+    s.same
+    ∙ ap (λ zs. answers_within left (h ++ zs) b.fails) f.0
+    ∙ ap (λ zs. answers_within left zs b.fails) (append-nil h)
+    ∙ ap (answers_within left h) f.1
+    ∙ answers_failed left h plain (omega (arith, s.short)) (omega (arith, s.fits))
+
+-- one byte too many in the file
+pub file_too_long : (told0 told : Option Told) (room : ℕ) (h0 : List ℕ) (left line : ℕ) (h : List ℕ) → line < length h → line ≡ left → Searching told0 told room h0 left line h →
+    AnswersAre told0 room h0 told (record { lines = []; last = Some FileTooLong })
+file_too_long None told room h0 left line h lt e s = tt
+file_too_long (Some a) None room h0 left line h lt e s = absurd s.same
+file_too_long (Some a) (Some b) room h0 left line h lt e s =
+    s.same
+    ∙ ap (λ zs. answers_within left zs b.fails) (cut h line b.bytes lt)
+    ∙ answers_long_file left (take line h) (slice_index h line) (drop (line + 1) h ++ b.bytes) b.fails s.plain (omega (arith, taken line h s.inside, s.short)) (taken line h s.inside ∙ e)
+
+-- of more bytes without an end, the longest line and a byte that doesn't end it
+plain_at : (h : List ℕ) (line : ℕ) → 1024 < line → line ≤ length h → HasNoEnd (take line h) → HasNoEnd (take 1024 h) × (is_line_end (slice_index h 1024) ≡ false)
+plain_at h line long inside plain = (
+  subst (λ (zs : List ℕ). HasNoEnd zs) (take-take 1024 line h (omega arith)) (All-take (λ b. is_line_end b ≡ false) 1024 (take line h) plain),
+  ap is_line_end (sym (get_or-take line h 1024 0 long)) ∙ plain 1024 0 (omega (arith, taken line h inside)),
+)
+
+-- one byte too many in the line
+pub line_too_long : (told0 told : Option Told) (room : ℕ) (h0 : List ℕ) (left from line : ℕ) (h : List ℕ) → 1024 < line → line ≤ left → line ≤ length h → HasNoEnd (take line h) → Searching told0 told room h0 left from h →
+    AnswersAre told0 room h0 told (record { lines = []; last = Some LineTooLong })
+line_too_long None told room h0 left from line h long fits inside plain s = tt
+line_too_long (Some a) None room h0 left from line h long fits inside plain s = absurd s.same
+line_too_long (Some a) (Some b) room h0 left from line h long fits inside plain s =
+    let front = plain_at h line long inside plain in
+    let full : length (take 1024 h) ≡ 1024 = taken 1024 h (omega arith) in
+    s.same
+    ∙ ap (λ zs. answers_within left zs b.fails) (cut h 1024 b.bytes (omega arith))
+    ∙ answers_long_line left (take 1024 h) (slice_index h 1024) (drop 1025 h ++ b.bytes) b.fails front.0 front.1 full (omega (arith, full))
+
+-- a part that ended
+part_ended : (a b : Told) (room : ℕ) (h0 : List ℕ) (left line : ℕ) (h : List ℕ) → line < length h → line < left → is_line_end (slice_index h line) ≡ true → Searching (Some a) (Some b) room h0 left line h →
+    answers_in room h0 a ≡ with_line (take line h) (answers_in (left - (line + 1)) (drop (line + 1) h) b)
+part_ended a b room h0 left line h lt less end s =
+    s.same
+    ∙ ap (λ zs. answers_within left zs b.fails) (cut h line b.bytes lt)
+    ∙ answers_line left (take line h) (slice_index h line) (drop (line + 1) h ++ b.bytes) b.fails s.plain end (omega (arith, taken line h s.inside, s.short)) (omega (arith, taken line h s.inside))
+    ∙ ap (λ (n : ℕ). with_line (take line h) (answers_within (left - (n + 1)) (drop (line + 1) h ++ b.bytes) b.fails)) (taken line h s.inside)
+
+-- with ink it is the next line
+pub finds : (told0 told : Option Told) (room : ℕ) (h0 : List ℕ) (left line : ℕ) (h : List ℕ) → line < length h → line < left → is_line_end (slice_index h line) ≡ true → has_ink (take line h) ≡ true → Searching told0 told room h0 left line h →
+    AnswersBegin told0 room h0 told (take line h) (left - (line + 1)) (drop (line + 1) h)
+finds None told room h0 left line h lt less end ink s = tt
+finds (Some a) None room h0 left line h lt less end ink s = absurd s.same
+finds (Some a) (Some b) room h0 left line h lt less end ink s =
+    let o = answers_in (left - (line + 1)) (drop (line + 1) h) b in
+    part_ended a b room h0 left line h lt less end s
+    ∙ ap (λ (t : Bool). record { lines = cond t (take line h ∷ o.lines) o.lines; last = o.last }) ink
+
+-- without ink it is passed over
+pub passes : (told0 told : Option Told) (room : ℕ) (h0 : List ℕ) (left line : ℕ) (h : List ℕ) → line < length h → line < left → is_line_end (slice_index h line) ≡ true → has_ink (take line h) ≡ false → Searching told0 told room h0 left line h →
+    SameAnswers told0 room h0 told (left - (line + 1)) (drop (line + 1) h)
+passes None told room h0 left line h lt less end ink s = tt
+passes (Some a) None room h0 left line h lt less end ink s = absurd s.same
+passes (Some a) (Some b) room h0 left line h lt less end ink s =
+    let o = answers_in (left - (line + 1)) (drop (line + 1) h) b in
+    part_ended a b room h0 left line h lt less end s
+    ∙ ap (λ (t : Bool). record { lines = cond t (take line h ∷ o.lines) o.lines; last = o.last }) ink
+
+-- ink needs a byte
+pub some_byte : (line : ℕ) (h : List ℕ) → has_ink (take line h) ≡ true → 0 < line
+some_byte zero h e = let f : false ≡ true = e in cc
+some_byte (suc n) h e = omega arith
+
+-- the end of the source, by whether the last part has ink
+pub ends_by : (told0 told told' : Option Told) (room : ℕ) (h0 : List ℕ) (left line : ℕ) (h h' : List ℕ) (n : ℕ) (ink : Bool) → line ≡ length h → n ≡ 0 → has_ink (take line h') ≡ ink → Searching told0 told room h0 left line h → Grows told told' h h' n →
+    AnswersAre told0 room h0 told' (record { lines = cond ink (take line h' ∷ []) []; last = None })
+ends_by told0 told told' room h0 left line h h' n ink e z i s g =
+    subst (λ (b : Bool). AnswersAre told0 room h0 told' (record { lines = cond b (take line h' ∷ []) []; last = None })) i
+    (ends told0 told told' room h0 left line h h' e s (subst (λ (k : ℕ). Grows told told' h h' k) z g))
+
+pub grown_length : (told told' : Option Told) (h h' : List ℕ) (n : ℕ) → Grows told told' h h' n → length h ≤ length h'
+grown_length told told' h h' n g = omega (arith, ap length g.now, length-append h g.given)
+
+-- the line found by its end
+pub found_ended : (told0 told : Option Told) (room : ℕ) (h0 : List ℕ) (left line : ℕ) (h : List ℕ) → line < length h → line < left → is_line_end (slice_index h line) ≡ true → has_ink (take line h) ≡ true → Searching told0 told room h0 left line h →
+    HasFound told0 told room h0 h (record { line = line; used = line + 1; room = left - (line + 1); last = false })
+found_ended told0 told room h0 left line h lt less end ink s =
+    let some : 0 < line = some_byte line h ink in
+    record { line = omega arith; used = omega arith; takes = omega (arith, s.most); told = finds told0 told room h0 left line h lt less end ink s }
+
+-- the line found by the end of the source
+pub found_at_end : (told0 told told' : Option Told) (room : ℕ) (h0 : List ℕ) (left line : ℕ) (h h' : List ℕ) (n : ℕ) → line ≡ length h → n ≡ 0 → has_ink (take line h') ≡ true → Searching told0 told room h0 left line h → Grows told told' h h' n →
+    HasFound told0 told' room h0 h' (record { line = line; used = line; room = 0; last = true })
+found_at_end told0 told told' room h0 left line h h' n e z ink s g =
+    let some : 0 < line = some_byte line h' ink in
+    record { line = omega arith; used = omega (arith, grown_length told told' h h' n g); takes = omega (arith, s.most, s.fits); told = ends_by told0 told told' room h0 left line h h' n true e z ink s g }
+
+-- no byte, so no end
+pub none_plain : (h : List ℕ) → HasNoEnd (take 0 h)
+none_plain h = All-nil (λ b. is_line_end b ≡ false)

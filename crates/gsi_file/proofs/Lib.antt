@@ -1,0 +1,6 @@
+pub mod LineEnds
+pub mod Behind
+pub mod Fronts
+pub mod FirstBytes
+pub mod Finding
+pub mod AnswerLaws

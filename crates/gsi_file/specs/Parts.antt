@@ -1,0 +1,31 @@
+-- The parts and the lines of the bytes of a file (profile).
+use Rattle.std.specs.Prelude.{◌≡◌, ℕ, ◌-◌, Bool, false, All, not, ◌||◌, ◌==◌, List, length, take, filter}
+use Rattle.std.specs.List.{slice_split, list_any}
+
+-- A carriage return ends a line, and so does a line feed: after both of them stands an empty part.
+abbrev pub is_line_end : ℕ → Bool
+is_line_end b = b == 10 || b == 13
+
+-- None of the bytes ends a line.
+abbrev pub HasNoEnd : List ℕ → Type 0
+HasNoEnd bytes = All (λ b. is_line_end b ≡ false) bytes
+
+-- the pieces before, between and after the bytes that end lines
+abbrev pub parts : List ℕ → List (List ℕ)
+parts bytes = slice_split is_line_end bytes
+
+-- whether a part has a byte other than a blank: only then it is a line, and numbered
+abbrev pub has_ink : List ℕ → Bool
+has_ink part = list_any (λ b. not (b == 32)) part
+
+-- all but the last
+abbrev pub front_of : {A : Type 0} → List A → List A
+front_of xs = take (length xs - 1) xs
+
+-- the lines, of which the first has number 1; the last part may lack a byte that ends it
+abbrev pub numbered_lines : List ℕ → List (List ℕ)
+numbered_lines bytes = filter has_ink (parts bytes)
+
+-- the lines that a byte has ended: those of all parts but the last
+abbrev pub ended_lines : List ℕ → List (List ℕ)
+ended_lines bytes = filter has_ink (front_of (parts bytes))

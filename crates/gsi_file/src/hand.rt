@@ -1,0 +1,63 @@
+//! What is in hand: the line that was found, and the bytes after it.
+
+ghost use Rattle.std.specs.Prelude.{◌≤◌, length};
+
+use crate::buffer::Buffer;
+use crate::search::Found;
+
+/// The bytes that were read and not yet given up. The line that was found stays at their front until the next is looked for.
+#[derive(Drop)]
+pub(crate) struct Hand {
+    pub(crate) buffer: Buffer,
+    /// How many bytes the line has.
+    line: usize,
+    /// How many bytes are used up with it.
+    used: usize,
+    ghost inner: { line ≤ used },
+    ghost held: { used ≤ length buffer },
+}
+
+impl Hand {
+    ghost use Rattle.std.specs.Prelude.{◌≡◌, [], take, drop, length};
+    ghost use Rattle.gsi_file.specs.Hand.{line_in_hand, unused};
+
+    /// Nothing in hand, and no line found.
+    pub(crate) fn new(buffer: Buffer) -> Hand
+        requires { buffer ≡ [] }
+        ensures { unused result ≡ [] }
+    {
+        Hand {
+            buffer,
+            line: 0,
+            used: 0,
+        }
+    }
+
+    /// The line that was found.
+    pub(crate) fn line(&self) -> &[u8]
+        ensures { result.now ≡ line_in_hand self.now }
+    {
+        self.buffer.front(self.line)
+    }
+
+    /// Gives up the line that was found, so that another can be.
+    pub(crate) fn give_up_line(&mut self)
+        ensures buffer { self.new.buffer ≡ unused self.old }
+        ensures none { self.new.used ≡ 0 }
+    {
+        self.buffer.drop_front(self.used);
+        self.line = 0;
+        self.used = 0;
+    }
+
+    /// Keeps the line that was found at the front.
+    pub(crate) fn hold_line(&mut self, found: Found)
+        requires inner { found.line ≤ found.used }
+        requires held { found.used ≤ length self.old.buffer }
+        ensures line { line_in_hand self.new ≡ take found.line self.old.buffer }
+        ensures unused { unused self.new ≡ drop found.used self.old.buffer }
+    {
+        self.line = found.line;
+        self.used = found.used;
+    }
+}

@@ -1,0 +1,161 @@
+//! The numbered lines of a field file, one by one.
+//!
+//! A line is found, tested and counted first, and all that a fault changes is written then. Only after that the block is
+//! lent, and it is seen by the shape that the test has found, so that no line is read twice.
+
+ghost use Rattle.std.specs.Prelude.{◌≤◌, ◌+◌, ◌/◌, List, ℕ, IfOk, IfErr};
+ghost use Rattle.gsi_word.specs.Shapes.{IsShape};
+ghost use Rattle.gsi_word.specs.LineFaults.{IsLineFault};
+ghost use Rattle.gsi_file.specs.ToCome.{IsFileFault};
+ghost use Rattle.gsi_file.specs.declared.limits.TheConstants.{LONGEST_FILE};
+
+use crate::buffer::Buffer;
+use crate::file_fault::{FileFault, FileKind};
+use crate::hand::Hand;
+use crate::limits::LONGEST_FILE;
+use crate::line::Line;
+use crate::out_of_memory::OutOfMemory;
+use crate::search::find_line;
+use byte_ends::Source;
+use gsi_word::{LineFault, Shape, block_in, read_shape};
+use std::alloc::Global;
+
+/// Whether more is to come.
+#[derive(Clone, Copy)]
+enum State {
+    /// Lines may come.
+    Open,
+    /// The file has ended.
+    End,
+    /// Every call answers this.
+    Failed(FileKind),
+}
+
+/// The numbered lines of what a reader gives.
+#[derive(Drop)]
+pub struct Lines<R> {
+    reader: R,
+    hand: Hand,
+    /// How many lines came.
+    count: u32,
+    /// How many bytes of the file may still be taken.
+    room: usize,
+    state: State,
+    // a line takes two bytes, or all that may be taken
+    ghost counted: { count + (room + 1) / 2 ≤ LONGEST_FILE / 2 },
+}
+
+/// The fault of a line as one of the file.
+fn kind_of(fault: LineFault) -> FileKind
+    ensures { (line : List ℕ) → IsLineFault line fault → IsFileFault line result }
+{
+    match fault {
+        LineFault::Byte(at) => FileKind::Byte(at),
+        LineFault::Word(nth) => FileKind::Word(nth),
+        LineFault::FirstWord => FileKind::FirstWord,
+    }
+}
+
+/// The shape of the block that a line is, or the line's fault.
+fn check_line(line: &[u8]) -> Result<Shape, FileKind>
+    ensures shape { IfOk result (λ s. IsShape s line.now) }
+    ensures fault { IfErr result (IsFileFault line.now) }
+{
+    match read_shape(line) {
+        Ok(shape) => Ok(shape),
+        Err(fault) => Err(kind_of(fault)),
+    }
+}
+
+impl<R: Source> Lines<R> {
+    ghost use Rattle.std.specs.Prelude.{◌≡◌, ◌<◌, ◌≤◌, List, ℕ, length, take, Some, IfOk, IfSome};
+    ghost use Rattle.std.specs.Io.BufRead.{Rests};
+    ghost use Rattle.std.specs.Borrow.{sem};
+    ghost use Rattle.gsi_file.specs.contracts.lines.Lines.{the_row};
+    ghost use Rattle.gsi_file.specs.FileAnswers.{file_answers};
+    ghost use Rattle.gsi_file.specs.ToCome.{ToCome, Answers, FindsNext};
+    ghost use Rattle.gsi_file.specs.Standing.{to_come, line_found, bytes_left, Progresses, LineProgresses};
+
+    /// Takes the one buffer, and reads nothing. Where there is no memory the reader is dropped.
+    pub fn new(alloc: Global, reader: R) -> Result<Lines<R>, OutOfMemory>
+        ensures number { IfOk result (λ l. (to_come R.told l).number ≡ 0) }
+        ensures room { IfOk result (λ l. bytes_left l ≡ LONGEST_FILE) }
+        ensures answers { IfSome (R.told reader) (λ told. IfOk result (λ l. (to_come R.told l).answers ≡ Some (file_answers told))) }
+    {
+        match Buffer::new(alloc) {
+            Ok(buffer) => Ok(Lines {
+                reader,
+                hand: Hand::new(buffer),
+                count: 0,
+                room: LONGEST_FILE,
+                state: State::Open,
+            }),
+            Err(_) => Err(OutOfMemory),
+        }
+    }
+
+    /// The next numbered line: a block, until the end comes or a fault.
+    ///
+    /// After the end each call answers `None`, and after a fault the same fault. It takes no memory: the line stands in
+    /// the buffer that `new` took, so the next can't be asked for while it is held.
+    pub fn next(&mut self) -> Result<Option<Line<'_>>, FileFault>
+        ensures* after { sem 𝓛 (Rests (the_row R.row) self.entry (λ new.
+            Answers (to_come R.told self.old) result (to_come R.told new) × LineProgresses result (bytes_left self.old) (bytes_left new))) }
+    {
+        match self.advance()? {
+            Some(shape) => {
+                let number = self.count;
+                let block = block_in(self.line(), shape);
+                Ok(Some(Line { number, block }))
+            }
+            None => Ok(None),
+        }
+    }
+
+    /// Finds the next line and counts it, and answers the shape of its block.
+    fn advance(&mut self) -> Result<Option<Shape>, FileFault>
+        ensures finds { FindsNext (to_come R.told self.old) result (to_come R.told self.new) (line_found self.new) }
+        ensures progress { Progresses result (bytes_left self.old) (bytes_left self.new) }
+    {
+        match self.state {
+            State::Open => {}
+            State::End => return Ok(None),
+            State::Failed(kind) => return Err(FileFault::At(self.count + 1, kind)),
+        }
+        self.hand.give_up_line();
+        match find_line(&mut self.reader, &mut self.hand.buffer, self.room) {
+            Ok(Some(found)) => {
+                self.hand.hold_line(found);
+                self.room = found.room;
+                match check_line(self.hand.line()) {
+                    Ok(shape) => {
+                        self.count += 1;
+                        if found.last {
+                            self.state = State::End;
+                        }
+                        Ok(Some(shape))
+                    }
+                    Err(kind) => {
+                        self.state = State::Failed(kind);
+                        Err(FileFault::At(self.count + 1, kind))
+                    }
+                }
+            }
+            Ok(None) => {
+                self.state = State::End;
+                Ok(None)
+            }
+            Err(kind) => {
+                self.state = State::Failed(kind);
+                Err(FileFault::At(self.count + 1, kind))
+            }
+        }
+    }
+
+    /// The line that was found.
+    fn line(&self) -> &[u8]
+        ensures { result.now ≡ line_found self.now }
+    {
+        self.hand.line()
+    }
+}

@@ -1,0 +1,92 @@
+//! The search for the next numbered line, over what is in hand and what the reader gives.
+//!
+//! Each byte is looked at once as a possible end of its line: what was looked at before a read is not looked at again. A
+//! search looks no further than one byte past the longest line, nor past what may still be taken of the file, so at the
+//! same byte the file's limit comes first.
+
+ghost use Rattle.std.specs.Prelude.{◌≡◌, ◌<◌, ◌+◌, ◌-◌, true, false};
+ghost use Rattle.gsi_file.specs.Finding.{Finds};
+
+use crate::buffer::Buffer;
+use crate::file_fault::FileKind;
+use crate::limits::LONGEST_LINE;
+use byte_ends::Source;
+
+/// A numbered line at the front of what is in hand.
+#[derive(Clone, Copy)]
+pub(crate) struct Found {
+    /// How many bytes it has.
+    pub(crate) line: usize,
+    /// How many bytes are used up with it: the byte that ends it, too.
+    pub(crate) used: usize,
+    /// How many bytes of the file may be taken after it.
+    pub(crate) room: usize,
+    /// Whether the source has ended with it.
+    pub(crate) last: bool,
+}
+
+/// A line that a byte has ended, where `left` bytes might be taken at its beginning.
+fn ended(line: usize, left: usize) -> Found
+    requires { line < left }
+    ensures { result ≡ record { line = line; used = line + 1; room = left - (line + 1); last = false } }
+{
+    Found {
+        line,
+        used: line + 1,
+        room: left - (line + 1),
+        last: false,
+    }
+}
+
+/// A line that the source has ended with.
+fn at_end(line: usize) -> Found
+    ensures { result ≡ record { line = line; used = line; room = 0; last = true } }
+{
+    Found {
+        line,
+        used: line,
+        room: 0,
+        last: true,
+    }
+}
+
+/// Finds the next numbered line. Of the file `room` bytes may still be taken.
+pub(crate) fn find_line<R: Source>(
+    reader: &mut R,
+    buffer: &mut Buffer,
+    room: usize,
+) -> Result<Option<Found>, FileKind>
+    ensures { Finds (R.told reader.old) (R.told reader.new) room buffer.old buffer.new result }
+{
+    let mut left = room;
+    let mut line = 0;
+    'search: loop {
+        let seen = buffer.len().min(left).min(LONGEST_LINE + 1);
+        line = buffer.line_end(line, seen);
+        if line < seen {
+            if buffer.has_ink(line) {
+                return Ok(Some(ended(line, left)));
+            }
+            buffer.drop_front(line + 1);
+            left -= line + 1;
+            line = 0;
+            continue;
+        }
+        if line > LONGEST_LINE {
+            return Err(FileKind::LineTooLong);
+        }
+        if line < buffer.len() {
+            return Err(FileKind::FileTooLong);
+        }
+        match buffer.fill(reader) {
+            Ok(0) => {
+                if buffer.has_ink(line) {
+                    return Ok(Some(at_end(line)));
+                }
+                return Ok(None);
+            }
+            Ok(_) => continue,
+            Err(_) => return Err(FileKind::Read),
+        }
+    }
+}

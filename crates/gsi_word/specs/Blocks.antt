@@ -1,0 +1,44 @@
+-- A line that is a block of words (GSI manual; that the blank after the last word may be missing or repeated is profile).
+use Rattle.std.specs.Prelude.{◌≡◌, ◌==◌, ℕ, ◌<◌, Bool, false, List, [], ◌∷◌, ◌++◌, length, drop, map, All, replicate, if◌then◌else◌, ◌⊎◌}
+use Rattle.std.specs.List.{join_with_byte}
+use Rattle.gsi_word.specs.Words.{GsiWord, IsWord, spelled}
+
+-- What a block says: how many bytes the content of each word has, and its words in order.
+pub record GsiBlock : Type 0 where
+  pub width : ℕ
+  pub words : List GsiWord
+
+-- A GSI-16 line begins with `*`.
+abbrev pub is_starred : List ℕ → Bool
+is_starred [] = false
+is_starred (b ∷ bs) = b == 42
+
+-- how many bytes the content of each word of a line has
+abbrev pub width_of : List ℕ → ℕ
+width_of line = if is_starred line then 16 else 8
+
+-- the bytes of a line in which its words stand: all, or those after the `*`
+abbrev pub word_bytes : List ℕ → List ℕ
+word_bytes line = if is_starred line then drop 1 line else line
+
+-- The bytes are these words, at least one, joined by single blanks, and then any number of blanks.
+pub record AreWords (width : ℕ) (bytes : List ℕ) (words : List GsiWord) : Type 0 where
+  pub some_word : 0 < length words
+  pub each : All (IsWord width) words
+  pub blanks : ℕ
+  pub text : bytes ≡ join_with_byte 32 (map spelled words) ++ replicate blanks 32
+
+-- A measurement block begins with a point number, a code block with a code number.
+abbrev pub IsFirst : GsiWord → Type 0
+IsFirst w = (w.index ≡ 11) ⊎ (w.index ≡ 41)
+
+-- The first of the words is one that a block begins with.
+abbrev pub BeginsBlock : List GsiWord → Type 0
+BeginsBlock [] = ⊥
+BeginsBlock (w ∷ ws) = IsFirst w
+
+-- The line is this block.
+pub record IsBlock (line : List ℕ) (block : GsiBlock) : Type 0 where
+  pub width : block.width ≡ width_of line
+  pub words : AreWords (width_of line) (word_bytes line) block.words
+  pub first : BeginsBlock block.words

@@ -1,0 +1,15 @@
+-- The words of one index in a block: what a search for an index is to find.
+use Rattle.std.specs.Prelude.{◌==◌, ℕ, List, [], ◌∷◌, filter}
+use Rattle.gsi_word.specs.declared.found.Found.{Found}
+use Rattle.gsi_word.specs.declared.found.Found.TheVariants.{Absent, One, Twice}
+use Rattle.gsi_word.specs.Words.{GsiWord}
+
+-- the words of this index, in order
+abbrev pub words_with : ℕ → List GsiWord → List GsiWord
+words_with index words = filter (λ w. w.index == index) words
+
+-- none, the only one, or more than one
+abbrev pub found_among : List GsiWord → Found
+found_among [] = Absent
+found_among (w ∷ []) = One w
+found_among (w ∷ v ∷ ws) = Twice

@@ -1,0 +1,34 @@
+//! Laws of the definitions that contracts cite, for proofs about lines. The functions do nothing.
+
+ghost use Rattle.std.specs.Prelude.{◌≡◌, ◌↔◌, ◌<◌, List, ℕ, Ok, length};
+ghost use Rattle.gsi_word.specs.Words.{GsiWord};
+ghost use Rattle.gsi_word.specs.Names.{name_of, IsName};
+ghost use Rattle.gsi_word.specs.Angles.{angle_of, IsAngle};
+ghost use Rattle.gsi_word.specs.Blocks.{GsiBlock, IsBlock};
+ghost use Rattle.gsi_word.specs.LineFaults.{IsLineFault};
+ghost use Rattle.gsi_word.specs.declared.line_fault.LineFault.{LineFault};
+
+/// A line is one block at most: it has one width and one list of words.
+pub fn one_block()
+    ensures { (line : List ℕ) (a b : GsiBlock) → IsBlock line a → IsBlock line b → a ≡ b }
+{}
+
+/// A line has one first fault at most.
+pub fn one_fault()
+    ensures { (line : List ℕ) (a b : LineFault) → IsLineFault line a → IsLineFault line b → a ≡ b }
+{}
+
+/// A line that is a block has no fault.
+pub fn no_fault_in_a_block()
+    ensures { (line : List ℕ) (block : GsiBlock) (fault : LineFault) → IsBlock line block → ¬ IsLineFault line fault }
+{}
+
+/// A content that is not empty has one name, the content without its leading zeros.
+pub fn one_name()
+    ensures { (content name : List ℕ) → 0 < length content → IsName content name ↔ (name ≡ name_of content) }
+{}
+
+/// The angle of a word is the number that all tests let pass.
+pub fn one_angle()
+    ensures { (word : GsiWord) (units : ℕ) → (angle_of word ≡ Ok units) ↔ IsAngle word units }
+{}

@@ -1,0 +1,28 @@
+//! The words of a GSI line: from bytes to blocks, words, names and angles.
+//!
+//! A field file of a total station is lines of words. A word is two digits that say what it is (11 a point number,
+//! 21 a horizontal direction, 41 a code), four bytes of information, a sign and a content of 8 or 16 bytes.
+//! [`read_block`] reads one line without its end; [`Block`] and [`Word`] give what stands in it. All of it is parts of the
+//! line: nothing is copied, and no call takes memory.
+#![tactic(auto)]
+
+pub mod angle;
+pub mod block;
+pub mod decimal;
+pub mod found;
+pub mod laws;
+pub mod line_fault;
+pub mod reading;
+pub mod shape;
+#[cfg(test)]
+mod tests;
+pub mod word;
+
+pub use angle::AngleFault;
+pub use block::Block;
+pub use decimal::decimal_number;
+pub use found::Found;
+pub use line_fault::LineFault;
+pub use reading::{block_in, read_block, read_shape};
+pub use shape::Shape;
+pub use word::Word;

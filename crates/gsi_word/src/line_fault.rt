@@ -1,0 +1,13 @@
+//! Why a line is no block.
+
+/// The first fault of a line that is no block: bytes are looked at before words, and all words before the first one's index.
+#[derive(Clone, Copy, Debug, PartialEq, Eq)]
+pub enum LineFault {
+    /// The byte at this place, from 1, is no blank and no visible character of ASCII.
+    Byte(usize),
+    /// The word at this place, from 1, is cut short, has no two digits, has a blank in its information, has no sign, or is
+    /// followed by a byte that is no blank. A line without any word has this fault at word 1.
+    Word(usize),
+    /// The first word is neither a point number (11) nor a code number (41).
+    FirstWord,
+}

@@ -1,0 +1,206 @@
+//! Reading a line: is it a block, or what is its first fault?
+//!
+//! A line is looked at twice, from left to right. First all its bytes: whether each may stand in a line. This loop has no
+//! early end, so that the compiler can test many bytes at once; only a line that fails is searched for its first bad byte.
+//! Then the words: of printable bytes only the two digits, the information, the sign and the byte behind the word are
+//! left to be tested, and the content is not looked at again.
+
+ghost use Rattle.std.specs.Prelude.{◌≡◌, ◌≢◌, ◌↔◌, ◌⊎◌, ◌≤◌, ◌+◌, length, drop, replicate, All, Any, IsTrue, IfOk, IfErr, OnOk};
+ghost use Rattle.std.specs.Bool.{OnTrue, OnFalse};
+ghost use Rattle.gsi_word.specs.Words.{IsPrintable};
+ghost use Rattle.gsi_word.specs.Blocks.{is_starred, width_of, word_bytes, AreWords, IsBlock};
+ghost use Rattle.gsi_word.specs.LineFaults.{IsByteFault, IsWordFault, IsLineFault};
+ghost use Rattle.gsi_word.specs.Layout.{begins_word, is_printable, is_width, words_from, KeepsWords};
+ghost use Rattle.gsi_word.specs.BlockViews.{block_of};
+ghost use Rattle.gsi_word.specs.Shapes.{shaped, IsShape};
+
+use crate::block::Block;
+use crate::line_fault::LineFault;
+use crate::shape::Shape;
+use crate::word::{CONTENT, INFO, SIGN, index_of};
+
+/// The first byte of a GSI-16 line.
+const STAR: u8 = b'*';
+
+/// How many bytes the content of a word has in a GSI-8 line.
+const GSI_8: u8 = 8;
+
+/// How many bytes the content of a word has in a GSI-16 line.
+const GSI_16: u8 = 16;
+
+/// The index of the first word of a measurement block.
+const POINT_NUMBER: u8 = 11;
+
+/// The index of the first word of a code block.
+const CODE_NUMBER: u8 = 41;
+
+/// The block that a line is, or the line's first fault.
+///
+/// The line comes without its end, a carriage return or a line feed.
+pub fn read_block(line: &[u8]) -> Result<Block<'_>, LineFault>
+    ensures block { IfOk result (λ b. IsBlock line.now (block_of b)) }
+    ensures fault { IfErr result (IsLineFault line.now) }
+{
+    match read_shape(line) {
+        Ok(shape) => Ok(block_in(line, shape)),
+        Err(fault) => Err(fault),
+    }
+}
+
+/// The shape of the block that a line is, or the line's first fault, for a caller that looks at the words later.
+///
+/// The line comes without its end, as for [`read_block`].
+pub fn read_shape(line: &[u8]) -> Result<Shape, LineFault>
+    ensures shape { IfOk result (λ s. IsShape s line.now) }
+    ensures fault { IfErr result (IsLineFault line.now) }
+{
+    if let Err(at) = check_bytes(line) {
+        return Err(LineFault::Byte(at));
+    }
+    let bytes = word_bytes(line);
+    let width = width_of(line);
+    match count_words(bytes, width) {
+        Err(nth) => Err(LineFault::Word(nth)),
+        Ok(_) if !is_first_index(index_of(bytes)) => Err(LineFault::FirstWord),
+        Ok(count) => Ok(Shape { width, count }),
+    }
+}
+
+/// The block of this shape that a line is.
+pub fn block_in(line: &[u8], shape: Shape) -> Block<'_>
+    requires { IsShape shape line.now }
+    ensures { block_of result ≡ shaped shape line.now }
+{
+    Block {
+        bytes: word_bytes(line),
+        width: shape.width,
+        count: shape.count,
+    }
+}
+
+/// Whether a byte may stand in a line: a blank or a visible character of ASCII.
+fn is_printable(byte: u8) -> bool
+    ensures { result ≡ is_printable byte }
+{
+    (b' '..=b'~').contains(&byte)
+}
+
+/// Whether all bytes may stand in a line.
+fn are_printable(bytes: &[u8]) -> bool
+    ensures { IsTrue result ↔ All IsPrintable bytes.now }
+{
+    let mut stray = false;
+    for byte in bytes {
+        stray |= !is_printable(*byte);
+    }
+    !stray
+}
+
+/// Whether all bytes may stand in a line, or the place of the first, from 1, that may not.
+fn check_bytes(line: &[u8]) -> Result<(), usize>
+    ensures printable { OnOk result (All IsPrintable line.now) }
+    ensures fault { IfErr result (IsByteFault line.now) }
+{
+    if are_printable(line) {
+        return Ok(());
+    }
+    for (place, byte) in line.iter().enumerate() {
+        if !is_printable(*byte) {
+            return Err(place + 1);
+        }
+    }
+    Ok(())
+}
+
+/// Whether the line is GSI-16.
+fn is_starred(line: &[u8]) -> bool
+    ensures { result ≡ is_starred line.now }
+{
+    !line.is_empty() && line[0] == STAR
+}
+
+/// How many bytes the content of each word of the line has.
+fn width_of(line: &[u8]) -> u8
+    ensures value { result ≡ width_of line.now }
+    ensures known { IsTrue (is_width result) }
+{
+    if is_starred(line) { GSI_16 } else { GSI_8 }
+}
+
+/// The part of the line in which its words stand.
+fn word_bytes(line: &[u8]) -> &[u8]
+    ensures { result.now ≡ word_bytes line.now }
+{
+    if is_starred(line) { &line[1..] } else { line }
+}
+
+/// How many words the bytes are, or the place of the first, from 1, that is none.
+fn count_words(bytes: &[u8], width: u8) -> Result<usize, usize>
+    requires printable { All IsPrintable bytes.now }
+    requires known { IsTrue (is_width width) }
+    ensures words { IfOk result (λ n. AreWords width bytes.now (words_from width n bytes.now)) }
+    ensures kept { IfOk result (KeepsWords width bytes.now) }
+    ensures fault { IfErr result (IsWordFault width bytes.now) }
+{
+    let mut rest = bytes;
+    let mut count = 0;
+    'words: while begins_word(rest, width) {
+        rest = after_word(rest, width);
+        count += 1;
+    }
+    if count > 0 && is_blank(rest) {
+        Ok(count)
+    } else {
+        Err(count + 1)
+    }
+}
+
+/// Whether printable bytes begin with a word that ends them or has a blank after it.
+#[tactic(auto, unfolding(crate::specs::Layout::begins_word))]
+fn begins_word(bytes: &[u8], width: u8) -> bool
+    ensures test { result ≡ begins_word width bytes.now }
+    ensures long { OnTrue result (7 + width ≤ length bytes.now) }
+{
+    let size = CONTENT + width as usize;
+    if bytes.len() < size {
+        return false;
+    }
+    if !bytes[0].is_ascii_digit() || !bytes[1].is_ascii_digit() {
+        return false;
+    }
+    if bytes[INFO..SIGN].contains(&b' ') {
+        return false;
+    }
+    if bytes[SIGN] != b'+' && bytes[SIGN] != b'-' {
+        return false;
+    }
+    bytes.len() == size || bytes[size] == b' '
+}
+
+/// What stands behind the first word and the blank after it.
+fn after_word(bytes: &[u8], width: u8) -> &[u8]
+    requires { 7 + width ≤ length bytes.now }
+    ensures { result.now ≡ drop (8 + width) bytes.now }
+{
+    let size = CONTENT + width as usize;
+    if bytes.len() == size {
+        &[]
+    } else {
+        &bytes[size + 1..]
+    }
+}
+
+/// Whether there are only blanks.
+fn is_blank(bytes: &[u8]) -> bool
+    ensures blank { OnTrue result (bytes.now ≡ replicate (length bytes.now) 32) }
+    ensures ink { OnFalse result (Any (λ b. b ≢ 32) bytes.now) }
+{
+    bytes.iter().all(|b| *b == b' ')
+}
+
+/// Whether a word of this index begins a block: a point number or a code number.
+fn is_first_index(index: u8) -> bool
+    ensures { IsTrue result ↔ ((index ≡ 11) ⊎ (index ≡ 41)) }
+{
+    index == POINT_NUMBER || index == CODE_NUMBER
+}

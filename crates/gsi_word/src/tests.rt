@@ -1,0 +1,302 @@
+//! Worked lines, words, names and angles.
+
+use crate::{AngleFault, Found, LineFault, Word, decimal_number, laws, read_block};
+use std::process::Abort;
+
+/// The word at a place of a line that is a block.
+fn word_at<'a>(rt: &impl Abort, line: &'a [u8], place: usize) -> Word<'a> {
+    read_block(line)
+        .expect(rt, "a block")
+        .word(place)
+        .expect(rt, "a word")
+}
+
+#[test]
+fn a_line_is_a_block_of_its_words(rt: HostRuntime) {
+    // The line, the width and the number of words.
+    let rows: [(&[u8], u8, usize); 10] = [
+        (b"410001+00000010 42....+000000S1", 8, 2),
+        (b"110003+0000000A 21.102+00000000 22.102+10000000", 8, 3),
+        (b"110003+0000000A 21.102+00000000 22.102+10000000 ", 8, 3),
+        (
+            b"110003+0000000A 21.102+00000000 22.102+10000000       ",
+            8,
+            3,
+        ),
+        (b"410012+00000030", 8, 1),
+        (b"410099+?......1", 8, 1),
+        (b"110003-        ", 8, 1),
+        (b"*410001+0000000000000010 42....+00000000000000S1", 16, 2),
+        (
+            b"*110003+000000000000000A 21.102+0000000000000000 22.102+0000000010000000  ",
+            16,
+            3,
+        ),
+        // Blanks are content: these 16 bytes of content end with the line.
+        (b"*110001+0000000A 21.102+", 16, 1),
+    ];
+    for (row, (line, width, count)) in rows.iter().enumerate() {
+        let found = read_block(line).map(|block| (block.width(), block.len()));
+        assert_eq!(rt; found, Ok((*width, *count)), "row {row}");
+    }
+}
+
+#[test]
+fn a_line_that_is_no_block_has_a_first_fault(rt: HostRuntime) {
+    let rows: [(&[u8], LineFault); 33] = [
+        // No word at all.
+        (b"", LineFault::Word(1)),
+        (b"   ", LineFault::Word(1)),
+        (b"*", LineFault::Word(1)),
+        (b"* ", LineFault::Word(1)),
+        (b" 110001+0000000A", LineFault::Word(1)),
+        (b"**110001+000000000000000A", LineFault::Word(1)),
+        // A byte that may not stand in a line.
+        (b"110001+0000000A\t21.102+00000000", LineFault::Byte(16)),
+        (b"110001+0000000\x7f", LineFault::Byte(15)),
+        (b"\x1f10001+0000000A", LineFault::Byte(1)),
+        (b"*110001+000000000000000\x80", LineFault::Byte(24)),
+        (b"\xff\x00", LineFault::Byte(1)),
+        // A word that is cut short.
+        (
+            b"110006+0000000A 21.102+20000006 22.102+2999",
+            LineFault::Word(3),
+        ),
+        (b"110006+0000000", LineFault::Word(1)),
+        (b"110006+0000000A 2", LineFault::Word(2)),
+        (b"*110001+00000000000000A", LineFault::Word(1)),
+        // A word without its digits, information or sign.
+        (b"1a0001+0000000A", LineFault::Word(1)),
+        (b"a10001+0000000A", LineFault::Word(1)),
+        (b"11 001+0000000A", LineFault::Word(1)),
+        (b"1100 1+0000000A", LineFault::Word(1)),
+        (b"11000 +0000000A", LineFault::Word(1)),
+        (b"110001 0000000A", LineFault::Word(1)),
+        (b"110001*0000000A", LineFault::Word(1)),
+        // No blank, or a second one, after a word.
+        (b"110001+0000000AB", LineFault::Word(1)),
+        (b"110001+0000000A  21.102+00000000", LineFault::Word(2)),
+        (b"110001+000000000000000A", LineFault::Word(1)),
+        // Another first word.
+        (b"510001+00000000", LineFault::FirstWord),
+        (b"510002+00000000", LineFault::FirstWord),
+        (b"21.102+00000000 110001+0000000A", LineFault::FirstWord),
+        (b"*120001+000000000000000A", LineFault::FirstWord),
+        // Bytes before words, words before the first index.
+        (b"510001+0000000 21.102+0000000\t", LineFault::Byte(30)),
+        (b"510001+00000000 21.102+0000000\t", LineFault::Byte(31)),
+        (b"510001+00000000 21.102+000000", LineFault::Word(2)),
+        (b"510001+00000000 11", LineFault::Word(2)),
+    ];
+    for (row, (line, fault)) in rows.iter().enumerate() {
+        assert_eq!(rt; read_block(line).err(), Some(*fault), "row {row}");
+    }
+}
+
+#[test]
+fn a_cut_line_is_whole_only_where_a_word_ends(rt: HostRuntime) {
+    let line = b"110006+0000000A 21.102+20000006 22.102+29999998";
+    for length in 0..line.len() + 1 {
+        let want = match length {
+            0..15 => Err(LineFault::Word(1)),
+            15..17 => Ok(1),
+            17..31 => Err(LineFault::Word(2)),
+            31..33 => Ok(2),
+            33..47 => Err(LineFault::Word(3)),
+            _ => Ok(3),
+        };
+        let found = read_block(&line[..length]).map(|block| block.len());
+        assert_eq!(rt; found, want, "at {length} bytes");
+    }
+}
+
+#[test]
+fn the_parts_of_a_word_are_parts_of_the_line(rt: HostRuntime) {
+    // The line, the place of a word in it, and the word's index, information, sign and content.
+    let rows: [(&[u8], usize, u8, &[u8], bool, &[u8]); 7] = [
+        (
+            b"410001+00000010 42....+000000S1",
+            0,
+            41,
+            b"0001",
+            false,
+            b"00000010",
+        ),
+        (
+            b"410001+00000010 42....+000000S1",
+            1,
+            42,
+            b"....",
+            false,
+            b"000000S1",
+        ),
+        (
+            b"110003+0000000A 21.102+05000000 22.102+10000000",
+            2,
+            22,
+            b".102",
+            false,
+            b"10000000",
+        ),
+        (
+            b"410099+?......1 05....-      -1  ",
+            0,
+            41,
+            b"0099",
+            false,
+            b"?......1",
+        ),
+        (
+            b"410099+?......1 05....-      -1  ",
+            1,
+            5,
+            b"....",
+            true,
+            b"      -1",
+        ),
+        (
+            b"*410001+0000000000000010 42....+00000000000000S1",
+            0,
+            41,
+            b"0001",
+            false,
+            b"0000000000000010",
+        ),
+        (
+            b"*410001+0000000000000010 42....+00000000000000S1",
+            1,
+            42,
+            b"....",
+            false,
+            b"00000000000000S1",
+        ),
+    ];
+    for (row, (line, place, index, info, negative, content)) in rows.iter().enumerate() {
+        let word = word_at(&rt, line, *place);
+        assert_eq!(rt; word.index(), *index, "row {row}");
+        assert_eq!(rt; word.info(), *info, "row {row}");
+        assert_eq!(rt; word.negative(), *negative, "row {row}");
+        assert_eq!(rt; word.content(), *content, "row {row}");
+    }
+}
+
+#[test]
+fn a_name_is_a_content_without_its_leading_zeros(rt: HostRuntime) {
+    let rows: [(&[u8], &[u8]); 12] = [
+        (b"110003+0000000A", b"A"),
+        (b"110003+000000S1", b"S1"),
+        (b"110003+00000000", b"0"),
+        (b"110003+00000100", b"100"),
+        (b"110003+12345678", b"12345678"),
+        (b"110003+0000A,\"1", b"A,\"1"),
+        (b"110003+        ", b"        "),
+        (b"110003+0000   1", b"   1"),
+        (b"110003-0000-001", b"-001"),
+        (b"*110003+0000000000000000", b"0"),
+        (b"*110003+00000000000000S1", b"S1"),
+        (b"*110003+ABCDEFGHIJKLMNOP", b"ABCDEFGHIJKLMNOP"),
+    ];
+    for (row, (line, name)) in rows.iter().enumerate() {
+        let word = word_at(&rt, line, 0);
+        assert_eq!(rt; word.name(), *name, "row {row}");
+    }
+}
+
+#[test]
+fn an_angle_is_a_number_of_units_or_its_first_fault(rt: HostRuntime) {
+    let rows: [(&[u8], Result<u32, AngleFault>); 22] = [
+        (b"110003+0000000A 21.102+00000000", Ok(0)),
+        (b"110003+0000000A 21.102+25000010", Ok(25_000_010)),
+        (b"110003+0000000A 22.102+39999999", Ok(39_999_999)),
+        (b"110003+0000000A 210022+00000001", Ok(1)),
+        (b"110003+0000000A 21..22+00000002", Ok(2)),
+        (b"110003+0000000A 21..32+00000003", Ok(3)),
+        (
+            b"*110003+000000000000000A 21.102+0000000010000000",
+            Ok(10_000_000),
+        ),
+        (b"110003+0000000A 21.104+00000000", Err(AngleFault::Unit)),
+        (b"110003+0000000A 21.10.+00000000", Err(AngleFault::Unit)),
+        (
+            b"110003+0000000A 21.112+00000000",
+            Err(AngleFault::InputMode),
+        ),
+        (
+            b"110003+0000000A 21.142+00000000",
+            Err(AngleFault::InputMode),
+        ),
+        (b"110003+0000000A 21.102-00000000", Err(AngleFault::Sign)),
+        (b"110003+0000000A 21.102+0000000A", Err(AngleFault::Digits)),
+        (b"110003+0000000A 22.102+        ", Err(AngleFault::Digits)),
+        (b"110003+0000000A 21.102+       1", Err(AngleFault::Digits)),
+        (b"110003+0000000A 21.102+40000000", Err(AngleFault::Range)),
+        (b"110003+0000000A 21.102+99999999", Err(AngleFault::Range)),
+        (
+            b"*110003+000000000000000A 21.102+9999999999999999",
+            Err(AngleFault::Range),
+        ),
+        // Each of these has all later faults too.
+        (b"110003+0000000A 21.114-9999999A", Err(AngleFault::Unit)),
+        (
+            b"110003+0000000A 21.112-9999999A",
+            Err(AngleFault::InputMode),
+        ),
+        (b"110003+0000000A 21.102-9999999A", Err(AngleFault::Sign)),
+        (b"110003+0000000A 21.102+9999999A", Err(AngleFault::Digits)),
+    ];
+    for (row, (line, want)) in rows.iter().enumerate() {
+        let word = word_at(&rt, line, 1);
+        assert_eq!(rt; word.angle(), *want, "row {row}");
+    }
+}
+
+#[test]
+fn a_search_finds_the_only_word_of_an_index(rt: HostRuntime) {
+    let line = b"110003+0000000A 21.102+00000005 22.102+10000000 21.102+00000007 05....+00000001";
+    let block = read_block(line).expect(&rt, "a block");
+    let rows = [
+        (11, Some(0), false),
+        (22, Some(10_000_000), false),
+        (5, Some(1), false),
+        (21, None, true),
+        (42, None, false),
+        (0, None, false),
+        (255, None, false),
+    ];
+    for (index, number, twice) in rows {
+        match block.find(index) {
+            Found::Absent => assert!(rt; number.is_none() && !twice, "index {index}"),
+            Found::One(word) => assert!(rt;
+                word.index() == index
+                    && number == Some(decimal_number(word.content()).unwrap_or(0)),
+                "index {index}"
+            ),
+            Found::Twice => assert!(rt; twice, "index {index}"),
+        }
+    }
+    assert!(rt; block.word(5).is_none());
+}
+
+#[test]
+fn digits_alone_are_a_number(rt: HostRuntime) {
+    let rows: [(&[u8], Option<u64>); 6] = [
+        (b"0", Some(0)),
+        (b"0012", Some(12)),
+        (b"9999999999999999", Some(9_999_999_999_999_999)),
+        (b"", Some(0)),
+        (b"1 ", None),
+        (b":", None),
+    ];
+    for (bytes, number) in &rows {
+        assert_eq!(rt; decimal_number(bytes), *number);
+    }
+}
+
+#[test]
+fn the_laws_are_calls(_rt: HostRuntime) {
+    laws::one_block();
+    laws::one_fault();
+    laws::no_fault_in_a_block();
+    laws::one_name();
+    laws::one_angle();
+}

@@ -1,0 +1,62 @@
+//! Refused memory: a call then answers so, and has written nothing.
+
+use super::files::{STATION, THREE_LINES, THREE_LINES_WORDS};
+use crate::fault::Fault;
+use crate::words::write_words;
+use byte_ends::{Held, Script};
+use std::alloc::Global;
+use std::test::Fail;
+
+/// How many blocks a hoard may hold.
+const BLOCKS: usize = 60_000;
+
+/// The bytes by which the memory that is left grows from try to try.
+const STEP: usize = 64;
+
+/// Holds all memory that there is, but for a spare block that it gives back at the end.
+fn hoard_of_all_but(alloc: Global, spare: Vec<u8>) -> Vec<Vec<u8>> {
+    let mut hoard: Vec<Vec<u8>> = Vec::new(alloc);
+    if hoard.reserve(BLOCKS).is_err() {
+        return hoard;
+    }
+    let mut size: usize = 1 << 40;
+    while size >= 16 {
+        for _ in 0..BLOCKS {
+            match Vec::<u8>::with_capacity(alloc, size) {
+                Ok(block) => {
+                    if hoard.push(block).is_err() {
+                        return hoard;
+                    }
+                }
+                Err(_) => break,
+            }
+        }
+        size /= 2;
+    }
+    drop(spare);
+    hoard
+}
+
+#[test]
+fn refused_memory_is_answered_with_nothing_written(rt: HostRuntime) -> Result<(), Fail> {
+    let gsi = &STATION[..THREE_LINES];
+    let mut refusals = 0;
+    for tries in 0..200usize {
+        let mut out = Held::new(rt.alloc(), 1_000, 1_000, false)?;
+        let spare = Vec::<u8>::with_capacity(rt.alloc(), STEP * tries)?;
+        let hoard = hoard_of_all_but(rt.alloc(), spare);
+        let answer = write_words(rt.alloc(), Script::new(gsi, 10, false), &mut out);
+        drop(hoard);
+        if answer == Err(Fault::Memory) {
+            assert!(rt; out.bytes().is_empty());
+            refusals += 1;
+        } else {
+            assert_eq!(rt; answer, Ok(3));
+            assert_eq!(rt; out.bytes(), THREE_LINES_WORDS);
+            assert!(rt; refusals > 0);
+            return Ok(());
+        }
+    }
+    assert!(rt; false, "refused however much memory there was");
+    Ok(())
+}

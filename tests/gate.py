@@ -1,0 +1,47 @@
+"""The gate: `rt ci`, then the tests of the command line. Its last line is 'N passed, M failed'."""
+
+import os
+import re
+import subprocess
+import sys
+import unittest
+from pathlib import Path
+
+ROOT = Path(__file__).resolve().parent.parent
+COUNTS = re.compile(r"^(\d+) passed, (\d+) failed$")
+
+
+def proofs_passed_and_failed():
+    """Runs `rt ci`, shows what it prints, and answers its counts; a run with no counts is one failure."""
+    command = [os.environ.get("RT", "rt"), "ci"]
+    counts = None
+    with subprocess.Popen(command, cwd=ROOT, stdout=subprocess.PIPE, stderr=subprocess.STDOUT, text=True) as gate:
+        for line in gate.stdout:
+            print(line, end="", flush=True)
+            if found := COUNTS.match(line):
+                counts = int(found[1]), int(found[2])
+    passed, failed = counts or (0, 1)
+    if gate.returncode != 0 and failed == 0:
+        failed = 1
+    return passed, failed
+
+
+def command_line_passed_and_failed():
+    """Runs the tests of tests/cli over the program that `rt ci` built."""
+    suite = unittest.defaultTestLoader.discover(str(ROOT / "tests" / "cli"))
+    result = unittest.TextTestRunner(stream=sys.stdout, verbosity=2).run(suite)
+    failed = len(result.failures) + len(result.errors) + len(result.unexpectedSuccesses)
+    return max(result.testsRun - failed, 0), failed
+
+
+def main():
+    passed, failed = proofs_passed_and_failed()
+    if failed == 0:
+        more_passed, failed = command_line_passed_and_failed()
+        passed += more_passed
+    print(f"{passed} passed, {failed} failed", flush=True)
+    return 0 if failed == 0 and passed > 0 else 1
+
+
+if __name__ == "__main__":
+    sys.exit(main())
