@@ -27,6 +27,14 @@ TargetsAddUp station sheet = (t : ℕ) → t < length station.targets → target
 abbrev pub SetsAddUp : StationValue → SheetValue → Type 0
 SetsAddUp station sheet = (s : ℕ) → s < length station.sets → set_sum (choice_stated_by sheet) (readings station sheet) s ≡ pos 0
 
+-- the observations hold all sets and targets together
+abbrev pub HoldsTogether : StationValue → SheetValue → Type 0
+HoldsTogether station sheet = IsConnected (length station.sets) (length station.targets) (readings station sheet)
+
+-- no residual is above this limit
+abbrev pub KeepsLimit : StationValue → SheetValue → ℕ → Type 0
+KeepsLimit station sheet most = IsLimited most (choice_stated_by sheet) (readings station sheet)
+
 -- P holds of the place that is the n-th, counted from 1
 abbrev pub AtNth : (ℕ → Type 0) → ℕ → Type 0
 AtNth P n = (place : ℕ) × (n ≡ place + 1) × P place
@@ -53,8 +61,8 @@ IsClearOf station sheet limit (ObsRow n) = keys_of sheet ≡ observed station
 IsClearOf station sheet limit Datum = (choice_stated_by sheet).direction 0 ≡ pos 0
 IsClearOf station sheet limit (TargetSum n) = TargetsAddUp station sheet
 IsClearOf station sheet limit (SetSum n) = SetsAddUp station sheet
-IsClearOf station sheet limit NotConnected = IsConnected (length station.sets) (length station.targets) (readings station sheet)
-IsClearOf station sheet limit (Residual n) = IfSome limit (λ most. IsLimited most (choice_stated_by sheet) (readings station sheet))
+IsClearOf station sheet limit NotConnected = HoldsTogether station sheet
+IsClearOf station sheet limit (Residual n) = IfSome limit (KeepsLimit station sheet)
 
 -- the order in which the faults are looked for
 abbrev pub order_of : KernelFault → ℕ
@@ -85,3 +93,7 @@ IsVerdict station sheet limit (Err fault) =
     Stands station sheet limit fault × ((other : KernelFault) → order_of other < order_of fault → IsClearOf station sheet limit other)
 IsVerdict station sheet limit (Ok accepted) =
     ((other : KernelFault) → IsClearOf station sheet limit other) × (accepted ≡ acceptance_of station sheet)
+
+-- the verdict is this fault, whatever limit is stated
+abbrev pub IsFault : StationValue → SheetValue → KernelFault → Type 0
+IsFault station sheet fault = (limit : Option ℕ) → IsVerdict station sheet limit (Err fault)

@@ -1,7 +1,8 @@
 //! Whether the observations hold all sets and targets of a station together.
 //!
-//! A mark spreads from the first target: an observation carries it from its set to its target, or from its target to
-//! its set. What has no mark in the end is joined by no observation to what has one.
+//! A mark spreads from the first target: an observation carries it from its set to its target, or
+//! from its target to its set. What has no mark in the end is joined by no observation to what has
+//! one.
 ghost use Rattle.std.specs.Prelude.{◌≡◌, ℕ, ◌≤◌, ◌<◌, ◌+◌, true, false, List, length, All, IfNone, IfSome};
 ghost use Rattle.std.specs.Bool.{OnTrue, OnFalse};
 ghost use Rattle.adjust_kernel.specs.declared.row.Row.{Row};
@@ -61,8 +62,8 @@ fn are_marked(marks: &[bool], nodes: usize) -> bool
     true
 }
 
-/// Whether the sets and targets can't be divided into two parts, neither of them empty, with no observation between.
-/// Takes no memory.
+/// Whether the sets and targets can't be divided into two parts, neither of them empty, with no
+/// observation between. Takes no memory.
 pub fn is_connected(sets: usize, targets: usize, obs: &[Obs]) -> bool
     requires sets { sets ≤ MOST_SETS }
     requires targets { (0 < targets) × (targets ≤ MOST_TARGETS) }

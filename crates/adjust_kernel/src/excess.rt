@@ -26,7 +26,8 @@ fn is_row_above(sheet: &Sheet, obs: &[Obs], limit: u32, row: usize) -> bool
     is_above(row_residual(sheet, obs, row), limit, sheet.denominator())
 }
 
-/// The first row from 0 whose scaled residual is in size above a limit in half units, times the denominator.
+/// The first row from 0 whose scaled residual is in size above a limit in half units, times the
+/// denominator.
 pub fn first_excess(sheet: &Sheet, obs: &[Obs], limit: u32) -> Option<usize>
     requires { ArePaired sheet.now obs.now }
     ensures none { IfNone result (IsLimited limit (choice_stated_by sheet.now) (readings_of obs.now sheet.now.rows)) }

@@ -1,18 +1,18 @@
 //! Why a sheet is refused.
 
-/// The first fault of a sheet against its station, in the order in which they are looked for. Numbers count from 1, and
-/// each is the least that stands.
+/// The first fault of a sheet against its station, in the order in which they are looked for.
+/// Numbers count from 1, and each is the least that stands.
 #[derive(Clone, Copy, Debug, PartialEq, Eq, Drop)]
 pub enum KernelFault {
     /// The sheet is of another station.
     Name,
-    /// At this place the sheet's targets are not the station's, or one of both lists has ended: name the targets as the
-    /// station has them, in the order of their first reading.
+    /// At this place the sheet's targets are not the station's, or one of both lists has ended:
+    /// name the targets as the station has them, in the order of their first reading.
     TargetRow(u32),
     /// At this place the sheet's sets are not the station's, or one of both lists has ended.
     SetRow(u32),
-    /// At this place the sheet's observations are not the station's (set, target or direction), or one of both lists
-    /// has ended.
+    /// At this place the sheet's observations are not the station's (set, target or direction), or
+    /// one of both lists has ended.
     ObsRow(u32),
     /// The direction of the first target is not 0.
     Datum,
@@ -20,7 +20,8 @@ pub enum KernelFault {
     TargetSum(u32),
     /// The residuals of this set do not add to 0, so another orientation of it is better.
     SetSum(u32),
-    /// The sets and targets fall into parts with no observation between them, so that no adjustment ties them.
+    /// The sets and targets fall into parts with no observation between them, so that no adjustment
+    /// ties them.
     NotConnected,
     /// The residual of this row is above the residual limit that was stated.
     Residual(u32),

@@ -1,8 +1,9 @@
-//! The kernel of the checker: a station as it was measured, a sheet as somebody adjusted it, and the verdict on both.
+//! The kernel of the checker: a station as it was measured, a sheet as somebody adjusted it, and
+//! the verdict on both.
 //!
-//! A `Station` has the observed directions of one station, a `Sheet` the directions and orientations that an
-//! adjustment gave them, all over one denominator. `check` says whether the sheet is the least-squares adjustment of the
-//! station, or the first fault that stands.
+//! A `Station` has the observed directions of one station, a `Sheet` the directions and
+//! orientations that an adjustment gave them, all over one denominator. `check` says whether the
+//! sheet is the least-squares adjustment of the station, or the first fault that stands.
 #![tactic(auto)]
 
 mod accepted;

@@ -1,4 +1,5 @@
-//! The bounds of stations and sheets, each once: the code, the clauses and the definitions share them.
+//! The bounds of stations and sheets, each once: the code, the clauses and the definitions share
+//! them.
 
 /// Half units (0.005 mgon each) in a full circle of 400 gon.
 pub const TURN: u32 = 80_000_000;

@@ -1,4 +1,5 @@
-//! Whether a sheet is of a station at all: the same name, targets, sets and observations, place by place.
+//! Whether a sheet is of a station at all: the same name, targets, sets and observations, place by
+//! place.
 
 ghost use Rattle.std.specs.Prelude.{◌≡◌, ◌↔◌, ◌≤◌, ℕ, pos, length, slice_get, Option, IsTrue, IfNone, IfSome, OnOk, IfErr, Err};
 ghost use Rattle.adjust_kernel.specs.Firsts.{IsFirstDifference};
@@ -6,7 +7,7 @@ ghost use Rattle.adjust_kernel.specs.Matching.{Matches, names_of, numbers_of, ke
 ghost use Rattle.adjust_kernel.specs.Pairs.{choice_stated_by};
 ghost use Rattle.adjust_kernel.specs.Sheets.{IsSheet};
 ghost use Rattle.adjust_kernel.specs.Stations.{IsObs, IsStation};
-ghost use Rattle.adjust_kernel.specs.Verdict.{IsVerdict};
+ghost use Rattle.adjust_kernel.specs.Verdict.{IsFault};
 
 use crate::kernel_fault::KernelFault;
 use crate::limits::{MOST_ROWS, MOST_SETS, MOST_TARGETS};
@@ -108,10 +109,11 @@ fn has_datum(sheet: &Sheet) -> bool
     sheet.directions()[0].value == 0
 }
 
-/// Whether the sheet is of this station, place by place, with its first direction 0; if not, the first fault.
+/// Whether the sheet is of this station, place by place, with its first direction 0; if not, the
+/// first fault.
 pub fn matches_station(station: &Station, sheet: &Sheet) -> Result<(), KernelFault>
     ensures ok { OnOk result (Matches station.now sheet.now) }
-    ensures err { IfErr result (λ fault. (limit : Option ℕ) → IsVerdict station.now sheet.now limit (Err fault)) }
+    ensures err { IfErr result (IsFault station.now sheet.now) }
     ensures valid_station { IsStation station.now }
     ensures valid_sheet { IsSheet sheet.now }
 {

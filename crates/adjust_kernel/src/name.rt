@@ -1,7 +1,7 @@
 //! The names of stations and targets.
 //!
-//! A name is a value of fixed size: its bytes, followed by zeros. So it is copied, compared and hashed without
-//! memory, and contracts see it as the list of its bytes.
+//! A name is a value of fixed size: its bytes, followed by zeros. So it is copied, compared and
+//! hashed without memory, and contracts see it as the list of its bytes.
 
 ghost use Rattle.std.specs.Prelude.{◌≡◌, ℕ, List, ◌↔◌, IfSome, IfNone, IsTrue};
 ghost use Rattle.adjust_kernel.specs.Names.{IsName};

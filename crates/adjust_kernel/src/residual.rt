@@ -1,7 +1,7 @@
 //! Scaled residuals: what is left of a direction, less the orientation, against the reading.
 //!
-//! Everything is in half units times the sheet's denominator, so that all numbers are whole. Each step has its own
-//! bound, and no step is near the end of 128 bits.
+//! Everything is in half units times the sheet's denominator, so that all numbers are whole. Each
+//! step has its own bound, and no step is near the end of 128 bits.
 ghost use Rattle.std.specs.Prelude.{◌≡◌, ◌≤◌, ◌<◌, pos, ◌*ℤ◌, length, slice_index_or};
 ghost use Rattle.adjust_kernel.specs.Readings.{Reading};
 ghost use Rattle.adjust_kernel.specs.Within.{IsWithin};

@@ -1,4 +1,5 @@
-//! What a sheet says: a direction for each target, an orientation for each set, and the observations with their full turns.
+//! What a sheet says: a direction for each target, an orientation for each set, and the
+//! observations with their full turns.
 
 ghost use Rattle.std.specs.Prelude.{◌↔◌, IsTrue};
 ghost use Rattle.adjust_kernel.specs.Sheets.{IsSetNumber};

@@ -11,11 +11,11 @@ use crate::name::{Name, is_valid};
 use crate::row::{Direction, Orientation, Row, is_set_number};
 use std::marker::Model;
 
-/// What an adjustment answered for a station: a direction for each target and an orientation for each set, all over
-/// one denominator, and the observations with their full turns.
+/// What an adjustment answered for a station: a direction for each target and an orientation for
+/// each set, all over one denominator, and the observations with their full turns.
 ///
-/// Its numbers are within the limits of a sheet, whatever is done with it. Whether it fits a station, and whether it
-/// is the least-squares adjustment, is for `check` to say.
+/// Its numbers are within the limits of a sheet, whatever is done with it. Whether it fits a
+/// station, and whether it is the least-squares adjustment, is for `check` to say.
 #[derive(Debug, Drop)]
 pub struct Sheet {
     name: Name,
@@ -36,7 +36,8 @@ impl Model for Sheet {
 }
 
 impl Sheet {
-    /// The sheet with these parts, if all numbers are within a sheet's limits; otherwise the lists are dropped.
+    /// The sheet with these parts, if all numbers are within a sheet's limits; otherwise the lists
+    /// are dropped.
     pub fn new(
         name: Name,
         denominator: u64,

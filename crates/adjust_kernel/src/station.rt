@@ -9,10 +9,12 @@ use crate::obs::{Obs, are_obs};
 use crate::row::is_set_number;
 use std::marker::Model;
 
-/// What was observed at one station: its targets, its sets, and the two-face directions by set and target.
+/// What was observed at one station: its targets, its sets, and the two-face directions by set and
+/// target.
 ///
-/// It keeps the rules of a station whatever is done with it: targets have different names and sets different numbers,
-/// the observations are in order, none stands twice, and no set and no target is without one.
+/// It keeps the rules of a station whatever is done with it: targets have different names and sets
+/// different numbers, the observations are in order, none stands twice, and no set and no target is
+/// without one.
 #[derive(Debug, Drop)]
 pub struct Station {
     name: Name,
@@ -32,7 +34,8 @@ impl Model for Station {
 }
 
 impl Station {
-    /// The station with these parts, if they keep the rules of a station; otherwise the lists are dropped.
+    /// The station with these parts, if they keep the rules of a station; otherwise the lists are
+    /// dropped.
     pub fn new(name: Name, targets: Vec<Name>, sets: Vec<u16>, obs: Vec<Obs>) -> Option<Station>
         ensures some { IfSome result (λ station. station ≡ station_of name targets.items sets.items obs.items) }
         ensures valid { IfSome result IsStation }

@@ -1,4 +1,5 @@
-//! The residuals of a sheet, added up once in a tally, and the first target and the first set whose sum isn't 0.
+//! The residuals of a sheet, added up once in a tally, and the first target and the first set whose
+//! sum isn't 0.
 ghost use Rattle.std.specs.Prelude.{◌≡◌, ◌≢◌, ◌≤◌, ◌<◌, ℕ, pos, List, [], IfNone, IfSome};
 ghost use Rattle.adjust_kernel.specs.Firsts.{IsFirstWhere};
 ghost use Rattle.adjust_kernel.specs.Pairs.{ArePaired, choice_stated_by, readings_of};

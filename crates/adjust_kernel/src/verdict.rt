@@ -1,20 +1,19 @@
 //! The verdict on a sheet of a station.
 //!
-//! The sheet is the least-squares adjustment of its readings where the residuals of each target and of each set add to
-//! 0: so nothing is searched for, and no other choice is looked at. The residuals go through a tally once.
+//! The sheet is the least-squares adjustment of its readings where the residuals of each target and
+//! of each set add to 0: so nothing is searched for, and no other choice is looked at. The
+//! residuals go through a tally once.
 
 ghost use Rattle.std.specs.Prelude.{◌≡◌, ◌≤◌, ◌<◌, ℕ, pos, [], length, Option, Result, OnOk, IfErr, IfNone, IfSome, Err};
 ghost use Rattle.adjust_kernel.specs.declared.accepted.Accepted.{Accepted};
 ghost use Rattle.adjust_kernel.specs.declared.kernel_fault.KernelFault.{KernelFault};
-ghost use Rattle.adjust_kernel.specs.Connected.{IsConnected};
 ghost use Rattle.adjust_kernel.specs.Matching.{Matches};
 ghost use Rattle.adjust_kernel.specs.Pairs.{choice_stated_by};
 ghost use Rattle.adjust_kernel.specs.Promises.{TellsOfSquares};
 ghost use Rattle.adjust_kernel.specs.Sheets.{IsSheet};
 ghost use Rattle.adjust_kernel.specs.Stations.{IsStation};
 ghost use Rattle.adjust_kernel.specs.Tallies.{all_added};
-ghost use Rattle.adjust_kernel.specs.Turns.{IsLimited};
-ghost use Rattle.adjust_kernel.specs.Verdict.{IsVerdict, TargetsAddUp, SetsAddUp, acceptance_of, readings};
+ghost use Rattle.adjust_kernel.specs.Verdict.{IsVerdict, IsFault, TargetsAddUp, SetsAddUp, HoldsTogether, KeepsLimit, acceptance_of, readings};
 
 use crate::accepted::Accepted;
 use crate::connection::is_connected;
@@ -32,9 +31,10 @@ use crate::tally::Tally;
 
 /// Checks a sheet against its station, under a residual limit where one is stated. Takes no memory.
 ///
-/// An accepted sheet has just the station's observations, and no other directions and orientations, over any
-/// denominator, give with its full turns a smaller sum of squared residuals. Under a residual limit no other full turns
-/// do so either. Otherwise the answer is the first fault that stands.
+/// An accepted sheet has just the station's observations, and no other directions and orientations,
+/// over any denominator, give with its full turns a smaller sum of squared residuals. Under a
+/// residual limit no other full turns do so either. Otherwise the answer is the first fault that
+/// stands.
 pub fn check(
     station: &Station,
     sheet: &Sheet,
@@ -95,7 +95,7 @@ fn adds_up<T: Tally>(tally: T, station: &Station, sheet: &Sheet) -> Result<(), K
     requires matches { Matches station.now sheet.now }
     ensures targets { OnOk result (TargetsAddUp station.now sheet.now) }
     ensures sets { OnOk result (SetsAddUp station.now sheet.now) }
-    ensures err { IfErr result (λ fault. (limit : Option ℕ) → IsVerdict station.now sheet.now limit (Err fault)) }
+    ensures err { IfErr result (IsFault station.now sheet.now) }
 {
     let tally = add_residuals(tally, sheet, station.obs());
     if let Some(target) = first_uneven_target(&tally, station.targets().len() as u32) {
@@ -112,8 +112,8 @@ fn is_held_together(station: &Station, sheet: &Sheet) -> Result<(), KernelFault>
     requires matches { Matches station.now sheet.now }
     requires targets { TargetsAddUp station.now sheet.now }
     requires sets { SetsAddUp station.now sheet.now }
-    ensures ok { OnOk result (IsConnected (length station.now.sets) (length station.now.targets) (readings station.now sheet.now)) }
-    ensures err { IfErr result (λ fault. (limit : Option ℕ) → IsVerdict station.now sheet.now limit (Err fault)) }
+    ensures ok { OnOk result (HoldsTogether station.now sheet.now) }
+    ensures err { IfErr result (IsFault station.now sheet.now) }
 {
     if is_connected(station.sets().len(), station.targets().len(), station.obs()) {
         return Ok(());
@@ -130,8 +130,8 @@ fn keeps_limit(
     requires matches { Matches station.now sheet.now }
     requires targets { TargetsAddUp station.now sheet.now }
     requires sets { SetsAddUp station.now sheet.now }
-    requires connected { IsConnected (length station.now.sets) (length station.now.targets) (readings station.now sheet.now) }
-    ensures ok { OnOk result (IfSome residual (λ most. IsLimited most (choice_stated_by sheet.now) (readings station.now sheet.now))) }
+    requires connected { HoldsTogether station.now sheet.now }
+    ensures ok { OnOk result (IfSome residual (KeepsLimit station.now sheet.now)) }
     ensures valid { OnOk result (IfSome residual (λ most. most ≤ LARGEST_RESIDUAL_LIMIT)) }
     ensures err { IfErr result (λ fault. IsVerdict station.now sheet.now residual (Err fault)) }
 {
