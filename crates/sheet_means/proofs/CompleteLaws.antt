@@ -1,5 +1,5 @@
--- A station is complete where it has sets times targets observations; then the observation of each set and target is at its place,
--- set by set and within a set target by target.
+-- A station is complete where it has sets times targets observations; then the observation of each
+-- set and target is at its place, set by set and within a set target by target.
 use Rattle.std.proofs.Common.{◌≡◌, inl, inr, ℕ, suc, zero, ◌+◌, ◌-◌, ◌*◌, ◌≤◌, ◌<◌, List, length, All, get_or, arith, ap, sym, ◌∙◌}
 use Rattle.std.specs.Prelude.{Any, AllPairs}
 use Rattle.std.proofs.Math.Nat.{mul-le-mul}

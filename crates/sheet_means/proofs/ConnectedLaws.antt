@@ -1,4 +1,5 @@
--- A complete station is connected: each set and each target shares a reading with the first of the other kind.
+-- A complete station is connected: each set and each target shares a reading with the first of the
+-- other kind.
 use Rattle.std.proofs.Common.{◌≡◌, ⊎_elim, ℕ, ◌+◌, ◌*◌, ◌<◌, Bool, true, false, List, ap, sym, ◌∙◌}
 use Rattle.std.proofs.lemmas.List.Elements.{All-from_recursion}
 use Rattle.adjust_kernel.specs.Readings.{Reading}

@@ -1,4 +1,5 @@
--- The readings of a complete station with the rows of its sheet of means: one of each set and target, in order.
+-- The readings of a complete station with the rows of its sheet of means: one of each set and
+-- target, in order.
 use Rattle.std.proofs.Common.{◌≡◌, ℕ, ◌+◌, ◌*◌, ◌<◌, List, [], length, get_or, ℤ, pos, ◌+ℤ◌, arith, ap, sym, ◌∙◌}
 use lib.IntN.{◌*ℤ◌}
 use Rattle.std.proofs.lemmas.List.{length-map, get_or-map}

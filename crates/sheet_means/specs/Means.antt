@@ -1,5 +1,6 @@
--- The sheet of means of a complete station (textbook): each direction is the mean over the sets of the readings, less the first target's
--- mean, and each orientation what is then left of a set's readings on the mean, all times sets times targets.
+-- The sheet of means of a complete station (textbook): each direction is the mean over the sets of
+-- the target's readings, less that of the first target, and each orientation the mean over the
+-- targets of direction less reading; all times sets times targets.
 use Rattle.std.specs.Prelude.{◌≡◌, ◌⊎◌, ℕ, ◌*◌, ◌<◌, ◌≤◌, List, All, length, pos}
 use lib.IntN.{◌*ℤ◌, ◌-ℤ◌}
 use Rattle.adjust_kernel.specs.declared.limits.TheConstants.{MOST_ROWS}
@@ -21,8 +22,8 @@ pub record AreMeans (sets targets : ℕ) (readings : List Reading) (c : Choice) 
   pub directions : (t : ℕ) → t < targets → c.direction t ≡ pos targets *ℤ (target_total readings t -ℤ target_total readings 0)
   pub orientations : (s : ℕ) → s < sets → c.orientation s ≡ whole_total readings -ℤ pos sets *ℤ set_total readings s -ℤ pos targets *ℤ target_total readings 0
 
--- The sheet of means: of this station, with its targets, sets and observations in their order, the full turns of each reading, and
--- the means.
+-- The sheet of means: of this station, with its targets, sets and observations in their order, the
+-- full turns of each reading, and the means.
 pub record IsMeansSheet (station : StationValue) (sheet : SheetValue) : Type 0 where
   pub name : sheet.name ≡ station.name
   pub targets : names_of sheet ≡ station.targets
@@ -31,8 +32,8 @@ pub record IsMeansSheet (station : StationValue) (sheet : SheetValue) : Type 0 w
   pub turned : All (IsTurned station.obs) (readings_of station.obs sheet.rows)
   pub means : AreMeans (length station.sets) (length station.targets) (readings_of station.obs sheet.rows) (choice_stated_by sheet)
 
--- The numbers of the sheet are small: they are well within the ranges of the first version of sheets, and no reading has more than
--- two full turns.
+-- The numbers of the sheet are small: they are well within the ranges of the first version of
+-- sheets, and no reading has more than two full turns.
 pub record HasSmallNumbers (sheet : SheetValue) : Type 0 where
   pub denominator : sheet.denominator ≤ MOST_ROWS
   pub directions : All (λ d. IsWithin LARGEST_MEAN d.value) sheet.directions

@@ -20,7 +20,8 @@ pub record IsMeansRow (r : Row) : Type 0 where
   pub row : IsRow r
   pub turn : IsWithin MOST_TURNS r.turn
 
--- The rows of the sheet of means: those of the station's observations in their order, with the full turns of each
+-- The rows of the sheet of means: those of the station's observations in their order, with the full
+-- turns of each
 pub record AreMeansRows (station : StationValue) (rows : List Row) : Type 0 where
   pub keys : map key_of_row rows ≡ observed station
   pub turned : All (IsTurned station.obs) (readings_of station.obs rows)
@@ -31,13 +32,15 @@ pub record AreEach {X : Type 0} (P : ℕ → X → Type 0) (count : ℕ) (xs : L
   pub long : length xs ≡ count
   pub at : (k : ℕ) (d : X) → k < count → P k (slice_index_or xs k d)
 
--- The direction of the target at this place: its name, and the mean of its readings less the first target's
+-- The direction of the target at this place: its name, and the mean of its readings less the first
+-- target's
 pub record IsMeansDirection (station : StationValue) (readings : List Reading) (t : ℕ) (d : Direction) : Type 0 where
   pub name : d.name ≡ slice_index_or station.targets t []
   pub value : d.value ≡ pos (length station.targets) *ℤ (target_total readings t -ℤ target_total readings 0)
   pub bound : IsWithin LARGEST_MEAN d.value
 
--- The orientation of the set at this place: its number, and the mean of what the directions leave of its readings
+-- The orientation of the set at this place: its number, and the mean over the targets of direction
+-- less reading.
 pub record IsMeansOrientation (station : StationValue) (readings : List Reading) (s : ℕ) (o : Orientation) : Type 0 where
   pub set : o.set ≡ slice_index_or station.sets s 0
   pub value : o.value ≡ whole_total readings -ℤ pos (length station.sets) *ℤ set_total readings s -ℤ pos (length station.targets) *ℤ target_total readings 0

@@ -11,7 +11,8 @@ use crate::totals::{LARGEST_READING, set_total, target_total, whole_total};
 use adjust_kernel::{Direction, MOST_ROWS, MOST_SETS, MOST_TARGETS, Orientation, Row, Station};
 use std::alloc::{AllocError, Global};
 
-/// No direction and no orientation of a sheet of means is larger, in half units (0.005 mgon each) times sets times targets.
+/// No direction and no orientation of a sheet of means is larger, in half units (0.005 mgon each)
+/// times sets times targets.
 pub const LARGEST_MEAN: i128 = 4 * LARGEST_READING * MOST_ROWS as i128;
 
 // A sum over the sets, or a difference of two, times the number of targets.
@@ -70,7 +71,7 @@ pub fn directions_of(
     Ok(directions)
 }
 
-// What the readings and the first direction leave to an orientation: all readings, less the first target's share.
+// What all sets have in common in their orientations: the directions, added over the targets.
 fn rest_of(station: &Station, rows: &[Row]) -> i128
     requires complete { IsComplete station.now }
     requires rows { AreMeansRows station.now rows.now }
@@ -82,7 +83,7 @@ fn rest_of(station: &Station, rows: &[Row]) -> i128
     whole_total(station, rows) - share
 }
 
-// The orientation of a set: the mean of what is left, less the set's mean.
+// The orientation of a set: the mean over the targets of direction less reading.
 fn orientation_of(station: &Station, rows: &[Row], rest: i128, set: usize) -> Orientation
     requires complete { IsComplete station.now }
     requires rows { AreMeansRows station.now rows.now }

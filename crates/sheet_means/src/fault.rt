@@ -7,7 +7,8 @@ use std::alloc::AllocError;
 /// Why there is no sheet of means of a station.
 #[derive(Clone, Copy, Debug, PartialEq, Eq, Drop)]
 pub enum MeansFault {
-    /// Some target was not observed in some set: observe it, or adjust the station by a program that takes incomplete sets.
+    /// Some target was not observed in some set: observe it, or adjust the station by a program
+    /// that takes incomplete sets.
     Incomplete,
     /// Memory ran out.
     Memory,

@@ -39,9 +39,9 @@ fn sheet_of(
 
 /// The sheet of means of a station: the least-squares adjustment of complete sets.
 ///
-/// The full turns of each reading bring its angle to the first target to within half a circle of the same angle in the
-/// first set. Directions and orientations are then means, over sets times targets, so that all numbers are whole.
-/// Memory and time are linear in the observations.
+/// The full turns of each reading bring its angle to the first target to within half a circle of
+/// the same angle in the first set. Directions and orientations are then means, over sets times
+/// targets, so that all numbers are whole. Memory and time are linear in the observations.
 ///
 /// # Errors
 ///

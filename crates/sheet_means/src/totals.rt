@@ -11,7 +11,8 @@ ghost use Rattle.adjust_kernel.specs.Residuals as Residuals;
 use crate::turn::MOST_TURNS;
 use adjust_kernel::{MOST_ROWS, MOST_SETS, MOST_TARGETS, Row, Station, TURN};
 
-/// No reading with its full turns is larger than this in a sheet of means, in half units (0.005 mgon each).
+/// No reading with its full turns is larger than this in a sheet of means, in half units (0.005
+/// mgon each).
 pub const LARGEST_READING: i128 = (MOST_TURNS as i128 + 1) * TURN as i128;
 
 // A reading with its full turns.

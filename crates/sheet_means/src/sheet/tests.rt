@@ -7,8 +7,8 @@ use std::alloc::Global;
 use std::process::Abort;
 use std::test::Fail;
 
-// Values of the observations, set by set and within a set target by target; and the sheet of means: directions, orientations, turns,
-// and its greatest residual.
+// Values of the observations, set by set and within a set target by target; and the sheet of means:
+// directions, orientations, turns, and its greatest residual.
 #[derive(Clone, Copy)]
 struct Worked<'a> {
     targets: u32,
