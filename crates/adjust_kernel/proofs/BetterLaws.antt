@@ -1,4 +1,5 @@
--- Where a sum of residuals does not vanish, moving that target or set by its mean residual lowers the sum of squares.
+-- Where a sum of residuals does not vanish, moving that target or set by its mean residual lowers
+-- the sum of squares.
 use Rattle.std.proofs.Common.{◌≡◌, ◌≢◌, ℕ, suc, zero, ◌+◌, ◌*◌, ◌≤◌, Bool, true, false, cond, eqb, List, [], ◌∷◌, ℤ, pos, negsuc, ◌+ℤ◌, ◌<ℤ◌, arith, ap, refl, sym, ◌∙◌}
 use Rattle.std.proofs.Math.IntN.{◌*ℤ◌, ◌-ℤ◌}
 use Rattle.std.proofs.lemmas.Int.{ints}

@@ -1,5 +1,5 @@
--- How far a residual can change where no residual is above the limit and the other sum of squares isn't greater:
--- by less than 253,000 half units, the square of which is above 4 * 4,000 * 2,000^2.
+-- How far a residual can change where no residual is above the limit and the other sum of squares
+-- isn't greater: by less than 253,000 half units, the square of which is above 4 * 4,000 * 2,000^2.
 use Rattle.std.proofs.Common.{◌≡◌, ℕ, ◌*◌, ◌≤◌, List, length, ℤ, pos, negsuc, ◌+ℤ◌, ◌≤ℤ◌, arith}
 use Rattle.std.proofs.Math.IntN.{◌*ℤ◌, ◌-ℤ◌}
 use Rattle.std.proofs.Math.Nat.{mul-le-mul}

@@ -1,5 +1,6 @@
--- Where the readings join all sets and targets, and each reading's ends lie near whole turns from each other,
--- each set and each target lies near whole turns from the first target. The readings' turns are here those between their two ends.
+-- Where the readings join all sets and targets, and each reading's ends lie near whole turns from
+-- each other, each set and each target lies near whole turns from the first target. The readings'
+-- turns are here those between their two ends.
 use Rattle.std.proofs.Common.{◌≡◌, ◌⊎◌, inl, inr, ⊎_elim, ℕ, suc, zero, ◌+◌, ◌-◌, ◌*◌, ◌≤◌, ◌<◌, Bool, true, false, List, ℤ, pos, ◌+ℤ◌, arith, refl, sym, subst}
 use Rattle.std.proofs.Math.IntN.{◌*ℤ◌, ◌-ℤ◌}
 use Rattle.std.proofs.Math.Nat.{mul-le-mul}

@@ -1,4 +1,5 @@
--- What an accepted sheet is, from what a verdict finds; what a refusal says is in BetterLaws and DividedLaws.
+-- What an accepted sheet is, from what a verdict finds; what a refusal says is in BetterLaws and
+-- DividedLaws.
 use Rattle.std.proofs.Common.{◌≡◌, ℕ, ◌≤◌, ◌<◌, List, length, All, pos}
 use Rattle.std.proofs.lemmas.List.Elements.{recursion_from_All}
 use Rattle.adjust_kernel.specs.declared.limits.TheConstants.{MOST_TARGETS, MOST_SETS, MOST_ROWS, LARGEST_RESIDUAL_LIMIT}

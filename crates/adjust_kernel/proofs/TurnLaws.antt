@@ -1,6 +1,7 @@
--- Where no residual is above the limit, no other full turns give a smaller sum of squares, and the same sum only those
--- that turn targets and sets as a whole. The bound: with at most 140 sets and targets together, a reading's turns differ from
--- those of its ends by at most 279 changes of a residual, which is below one turn, and so by none.
+-- Where no residual is above the limit, no other full turns give a smaller sum of squares, and the
+-- same sum only those that turn targets and sets as a whole. The bound: with at most 140 sets and
+-- targets together, a reading's turns differ from those of its ends by at most 279 changes of a
+-- residual, which is below one turn, and so by none.
 use Rattle.std.proofs.Common.{◌≡◌, ℕ, suc, zero, ◌+◌, ◌-◌, ◌*◌, ◌≤◌, ◌<◌, List, [], ◌∷◌, length, All, ℤ, pos, negsuc, ◌+ℤ◌, ◌≤ℤ◌, arith, ap, refl, sym, ◌∙◌, subst}
 use Rattle.std.specs.Prelude.{map}
 use Rattle.std.proofs.Math.IntN.{◌*ℤ◌, ◌-ℤ◌}

@@ -13,7 +13,8 @@ HasMember sets targets part_of_set part_of_target part =
 abbrev pub AllWithin : (ℕ → Bool) → (ℕ → Bool) → List Reading → Type 0
 AllWithin part_of_set part_of_target readings = AllByRecursion (λ r. part_of_set r.set ≡ part_of_target r.target) readings
 
--- the sets and targets together can be divided into two parts, neither of them empty, with no reading between the parts
+-- the sets and targets together can be divided into two parts, neither of them empty, with no
+-- reading between the parts
 pub record IsDivided (sets targets : ℕ) (readings : List Reading) : Type 0 where
   pub part_of_set : ℕ → Bool
   pub part_of_target : ℕ → Bool

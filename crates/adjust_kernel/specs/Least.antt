@@ -1,5 +1,6 @@
--- Least squares, over every denominator: no choice is left out, whatever fractions it takes (textbook).
--- Two sums of squares over denominators D and D' compare as Q / D^2 and Q' / D'^2, here without a division.
+-- Least squares, over every denominator: no choice is left out, whatever fractions it takes
+-- (textbook). Two sums of squares over denominators D and D' compare as Q / D^2 and Q' / D'^2, here
+-- without a division.
 use Rattle.std.specs.Prelude.{◌≡◌, ◌≢◌, ℕ, ◌≤◌, ◌<◌, List, ℤ, pos, ◌≤ℤ◌, ◌<ℤ◌}
 use Rattle.std.proofs.Common.{◌⊎◌}
 use lib.IntN.{◌*ℤ◌, ◌-ℤ◌}
@@ -19,7 +20,8 @@ pub record HasBetter (c : Choice) (readings : List Reading) : Type 0 where
   pub denominator : 1 ≤ other.denominator
   pub smaller : square_times c.denominator (sum_of_squares other readings) <ℤ square_times other.denominator (sum_of_squares c readings)
 
--- the two choices differ by one rotation of the whole circle; by none where the other's first direction is 0 too
+-- the two choices differ by one rotation of the whole circle; by none where the other's first
+-- direction is 0 too
 pub record DiffersByRotation (sets targets : ℕ) (c other : Choice) : Type 0 where
   pub rotation : ℤ
   pub directions : (t : ℕ) → t < targets → pos other.denominator *ℤ c.direction t -ℤ pos c.denominator *ℤ other.direction t ≡ rotation

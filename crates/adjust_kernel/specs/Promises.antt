@@ -8,7 +8,8 @@ use Rattle.adjust_kernel.specs.Residuals.{Choice}
 use Rattle.adjust_kernel.specs.Least.{IsLeast, IsUnique, HasBetter, HasAnother}
 use Rattle.adjust_kernel.specs.Turns.{IsLeastOverTurns, OnlyTurnedWhole}
 
--- The choice is the least-squares adjustment of the readings with their turns: no choice has a smaller sum of squares, and what reaches the same sum is a rotation of it.
+-- The choice is the least-squares adjustment of the readings with their turns: no choice has a
+-- smaller sum of squares, and what reaches the same sum is a rotation of it.
 pub record IsAdjusted (sets targets : ℕ) (c : Choice) (readings : List Reading) : Type 0 where
   pub least : IsLeast c readings
   pub unique : IsUnique sets targets c readings
@@ -18,9 +19,10 @@ pub record IsAdjustedOverTurns (c : Choice) (readings : List Reading) : Type 0 w
   pub least : IsLeastOverTurns c readings
   pub only : OnlyTurnedWhole c readings
 
--- What an answer tells of least squares, by its case: an accepted sheet is the adjustment, and over all turns where a residual
--- limit was stated; where the sum of a target or of a set is refused, some other choice is better; where nothing holds the
--- sets and targets together, another choice is as good. The other faults tell nothing.
+-- What an answer tells of least squares, by its case: an accepted sheet is the adjustment, and over
+-- all turns where a residual limit was stated; where the sum of a target or of a set is refused,
+-- some other choice is better; where nothing holds the sets and targets together, another choice is
+-- as good. The other faults tell nothing.
 abbrev pub TellsOfSquares : Option ℕ → ℕ → ℕ → Choice → List Reading → Result Accepted KernelFault → Type 0
 TellsOfSquares limit sets targets c readings (Ok accepted) = IsAdjusted sets targets c readings × IfSome limit (λ n. IsAdjustedOverTurns c readings)
 TellsOfSquares limit sets targets c readings (Err (TargetSum n)) = HasBetter c readings

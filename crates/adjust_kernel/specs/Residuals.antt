@@ -1,11 +1,13 @@
--- Residuals of directions and orientations against the readings (textbook, scaled by a denominator so that all numbers are whole).
+-- Residuals of directions and orientations against the readings (textbook, scaled by a denominator
+-- so that all numbers are whole).
 use Rattle.std.specs.Prelude.{◌≡◌, ℕ, List, ℤ, pos, ◌+ℤ◌, ◌==◌, slice_index_or}
 use lib.IntN.{◌*ℤ◌, ◌-ℤ◌}
 use Rattle.adjust_kernel.specs.declared.limits.TheConstants.{TURN}
 use Rattle.adjust_kernel.specs.Readings.{Reading}
 use Rattle.adjust_kernel.specs.Sums.{int_sum_by, int_sum_where, squared}
 
--- A direction for each target and an orientation for each set, in half units times one denominator: those of a sheet, or any others.
+-- A direction for each target and an orientation for each set, in half units times one denominator:
+-- those of a sheet, or any others.
 pub record Choice : Type 0 where
   pub denominator : ℕ
   pub direction : ℕ → ℤ
@@ -23,7 +25,8 @@ choice_of denominator directions orientations = record {
 abbrev pub unrolled : Reading → ℤ
 unrolled r = pos r.value +ℤ pos TURN *ℤ r.turn
 
--- the scaled residual of a reading: direction less orientation less the denominator times the reading with its turns
+-- the scaled residual of a reading: direction less orientation less the denominator times the
+-- reading with its turns
 abbrev pub residual : Choice → Reading → ℤ
 residual c r = c.direction r.target -ℤ c.orientation r.set -ℤ pos c.denominator *ℤ unrolled r
 

@@ -1,0 +1,71 @@
+-- The residuals of the means of a complete station add to 0, for each target and for each set.
+use Rattle.std.proofs.Common.{◌≡◌, ℕ, ◌*◌, ◌<◌, List, ℤ, pos, arith, ap, sym, ◌∙◌}
+use Rattle.std.proofs.Math.IntN.{◌*ℤ◌, ◌-ℤ◌}
+use Rattle.adjust_kernel.specs.Readings.{Reading}
+use Rattle.adjust_kernel.specs.Residuals.{Choice, residual, unrolled, target_sum, set_sum}
+use Rattle.adjust_kernel.proofs.Ring.{num, ◌⊖◌, ◌⊗◌, same_value}
+use Rattle.sheet_means.specs.Totals.{target_total, set_total, whole_total}
+use Rattle.sheet_means.specs.Means.{AreMeans}
+use Rattle.sheet_means.proofs.GridLaws.{sum_below, sum_below-same, sum_below-sub, sum_below-scale, sum_below-const, sum_below-swap, AreGrid, at, sum_of_all, sum_of_target, sum_of_set, whole_by_sets}
+
+-- what is left over of a target, and of a set
+target_left : (s t : ℕ) (c f g : ℤ) → pos s *ℤ (pos t *ℤ (c -ℤ f)) -ℤ (pos s *ℤ g -ℤ pos s *ℤ g -ℤ pos s *ℤ (pos t *ℤ f)) -ℤ pos (s * t) *ℤ c ≡ pos 0
+target_left s t c f g =
+    same_value (num (pos s) ⊗ (num (pos t) ⊗ (num c ⊖ num f)) ⊖ (num (pos s) ⊗ num g ⊖ num (pos s) ⊗ num g ⊖ num (pos s) ⊗ (num (pos t) ⊗ num f)) ⊖ num (pos (s * t)) ⊗ num c) (num (pos 0)) (omega arith)
+
+set_left : (s t : ℕ) (y f g : ℤ) → pos t *ℤ (g -ℤ pos t *ℤ f) -ℤ pos t *ℤ (g -ℤ pos s *ℤ y -ℤ pos t *ℤ f) -ℤ pos (s * t) *ℤ y ≡ pos 0
+set_left s t y f g =
+    same_value (num (pos t) ⊗ (num g ⊖ num (pos t) ⊗ num f) ⊖ num (pos t) ⊗ (num g ⊖ num (pos s) ⊗ num y ⊖ num (pos t) ⊗ num f) ⊖ num (pos (s * t)) ⊗ num y) (num (pos 0)) (omega arith)
+
+module _ (sets targets : ℕ) (readings : List Reading) (grid : AreGrid sets targets readings) (c : Choice) (means : AreMeans sets targets readings c) (some : 0 < targets) where
+  abbrev x : ℕ → ℕ → ℤ
+  x s t = unrolled (at sets targets readings grid s t)
+
+  abbrev G : ℤ
+  G = whole_total readings
+
+  abbrev F : ℤ
+  F = target_total readings 0
+
+  G_by_targets : G ≡ sum_below targets (λ t. target_total readings t)
+  G_by_targets =
+      sum_of_all sets targets readings grid unrolled
+      ∙ sum_below-swap sets targets x
+      ∙ sum_below-same targets (λ t. sum_below sets (λ s. x s t)) (λ t. target_total readings t) (λ t h. sym (sum_of_target sets targets readings grid unrolled t h))
+
+  orientations_sum : sum_below sets c.orientation ≡ pos sets *ℤ G -ℤ pos sets *ℤ G -ℤ pos sets *ℤ (pos targets *ℤ F)
+  orientations_sum =
+      sum_below-same sets c.orientation (λ s. G -ℤ pos sets *ℤ set_total readings s -ℤ pos targets *ℤ F) means.orientations
+      ∙ sum_below-sub sets (λ s. G -ℤ pos sets *ℤ set_total readings s) (λ s. pos targets *ℤ F)
+      ∙ (λ i. sum_below-sub sets (λ s. G) (λ s. pos sets *ℤ set_total readings s) i -ℤ sum_below-const sets (pos targets *ℤ F) i)
+      ∙ (λ i. sum_below-const sets G i -ℤ (sum_below-scale sets (pos sets) (λ s. set_total readings s) ∙ ap (λ z. pos sets *ℤ z) (sym (whole_by_sets sets targets readings grid))) i -ℤ pos sets *ℤ (pos targets *ℤ F))
+
+  directions_sum : sum_below targets c.direction ≡ pos targets *ℤ (G -ℤ pos targets *ℤ F)
+  directions_sum =
+      sum_below-same targets c.direction (λ t. pos targets *ℤ (target_total readings t -ℤ F)) means.directions
+      ∙ sum_below-scale targets (pos targets) (λ t. target_total readings t -ℤ F)
+      ∙ ap (λ z. pos targets *ℤ z) (sum_below-sub targets (λ t. target_total readings t) (λ t. F) ∙ (λ i. sym G_by_targets i -ℤ sum_below-const targets F i))
+
+  residual_at : (s t : ℕ) → s < sets → t < targets → residual c (at sets targets readings grid s t) ≡ c.direction t -ℤ c.orientation s -ℤ pos (sets * targets) *ℤ x s t
+  residual_at s t h k = let p = grid.at_place s t h k in λ i. c.direction (p.1 i) -ℤ c.orientation (p.0 i) -ℤ pos (means.denominator i) *ℤ x s t
+
+  pub target_sums_vanish : (t : ℕ) → t < targets → target_sum c readings t ≡ pos 0
+  target_sums_vanish t h =
+      sum_of_target sets targets readings grid (residual c) t h
+      ∙ sum_below-same sets (λ s. residual c (at sets targets readings grid s t)) (λ s. c.direction t -ℤ c.orientation s -ℤ pos (sets * targets) *ℤ x s t) (λ s k. residual_at s t k h)
+      ∙ sum_below-sub sets (λ s. c.direction t -ℤ c.orientation s) (λ s. pos (sets * targets) *ℤ x s t)
+      ∙ (λ i. (sum_below-sub sets (λ s. c.direction t) c.orientation ∙ (λ j. sum_below-const sets (c.direction t) j -ℤ orientations_sum j)) i -ℤ (sum_below-scale sets (pos (sets * targets)) (λ s. x s t) ∙ ap (λ z. pos (sets * targets) *ℤ z) (sym (sum_of_target sets targets readings grid unrolled t h))) i)
+      ∙ ap (λ z. pos sets *ℤ z -ℤ (pos sets *ℤ G -ℤ pos sets *ℤ G -ℤ pos sets *ℤ (pos targets *ℤ F)) -ℤ pos (sets * targets) *ℤ target_total readings t) (means.directions t h)
+      ∙ target_left sets targets (target_total readings t) F G
+
+  pub set_sums_vanish : (s : ℕ) → s < sets → set_sum c readings s ≡ pos 0
+  set_sums_vanish s h =
+      sum_of_set sets targets readings grid (residual c) s h
+      ∙ sum_below-same targets (λ t. residual c (at sets targets readings grid s t)) (λ t. c.direction t -ℤ c.orientation s -ℤ pos (sets * targets) *ℤ x s t) (λ t k. residual_at s t h k)
+      ∙ sum_below-sub targets (λ t. c.direction t -ℤ c.orientation s) (λ t. pos (sets * targets) *ℤ x s t)
+      ∙ (λ i. (sum_below-sub targets c.direction (λ t. c.orientation s) ∙ (λ j. directions_sum j -ℤ sum_below-const targets (c.orientation s) j)) i -ℤ (sum_below-scale targets (pos (sets * targets)) (λ t. x s t) ∙ ap (λ z. pos (sets * targets) *ℤ z) (sym (sum_of_set sets targets readings grid unrolled s h))) i)
+      ∙ ap (λ z. pos targets *ℤ (G -ℤ pos targets *ℤ F) -ℤ pos targets *ℤ z -ℤ pos (sets * targets) *ℤ set_total readings s) (means.orientations s h)
+      ∙ set_left sets targets (set_total readings s) F G
+
+  pub first_direction : c.direction 0 ≡ pos 0
+  first_direction = means.directions 0 some ∙ same_value (num (pos targets) ⊗ (num F ⊖ num F)) (num (pos 0)) (omega arith)

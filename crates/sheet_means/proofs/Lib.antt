@@ -1,0 +1,11 @@
+pub mod CompleteLaws
+pub mod GridLaws
+pub mod BalanceOfMeans
+pub mod ConnectedLaws
+pub mod ValueLaws
+pub mod RowLaws
+pub mod MeansRowLaws
+pub mod SumLoops
+pub mod EachLaws
+pub mod MeansSheetLaws
+pub mod OnlyLaws

@@ -1,0 +1,5 @@
+pub mod Complete
+pub mod Turning
+pub mod Totals
+pub mod Means
+pub mod Parts

@@ -1,0 +1,23 @@
+//! Why there is no sheet of means.
+ghost use Rattle.std.specs.Prelude.{◌≡◌};
+ghost use Rattle.sheet_means.specs.declared.fault.MeansFault.TheVariants.{Memory};
+
+use std::alloc::AllocError;
+
+/// Why there is no sheet of means of a station.
+#[derive(Clone, Copy, Debug, PartialEq, Eq, Drop)]
+pub enum MeansFault {
+    /// Some target was not observed in some set: observe it, or adjust the station by a program
+    /// that takes incomplete sets.
+    Incomplete,
+    /// Memory ran out.
+    Memory,
+}
+
+impl From<AllocError> for MeansFault {
+    ghost from_gives = { λ _ fault. fault ≡ Memory };
+
+    fn from(_: AllocError) -> MeansFault {
+        MeansFault::Memory
+    }
+}

@@ -1,0 +1,183 @@
+//! Stations worked by hand, each with its sheet of means.
+
+use super::means;
+use crate::fault::MeansFault;
+use adjust_kernel::{Name, Obs, Sheet, Station, check};
+use std::alloc::Global;
+use std::process::Abort;
+use std::test::Fail;
+
+// Values of the observations, set by set and within a set target by target; and the sheet of means:
+// directions, orientations, turns, and its greatest residual.
+#[derive(Clone, Copy)]
+struct Worked<'a> {
+    targets: u32,
+    values: &'a [u32],
+    directions: &'a [i128],
+    orientations: &'a [i128],
+    turns: &'a [i8],
+    greatest: i128,
+}
+
+fn name(rt: &impl Abort, number: u32) -> Name {
+    let digits = [b'0' + (number / 10 % 10) as u8, b'0' + (number % 10) as u8];
+    Name::new(&digits).expect(rt, "a name")
+}
+
+// A station of this many sets and targets, with these observations: set, target, value.
+fn station_of(
+    rt: &impl Abort,
+    alloc: Global,
+    sets: u16,
+    targets: u32,
+    observed: &[(u32, u32, u32)],
+) -> Result<Station, Fail> {
+    let mut names = Vec::new(alloc);
+    for target in 0..targets {
+        names.push(name(rt, target))?;
+    }
+    let mut numbers = Vec::new(alloc);
+    for number in 1..=sets {
+        numbers.push(number)?;
+    }
+    let mut obs = Vec::new(alloc);
+    for (set, target, value) in observed {
+        obs.push(Obs {
+            set: *set,
+            target: *target,
+            value: *value,
+        })?;
+    }
+    let station = Station::new(Name::new(b"S1").expect(rt, "a name"), names, numbers, obs);
+    Ok(station.expect(rt, "a station"))
+}
+
+fn assert_sheet(rt: &impl Abort, station: &Station, sheet: &Sheet, want: &Worked<'_>) {
+    let rows = want.values.len();
+    assert_eq!(rt; sheet.denominator(), rows as u64);
+    for (direction, value) in sheet.directions().iter().zip(want.directions) {
+        assert_eq!(rt; direction.value, *value);
+    }
+    for (orientation, value) in sheet.orientations().iter().zip(want.orientations) {
+        assert_eq!(rt; orientation.value, *value);
+    }
+    for (row, turn) in sheet.rows().iter().zip(want.turns) {
+        assert_eq!(rt; row.turn, *turn);
+    }
+    let accepted = check(station, sheet, None).expect(rt, "accepted");
+    assert_eq!(rt; accepted.directions as usize, rows);
+    assert_eq!(rt; accepted.greatest, want.greatest);
+}
+
+#[test]
+fn complete_sets_have_the_sheet_of_their_means(rt: HostRuntime) -> Result<(), Fail> {
+    let cases = [
+        // Two sets of two targets.
+        Worked {
+            targets: 2,
+            values: &[6, 10_000_010, 20_000_004, 30_000_012],
+            directions: &[0, 40_000_024],
+            orientations: &[-20, -80_000_020],
+            turns: &[0, 0, 0, 0],
+            greatest: 4,
+        },
+        // One observation alone.
+        Worked {
+            targets: 1,
+            values: &[0],
+            directions: &[0],
+            orientations: &[0],
+            turns: &[0],
+            greatest: 0,
+        },
+        // A target on both sides of the zero of the circle, forth and back.
+        Worked {
+            targets: 2,
+            values: &[0, 79_999_990, 20, 4],
+            directions: &[0, 319_999_948],
+            orientations: &[-6, -74],
+            turns: &[0, 0, 0, 1],
+            greatest: 6,
+        },
+        Worked {
+            targets: 2,
+            values: &[0, 10, 20, 79_999_994],
+            directions: &[0, -32],
+            orientations: &[-36, -44],
+            turns: &[0, 0, 0, -1],
+            greatest: 36,
+        },
+        // Half a circle apart: turned back.
+        Worked {
+            targets: 2,
+            values: &[0, 0, 0, 40_000_000],
+            directions: &[0, -80_000_000],
+            orientations: &[-40_000_000, 40_000_000],
+            turns: &[0, 0, 0, -1],
+            greatest: 40_000_000,
+        },
+    ];
+    for case in &cases {
+        let mut observed = Vec::new(rt.alloc());
+        for place in 0..case.values.len() {
+            let place = place as u32;
+            let value = case.values.get(place as usize).expect(&rt, "a value");
+            observed.push((place / case.targets, place % case.targets, *value))?;
+        }
+        let sets = case.orientations.len() as u16;
+        let station = station_of(&rt, rt.alloc(), sets, case.targets, &observed)?;
+        let sheet = means(rt.alloc(), &station).expect(&rt, "a sheet");
+        assert_sheet(&rt, &station, &sheet, case);
+    }
+    Ok(())
+}
+
+#[test]
+fn the_largest_station_has_even_means(rt: HostRuntime) -> Result<(), Fail> {
+    let mut observed = Vec::new(rt.alloc());
+    for set in 0..40 {
+        for target in 0..100 {
+            observed.push((set, target, 2_000 * (target + 1)))?;
+        }
+    }
+    let station = station_of(&rt, rt.alloc(), 40, 100, &observed)?;
+    let sheet = means(rt.alloc(), &station).expect(&rt, "a sheet");
+    assert_eq!(rt; sheet.denominator(), 4_000);
+    assert_eq!(rt; sheet.rows().len(), 4_000);
+    for target in 0..100 {
+        let direction = sheet.directions().get(target).expect(&rt, "a direction");
+        assert_eq!(rt; direction.value, 8_000_000 * target as i128);
+    }
+    for orientation in sheet.orientations() {
+        assert_eq!(rt; orientation.value, -8_000_000);
+    }
+    let accepted = check(&station, &sheet, None).expect(&rt, "accepted");
+    assert_eq!(rt; (accepted.greatest, accepted.denominator), (0, 4_000));
+    Ok(())
+}
+
+#[test]
+fn a_missing_observation_is_no_complete_station(rt: HostRuntime) -> Result<(), Fail> {
+    let cases = [
+        // A third target in the first set alone.
+        (
+            2,
+            3,
+            [(0, 0, 6), (0, 1, 10), (0, 2, 20), (1, 0, 4), (1, 1, 12)],
+        ),
+        // The last is missing.
+        (
+            3,
+            2,
+            [(0, 0, 6), (0, 1, 10), (1, 0, 20), (1, 1, 4), (2, 0, 12)],
+        ),
+    ];
+    for (sets, targets, observed) in &cases {
+        let station = station_of(&rt, rt.alloc(), *sets, *targets, observed)?;
+        match means(rt.alloc(), &station) {
+            Ok(_) => assert!(rt; false, "no sheet"),
+            Err(fault) => assert_eq!(rt; fault, MeansFault::Incomplete),
+        }
+    }
+    Ok(())
+}

@@ -1,0 +1,81 @@
+//! Sums of readings with their full turns.
+ghost use Rattle.std.specs.Prelude.{◌≡◌, ◌<◌, pos, ◌+ℤ◌, length};
+ghost use lib.IntN.{◌*ℤ◌};
+ghost use Rattle.adjust_kernel.specs.Within.{IsWithin};
+ghost use Rattle.adjust_kernel.specs.Pairs.{readings_of};
+ghost use Rattle.sheet_means.specs.Complete.{IsComplete};
+ghost use Rattle.sheet_means.specs.Parts.{IsMeansRow, AreMeansRows};
+ghost use Rattle.sheet_means.specs.Totals as Totals;
+ghost use Rattle.adjust_kernel.specs.Residuals as Residuals;
+
+use crate::turn::MOST_TURNS;
+use adjust_kernel::{MOST_ROWS, MOST_SETS, MOST_TARGETS, Row, Station, TURN};
+
+/// No reading with its full turns is larger than this in a sheet of means, in half units (0.005
+/// mgon each).
+pub const LARGEST_READING: i128 = (MOST_TURNS as i128 + 1) * TURN as i128;
+
+// A reading with its full turns.
+fn unrolled(row: &Row) -> i128
+    requires { IsMeansRow row.now }
+    ensures value { result ≡ (pos row.now.value +ℤ pos TURN *ℤ row.now.turn) }
+    ensures bound { IsWithin LARGEST_READING result }
+{
+    i128::from(row.value) + i128::from(TURN) * i128::from(row.turn)
+}
+
+// The reading of a set and a target with its full turns, by their places.
+fn reading_at(station: &Station, rows: &[Row], set: usize, target: usize) -> i128
+    requires complete { IsComplete station.now }
+    requires rows { AreMeansRows station.now rows.now }
+    requires set { set < length station.now.sets }
+    requires target { target < length station.now.targets }
+    ensures value { result ≡ Residuals.unrolled (Totals.reading_at (readings_of station.now.obs rows.now) (length station.now.targets) set target) }
+    ensures bound { IsWithin LARGEST_READING result }
+{
+    unrolled(&rows[set * station.targets().len() + target])
+}
+
+/// The readings of a target, added over all sets.
+pub fn target_total(station: &Station, rows: &[Row], target: usize) -> i128
+    requires complete { IsComplete station.now }
+    requires rows { AreMeansRows station.now rows.now }
+    requires target { target < length station.now.targets }
+    ensures value { result ≡ Totals.target_total (readings_of station.now.obs rows.now) target }
+    ensures bound { IsWithin (LARGEST_READING *ℤ pos MOST_SETS) result }
+{
+    let mut total = 0;
+    for set in 0..station.sets().len() {
+        total += reading_at(station, rows, set, target);
+    }
+    total
+}
+
+/// The readings of a set, added over all targets.
+pub fn set_total(station: &Station, rows: &[Row], set: usize) -> i128
+    requires complete { IsComplete station.now }
+    requires rows { AreMeansRows station.now rows.now }
+    requires set { set < length station.now.sets }
+    ensures value { result ≡ Totals.set_total (readings_of station.now.obs rows.now) set }
+    ensures bound { IsWithin (LARGEST_READING *ℤ pos MOST_TARGETS) result }
+{
+    let mut total = 0;
+    for target in 0..station.targets().len() {
+        total += reading_at(station, rows, set, target);
+    }
+    total
+}
+
+/// All readings added.
+pub fn whole_total(station: &Station, rows: &[Row]) -> i128
+    requires complete { IsComplete station.now }
+    requires rows { AreMeansRows station.now rows.now }
+    ensures value { result ≡ Totals.whole_total (readings_of station.now.obs rows.now) }
+    ensures bound { IsWithin (LARGEST_READING *ℤ pos MOST_ROWS) result }
+{
+    let mut total = 0;
+    for set in 0..station.sets().len() {
+        total += set_total(station, rows, set);
+    }
+    total
+}
