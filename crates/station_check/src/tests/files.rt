@@ -30,12 +30,12 @@ pub const THREE_LINES_WORDS: &[u8] = b"1 1 41 0001 +00000010
 3 3 22 .102 +10000000
 ";
 
-/// A reader that gives one text again and again, without an end.
+/// A reader that gives one text again and again, without an end, at most so many bytes at a time.
 #[derive(Drop)]
 pub struct Endless {
-    pub text: &'static [u8],
-    pub place: usize,
-    pub most: usize,
+    text: &'static [u8],
+    place: usize,
+    most: usize,
 }
 
 impl Endless {
@@ -46,23 +46,28 @@ impl Endless {
             most,
         }
     }
+
+    fn next_byte(&mut self) -> u8 {
+        if self.place >= self.text.len() {
+            self.place = 0;
+        }
+        match self.text.get(self.place) {
+            Some(&byte) => {
+                self.place += 1;
+                byte
+            }
+            None => 0,
+        }
+    }
 }
 
 impl Read for Endless {
     fn read(&mut self, buf: &mut [u8]) -> io::Result<usize> {
-        let mut given = 0;
-        for byte in buf.iter_mut() {
-            if given == self.most || self.place >= self.text.len() && self.text.is_empty() {
-                break;
-            }
-            if self.place >= self.text.len() {
-                self.place = 0;
-            }
-            *byte = self.text[self.place];
-            self.place += 1;
-            given += 1;
+        let count = buf.len().min(self.most);
+        for byte in &mut buf[..count] {
+            *byte = self.next_byte();
         }
-        Ok(given)
+        Ok(count)
     }
 }
 

@@ -10,6 +10,9 @@ use std::test::Fail;
 /// How many blocks a hoard may hold.
 const BLOCKS: usize = 60_000;
 
+/// How many sizes of blocks are tried, each half of the one before: from 2^40 bytes down to 16.
+const SIZES: usize = 37;
+
 /// The bytes by which the memory that is left grows from try to try.
 const STEP: usize = 64;
 
@@ -20,7 +23,7 @@ fn hoard_of_all_but(alloc: Global, spare: Vec<u8>) -> Vec<Vec<u8>> {
         return hoard;
     }
     let mut size: usize = 1 << 40;
-    while size >= 16 {
+    for _ in 0..SIZES {
         for _ in 0..BLOCKS {
             match Vec::<u8>::with_capacity(alloc, size) {
                 Ok(block) => {

@@ -1,5 +1,7 @@
 //! The words of field files, by `run_words` and `write_words`.
 
+ghost use Rattle.std.specs.Prelude.{◌<◌};
+
 use super::files::{Broken, Endless, STATION, Stuck, THREE_LINES, THREE_LINES_WORDS};
 use crate::fault::Fault;
 use crate::words::{run_words, write_words};
@@ -12,7 +14,9 @@ use std::test::Fail;
 const AMPLE: usize = 4_000;
 
 /// The status of a run over these bytes, what went out, and what was refused.
-fn run(alloc: Global, gsi: &[u8], step: usize) -> Result<(u8, Held, Held), Fail> {
+fn run(alloc: Global, gsi: &[u8], step: usize) -> Result<(u8, Held, Held), Fail>
+    requires { 0 < step }
+{
     let mut out = Held::new(alloc, AMPLE, step, false)?;
     let mut err = Held::new(alloc, AMPLE, step, false)?;
     let status = run_words(alloc, Script::new(gsi, step, false), &mut out, &mut err);
@@ -76,18 +80,18 @@ fn a_refusal_names_the_first_fault_after_the_words_before_it(rt: HostRuntime) ->
 fn a_reader_that_fails_is_refused_at_the_first_line_that_had_not_ended(
     rt: HostRuntime,
 ) -> Result<(), Fail> {
-    let mut ended = 0;
+    let mut number: u32 = 1;
     for given in 0..=STATION.len() {
         if given > 0 && STATION[given - 1] == b'\r' {
-            ended += 1;
+            number = number.saturating_add(1);
         }
         let mut out = Held::new(rt.alloc(), AMPLE, AMPLE, false)?;
         let gsi = Script::new(&STATION[..given], 10, true);
         let answer = write_words(rt.alloc(), gsi, &mut out);
-        let fault = FileFault::At(ended + 1, FileKind::Read);
+        let fault = FileFault::At(number, FileKind::Read);
         assert_eq!(rt; answer, Err(Fault::Gsi(fault)), "after {given} bytes");
     }
-    assert_eq!(rt; ended, 12);
+    assert_eq!(rt; number, 13);
     Ok(())
 }
 
