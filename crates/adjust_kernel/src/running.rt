@@ -1,4 +1,7 @@
 //! Running sums: one for each target and each set.
+//!
+//! A sum of n residuals is at most n times the largest residual in size, which the type keeps: with
+//! all rows of a sheet it is far within 128 bits, so no sum is ever tested for overflow.
 ghost use Rattle.std.specs.Prelude.{◌≡◌, ◌≤◌, ◌<◌, ◌-◌, ◌+◌, [], pos, List, length, All, slice_index_or, slice_set, ◌+ℤ◌};
 ghost use lib.IntN.{◌*ℤ◌};
 ghost use Rattle.adjust_kernel.specs.declared.limits.TheConstants.{MOST_ROWS, MOST_TARGETS, MOST_SETS, LARGEST_RESIDUAL};
@@ -33,6 +36,14 @@ impl Running {
             sets: [0; MOST_SETS],
             taken: 0,
         }
+    }
+}
+
+impl Default for Running {
+    ghost is_default = { λ running. AreSumsOf [] running.targets running.sets running.taken };
+
+    fn default() -> Running {
+        Running::new()
     }
 }
 
