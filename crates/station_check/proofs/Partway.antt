@@ -32,8 +32,8 @@ appends_some_more old new first text rest n h =
     let out : List ℕ = first ++ take n text in
     let left : List ℕ = drop n text ++ rest in
     let whole : (first ++ text) ++ rest ≡ out ++ left =
-        append_assoc first text rest ∙ ap (λ (r : List ℕ). first ++ (r ++ rest)) (sym (take-append-drop n text))
-        ∙ ap (λ (r : List ℕ). first ++ r) (append_assoc (take n text) (drop n text) rest) ∙ sym (append_assoc first (take n text) left) in
+    append_assoc first text rest ∙ ap (λ (r : List ℕ). first ++ (r ++ rest)) (sym (take-append-drop n text))
+    ∙ ap (λ (r : List ℕ). first ++ r) (append_assoc (take n text) (drop n text) rest) ∙ sym (append_assoc first (take n text) left) in
     let shown : take (length out) ((first ++ text) ++ rest) ≡ out = ap (λ (r : List ℕ). take (length out) r) whole ∙ take_at out left (length out) refl in
     (length out, subst (λ (r : List ℕ). Appends old new r) (sym shown) h)
 
@@ -42,7 +42,7 @@ pub prints_then_some : (old now new : Option (List ℕ)) (waited between a b res
 prints_then_some old now new waited between a b rest p q =
     let most = appends_some_more old new p.written (between ++ b) rest q.0 (appends_then old now new p.written (take q.0 (between ++ b)) (p.written ++ take q.0 (between ++ b)) p.got q.1 refl) in
     let same : (p.written ++ (between ++ b)) ++ rest ≡ waited ++ ((a ++ b) ++ rest) =
-        ap (λ (r : List ℕ). r ++ rest) (sym (append_assoc p.written between b) ∙ ap (λ (r : List ℕ). r ++ b) (sym p.order) ∙ append_assoc waited a b) ∙ append_assoc waited (a ++ b) rest in
+    ap (λ (r : List ℕ). r ++ rest) (sym (append_assoc p.written between b) ∙ ap (λ (r : List ℕ). r ++ b) (sym p.order) ∙ append_assoc waited a b) ∙ append_assoc waited (a ++ b) rest in
     subst (λ (r : List ℕ). AppendsSome old new r) same most
 
 -- Of a text all but this rest was printed.

@@ -13,7 +13,6 @@ pub line_of_fields : (p p1 p2 p3 p4 p5 a b c d e : List ℕ) → p1 ≡ p ++ (a 
 line_of_fields p p1 p2 p3 p4 p5 a b c d e e1 e2 e3 e4 e5 =
     e5 ∙ ap (λ (r : List ℕ). r ++ (e ++ 10 ∷ [])) (e4 ∙ ap (λ (r : List ℕ). r ++ (d ++ 32 ∷ [])) (e3 ∙ ap (λ (r : List ℕ). r ++ (c ++ 32 ∷ [])) (e2 ∙ ap (λ (r : List ℕ). r ++ (b ++ 32 ∷ [])) e1)))
     ∙ joined
-
   where
     joined : ((((p ++ (a ++ 32 ∷ [])) ++ (b ++ 32 ∷ [])) ++ (c ++ 32 ∷ [])) ++ (d ++ 32 ∷ [])) ++ (e ++ 10 ∷ []) ≡ p ++ (join_with_byte 32 (a ∷ b ∷ c ∷ d ∷ e ∷ []) ++ 10 ∷ [])
     joined = simp append_assoc refl

@@ -50,7 +50,9 @@ fn command_line_words(rt: &HostRuntime) -> Result<Vec<String>, u8> {
         Ok(given) => given,
         Err(error) if error.kind() == io::ErrorKind::OutOfMemory => return Err(out_of_memory(rt)),
         Err(_) => {
-            let _ = eprintln!(rt; "error: an argument is not UTF-8 text\n\nFor more information, try '--help'.");
+            let _ = eprintln!(rt;
+                "error: an argument is not UTF-8 text\n\nFor more information, try '--help'."
+            );
             return Err(USAGE);
         }
     };

@@ -23,7 +23,12 @@ use itoa::Buffer;
 use std::alloc::Global;
 
 /// Prints the words of one block.
-fn print_block<W: Sink>(page: &mut Page, writer: &mut W, number: u32, block: &Block<'_>) -> Result<(), Failed>
+fn print_block<W: Sink>(
+    page: &mut Page,
+    writer: &mut W,
+    number: u32,
+    block: &Block<'_>,
+) -> Result<(), Failed>
     ensures failed { W.failed writer.new ≡ failed_after (W.failed writer.old) result }
     ensures ok { OnOk result (Prints (W.holds writer.old) page.old (W.holds writer.new) page.new (block_text number (block_of block.now).words)) }
     ensures err { OnErr result (PrintsSome (W.holds writer.old) page.old (W.holds writer.new) (block_text number (block_of block.now).words)) }
@@ -91,7 +96,11 @@ fn is_write_fault(answer: &Result<u32, Fault>) -> bool
 }
 
 /// Ends the text with what waits, whatever is answered but that a call of the writer failed already.
-fn end_text<W: Sink>(page: &mut Page, writer: &mut W, answer: Result<u32, Fault>) -> Result<u32, Fault>
+fn end_text<W: Sink>(
+    page: &mut Page,
+    writer: &mut W,
+    answer: Result<u32, Fault>,
+) -> Result<u32, Fault>
     requires { answer ≢ Err Memory }
     ensures writes { (old : Option (List ℕ)) (file : FileAnswers)
         → AnswersWords answer (Prints old [] (W.holds writer.old) page.old) (PrintsSome old [] (W.holds writer.old)) file

@@ -54,7 +54,11 @@ fn a_refusal_names_the_first_fault_after_the_words_before_it(rt: HostRuntime) ->
             b"1 1 41 0001 +00000010\n",
             b"refused: block 2: Word 3\n",
         ),
-        (b"110001+0000000A\t21.102+00000000", b"", b"refused: block 1: Byte 16\n"),
+        (
+            b"110001+0000000A\t21.102+00000000",
+            b"",
+            b"refused: block 1: Byte 16\n",
+        ),
         (b"510001+00000000", b"", b"refused: block 1: FirstWord\n"),
         (
             b"*410001+0000000000000010 42....+00000000000000S1",
@@ -114,7 +118,11 @@ fn a_flush_that_fails_is_a_write_fault_with_the_whole_text_gone_out(
     rt: HostRuntime,
 ) -> Result<(), Fail> {
     let whole = &STATION[..THREE_LINES];
-    for (gsi, words) in [(whole, THREE_LINES_WORDS), (b"".as_slice(), b"".as_slice()), (b"5", b"")] {
+    for (gsi, words) in [
+        (whole, THREE_LINES_WORDS),
+        (b"".as_slice(), b"".as_slice()),
+        (b"5", b""),
+    ] {
         let mut out = Held::new(rt.alloc(), AMPLE, AMPLE, true)?;
         let answer = write_words(rt.alloc(), Script::new(gsi, 100, false), &mut out);
         assert_eq!(rt; answer, Err(Fault::Write));
@@ -134,9 +142,20 @@ fn ends_of_std_that_fail_are_named_and_a_failing_err_changes_no_status(
     assert_eq!(rt; status, 1);
     assert_eq!(rt; err.bytes(), b"refused: block 1: Read\n".as_slice());
     assert!(rt; out.bytes().is_empty());
-    assert_eq!(rt; write_words(rt.alloc(), OfRead::new(gsi), &mut OfWrite::new(Broken)), Err(Fault::Write));
-    assert_eq!(rt; write_words(rt.alloc(), OfRead::new(gsi), &mut OfWrite::new(Stuck)), Err(Fault::Write));
-    let status = run_words(rt.alloc(), OfRead::new(Broken), &mut out, &mut OfWrite::new(Broken));
+    assert_eq!(rt;
+        write_words(rt.alloc(), OfRead::new(gsi), &mut OfWrite::new(Broken)),
+        Err(Fault::Write)
+    );
+    assert_eq!(rt;
+        write_words(rt.alloc(), OfRead::new(gsi), &mut OfWrite::new(Stuck)),
+        Err(Fault::Write)
+    );
+    let status = run_words(
+        rt.alloc(),
+        OfRead::new(Broken),
+        &mut out,
+        &mut OfWrite::new(Broken),
+    );
     assert_eq!(rt; status, 1);
     Ok(())
 }
@@ -146,7 +165,12 @@ fn a_reader_without_an_end_is_refused(rt: HostRuntime) -> Result<(), Fail> {
     let rows: [(&'static [u8], usize, u32, FileKind); 3] = [
         (b"A", 100, 1, FileKind::LineTooLong),
         (b"\n", 1, 1, FileKind::FileTooLong),
-        (b"110001+0000000A\n", 5_000, 1_048_577, FileKind::FileTooLong),
+        (
+            b"110001+0000000A\n",
+            5_000,
+            1_048_577,
+            FileKind::FileTooLong,
+        ),
     ];
     for (text, most, number, kind) in rows {
         let gsi = OfRead::new(Endless::new(text, most));

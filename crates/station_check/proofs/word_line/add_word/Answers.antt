@@ -11,8 +11,8 @@ pub returns : goal.returns
 returns c number label =
     let word = c.args.word.now in
     line_of_fields _ _ _ _ _ _ (decimal number) (decimal c.args.nth) (decimal word.index) word.info (sign_byte word.negative ∷ word.content)
-        (c.add_field.ensures ∙ ap (λ (r : List ℕ). c.args.page.now ++ r) (blank_after label))
-        c.add_number_field.ensures.items
-        (c.add_index_field.ensures.items ∙ ap (λ (r : List ℕ). c.add_number_field.new.page ++ r) (blank_after (ap decimal c.index.ensures.value)))
-        (c.add_field-2.ensures ∙ ap (λ (r : List ℕ). c.add_index_field.new.page ++ r) (blank_after c.info.ensures.value))
-        c.add_value.ensures
+    (c.add_field.ensures ∙ ap (λ (r : List ℕ). c.args.page.now ++ r) (blank_after label))
+    c.add_number_field.ensures.items
+    (c.add_index_field.ensures.items ∙ ap (λ (r : List ℕ). c.add_number_field.new.page ++ r) (blank_after (ap decimal c.index.ensures.value)))
+    (c.add_field-2.ensures ∙ ap (λ (r : List ℕ). c.add_index_field.new.page ++ r) (blank_after c.info.ensures.value))
+    c.add_value.ensures

@@ -23,4 +23,4 @@ pub returns-clause-ok : goal.returns-clause-ok
 returns-clause-ok g c =
     let words = (block_of c.args.block.now).words in
     partway_all _ _ _ _ _ _ c.printing.invariant.text
-        (ap (λ (r : _). words_from c.args.number (c.printing.place + 1) r) (drop_all c.printing.place words (omega (arith, c.len-place-end.ensures.value, c.printing-test.false))))
+    (ap (λ (r : _). words_from c.args.number (c.printing.place + 1) r) (drop_all c.printing.place words (omega (arith, c.len-place-end.ensures.value, c.printing-test.false))))
