@@ -22,7 +22,8 @@ held_flush_fails h = h.flush_fails
 abbrev pub has_failed : Held → Bool
 has_failed h = h.has_failed
 
--- It takes `takes` bytes more, at most `at_once` of them for each write, and its flushes fail or not.
+-- It takes `takes` bytes more, at most `at_once` of them for each write, and its flushes fail or
+-- not.
 pub record IsSetTo (h : Held) (takes at_once : ℕ) (fails : Bool) : Type 0 where
   pub room : held_room h ≡ takes
   pub step : held_step h ≡ at_once

@@ -13,4 +13,6 @@ pub data Input : Type 0 where
 
 -- A byte past the limit comes before the failure of a source that gives more bytes than the limit.
 abbrev pub input_within : ℕ → Told → Input
-input_within limit t = if nat_lt limit (length t.bytes) then RanPast else (if t.fails then BrokeOff t.bytes else Ended t.bytes)
+input_within limit t =
+    if nat_lt limit (length t.bytes) then RanPast
+    else (if t.fails then BrokeOff t.bytes else Ended t.bytes)

@@ -6,7 +6,8 @@ pub record Told : Type 0 where
   pub bytes : List ℕ
   pub fails : Bool
 
--- The bytes given are the next ones, and with some room none are given only at the end of a source that doesn't fail.
+-- The bytes given are the next ones, and with some room none are given only at the end of a source
+-- that doesn't fail.
 pub record Gives (old new : Told) (given : List ℕ) (room : ℕ) : Type 0 where
   pub next : old.bytes ≡ given ++ new.bytes
   pub same : new.fails ≡ old.fails

@@ -68,12 +68,16 @@ impl Sink for Held {
     fn write(&mut self, bytes: &[u8]) -> Result<usize, Failed>
         ensures takes { TakesSome result (length bytes.now) }
         ensures failed { has_failed self.new ≡ failed_after (has_failed self.old) result }
-        ensures holds { WriteAppends (Some (held_bytes self.old)) (Some (held_bytes self.new)) result bytes.now }
-        ensures count { IfOk result (λ n. n ≡ min (held_step self.old) (min (held_room self.old) (length bytes.now))) }
+        ensures holds { WriteAppends (Some (held_bytes self.old)) (Some (held_bytes self.new))
+            result bytes.now }
+        ensures count { IfOk result (λ n. n ≡ min (held_step self.old)
+            (min (held_room self.old) (length bytes.now))) }
         ensures full { OnErr result (held_room self.old ≡ 0) }
         ensures set { MatchResult result
-            (λ n. IsSetTo self.new (held_room self.old - n) (held_step self.old) (held_flush_fails self.old))
-            (λ _. IsSetTo self.new (held_room self.old) (held_step self.old) (held_flush_fails self.old)) }
+            (λ n. IsSetTo self.new (held_room self.old - n) (held_step self.old)
+            (held_flush_fails self.old))
+            (λ _. IsSetTo self.new (held_room self.old) (held_step self.old)
+            (held_flush_fails self.old)) }
     {
         let n = self.step.min(self.room).min(bytes.len());
         if n == 0 && !bytes.is_empty() {
@@ -96,7 +100,8 @@ impl Sink for Held {
         ensures failed { has_failed self.new ≡ failed_after (has_failed self.old) result }
         ensures holds { Some (held_bytes self.new) ≡ Some (held_bytes self.old) }
         ensures fails { IsErr result ↔ (held_flush_fails self.old ≡ true) }
-        ensures set { IsSetTo self.new (held_room self.old) (held_step self.old) (held_flush_fails self.old) }
+        ensures set { IsSetTo self.new (held_room self.old) (held_step self.old)
+            (held_flush_fails self.old) }
     {
         if self.flush_fails {
             self.has_failed = true;

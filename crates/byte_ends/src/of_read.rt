@@ -30,8 +30,8 @@ impl<R: Read + Drop> Source for OfRead<R> {
 
     fn read(&mut self, buf: &mut [u8]) -> Result<usize, Failed>
         ensures bound { IfOk result (λ n. n ≤ length buf.new) }
-        ensures passes_on { ReadConsumes (R.remaining (reader_of self.old)) (R.remaining (reader_of self.new))
-            result buf.new }
+        ensures passes_on { ReadConsumes (R.remaining (reader_of self.old))
+            (R.remaining (reader_of self.new)) result buf.new }
     {
         match self.reader.read(buf) {
             Ok(n) => Ok(n),

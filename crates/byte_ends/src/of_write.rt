@@ -38,8 +38,8 @@ impl<W: Write + Drop> Sink for OfWrite<W> {
     fn write(&mut self, bytes: &[u8]) -> Result<usize, Failed>
         ensures takes { TakesSome result (length bytes.now) }
         ensures failed { has_failed self.new ≡ failed_after (has_failed self.old) result }
-        ensures passes_on { WriteAppends (W.contents (writer_of self.old)) (W.contents (writer_of self.new))
-            result bytes.now }
+        ensures passes_on { WriteAppends (W.contents (writer_of self.old))
+            (W.contents (writer_of self.new)) result bytes.now }
     {
         match self.writer.write(bytes) {
             Ok(n) if n > 0 || bytes.is_empty() => Ok(n),
@@ -52,7 +52,8 @@ impl<W: Write + Drop> Sink for OfWrite<W> {
 
     fn flush(&mut self) -> Result<(), Failed>
         ensures failed { has_failed self.new ≡ failed_after (has_failed self.old) result }
-        ensures passes_on { Keeps (W.contents (writer_of self.old)) (W.contents (writer_of self.new)) }
+        ensures passes_on { Keeps (W.contents (writer_of self.old))
+            (W.contents (writer_of self.new)) }
     {
         match self.writer.flush() {
             Ok(()) => Ok(()),

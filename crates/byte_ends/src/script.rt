@@ -17,7 +17,8 @@ impl<'a> Script<'a> {
     ghost use Rattle.std.specs.Prelude.{◌≡◌};
     ghost use Rattle.byte_ends.specs.Script.{script_told, script_step};
 
-    /// Gives these bytes, at most `step` of them for each read, and after the last byte fails or ends.
+    /// Gives these bytes, at most `step` of them for each read, and after the last byte fails or
+    /// ends.
     pub fn new(bytes: &'a [u8], step: usize, fails: bool) -> Script<'a>
         requires { 0 < step }
         ensures bytes { (script_told result).bytes ≡ bytes.now }
@@ -40,7 +41,8 @@ impl Source for Script<'_> {
 
     fn read(&mut self, buf: &mut [u8]) -> Result<usize, Failed>
         ensures bound { IfOk result (λ n. n ≤ length buf.new) }
-        ensures reads { Reads (Some (script_told self.old)) (Some (script_told self.new)) result buf.new }
+        ensures reads { Reads (Some (script_told self.old)) (Some (script_told self.new))
+            result buf.new }
         ensures count { IfOk result (λ n. n ≡ min (script_step self.old)
             (min (length (script_told self.old).bytes) (length buf.new))) }
         ensures fails { OnErr result ((script_told self.old).fails ≡ true) }

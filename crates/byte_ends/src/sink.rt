@@ -12,7 +12,8 @@ pub trait Sink {
     // The bytes that it holds, or nothing.
     ghost holds: { Self → Option (List ℕ) };
 
-    /// Writes once, the first bytes of these, and answers how many it took: of some bytes at least one.
+    /// Writes once, the first bytes of these, and answers how many it took: of some bytes at least
+    /// one.
     fn write(&mut self, bytes: &[u8]) -> Result<usize, Failed>
         ensures takes { TakesSome result (length bytes.now) }
         ensures failed { failed self.new ≡ failed_after (failed self.old) result }

@@ -15,23 +15,32 @@ pub record FileAnswers : Type 0 where
 
 -- whether these bytes break no limit: there are at most `room` of them, in parts of at most 1,024
 abbrev pub is_within : ℕ → List ℕ → Bool
-is_within room bytes = nat_le (length bytes) room && list_all (λ part. nat_le (length part) LONGEST_LINE) (parts bytes)
+is_within room bytes =
+    nat_le (length bytes) room && list_all (λ part. nat_le (length part) LONGEST_LINE) (parts bytes)
 
 -- the shortest first bytes that pass a test
 abbrev pub shortest_front : (List ℕ → Bool) → List ℕ → Option (List ℕ)
 shortest_front p [] = if p [] then Some [] else None
-shortest_front p (x ∷ xs) = if p [] then Some [] else option_map (λ front. x ∷ front) (shortest_front (λ front. p (x ∷ front)) xs)
+shortest_front p (x ∷ xs) =
+    if p [] then Some []
+    else option_map (λ front. x ∷ front) (shortest_front (λ front. p (x ∷ front)) xs)
 
--- by the shortest first bytes that break a limit: the last of them is the byte that does, and at one byte the file's limit
--- comes first. Only lines that ended before that byte are answered. With no such byte a source that fails gives the lines
--- that ended, and one that ends gives all.
+-- by the shortest first bytes that break a limit: the last of them is the byte that does, and at
+-- one byte the file's limit comes first. Only lines that ended before that byte are answered. With
+-- no such byte a source that fails gives the lines that ended, and one that ends gives all.
 abbrev pub answers_by : ℕ → List ℕ → Bool → Option (List ℕ) → FileAnswers
-answers_by room bytes fails (Some front) = record { lines = ended_lines (front_of front); last = Some (if nat_lt room (length front) then FileTooLong else LineTooLong) }
-answers_by room bytes fails None = if fails then record { lines = ended_lines bytes; last = Some Read } else record { lines = numbered_lines bytes; last = None }
+answers_by room bytes fails (Some front) = record {
+  lines = ended_lines (front_of front);
+  last = Some (if nat_lt room (length front) then FileTooLong else LineTooLong);
+}
+answers_by room bytes fails None =
+    if fails then record { lines = ended_lines bytes; last = Some Read }
+    else record { lines = numbered_lines bytes; last = None }
 
 -- the answers of bytes of which at most `room` may be taken, and that then end or fail
 unfoldable pub answers_within : ℕ → List ℕ → Bool → FileAnswers
-answers_within room bytes fails = answers_by room bytes fails (shortest_front (λ front. not (is_within room front)) bytes)
+answers_within room bytes fails =
+    answers_by room bytes fails (shortest_front (λ front. not (is_within room front)) bytes)
 
 -- the answers of a source, however its reads are cut
 abbrev pub file_answers : Told → FileAnswers

@@ -13,7 +13,8 @@ answers_in room hand told = answers_within room (hand ++ told.bytes) told.fails
 abbrev pub SameAnswers : Option Told → ℕ → List ℕ → Option Told → ℕ → List ℕ → Type 0
 SameAnswers None room hand new room' hand' = ⊤
 SameAnswers (Some old) room hand None room' hand' = ⊥
-SameAnswers (Some old) room hand (Some new) room' hand' = answers_in room hand old ≡ answers_in room' hand' new
+SameAnswers (Some old) room hand (Some new) room' hand' =
+    answers_in room hand old ≡ answers_in room' hand' new
 
 -- The answers to come are these, and the source still tells.
 abbrev pub AnswersAre : Option Told → ℕ → List ℕ → Option Told → FileAnswers → Type 0
@@ -25,12 +26,19 @@ AnswersAre (Some old) room hand (Some new) answers = answers_in room hand old �
 abbrev pub AnswersBegin : Option Told → ℕ → List ℕ → Option Told → List ℕ → ℕ → List ℕ → Type 0
 AnswersBegin None room hand new line room' hand' = ⊤
 AnswersBegin (Some old) room hand None line room' hand' = ⊥
-AnswersBegin (Some old) room hand (Some new) line room' hand' = answers_in room hand old ≡ record { lines = line ∷ (answers_in room' hand' new).lines; last = (answers_in room' hand' new).last }
+AnswersBegin (Some old) room hand (Some new) line room' hand' =
+    answers_in room hand old ≡ record {
+      lines = line ∷ (answers_in room' hand' new).lines;
+      last = (answers_in room' hand' new).last;
+    }
 
--- The line found at the front of what is in hand is the first to come, and where it is the last the end comes after it.
+-- The line found at the front of what is in hand is the first to come, and where it is the last the
+-- end comes after it.
 abbrev pub FindsLine : Option Told → Option Told → ℕ → List ℕ → List ℕ → ℕ → ℕ → ℕ → Bool → Type 0
-FindsLine old new room hand hand' line used room' true = AnswersAre old room hand new (record { lines = take line hand' ∷ []; last = None })
-FindsLine old new room hand hand' line used room' false = AnswersBegin old room hand new (take line hand') room' (drop used hand')
+FindsLine old new room hand hand' line used room' true =
+    AnswersAre old room hand new (record { lines = take line hand' ∷ []; last = None })
+FindsLine old new room hand hand' line used room' false =
+    AnswersBegin old room hand new (take line hand') room' (drop used hand')
 
 -- A line was found. It takes two bytes of those that may be taken, or all.
 pub record HasFound (old new : Option Told) (room : ℕ) (hand hand' : List ℕ) (f : Found) : Type 0 where

@@ -11,12 +11,15 @@ use Rattle.gsi_file.specs.Hand.{line_in_hand, unused}
 use Rattle.gsi_file.specs.Finding.{answers_in}
 use Rattle.gsi_file.specs.ToCome.{ToCome, only}
 
--- what is to come in a state, of so many bytes that may be taken, with these in hand, of a reader that tells this
+-- what is to come in a state, of so many bytes that may be taken, with these in hand, of a reader
+-- that tells this
 abbrev pub comes_in : State → ℕ → ℕ → List ℕ → Option Told → ToCome
 comes_in Open count room hand None = record { number = count; answers = None }
-comes_in Open count room hand (Some told) = record { number = count; answers = Some (answers_in room hand told) }
+comes_in Open count room hand (Some told) =
+    record { number = count; answers = Some (answers_in room hand told) }
 comes_in End count room hand told = record { number = count; answers = Some (only None) }
-comes_in (Failed kind) count room hand told = record { number = count; answers = Some (only (Some kind)) }
+comes_in (Failed kind) count room hand told =
+    record { number = count; answers = Some (only (Some kind)) }
 
 -- what is to come of lines
 abbrev pub to_come : {R : Type 0} → (R → Option Told) → Lines R → ToCome

@@ -36,7 +36,8 @@ only last = record { lines = []; last = last }
 abbrev pub TakesLine : Option FileAnswers → Option FileAnswers → List ℕ → Type 0
 TakesLine None after line = ⊤
 TakesLine (Some before) None line = ⊥
-TakesLine (Some before) (Some after) line = before ≡ record { lines = line ∷ after.lines; last = after.last }
+TakesLine (Some before) (Some after) line =
+    before ≡ record { lines = line ∷ after.lines; last = after.last }
 
 -- A call gives the next line, which is this block, under the next number.
 pub record GivesLine (t t' : ToCome) (number : ℕ) (block : GsiBlock) : Type 0 where
@@ -54,7 +55,9 @@ pub record GivesEnd (t t' : ToCome) : Type 0 where
 
 -- The fault of the file is next, or the next line has the fault.
 abbrev pub FaultIsNext : FileAnswers → FileKind → Type 0
-FaultIsNext a kind = (a ≡ only (Some kind)) ⊎ ((line : List ℕ) × (rest : List (List ℕ)) × (a.lines ≡ line ∷ rest) × IsFileFault line kind)
+FaultIsNext a kind =
+    (a ≡ only (Some kind))
+    ⊎ ((line : List ℕ) × (rest : List (List ℕ)) × (a.lines ≡ line ∷ rest) × IsFileFault line kind)
 
 -- A call gives a fault, at the number of the next line, and so does each one after it.
 pub record GivesFault (t t' : ToCome) (number : ℕ) (kind : FileKind) : Type 0 where
@@ -63,7 +66,8 @@ pub record GivesFault (t t' : ToCome) (number : ℕ) (kind : FileKind) : Type 0 
   pub limited : number ≤ LONGEST_FILE
   pub after : t' ≡ record { number = t.number; answers = Some (only (Some kind)) }
 
--- what a call answers, by what was to come before it and is to come after it: never that there was no memory
+-- what a call answers, by what was to come before it and is to come after it: never that there was
+-- no memory
 abbrev pub Answers : ToCome → Result (Option Line) FileFault → ToCome → Type 0
 Answers t (Ok (Some l)) t' = GivesLine t t' l.number (block_of l.block)
 Answers t (Ok None) t' = GivesEnd t t'
@@ -72,7 +76,9 @@ Answers t (Err Memory) t' = ⊥
 
 -- A step has found this line, a block of this shape, or gives the end or a fault.
 abbrev pub FindsNext : ToCome → Result (Option Shape) FileFault → ToCome → List ℕ → Type 0
-FindsNext t (Ok (Some shape)) t' line = TakesLine t.answers t'.answers line × IsShape shape line × (t'.number ≡ t.number + 1) × (t'.number ≤ LONGEST_FILE)
+FindsNext t (Ok (Some shape)) t' line =
+    TakesLine t.answers t'.answers line × IsShape shape line
+    × (t'.number ≡ t.number + 1) × (t'.number ≤ LONGEST_FILE)
 FindsNext t (Ok None) t' line = GivesEnd t t'
 FindsNext t (Err (At number kind)) t' line = GivesFault t t' number kind
 FindsNext t (Err Memory) t' line = ⊥

@@ -67,8 +67,8 @@ impl Buffer {
         &self.bytes()[..n]
     }
 
-    /// The place of the first byte in hand that ends a line, where none before `from` does, or `to` where none before
-    /// `to` does.
+    /// The place of the first byte in hand that ends a line, where none before `from` does, or `to`
+    /// where none before `to` does.
     pub(crate) fn line_end(&self, from: usize, to: usize) -> usize
         requires range { (from ≤ to) × (to ≤ length self.now) }
         requires known { HasNoEnd (take from self.now) }
@@ -120,8 +120,10 @@ fn read_behind<R: Source>(from: &mut R, buffer: &mut [u8], held: usize) -> Resul
     requires { held < length buffer.old }
     ensures bound { IfOk result (λ n. held + n ≤ length buffer.new) }
     ensures read { MatchResult result
-        (λ n. Grows (R.told from.old) (R.told from.new) (take held buffer.old) (take (held + n) buffer.new) n)
-        (λ _. (take held buffer.new ≡ take held buffer.old) × FailsTold (R.told from.old) (R.told from.new)) }
+        (λ n. Grows (R.told from.old) (R.told from.new) (take held buffer.old)
+        (take (held + n) buffer.new) n)
+        (λ _. (take held buffer.new ≡ take held buffer.old)
+        × FailsTold (R.told from.old) (R.told from.new)) }
 {
     from.read(&mut buffer[held..])
 }

@@ -5,7 +5,8 @@ ghost use Rattle.std.specs.Prelude.{◌≤◌, length};
 use crate::buffer::Buffer;
 use crate::search::Found;
 
-/// The bytes that were read and not yet given up. The line that was found stays at their front until the next is looked for.
+/// The bytes that were read and not yet given up. The line that was found stays at their front
+/// until the next is looked for.
 #[derive(Drop)]
 pub(crate) struct Hand {
     pub(crate) buffer: Buffer,

@@ -1,11 +1,13 @@
 //! The numbered lines of a field file, from any reader.
 //!
-//! A field file comes in pieces that are cut anywhere, and may break off or go on for ever. [`Lines`] reads it through one
-//! buffer of 4,096 bytes. Each call finds the next line that is not blank, tests that it is a block of GSI words, and lends
-//! the block until the next line is asked for. The end and the first fault are answered again at each later call.
+//! A field file comes in pieces that are cut anywhere, and may break off or go on for ever.
+//! [`Lines`] reads it through one buffer of 4,096 bytes. Each call finds the next line that is not
+//! blank, tests that it is a block of GSI words, and lends the block until the next line is asked
+//! for. The end and the first fault are answered again at each later call.
 //!
-//! What comes is said once, of the whole file: `file_answers` in specs/, which knows nothing of buffers and reads. A
-//! reader of the code begins with `lines`, and goes on with `search`, `buffer` and `line_end`.
+//! What comes is said once, of the whole file: `file_answers` in specs/, which knows nothing of
+//! buffers and reads. A reader of the code begins with `lines`, and goes on with `search`, `buffer`
+//! and `line_end`.
 #![tactic(auto)]
 
 mod buffer;

@@ -1,8 +1,8 @@
 //! Where a line ends, and whether it has anything but blanks.
 //!
-//! A search for the end of a line looks at each byte of the file, so it goes by chunks: whether a chunk has an end is a
-//! test without a branch, which the compiler makes a few vector instructions of. Only in the chunk that has one are
-//! the bytes looked at one by one.
+//! A search for the end of a line looks at each byte of the file, so it goes by chunks: whether a
+//! chunk has an end is a test without a branch, which the compiler makes a few vector instructions
+//! of. Only in the chunk that has one are the bytes looked at one by one.
 
 ghost use Rattle.std.specs.Prelude.{◌≡◌, ◌≤◌, ◌<◌, ◌+◌, true, length, take, slice_index};
 ghost use Rattle.std.specs.List.{list_any};
@@ -39,7 +39,8 @@ fn has_line_end(bytes: &[u8]) -> bool
     found
 }
 
-/// The place of the first byte that ends a line, where none before `from` does, or `to` where none before `to` does.
+/// The place of the first byte that ends a line, where none before `from` does, or `to` where none
+/// before `to` does.
 pub(crate) fn line_end(bytes: &[u8], from: usize, to: usize) -> usize
     requires range { (from ≤ to) × (to ≤ length bytes.now) }
     requires known { HasNoEnd (take from bytes.now) }

@@ -1,7 +1,8 @@
 //! The numbered lines of a field file, one by one.
 //!
-//! A line is found, tested and counted first, and all that a fault changes is written then. Only after that the block is
-//! lent, and it is seen by the shape that the test has found, so that no line is read twice.
+//! A line is found, tested and counted first, and all that a fault changes is written then. Only
+//! after that the block is lent, and it is seen by the shape that the test has found, so that no
+//! line is read twice.
 
 ghost use Rattle.std.specs.Prelude.{◌≤◌, ◌+◌, ◌/◌, List, ℕ, IfOk, IfErr};
 ghost use Rattle.gsi_word.specs.Shapes.{IsShape};
@@ -80,7 +81,8 @@ impl<R: Source> Lines<R> {
     pub fn new(alloc: Global, reader: R) -> Result<Lines<R>, OutOfMemory>
         ensures number { IfOk result (λ l. (to_come R.told l).number ≡ 0) }
         ensures room { IfOk result (λ l. bytes_left l ≡ LONGEST_FILE) }
-        ensures answers { IfSome (R.told reader) (λ told. IfOk result (λ l. (to_come R.told l).answers ≡ Some (file_answers told))) }
+        ensures answers { IfSome (R.told reader) (λ told. IfOk result
+            (λ l. (to_come R.told l).answers ≡ Some (file_answers told))) }
     {
         match Buffer::new(alloc) {
             Ok(buffer) => Ok(Lines {
@@ -96,11 +98,13 @@ impl<R: Source> Lines<R> {
 
     /// The next numbered line: a block, until the end comes or a fault.
     ///
-    /// After the end each call answers `None`, and after a fault the same fault. It takes no memory: the line stands in
-    /// the buffer that `new` took, so the next can't be asked for while it is held.
+    /// After the end each call answers `None`, and after a fault the same fault. It takes no
+    /// memory: the line stands in the buffer that `new` took, so the next can't be asked for while
+    /// it is held.
     pub fn next(&mut self) -> Result<Option<Line<'_>>, FileFault>
         ensures* after { sem 𝓛 (Rests (the_row R.row) self.entry (λ new.
-            Answers (to_come R.told self.old) result (to_come R.told new) × LineProgresses result (bytes_left self.old) (bytes_left new))) }
+            Answers (to_come R.told self.old) result (to_come R.told new)
+            × LineProgresses result (bytes_left self.old) (bytes_left new))) }
     {
         match self.advance()? {
             Some(shape) => {
@@ -114,7 +118,8 @@ impl<R: Source> Lines<R> {
 
     /// Finds the next line and counts it, and answers the shape of its block.
     fn advance(&mut self) -> Result<Option<Shape>, FileFault>
-        ensures finds { FindsNext (to_come R.told self.old) result (to_come R.told self.new) (line_found self.new) }
+        ensures finds { FindsNext (to_come R.told self.old) result (to_come R.told self.new)
+            (line_found self.new) }
         ensures progress { Progresses result (bytes_left self.old) (bytes_left self.new) }
     {
         match self.state {

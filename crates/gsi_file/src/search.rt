@@ -1,8 +1,8 @@
 //! The search for the next numbered line, over what is in hand and what the reader gives.
 //!
-//! Each byte is looked at once as a possible end of its line: what was looked at before a read is not looked at again. A
-//! search looks no further than one byte past the longest line, nor past what may still be taken of the file, so at the
-//! same byte the file's limit comes first.
+//! Each byte is looked at once as a possible end of its line: what was looked at before a read is
+//! not looked at again. A search looks no further than one byte past the longest line, nor past
+//! what may still be taken of the file, so at the same byte the file's limit comes first.
 
 ghost use Rattle.std.specs.Prelude.{◌≡◌, ◌<◌, ◌+◌, ◌-◌, true, false};
 ghost use Rattle.gsi_file.specs.Finding.{Finds};
@@ -28,7 +28,12 @@ pub(crate) struct Found {
 /// A line that a byte has ended, where `left` bytes might be taken at its beginning.
 fn ended(line: usize, left: usize) -> Found
     requires { line < left }
-    ensures { result ≡ record { line = line; used = line + 1; room = left - (line + 1); last = false } }
+    ensures { result ≡ record {
+      line = line;
+      used = line + 1;
+      room = left - (line + 1);
+      last = false;
+    } }
 {
     Found {
         line,

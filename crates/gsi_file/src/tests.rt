@@ -1,5 +1,6 @@
-//! What no clause says: the worked file by readers of all kinds, the limits at their edges, and that the reader is not
-//! asked again; and the lines beside a plain program over the whole list of bytes.
+//! What no clause says: the worked file by readers of all kinds, the limits at their edges, and
+//! that the reader is not asked again; and the lines beside a plain program over the whole list of
+//! bytes.
 
 ghost use Rattle.std.specs.Prelude.{◌<◌};
 
@@ -163,7 +164,8 @@ fn lines_end_by_both_bytes_blanks_are_passed_over_and_the_first_fault_stays(
     Ok(())
 }
 
-/// A reader that gives these bytes again and again, so many in all and so many at a time, and then ends.
+/// A reader that gives these bytes again and again, so many in all and so many at a time, and then
+/// ends.
 #[derive(Drop)]
 struct Repeated<'a> {
     text: &'a [u8],
@@ -250,7 +252,8 @@ fn an_endless_file_of_lines_ends_at_the_line_after_the_last_whole_one(
 fn a_whole_line_that_ends_one_byte_past_the_file_is_not_answered(
     rt: HostRuntime,
 ) -> Result<(), Fail> {
-    // lines of 15 bytes and their end, after as many line feeds as let the last line's end be one byte too many
+    // lines of 15 bytes and their end, after as many line feeds as let the last line's end be one
+    // byte too many
     let text = b"\n110001+0000000A";
     let mut lines = lines_of(&rt, text, LONGEST_FILE + 1, 4096)?;
     let mut number = 0;

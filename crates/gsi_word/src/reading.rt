@@ -1,9 +1,10 @@
 //! Reading a line: is it a block, or what is its first fault?
 //!
-//! A line is looked at twice, from left to right. First all its bytes: whether each may stand in a line. This loop has no
-//! early end, so that the compiler can test many bytes at once; only a line that fails is searched for its first bad byte.
-//! Then the words: of printable bytes only the two digits, the information, the sign and the byte behind the word are
-//! left to be tested, and the content is not looked at again.
+//! A line is looked at twice, from left to right. First all its bytes: whether each may stand in a
+//! line. This loop has no early end, so that the compiler can test many bytes at once; only a line
+//! that fails is searched for its first bad byte. Then the words: of printable bytes only the two
+//! digits, the information, the sign and the byte behind the word are left to be tested, and the
+//! content is not looked at again.
 
 ghost use Rattle.std.specs.Prelude.{◌≡◌, ◌≢◌, ◌↔◌, ◌⊎◌, ◌≤◌, ◌+◌, length, drop, replicate, All, Any, IsTrue, IfOk, IfErr, OnOk};
 ghost use Rattle.std.specs.Bool.{OnTrue, OnFalse};
@@ -47,7 +48,8 @@ pub fn read_block(line: &[u8]) -> Result<Block<'_>, LineFault>
     }
 }
 
-/// The shape of the block that a line is, or the line's first fault, for a caller that looks at the words later.
+/// The shape of the block that a line is, or the line's first fault, for a caller that looks at the
+/// words later.
 ///
 /// The line comes without its end, as for [`read_block`].
 pub fn read_shape(line: &[u8]) -> Result<Shape, LineFault>
