@@ -1,0 +1,7 @@
+pub mod Source
+pub mod Input
+pub mod Sink
+pub mod OfRead
+pub mod OfWrite
+pub mod Script
+pub mod Held

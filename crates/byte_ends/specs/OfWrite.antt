@@ -1,0 +1,11 @@
+-- The writer behind an `OfWrite`.
+use Rattle.std.specs.Prelude.{Bool}
+use Rattle.byte_ends.specs.declared.of_write.OfWrite.{OfWrite}
+
+-- the writer that it hands on to
+abbrev pub writer_of : {W : Type 0} → OfWrite W → W
+writer_of s = s.writer
+
+-- whether a call of it has failed
+abbrev pub has_failed : {W : Type 0} → OfWrite W → Bool
+has_failed s = s.has_failed

@@ -1,0 +1,12 @@
+-- What a script tells and how it gives it.
+use Rattle.std.specs.Prelude.{ℕ}
+use Rattle.byte_ends.specs.declared.script.Script.{Script}
+use Rattle.byte_ends.specs.Source.{Told}
+
+-- the bytes that it still gives, and whether it then fails
+abbrev pub script_told : Script → Told
+script_told s = record { bytes = s.rest.now; fails = s.fails }
+
+-- the most bytes that it gives for one read
+abbrev pub script_step : Script → ℕ
+script_step s = s.step

@@ -1,0 +1,65 @@
+ghost use Rattle.std.specs.Prelude.{◌≡◌, ◌<◌, ℕ, Bool, List, Option, None, length};
+ghost use Rattle.std.specs.Io.KnownBytes.{WriteAppends, Keeps};
+ghost use Rattle.byte_ends.specs.Sink.{TakesSome, failed_after};
+
+use crate::failed::Failed;
+use crate::sink::Sink;
+use std::io::Write;
+
+/// A writer of std's. It tells no bytes. A write of some bytes that takes none is `Failed`.
+#[derive(Drop)]
+pub struct OfWrite<W> {
+    writer: W,
+    has_failed: bool,
+}
+
+impl<W: Write + Drop> OfWrite<W> {
+    ghost use Rattle.std.specs.Prelude.{false};
+    ghost use Rattle.byte_ends.specs.OfWrite.{writer_of};
+
+    pub fn new(writer: W) -> OfWrite<W>
+        ensures writer { writer_of result ≡ writer }
+        ensures unfailed { ⟦<OfWrite<W> as Sink>⟧.failed result ≡ false }
+    {
+        OfWrite {
+            writer,
+            has_failed: false,
+        }
+    }
+}
+
+impl<W: Write + Drop> Sink for OfWrite<W> {
+    ghost use Rattle.byte_ends.specs.OfWrite.{writer_of, has_failed};
+
+    ghost failed = { λ s. has_failed s };
+
+    ghost holds = { λ _. None };
+
+    fn write(&mut self, bytes: &[u8]) -> Result<usize, Failed>
+        ensures takes { TakesSome result (length bytes.now) }
+        ensures failed { has_failed self.new ≡ failed_after (has_failed self.old) result }
+        ensures passes_on { WriteAppends (W.contents (writer_of self.old)) (W.contents (writer_of self.new))
+            result bytes.now }
+    {
+        match self.writer.write(bytes) {
+            Ok(n) if n > 0 || bytes.is_empty() => Ok(n),
+            _ => {
+                self.has_failed = true;
+                Err(Failed)
+            }
+        }
+    }
+
+    fn flush(&mut self) -> Result<(), Failed>
+        ensures failed { has_failed self.new ≡ failed_after (has_failed self.old) result }
+        ensures passes_on { Keeps (W.contents (writer_of self.old)) (W.contents (writer_of self.new)) }
+    {
+        match self.writer.flush() {
+            Ok(()) => Ok(()),
+            Err(_) => {
+                self.has_failed = true;
+                Err(Failed)
+            }
+        }
+    }
+}
