@@ -1,0 +1,10 @@
+pub mod CanonicalDecimals
+pub mod WrittenNumbers
+pub mod OneForm
+pub mod RecordFacts
+pub mod FiveColumns
+pub mod NameTests
+pub mod Ranges
+pub mod SaidBy
+pub mod DraftRows
+pub mod FirstFaults
