@@ -39,14 +39,20 @@ faultless-more all before rest row whole none here earlier below = elim (cases_B
   | inr other ↦ none earlier (let not = eqb-false _ _ other in omega (arith, not, below, length-append before (row ∷ [])))
 ]
 
+-- the draft that rows make of a draft
+abbrev pub drafted : DraftValue → List (List (List ℕ)) → DraftValue
+drafted d [] = d
+drafted d (row ∷ rows) = drafted (with_row d row) rows
+
 -- The rows of a draft were read, these are left, and no row so far has a fault.
 pub record HasRead (all : List (List (List ℕ))) (d : DraftValue) (rest : List (List (List ℕ))) : Type 0 where
   pub draft : IsDraft d
   pub rows : all ≡ rows_of_draft d ++ rest
   pub faultless : NoFaultBefore all (length (rows_of_draft d))
+  pub made : drafted blank all ≡ drafted d rest
 
 pub read-begin : (all : List (List (List ℕ))) → HasRead all blank all
-read-begin all = record { draft = blank-draft; rows = refl; faultless = λ earlier below. absurd (omega (arith, below)) }
+read-begin all = record { draft = blank-draft; rows = refl; faultless = λ earlier below. absurd (omega (arith, below)); made = refl }
 
 pub read-more : (all : List (List (List ℕ))) (d e : DraftValue) (row : List (List ℕ)) (rest : List (List (List ℕ))) → HasRead all d (row ∷ rest) → row_fault (said_by_draft d) row ≡ None → e ≡ with_row d row → HasRead all e rest
 read-more all d e row rest read none same =
@@ -57,6 +63,7 @@ read-more all d e row rest read none same =
       draft = taken.draft;
       rows = read.rows ∙ sym (append_assoc (rows_of_draft d) (row ∷ []) rest) ∙ ap (λ (rows : List (List (List ℕ))). rows ++ rest) (sym taken.rows);
       faultless = subst (λ (rows : List (List (List ℕ))). NoFaultBefore all (length rows)) (sym taken.rows) more;
+        made = read.made;
     })
 
 pub read-fault : (all : List (List (List ℕ))) (d : DraftValue) (row : List (List ℕ)) (rest : List (List (List ℕ))) (k : RowKind) → HasRead all d (row ∷ rest) → row_fault (said_by_draft d) row ≡ Some k

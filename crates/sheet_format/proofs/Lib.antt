@@ -8,3 +8,5 @@ pub mod Ranges
 pub mod SaidBy
 pub mod DraftRows
 pub mod FirstFaults
+pub mod SheetRows
+pub mod OneAnswer

@@ -3,9 +3,11 @@
 //! The rows are read one by one into one record, which is used again, so that the memory grows with the sheet alone.
 //! The first row with a fault ends the reading.
 
-ghost use Rattle.std.specs.Prelude.{◌≤◌, length, IfErr, IfOk};
-ghost use Rattle.sheet_format.specs.Faults.{IsFaultOrMemory};
+ghost use Rattle.std.specs.Prelude.{◌≡◌, ◌≤◌, ◌⊎◌, length, Err, IfErr, IfOk, Ok};
+ghost use Rattle.adjust_kernel.specs.Sheets.{SheetValue};
+ghost use Rattle.sheet_format.specs.Faults.{IsFaultOrMemory, IsSheetFault};
 ghost use Rattle.sheet_format.specs.Rows.{IsSheetText};
+ghost use Rattle.sheet_format.specs.declared.fault.SheetFault.TheVariants.{Memory};
 
 use crate::draft::{Draft, Refusal};
 use crate::fault::{RowKind, SheetFault};
@@ -22,6 +24,10 @@ pub const LONGEST_SHEET: usize = 1_048_576;
 pub fn read_sheet(alloc: Global, bytes: &[u8]) -> Result<Sheet, SheetFault>
     ensures sheet { IfOk result (λ sheet. IsSheetText bytes.now sheet) }
     ensures fault { IfErr result (λ fault. IsFaultOrMemory bytes.now fault) }
+
+    // Bytes that stand for a sheet have no other answer, and so have bytes with a fault.
+    ensures stands { (sheet : SheetValue) → IsSheetText bytes.now sheet → (result ≡ Ok sheet) ⊎ (result ≡ Err Memory) }
+    ensures refused { (fault : SheetFault) → IsSheetFault bytes.now fault → (result ≡ Err fault) ⊎ (result ≡ Err Memory) }
 {
     if bytes.len() > LONGEST_SHEET {
         return Err(SheetFault::TooLong);
