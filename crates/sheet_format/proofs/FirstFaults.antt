@@ -63,7 +63,7 @@ read-more all d e row rest read none same =
       draft = taken.draft;
       rows = read.rows ∙ sym (append_assoc (rows_of_draft d) (row ∷ []) rest) ∙ ap (λ (rows : List (List (List ℕ))). rows ++ rest) (sym taken.rows);
       faultless = subst (λ (rows : List (List (List ℕ))). NoFaultBefore all (length rows)) (sym taken.rows) more;
-        made = read.made;
+      made = read.made;
     })
 
 pub read-fault : (all : List (List (List ℕ))) (d : DraftValue) (row : List (List ℕ)) (rest : List (List (List ℕ))) (k : RowKind) → HasRead all d (row ∷ rest) → row_fault (said_by_draft d) row ≡ Some k

@@ -10,3 +10,4 @@ pub mod DraftRows
 pub mod FirstFaults
 pub mod SheetRows
 pub mod OneAnswer
+pub mod TextRows

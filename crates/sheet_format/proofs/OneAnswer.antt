@@ -30,7 +30,7 @@ sheet-read v s whole within =
     let first = read-more all blank (draft h [] [] []) (sheet_fields v s.name s.denominator) (body_rows s.directions s.orientations s.rows) (read-begin all) none same in
     let targets = targets-read all h [] s.directions (map set_fields s.orientations ++ map obs_fields s.rows) first (λ k d below. ((whole.directions.each k d below).name, within.directions k d below)) (omega (arith, whole.directions.few)) in
     let sets = sets-read all h s.directions [] s.orientations (map obs_fields s.rows) (ne_eqb _ _ (λ e. absurd (omega (arith, e, whole.directions.some)))) targets
-        (λ k o below. ((whole.orientations.each k o below).set, within.orientations k o below)) (omega (arith, whole.orientations.few)) in
+    (λ k o below. ((whole.orientations.each k o below).set, within.orientations k o below)) (omega (arith, whole.orientations.few)) in
     obs-read all h s.directions s.orientations [] s.rows (ne_eqb _ _ (λ e. absurd (omega (arith, e, whole.orientations.some)))) sets whole.rows.each (omega (arith, whole.rows.few))
 
 -- no place of the rows of a sheet has a fault

@@ -65,7 +65,7 @@ targets-read all h ds (x ∷ xs) rest read ok room =
     let (none, same) = target-row-clean h ds x (All-head (IsDirectionOf h.version) x xs ok) (omega (arith, room)) in
     let next = read-more all (draft h ds [] []) (draft h (ds ++ (x ∷ [])) [] []) (target_fields x) (map target_fields xs ++ rest) read none same in
     subst (λ (ys : List Direction). HasRead all (draft h ys [] []) rest) (append_assoc ds (x ∷ []) xs)
-        (targets-read all h (ds ++ (x ∷ [])) xs rest next (All-tail (IsDirectionOf h.version) x xs ok) (omega (arith, room, length-append ds (x ∷ []))))
+    (targets-read all h (ds ++ (x ∷ [])) xs rest next (All-tail (IsDirectionOf h.version) x xs ok) (omega (arith, room, length-append ds (x ∷ []))))
 
 -- the row of a set, after targets or other sets
 set-follows : (a b : Bool) → b ≡ false → may_follow (if a then (if b then Some kind.Sheet else Some kind.Target) else Some kind.Set) kind.Set ≡ true
@@ -89,7 +89,7 @@ sets-read all h ds os (x ∷ xs) rest targets read ok room =
     let (none, same) = set-row-clean h ds os x targets (All-head (IsOrientationOf h.version) x xs ok) (omega (arith, room)) in
     let next = read-more all (draft h ds os []) (draft h ds (os ++ (x ∷ [])) []) (set_fields x) (map set_fields xs ++ rest) read none same in
     subst (λ (ys : List Orientation). HasRead all (draft h ds ys []) rest) (append_assoc os (x ∷ []) xs)
-        (sets-read all h ds (os ++ (x ∷ [])) xs rest targets next (All-tail (IsOrientationOf h.version) x xs ok) (omega (arith, room, length-append os (x ∷ []))))
+    (sets-read all h ds (os ++ (x ∷ [])) xs rest targets next (All-tail (IsOrientationOf h.version) x xs ok) (omega (arith, room, length-append os (x ∷ []))))
 
 -- the row of an observation, after sets or other observations
 obs-follows : (a b c : Bool) → b ≡ false → may_follow (if a then (if b then (if c then Some kind.Sheet else Some kind.Target) else Some kind.Set) else Some kind.Obs) kind.Obs ≡ true
@@ -104,10 +104,23 @@ obs-row-clean h ds os rs x sets ok room =
     let within = within-test LARGEST_TURN x.turn ok.turn in
     let k = number-again LARGEST_TURN x.turn turn-fits within in
     let s = natural-again x.set (omega (arith, ok.set.1)) in
-    let p = natural-again x.value (omega (arith, ok.value)) in
-    (rw (obs-follows (length rs == 0) (length os == 0) (length ds == 0) sets, name-test x.target ok.target, s.form, s.value, p.form, p.value, k.form, k.value,
-        natural-within 1 LARGEST_SET_NUMBER x.set ok.set.0 ok.set.1, natural-within 0 (TURN - 1) x.value (omega arith) (omega (arith, ok.value)), within, lt-ltb (length rs) MOST_ROWS room) refl,
-    rw (s.value, p.value, k.value) refl)
+    let p = natural-again x.value (omega (arith, ok.value)) in (
+      rw (
+        obs-follows (length rs == 0) (length os == 0) (length ds == 0) sets,
+        name-test x.target ok.target,
+        s.form,
+        s.value,
+        p.form,
+        p.value,
+        k.form,
+        k.value,
+        natural-within 1 LARGEST_SET_NUMBER x.set ok.set.0 ok.set.1,
+        natural-within 0 (TURN - 1) x.value (omega arith) (omega (arith, ok.value)),
+        within,
+        lt-ltb (length rs) MOST_ROWS room,
+      ) refl,
+      rw (s.value, p.value, k.value) refl,
+    )
 
 pub obs-read : (all : List (List (List ℕ))) (h : Header) (ds : List Direction) (os : List Orientation) (rs xs : List Row) → (length os == 0) ≡ false → HasRead all (draft h ds os rs) (map obs_fields xs)
     → All IsRow xs → length rs + length xs ≤ MOST_ROWS → HasRead all (draft h ds os (rs ++ xs)) []
@@ -116,4 +129,4 @@ obs-read all h ds os rs (x ∷ xs) sets read ok room =
     let (none, same) = obs-row-clean h ds os rs x sets (All-head IsRow x xs ok) (omega (arith, room)) in
     let next = read-more all (draft h ds os rs) (draft h ds os (rs ++ (x ∷ []))) (obs_fields x) (map obs_fields xs) read none same in
     subst (λ (ys : List Row). HasRead all (draft h ds os ys) []) (append_assoc rs (x ∷ []) xs)
-        (obs-read all h ds os (rs ++ (x ∷ [])) xs sets next (All-tail IsRow x xs ok) (omega (arith, room, length-append rs (x ∷ []))))
+    (obs-read all h ds os (rs ++ (x ∷ [])) xs sets next (All-tail IsRow x xs ok) (omega (arith, room, length-append rs (x ∷ []))))

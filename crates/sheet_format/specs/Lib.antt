@@ -5,3 +5,4 @@ pub mod Columns
 pub mod Rows
 pub mod Faults
 pub mod Drafts
+pub mod Texts

@@ -8,7 +8,10 @@ mod fault;
 mod kind;
 mod number;
 mod reading;
+mod text;
 mod version;
+mod writing;
 
 pub use fault::{RowKind, SheetFault, WriteFault};
 pub use reading::{LONGEST_SHEET, read_sheet};
+pub use writing::write_sheet;
