@@ -11,3 +11,5 @@ pub mod FirstFaults
 pub mod SheetRows
 pub mod OneAnswer
 pub mod TextRows
+pub mod TextLengths
+pub mod TextAgain

@@ -3,6 +3,7 @@
 //! The rows go through `csv`'s writer, which puts quotes where a name asks for them.
 
 ghost use Rattle.std.specs.Prelude.{◌≡◌, [], ◌∷◌, ◌++◌, List, ℕ, map, IfErr, IfOk, OnOk};
+ghost use Rattle.adjust_kernel.specs.Sheets.{IsSheet};
 ghost use Rattle.csv.specs.Writing.{default_writer, row_text};
 ghost use Rattle.sheet_format.specs.Rows.{obs_fields, set_fields, sheet_fields, target_fields};
 ghost use Rattle.sheet_format.specs.Texts as spec;
@@ -19,6 +20,7 @@ use std::io::Write;
 /// The text of a sheet.
 pub(crate) fn sheet_text(alloc: Global, sheet: &Sheet) -> Result<Vec<u8>, WriteFault>
     ensures text { IfOk result (λ text. text.items ≡ spec.sheet_text sheet.now) }
+    ensures valid { IsSheet sheet.now }
     ensures err { IfErr result (λ fault. fault ≡ Memory) }
 {
     let mut writer = WriterBuilder::new().from_writer(Vec::new(alloc));
@@ -33,6 +35,7 @@ pub(crate) fn sheet_text(alloc: Global, sheet: &Sheet) -> Result<Vec<u8>, WriteF
 fn push_sheet<W: Write + Drop>(writer: &mut Writer<W>, sheet: &Sheet) -> Result<(), WriteFault>
     ensures ok { OnOk result ((text : List ℕ) → spec.HasWritten W.contents writer.old text
         → spec.HasWritten W.contents writer.new (text ++ spec.sheet_text sheet.now)) }
+    ensures valid { IsSheet sheet.now }
     ensures err { IfErr result (λ fault. fault ≡ Memory) }
 {
     push_header(
