@@ -40,8 +40,13 @@ back-entries f same (x ∷ xs) = rw (same x, back-entries f same xs) refl
 
 back-body : (ds : List Direction) (os : List Orientation) (rs : List Row) → map read_back (body_rows ds os rs) ≡ body_rows ds os rs
 back-body ds os rs =
-    rw (map-append read_back (map target_fields ds) (map set_fields os ++ map obs_fields rs), map-append read_back (map set_fields os) (map obs_fields rs),
-        back-entries target_fields (λ d. refl) ds, back-entries set_fields (λ o. refl) os, back-entries obs_fields (λ r. refl) rs)
+    rw (
+      map-append read_back (map target_fields ds) (map set_fields os ++ map obs_fields rs),
+      map-append read_back (map set_fields os) (map obs_fields rs),
+      back-entries target_fields (λ d. refl) ds,
+      back-entries set_fields (λ o. refl) os,
+      back-entries obs_fields (λ r. refl) rs,
+    )
     refl
 
 -- a text that begins with `sheet` has no byte order mark
@@ -66,15 +71,17 @@ within-one s e =
     let (two, orientations) = and_parts _ _ e in
     let (denominator, directions) = and_parts _ _ two in
     record {
-        denominator = leb-true _ _ denominator;
-        directions = all-within (largest_angle One) (λ (d : Direction). d.value) s.directions directions;
-        orientations = all-within (largest_angle One) (λ (o : Orientation). o.value) s.orientations orientations }
+      denominator = leb-true _ _ denominator;
+      directions = all-within (largest_angle One) (λ (d : Direction). d.value) s.directions directions;
+      orientations = all-within (largest_angle One) (λ (o : Orientation). o.value) s.orientations orientations;
+    }
 
 within-two : (s : SheetValue) → IsSheet s → IsOfVersion Two s
 within-two s ok = record {
-    denominator = ok.denominator.1;
-    directions = λ k d below. (ok.directions.each k d below).value;
-    orientations = λ k o below. (ok.orientations.each k o below).value }
+  denominator = ok.denominator.1;
+  directions = λ k d below. (ok.directions.each k d below).value;
+  orientations = λ k o below. (ok.orientations.each k o below).value;
+}
 
 within-version : (s : SheetValue) → IsSheet s → IsOfVersion (version_for s) s
 within-version s ok = by (is_of_version One s) refl

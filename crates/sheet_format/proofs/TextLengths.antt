@@ -122,9 +122,17 @@ text-short s ok =
     let sets = map set_fields s.orientations in
     let obs = map obs_fields s.rows in
     let parts : length (rows_text (targets ++ (sets ++ obs))) ≡ length (rows_text targets) + (length (rows_text sets) + length (rows_text obs)) =
-        ap length (rows_text-append targets (sets ++ obs)) ∙ length-append (rows_text targets) (rows_text (sets ++ obs))
-        ∙ ap (λ (n : ℕ). length (rows_text targets) + n) (ap length (rows_text-append sets obs) ∙ length-append (rows_text sets) (rows_text obs)) in
-    omega (arith, length-append (row_text default_writer first) (rows_text (targets ++ (sets ++ obs))), parts,
-        sheet-short (version_for s) s.name s.denominator ok.name (omega (arith, ok.denominator.1)),
-        entries-short IsDirection target_fields target-short s.directions ok.directions.each, entries-short IsOrientation set_fields set-row-short s.orientations ok.orientations.each,
-        entries-short IsRow obs_fields obs-short s.rows ok.rows.each, ok.directions.few, ok.orientations.few, ok.rows.few)
+    ap length (rows_text-append targets (sets ++ obs)) ∙ length-append (rows_text targets) (rows_text (sets ++ obs))
+    ∙ ap (λ (n : ℕ). length (rows_text targets) + n) (ap length (rows_text-append sets obs) ∙ length-append (rows_text sets) (rows_text obs)) in
+    omega (
+      arith,
+      length-append (row_text default_writer first) (rows_text (targets ++ (sets ++ obs))),
+      parts,
+      sheet-short (version_for s) s.name s.denominator ok.name (omega (arith, ok.denominator.1)),
+      entries-short IsDirection target_fields target-short s.directions ok.directions.each,
+      entries-short IsOrientation set_fields set-row-short s.orientations ok.orientations.each,
+      entries-short IsRow obs_fields obs-short s.rows ok.rows.each,
+      ok.directions.few,
+      ok.orientations.few,
+      ok.rows.few,
+    )

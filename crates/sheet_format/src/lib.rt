@@ -15,3 +15,6 @@ mod writing;
 pub use fault::{RowKind, SheetFault, WriteFault};
 pub use reading::{LONGEST_SHEET, read_sheet};
 pub use writing::write_sheet;
+
+#[cfg(test)]
+mod tests;
