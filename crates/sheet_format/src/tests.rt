@@ -170,33 +170,58 @@ fn a_changed_row_is_refused_for_its_first_fault(rt: HostRuntime) -> Result<(), F
 #[test]
 fn each_version_has_its_ranges(rt: HostRuntime) -> Result<(), Fail> {
     let alloc = rt.alloc();
-    let most = "1000000000000000000";
-    let more = "1000000000000000001";
-    let most_of_two = "1000000000000000000000";
-    let more_of_two = "1000000000000000000001";
     for (version, denominator, direction, orientation, expected) in [
-        ("1", "1000000000", most, "0", "S/1000000000"),
+        (
+            "1",
+            "1000000000",
+            "1000000000000000000",
+            "-1000000000000000000",
+            "S/1000000000",
+        ),
+        (
+            "1",
+            "1000000000",
+            "-1000000000000000000",
+            "1000000000000000000",
+            "S/1000000000",
+        ),
         ("1", "1000000001", "0", "0", "Row(1, Range)"),
-        ("2", "1000000001", "0", "0", "S/1000000001"),
-        ("2", "1000000000000", most_of_two, "0", "S/1000000000000"),
+        ("1", "1", "1000000000000000001", "0", "Row(2, Range)"),
+        ("1", "1", "-1000000000000000001", "0", "Row(2, Range)"),
+        ("1", "1", "0", "1000000000000000001", "Row(3, Range)"),
+        ("1", "1", "0", "-1000000000000000001", "Row(3, Range)"),
+        (
+            "2",
+            "1000000001",
+            "1000000000000000001",
+            "-1000000000000000001",
+            "S/1000000001",
+        ),
+        (
+            "2",
+            "1000000000000",
+            "1000000000000000000000",
+            "-1000000000000000000000",
+            "S/1000000000000",
+        ),
+        (
+            "2",
+            "1000000000000",
+            "-1000000000000000000000",
+            "1000000000000000000000",
+            "S/1000000000000",
+        ),
         ("2", "1000000000001", "0", "0", "Row(1, Range)"),
-        ("1", "1", more, "0", "Row(2, Range)"),
-        ("1", "1", "0", most, "S/1"),
-        ("1", "1", "0", more, "Row(3, Range)"),
-        ("2", "1", more, more, "S/1"),
-        ("2", "1", more_of_two, "0", "Row(2, Range)"),
-        ("2", "1", "0", most_of_two, "S/1"),
-        ("2", "1", "0", more_of_two, "Row(3, Range)"),
+        ("2", "1", "1000000000000000000001", "0", "Row(2, Range)"),
+        ("2", "1", "-1000000000000000000001", "0", "Row(2, Range)"),
+        ("2", "1", "0", "1000000000000000000001", "Row(3, Range)"),
+        ("2", "1", "0", "-1000000000000000000001", "Row(3, Range)"),
     ] {
-        for sign in ["", "-"] {
-            let direction_signed = if direction == "0" { "" } else { sign };
-            let orientation_signed = if orientation == "0" { "" } else { sign };
-            let text = format!(in alloc;
-                "sheet,{version},S,{denominator},\ntarget,,A,{direction_signed}{direction},\nset,1,,{orientation_signed}{orientation},\nobs,1,A,0,0\n"
-            )?;
-            let found = answer(alloc, text.as_bytes())?;
-            assert!(rt; found.as_str().starts_with(expected), "of {text}: {found}");
-        }
+        let text = format!(in alloc;
+            "sheet,{version},S,{denominator},\ntarget,,A,{direction},\nset,1,,{orientation},\nobs,1,A,0,0\n"
+        )?;
+        let found = answer(alloc, text.as_bytes())?;
+        assert!(rt; found.as_str().starts_with(expected), "of {text}");
     }
     Ok(())
 }
@@ -326,19 +351,25 @@ fn written(alloc: Global, sheet: &Sheet) -> Result<Vec<u8>, Fail> {
     Ok(text)
 }
 
+/// A text is read, and what is written of its sheet is the text.
+fn expect_written_again(rt: &impl Abort, alloc: Global, text: &str) -> Result<(), Fail> {
+    let sheet = read_sheet(alloc, text.as_bytes())?;
+    let found = written(alloc, &sheet)?;
+    assert!(rt; found.as_slice() == text.as_bytes(), "of {text}");
+    Ok(())
+}
+
 #[test]
 fn a_sheet_is_written_as_the_bytes_that_it_was_read_of(rt: HostRuntime) -> Result<(), Fail> {
     let alloc = rt.alloc();
-    let quoted = "sheet,1,S1,1,\ntarget,,\"A,\"\"1\",0,\nset,1,,-6,\nobs,1,\"A,\"\"1\",6,0\n";
-    let wide =
-        "sheet,2,S1,1000000000000,\ntarget,,A,0,\ntarget,,B,10000006000000000000,\nset,1,,-5000000000000,\nset,2,,-20000005000000000000,\nobs,1,A,6,0\n";
-    let widest =
-        "sheet,2,S1,1000000000000,\ntarget,,A,1000000000000000000000,\nset,1,,-1000000000000000000000,\nobs,9999,A,79999999,-9\n";
     let plain = text_of(alloc, &SHEET, "\n")?;
-    for text in [plain.as_str(), quoted, wide, widest] {
-        let sheet = read_sheet(alloc, text.as_bytes())?;
-        let found = written(alloc, &sheet)?;
-        assert_eq!(rt; str::from_utf8(found.as_slice())?, text);
+    expect_written_again(&rt, alloc, plain.as_str())?;
+    for text in [
+        "sheet,1,S1,1,\ntarget,,\"A,\"\"1\",0,\nset,1,,-6,\nobs,1,\"A,\"\"1\",6,0\n",
+        "sheet,2,S1,1000000000000,\ntarget,,A,0,\ntarget,,B,10000006000000000000,\nset,1,,-5000000000000,\nset,2,,-20000005000000000000,\nobs,1,A,6,0\n",
+        "sheet,2,S1,1000000000000,\ntarget,,A,1000000000000000000000,\nset,1,,-1000000000000000000000,\nobs,9999,A,79999999,-9\n",
+    ] {
+        expect_written_again(&rt, alloc, text)?;
     }
     Ok(())
 }
@@ -429,7 +460,5 @@ fn a_sheet_at_all_limits_is_read_and_written(rt: HostRuntime) -> Result<(), Fail
     assert_eq!(rt; sheet.directions().len(), 100);
     assert_eq!(rt; sheet.orientations().len(), 40);
     assert_eq!(rt; sheet.rows().len(), 4_000);
-    let found = written(alloc, &sheet)?;
-    assert_eq!(rt; str::from_utf8(found.as_slice())?, text.as_str());
-    Ok(())
+    expect_written_again(&rt, alloc, text.as_str())
 }
