@@ -1,5 +1,5 @@
 -- The rows that were read: none of them has a fault, and what the next row or the end says of the whole.
-use Rattle.std.specs.Prelude.{if◌then◌else◌}
+use Rattle.std.specs.Prelude.{if◌then◌else◌, ◌⊎◌}
 use Rattle.std.proofs.Common.{◌≡◌, ℕ, ◌+◌, ◌<◌, ◌≤◌, Bool, true, false, List, [], ◌∷◌, ◌++◌, length, take, drop, Option, Some, None, All, get_or, refl, ap, sym, subst, ◌∙◌, arith, inl, inr, ℤ, ◌≤ℤ◌, ◌==◌, length-append, append_assoc}
 use Rattle.std.proofs.Math.Seq.{drop-append_seam, take-append_seam}
 use Rattle.std.proofs.lemmas.Bool.{cases_Bool, eqb-false, eqb-true}
@@ -121,6 +121,23 @@ finished-sheet d ok some = by d.header refl
             rows = record { some = omega (arith, some); few = ok.few_rows; each = ok.rows };
           },
         )
+
+-- a draft has the parts of a sheet, or no sheet has its parts
+pub whole-or-not : (d : DraftValue) → IsDraft d → ((s : SheetValue) × IsOfDraft d s × IsSheet s) ⊎ ((s : SheetValue) → IsOfDraft d s → IsSheet s → ⊥)
+whole-or-not d ok = elim (none-or-some d.rows) [
+  | inl none ↦ inr (λ s parts whole. bare-of-rows d s none parts whole)
+  | inr some ↦ inl (finished-sheet d ok some)
+]
+  where
+    bare-of-rows : (d : DraftValue) (s : SheetValue) → (length d.rows == 0) ≡ true → IsOfDraft d s → IsSheet s → ⊥
+    bare-of-rows d s none parts whole = at d.header parts
+      where
+        at : (h : Option Header) → HasParts h d s → ⊥
+        at None p = p
+        at (Some h) p =
+            let same : length s.rows ≡ length d.rows = ap (λ (x : SheetValue). length x.rows) p in
+            let zero : length d.rows ≡ 0 = eqb-true _ _ none in
+            omega (arith, same, zero, whole.rows.some)
 
 -- the end of the rows, where no sheet has the parts of the draft
 pub read-end : (all : List (List (List ℕ))) (d : DraftValue) → HasRead all d [] → ((s : SheetValue) → IsOfDraft d s → IsSheet s → ⊥) → IsFirstFault all (length (rows_of_draft d)) Unfinished

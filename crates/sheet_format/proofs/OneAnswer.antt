@@ -1,20 +1,21 @@
 -- Bytes stand for at most one sheet, have at most one fault, and never both.
 use Rattle.std.proofs.Common.{◌≡◌, ℕ, ◌+◌, ◌<◌, ◌≤◌, Bool, true, false, List, [], ◌∷◌, ◌++◌, map, length, take, drop, Option, Some, None, All, refl, ap, sym, subst, ◌∙◌, arith, inl, inr, ◌==◌, Result, Ok, Err}
 use Rattle.std.specs.Prelude.{◌⊎◌, nat_lt, IfOk, IfErr}
-use Rattle.std.proofs.lemmas.Bool.{cases_Bool, ltb-false, ltb-true, ne_eqb}
+use Rattle.std.proofs.lemmas.Bool.{cases_Bool, cases_lt, ltb-false, ltb-true, ne_eqb}
 use Rattle.std.proofs.lemmas.List.{append-nil, take_all, drop_all}
 use Rattle.adjust_kernel.specs.Sheets.{IsSheet, SheetValue}
-use Rattle.sheet_format.specs.Drafts.{DraftValue, blank, last_of_draft, rows_of_draft, said_by_draft}
-use Rattle.sheet_format.specs.Faults.{Before, IsFaultOrMemory, IsFirstFault, IsSheetFault, fault_at, fault_between, last_kind, said_by}
+use Rattle.sheet_format.specs.Drafts.{DraftValue, blank, last_of_draft, rows_of_draft, said_by_draft, with_row}
+use Rattle.sheet_format.specs.Faults.{Before, IsFaultOrMemory, IsFirstFault, IsSheetFault, IsSheetOrFault, fault_at, fault_between, last_kind, row_fault, said_by}
 use Rattle.sheet_format.specs.Kinds.{may_end}
 use Rattle.sheet_format.specs.Rows.{IsOfVersion, IsSheetText, body_rows, obs_fields, records_of, rows_of, set_fields, sheet_fields, target_fields}
 use Rattle.sheet_format.specs.declared.entry.Header.{Header}
 use Rattle.sheet_format.specs.declared.fault.RowKind.{RowKind}
+use Rattle.sheet_format.specs.declared.fault.RowKind.TheVariants.{Unfinished}
 use Rattle.sheet_format.specs.declared.fault.SheetFault.{SheetFault}
 use Rattle.sheet_format.specs.declared.fault.SheetFault.TheVariants.{TooLong, Row, Memory}
 use Rattle.sheet_format.specs.declared.reading.TheConstants.{LONGEST_SHEET}
 use Rattle.sheet_format.specs.declared.version.Version.{Version}
-use Rattle.sheet_format.proofs.FirstFaults.{HasRead, drafted, read-begin, read-more}
+use Rattle.sheet_format.proofs.FirstFaults.{HasRead, drafted, read-begin, read-end, read-fault, read-more, read-whole, whole-or-not}
 use Rattle.sheet_format.proofs.SaidBy.{said}
 use Rattle.sheet_format.proofs.SheetRows.{draft, obs-read, sets-read, sheet-row-clean, targets-read}
 
@@ -122,3 +123,27 @@ answers-fault bytes (Err g) ok err f fault = elim (fault-or-memory bytes g err) 
   | inl same ↦ inl (ap (λ (x : SheetFault). Err x) (one-fault bytes g f same fault))
   | inr memory ↦ inr (ap (λ (x : SheetFault). Err x) memory)
 ]
+
+-- rows that are left stand for the rest of a sheet, or one of them has a fault
+abbrev SheetOrFault : List ℕ → Type 0
+SheetOrFault bytes = ((s : SheetValue) × IsSheetText bytes s) ⊎ ((f : SheetFault) × IsSheetFault bytes f)
+
+decided-rows : (bytes : List ℕ) → length bytes ≤ LONGEST_SHEET → (rest : List (List (List ℕ))) (d : DraftValue) → HasRead (records_of bytes) d rest → SheetOrFault bytes
+decided-rows bytes short [] d read = elim (whole-or-not d read.draft) [
+  | inl whole ↦ let (s, parts, valid) = whole in inl (s, read-whole bytes d s short read parts valid)
+  | inr none ↦ inr (Row (length (rows_of_draft d) + 1) Unfinished, (short, length (rows_of_draft d), refl, read-end (records_of bytes) d read none))
+]
+decided-rows bytes short (row ∷ rest) d read = by (row_fault (said_by_draft d) row) refl (λ next. decided-rows bytes short rest (with_row d row) next)
+  where
+    by : (o : Option RowKind) → row_fault (said_by_draft d) row ≡ o → (HasRead (records_of bytes) (with_row d row) rest → SheetOrFault bytes) → SheetOrFault bytes
+    by None e later = later (read-more (records_of bytes) d (with_row d row) row rest read e refl)
+    by (Some k) e later = inr (Row (length (rows_of_draft d) + 1) k, (short, length (rows_of_draft d), refl, read-fault (records_of bytes) d row rest k read e))
+
+pub sheet-or-fault : (bytes : List ℕ) → IsSheetOrFault bytes
+sheet-or-fault bytes = record {
+  either = elim (cases_lt LONGEST_SHEET (length bytes)) [
+    | inl long ↦ inr (TooLong, long)
+    | inr short ↦ decided-rows bytes short (records_of bytes) blank (read-begin (records_of bytes))
+  ];
+  never_both = never-both bytes;
+}

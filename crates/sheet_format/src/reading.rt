@@ -5,7 +5,7 @@
 
 ghost use Rattle.std.specs.Prelude.{◌≡◌, ◌≤◌, ◌⊎◌, length, Err, IfErr, IfOk, Ok};
 ghost use Rattle.adjust_kernel.specs.Sheets.{SheetValue};
-ghost use Rattle.sheet_format.specs.Faults.{IsFaultOrMemory, IsSheetFault};
+ghost use Rattle.sheet_format.specs.Faults.{IsFaultOrMemory, IsSheetFault, IsSheetOrFault};
 ghost use Rattle.sheet_format.specs.Rows.{IsSheetText};
 ghost use Rattle.sheet_format.specs.declared.fault.SheetFault.TheVariants.{Memory};
 
@@ -25,9 +25,10 @@ pub fn read_sheet(alloc: Global, bytes: &[u8]) -> Result<Sheet, SheetFault>
     ensures sheet { IfOk result (λ sheet. IsSheetText bytes.now sheet) }
     ensures fault { IfErr result (λ fault. IsFaultOrMemory bytes.now fault) }
 
-    // Bytes that stand for a sheet have no other answer, and so have bytes with a fault.
+    // Bytes that stand for a sheet, and bytes with a fault, get no other answer but want of memory.
     ensures stands { (sheet : SheetValue) → IsSheetText bytes.now sheet → (result ≡ Ok sheet) ⊎ (result ≡ Err Memory) }
     ensures refused { (fault : SheetFault) → IsSheetFault bytes.now fault → (result ≡ Err fault) ⊎ (result ≡ Err Memory) }
+    ensures one { IsSheetOrFault bytes.now }
 {
     if bytes.len() > LONGEST_SHEET {
         return Err(SheetFault::TooLong);
