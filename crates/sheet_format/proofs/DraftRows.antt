@@ -1,14 +1,12 @@
 -- A draft stands for the rows that it took: each row without a fault is the text of the entry that it adds.
 use Rattle.std.specs.Prelude.{if◌then◌else◌}
-use Rattle.std.proofs.Common.{◌≡◌, ℕ, ◌+◌, ◌<◌, ◌≤◌, ◌^◌, Bool, true, false, ◌&&◌, List, [], ◌∷◌, ◌++◌, map, length, Option, Some, None, All, refl, ap, sym, subst, ◌∙◌, arith, ◌==◌, pos, ℤ, inl, inr, append_assoc, length-append}
-use Rattle.std.specs.Prelude.{◌⊎◌, ◌-◌, codes, nat_lt}
+use Rattle.std.proofs.Common.{◌≡◌, ℕ, ◌<◌, ◌≤◌, ◌^◌, Bool, true, false, List, [], ◌∷◌, ◌++◌, map, length, Option, Some, None, All, refl, ap, sym, subst, ◌∙◌, arith, ◌==◌, inl, inr, append_assoc, length-append}
+use Rattle.std.specs.Prelude.{◌⊎◌, ◌-◌, codes}
 use Rattle.std.specs.Option.{option_or}
 use Rattle.std.proofs.lemmas.Bool.{and_parts, eqb-true, eqb-false, cases_Bool, ltb-true, true≢false}
-use Rattle.std.proofs.lemmas.Bool.Decides.{nat_tests}
 use Rattle.std.proofs.lemmas.List.{append-nil, map-append, nil_from_length}
 use Rattle.std.proofs.lemmas.List.Elements.{All-append, All-cons, All-nil}
 use Rattle.std.proofs.lemmas.Slice.Eq.{bytes_eq-Decides}
-use Rattle.std.specs.Fmt.{decimal, signed_decimal}
 use Rattle.std.specs.Str.{bytes_eq}
 use Rattle.adjust_kernel.specs.Names.{IsName}
 use Rattle.adjust_kernel.specs.Sheets.{IsRow, IsSetNumber}
@@ -19,20 +17,19 @@ use Rattle.adjust_kernel.specs.declared.row.Orientation.{Orientation}
 use Rattle.adjust_kernel.specs.declared.row.Row.{Row}
 use Rattle.sheet_format.specs.Columns.{Fields, columns_of}
 use Rattle.sheet_format.specs.Drafts.{DraftValue, blank, direction_of, header_of, header_rows, last_of_draft, last_of_header, obs_row_of, orientation_of, rows_of_draft, said_by_draft, version_of_header, with_columns, with_fields, with_kind, with_row}
-use Rattle.sheet_format.specs.Faults.{Before, columns_fault, fields_fault, is_empty, is_name, kind_fault, obs_fault, row_fault, set_fault, sheet_row_fault, target_fault, unless, versioned_fault, by_version, is_set_number, is_circle_value, first_fault}
+use Rattle.sheet_format.specs.Faults.{columns_fault, fields_fault, kind_fault, obs_fault, row_fault, set_fault, sheet_row_fault, target_fault, unless, versioned_fault, by_version}
 use Rattle.sheet_format.specs.Kinds.{kind_of, kind_text, may_follow, names_kind}
-use Rattle.sheet_format.specs.Numbers.{is_at_most, is_canonical, is_within, natural_of, value_of}
-use Rattle.sheet_format.specs.Rows.{body_rows, obs_fields, set_fields, sheet_fields, target_fields}
+use Rattle.sheet_format.specs.Numbers.{natural_of, value_of}
+use Rattle.sheet_format.specs.Rows.{obs_fields, set_fields, sheet_fields, target_fields}
 use Rattle.sheet_format.specs.Versions.{largest_angle, largest_denominator, version_of, version_text}
 use Rattle.sheet_format.specs.declared.entry.Header.{Header}
 use Rattle.sheet_format.specs.declared.fault.RowKind.{RowKind}
-use Rattle.sheet_format.specs.declared.fault.RowKind.TheVariants as fault
 use Rattle.sheet_format.specs.declared.kind.Kind.{Kind}
 use Rattle.sheet_format.specs.declared.kind.Kind.TheVariants as kind
 use Rattle.sheet_format.specs.declared.version.Version.{Version}
 use Rattle.sheet_format.specs.declared.version.Version.TheVariants as version
 use Rattle.sheet_format.proofs.NameTests.{name-found}
-use Rattle.sheet_format.proofs.Ranges.{IsNatural, angle-fits, natural-text, number-text, turn-fits, within-found}
+use Rattle.sheet_format.proofs.Ranges.{angle-fits, natural-text, number-text, turn-fits, within-found}
 use Rattle.sheet_format.proofs.SaidBy.{IsBare}
 
 -- what the first row states is within its limits
@@ -196,6 +193,18 @@ denominator-small : (v : Version) → largest_denominator v < 2 ^ 127
 denominator-small version.One = omega arith
 denominator-small version.Two = omega arith
 
+zero-small : 0 < 2 ^ 127
+zero-small = omega arith
+
+one-small : 1 < 2 ^ 127
+one-small = omega arith
+
+set-number-small : LARGEST_SET_NUMBER < 2 ^ 127
+set-number-small = omega arith
+
+circle-small : TURN - 1 < 2 ^ 127
+circle-small = omega arith
+
 abbrev IsSheetRow : Fields → Header → Type 0
 IsSheetRow c h = (listed c ≡ sheet_fields h.version h.name h.denominator) × IsHeader (Some h)
 
@@ -206,7 +215,7 @@ versioned-row v c named version none =
     let (name, t2) = or-none _ _ t1 in
     let (form, t3) = or-none _ _ t2 in
     let (range, t4) = or-none _ _ t3 in
-    let n = natural-text 1 (largest_denominator v) c.value (omega arith) (denominator-small v) (unless-none _ _ form) (unless-none _ _ range) in
+    let n = natural-text 1 (largest_denominator v) c.value one-small (denominator-small v) (unless-none _ _ form) (unless-none _ _ range) in
     (rw (named, version, none-there c.turn (unless-none _ _ empty), n.text) refl, (name-found c.name (unless-none _ _ name), n.least, n.most))
 
 sheet-row : (c : Fields) → c.kind ≡ kind_text kind.Sheet → sheet_row_fault c ≡ None → IsSheetRow c (header_of c)
@@ -236,7 +245,7 @@ set-row v c named none =
     let (name, turn) = and_parts _ _ (unless-none _ _ empty) in
     let (number_form, value_form) = and_parts _ _ (unless-none _ _ form) in
     let (number_range, value_range) = and_parts _ _ (unless-none _ _ range) in
-    let n = natural-text 1 LARGEST_SET_NUMBER c.number (omega arith) (omega arith) number_form number_range in
+    let n = natural-text 1 LARGEST_SET_NUMBER c.number one-small set-number-small number_form number_range in
     let value = number-text (largest_angle v) c.value (angle-fits v) value_form value_range in
     (rw (named, none-there c.name name, none-there c.turn turn, n.text, value) refl, ((n.least, n.most), within-found (largest_angle v) (value_of c.value) value_range))
 
@@ -249,8 +258,8 @@ obs-row c named none =
     let (number_form, value_form) = and_parts _ _ two_forms in
     let (two_ranges, turn_range) = and_parts _ _ (unless-none _ _ range) in
     let (number_range, value_range) = and_parts _ _ two_ranges in
-    let n = natural-text 1 LARGEST_SET_NUMBER c.number (omega arith) (omega arith) number_form number_range in
-    let p = natural-text 0 (TURN - 1) c.value (omega arith) (omega arith) value_form value_range in
+    let n = natural-text 1 LARGEST_SET_NUMBER c.number one-small set-number-small number_form number_range in
+    let p = natural-text 0 (TURN - 1) c.value zero-small circle-small value_form value_range in
     let turn = number-text LARGEST_TURN c.turn turn-fits turn_form turn_range in
     (rw (named, n.text, p.text, turn) refl, record { set = (n.least, n.most); target = name-found c.name (unless-none _ _ name); value = omega (arith, p.most); turn = within-found LARGEST_TURN (value_of c.turn) turn_range })
 

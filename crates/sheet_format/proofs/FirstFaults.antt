@@ -1,6 +1,6 @@
 -- The rows that were read: none of them has a fault, and what the next row or the end says of the whole.
 use Rattle.std.specs.Prelude.{if◌then◌else◌, ◌⊎◌}
-use Rattle.std.proofs.Common.{◌≡◌, ℕ, ◌+◌, ◌<◌, ◌≤◌, Bool, true, false, List, [], ◌∷◌, ◌++◌, length, take, drop, Option, Some, None, All, get_or, refl, ap, sym, subst, ◌∙◌, arith, inl, inr, ℤ, ◌≤ℤ◌, ◌==◌, length-append, append_assoc}
+use Rattle.std.proofs.Common.{◌≡◌, ℕ, ◌<◌, ◌≤◌, Bool, true, false, List, [], ◌∷◌, ◌++◌, length, Option, Some, None, All, get_or, refl, ap, sym, subst, ◌∙◌, arith, inl, inr, ℤ, ◌==◌, length-append, append_assoc}
 use Rattle.std.proofs.Math.Seq.{drop-append_seam, take-append_seam}
 use Rattle.std.proofs.lemmas.Bool.{cases_Bool, eqb-false, eqb-true}
 use Rattle.std.proofs.lemmas.Int.{ints}
@@ -18,13 +18,12 @@ use Rattle.sheet_format.specs.Versions.{largest_angle, largest_denominator}
 use Rattle.sheet_format.specs.declared.entry.Header.{Header}
 use Rattle.sheet_format.specs.declared.fault.RowKind.{RowKind}
 use Rattle.sheet_format.specs.declared.fault.RowKind.TheVariants.{Unfinished}
-use Rattle.sheet_format.specs.declared.kind.Kind.{Kind}
 use Rattle.sheet_format.specs.declared.kind.Kind.TheVariants as kind
 use Rattle.sheet_format.specs.declared.reading.TheConstants.{LONGEST_SHEET}
 use Rattle.sheet_format.specs.declared.version.Version.{Version}
 use Rattle.sheet_format.specs.declared.version.Version.TheVariants as version
 use Rattle.sheet_format.proofs.DraftRows.{IsDirectionOf, IsDraft, IsHeader, IsOrientationOf, blank-draft, none-or-some, row-taken}
-use Rattle.sheet_format.proofs.SaidBy.{IsBare, said}
+use Rattle.sheet_format.proofs.SaidBy.{said}
 
 -- the fault at the place where these rows part
 pub fault_at-seam : (before rest : List (List (List ℕ))) → fault_at (before ++ rest) (length before) ≡ fault_between before rest

@@ -1,13 +1,13 @@
 -- Bytes stand for at most one sheet, have at most one fault, and never both.
-use Rattle.std.proofs.Common.{◌≡◌, ℕ, ◌+◌, ◌<◌, ◌≤◌, Bool, true, false, List, [], ◌∷◌, ◌++◌, map, length, take, drop, Option, Some, None, All, refl, ap, sym, subst, ◌∙◌, arith, inl, inr, ◌==◌, Result, Ok, Err}
+use Rattle.std.proofs.Common.{◌≡◌, ℕ, ◌+◌, ◌<◌, ◌≤◌, true, false, List, [], ◌∷◌, ◌++◌, map, length, Option, Some, None, refl, ap, sym, ◌∙◌, arith, inl, inr, ◌==◌, Result, Ok, Err}
 use Rattle.std.specs.Prelude.{◌⊎◌, nat_lt, IfOk, IfErr}
 use Rattle.std.proofs.lemmas.Bool.{cases_Bool, cases_lt, ltb-false, ltb-true, ne_eqb}
-use Rattle.std.proofs.lemmas.List.{append-nil, take_all, drop_all}
+use Rattle.std.proofs.lemmas.List.{take_all, drop_all}
 use Rattle.adjust_kernel.specs.Sheets.{IsSheet, SheetValue}
 use Rattle.sheet_format.specs.Drafts.{DraftValue, blank, last_of_draft, rows_of_draft, said_by_draft, with_row}
-use Rattle.sheet_format.specs.Faults.{Before, IsFaultOrMemory, IsFirstFault, IsSheetFault, IsSheetOrFault, fault_at, fault_between, last_kind, row_fault, said_by}
+use Rattle.sheet_format.specs.Faults.{Before, IsFaultOrMemory, IsFirstFault, IsSheetFault, IsSheetOrFault, fault_at, fault_between, last_kind, row_fault}
 use Rattle.sheet_format.specs.Kinds.{may_end}
-use Rattle.sheet_format.specs.Rows.{IsOfVersion, IsSheetText, body_rows, obs_fields, records_of, rows_of, set_fields, sheet_fields, target_fields}
+use Rattle.sheet_format.specs.Rows.{IsOfVersion, IsSheetText, body_rows, obs_fields, records_of, rows_of, set_fields, sheet_fields}
 use Rattle.sheet_format.specs.declared.entry.Header.{Header}
 use Rattle.sheet_format.specs.declared.fault.RowKind.{RowKind}
 use Rattle.sheet_format.specs.declared.fault.RowKind.TheVariants.{Unfinished}

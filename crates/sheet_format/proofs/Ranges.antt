@@ -1,5 +1,5 @@
 -- Numbers in their ranges: what the tests say of a field, and that the text of a number in its range passes them.
-use Rattle.std.proofs.Common.{◌≡◌, ℕ, ◌<◌, ◌≤◌, ◌^◌, Bool, true, false, T, List, ◌≤ℤ◌, ℤ, pos, negsuc, neg_ℤ, FitsSigned, int_le, refl, sym, ap, ◌∙◌, arith}
+use Rattle.std.proofs.Common.{◌≡◌, ℕ, ◌<◌, ◌≤◌, ◌^◌, Bool, true, false, T, List, ◌≤ℤ◌, ℤ, pos, negsuc, neg_ℤ, FitsSigned, int_le, refl, arith}
 use Rattle.std.specs.Fmt.{decimal, signed_decimal}
 use Rattle.std.specs.Int.{w128}
 use Rattle.std.specs.Int.Signed.{le_z_yes}

@@ -1,29 +1,25 @@
 -- The rows of a sheet within its limits have no fault, and are read as that sheet.
-use Rattle.std.specs.Prelude.{if◌then◌else◌, nat_lt, ◌-◌, codes}
-use Rattle.std.proofs.Common.{◌≡◌, ℕ, ◌+◌, ◌<◌, ◌≤◌, ◌^◌, Bool, true, false, List, [], ◌∷◌, ◌++◌, map, length, take, drop, Option, Some, None, All, ℤ, pos, refl, ap, sym, subst, ◌∙◌, arith, inl, inr, ◌==◌, length-append, append_assoc}
-use Rattle.std.specs.Fmt.{decimal, signed_decimal}
-use Rattle.std.proofs.lemmas.Bool.{and_from, cases_Bool, lt-ltb, ne_eqb}
+use Rattle.std.specs.Prelude.{if◌then◌else◌, ◌-◌}
+use Rattle.std.proofs.Common.{◌≡◌, ℕ, ◌+◌, ◌<◌, ◌≤◌, ◌^◌, Bool, true, false, List, [], ◌∷◌, ◌++◌, map, length, Some, None, All, refl, subst, arith, ◌==◌, length-append, append_assoc}
+use Rattle.std.proofs.lemmas.Bool.{lt-ltb}
 use Rattle.std.proofs.lemmas.List.{append-nil}
 use Rattle.std.proofs.lemmas.List.Elements.{All-head, All-tail}
-use Rattle.adjust_kernel.specs.Names.{IsName}
-use Rattle.adjust_kernel.specs.Sheets.{IsRow, IsSetNumber, IsSheet, SheetValue}
+use Rattle.adjust_kernel.specs.Sheets.{IsRow}
 use Rattle.adjust_kernel.specs.declared.limits.TheConstants.{LARGEST_SET_NUMBER, LARGEST_TURN, MOST_ROWS, MOST_SETS, MOST_TARGETS, TURN}
 use Rattle.adjust_kernel.specs.declared.row.Direction.{Direction}
 use Rattle.adjust_kernel.specs.declared.row.Orientation.{Orientation}
 use Rattle.adjust_kernel.specs.declared.row.Row.{Row}
 use Rattle.sheet_format.specs.Drafts.{DraftValue, blank, said_by_draft, with_row}
-use Rattle.sheet_format.specs.Faults.{is_circle_value, is_name, is_set_number, row_fault}
+use Rattle.sheet_format.specs.Faults.{row_fault}
 use Rattle.sheet_format.specs.Kinds.{may_follow}
-use Rattle.sheet_format.specs.Numbers.{is_at_most, is_canonical, is_within, natural_of, value_of}
-use Rattle.sheet_format.specs.Rows.{body_rows, obs_fields, set_fields, sheet_fields, target_fields}
+use Rattle.sheet_format.specs.Rows.{obs_fields, set_fields, sheet_fields, target_fields}
 use Rattle.sheet_format.specs.Versions.{largest_angle, largest_denominator, version_of, version_text}
 use Rattle.sheet_format.specs.declared.entry.Header.{Header}
-use Rattle.sheet_format.specs.declared.kind.Kind.{Kind}
 use Rattle.sheet_format.specs.declared.kind.Kind.TheVariants as kind
 use Rattle.sheet_format.specs.declared.version.Version.{Version}
 use Rattle.sheet_format.specs.declared.version.Version.TheVariants as version
 use Rattle.sheet_format.proofs.DraftRows.{IsDirectionOf, IsHeader, IsOrientationOf}
-use Rattle.sheet_format.proofs.FirstFaults.{HasRead, read-begin, read-more}
+use Rattle.sheet_format.proofs.FirstFaults.{HasRead, read-more}
 use Rattle.sheet_format.proofs.NameTests.{name-test}
 use Rattle.sheet_format.proofs.Ranges.{angle-fits, natural-again, natural-within, number-again, turn-fits, within-test}
 

@@ -1,8 +1,8 @@
 -- The text of a sheet stands for that sheet.
 use Rattle.std.specs.Prelude.{if◌then◌else◌}
-use Rattle.std.proofs.Common.{◌≡◌, ℕ, ◌+◌, ◌<◌, ◌≤◌, Bool, true, false, List, [], ◌∷◌, ◌++◌, map, length, All, refl, ap, ◌∙◌, arith, subst, sym, ℤ}
+use Rattle.std.proofs.Common.{◌≡◌, ℕ, ◌+◌, ◌<◌, Bool, true, false, List, [], ◌∷◌, ◌++◌, map, length, All, refl, ap, ◌∙◌, arith, ℤ}
 use Rattle.std.specs.List.{list_all}
-use Rattle.std.proofs.lemmas.Bool.{and_parts, leb-true, cases_Bool}
+use Rattle.std.proofs.lemmas.Bool.{and_parts, leb-true}
 use Rattle.std.proofs.lemmas.List.{map-append}
 use Rattle.std.proofs.lemmas.List.Elements.{All-cons, All-nil}
 use Rattle.csv.specs.Machine.{next_record}
@@ -18,7 +18,7 @@ use Rattle.adjust_kernel.specs.declared.row.Row.{Row}
 use Rattle.sheet_format.specs.Numbers.{is_at_most}
 use Rattle.sheet_format.specs.Rows.{IsOfVersion, IsSheetText, body_rows, obs_fields, records_of, rows_of, set_fields, sheet_fields, target_fields}
 use Rattle.sheet_format.specs.Texts.{is_of_version, rows_text, sheet_text, version_for}
-use Rattle.sheet_format.specs.Versions.{largest_angle, largest_denominator}
+use Rattle.sheet_format.specs.Versions.{largest_angle}
 use Rattle.sheet_format.specs.declared.version.Version.{Version}
 use Rattle.sheet_format.specs.declared.version.Version.TheVariants.{One, Two}
 use Rattle.sheet_format.proofs.Ranges.{within-found}

@@ -1,8 +1,7 @@
 -- The text of a sheet within its limits is far shorter than a sheet may be.
-use Rattle.std.specs.Prelude.{if◌then◌else◌, ◌||◌, codes}
-use Rattle.std.proofs.Common.{◌≡◌, ℕ, suc, zero, ◌+◌, ◌*◌, ◌<◌, ◌≤◌, ◌^◌, Bool, true, false, List, [], ◌∷◌, ◌++◌, map, length, All, get_or, ℤ, pos, negsuc, refl, ap, sym, subst, ◌∙◌, arith, length-append, ◌==◌}
+use Rattle.std.specs.Prelude.{if◌then◌else◌, codes}
+use Rattle.std.proofs.Common.{◌≡◌, ℕ, suc, ◌+◌, ◌*◌, ◌<◌, ◌≤◌, ◌^◌, Bool, true, false, List, [], ◌∷◌, ◌++◌, map, length, All, ℤ, pos, negsuc, refl, ap, ◌∙◌, arith, length-append, ◌==◌}
 use Rattle.std.specs.Fmt.{decimal, signed_decimal}
-use Rattle.std.specs.List.{flat_map}
 use Rattle.std.proofs.lemmas.Fmt.{length-decimal-le_wide}
 use Rattle.std.proofs.lemmas.Int.{ints}
 use Rattle.std.proofs.lemmas.List.Elements.{All-head, All-tail}
@@ -14,7 +13,7 @@ use Rattle.adjust_kernel.specs.declared.limits.TheConstants.{LARGEST_ANGLE, LARG
 use Rattle.adjust_kernel.specs.declared.row.Direction.{Direction}
 use Rattle.adjust_kernel.specs.declared.row.Orientation.{Orientation}
 use Rattle.adjust_kernel.specs.declared.row.Row.{Row}
-use Rattle.sheet_format.specs.Rows.{obs_fields, rows_of, set_fields, sheet_fields, target_fields}
+use Rattle.sheet_format.specs.Rows.{obs_fields, set_fields, sheet_fields, target_fields}
 use Rattle.sheet_format.specs.Texts.{rows_text, sheet_text, version_for}
 use Rattle.sheet_format.specs.Versions.{version_text}
 use Rattle.sheet_format.specs.declared.reading.TheConstants.{LONGEST_SHEET}

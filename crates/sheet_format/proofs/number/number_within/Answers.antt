@@ -1,4 +1,3 @@
-use Rattle.std.proofs.Common.{sym, ◌∙◌}
 use Rattle.std.proofs.lemmas.Str.{IsUtf8-from_ascii}
 use Rattle.sheet_format.proofs.CanonicalDecimals.{canonical-numeral, outside}
 use Rattle.sheet_format.proofs.number.number_within.Goals as goal

@@ -1,4 +1,4 @@
-use Rattle.std.proofs.Common.{◌≡◌, ◌∙◌, ◌+◌, [], ◌∷◌, Bor, List, ℕ, Some, sym, refl, subst, inl, inr, arith, length}
+use Rattle.std.proofs.Common.{◌∙◌, ◌+◌, ◌∷◌, Bor, List, ℕ, Some, refl, subst, inl, inr, arith, length}
 use Rattle.csv.specs.Reading.{default_config, records_from, strip_bom}
 use Rattle.csv.specs.Records.{fields_of}
 use Rattle.csv.proofs.ReadFacts.{rows-end}
@@ -31,8 +31,9 @@ rows-preserved c =
     let row = fields_of c.read_byte_record.new.row in
     let (z, at_z, next) = row-read (λ (b : Bor (List ℕ)). Some b.now) c.rows.reader c.read_byte_record.new.self row y config source got in
     let (m, more, room2, well2) = records-step n c.rows.reader.state y (row, c.read_byte_record.new.self.state, z) next well room in
-    let here = subst (HasRead (records_of c.args.bytes.now) c.rows.draft) more read in
-    let after = read-more (records_of c.args.bytes.now) c.rows.draft c.take_row.new.self row (records_from default_config m c.read_byte_record.new.self.state z) here c.in-Ok-take_row.ensures.faultless c.in-Ok-take_row.ensures.taken in
+    let rest = records_from default_config m c.read_byte_record.new.self.state z in
+    let here = subst (HasRead (records_of c.args.bytes.now) c.rows.draft) {y = row ∷ rest} more read in
+    let after = read-more (records_of c.args.bytes.now) c.rows.draft c.take_row.new.self row rest here c.in-Ok-take_row.ensures.faultless c.in-Ok-take_row.ensures.taken in
     (got.3 ∙ trim, inl (c.in-Ok.ensures.ready trim), got.2 ∙ config, well2, z, at_z, m, room2, after)
 
 pub returns-in-Err-Fault-clause-fault : goal.returns-in-Err-Fault-clause-fault
@@ -42,9 +43,10 @@ returns-in-Err-Fault-clause-fault c =
     let row = fields_of c.read_byte_record.new.row in
     let (z, at_z, next) = row-read (λ (b : Bor (List ℕ)). Some b.now) c.rows.reader c.read_byte_record.new.self row y config source got in
     let (m, more, room2, well2) = records-step n c.rows.reader.state y (row, c.read_byte_record.new.self.state, z) next well room in
-    let here = subst (HasRead (records_of c.args.bytes.now) c.rows.draft) more read in
+    let rest = records_from default_config m c.read_byte_record.new.self.state z in
+    let here = subst (HasRead (records_of c.args.bytes.now) c.rows.draft) {y = row ∷ rest} more read in
     let refused = rw c.in-Err-Fault.is at c.take_row.ensures.err in
-    let found = read-fault (records_of c.args.bytes.now) c.rows.draft row (records_from default_config m c.read_byte_record.new.self.state z) c.in-Err-Fault.kind here (rw c.in-Err-Fault.field-0-is at refused) in
+    let found = read-fault (records_of c.args.bytes.now) c.rows.draft row rest c.in-Err-Fault.kind here (rw c.in-Err-Fault.field-0-is at refused) in
     rw (c.taken-number.ensures, c.in-Err-Fault.kind-is) (c.requires, _, refl, found)
 
 pub returns-in-None-clause-fault : goal.returns-in-None-clause-fault
