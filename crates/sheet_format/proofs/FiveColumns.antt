@@ -1,0 +1,17 @@
+-- The columns of a row, by their places.
+use Rattle.std.proofs.Common.{◌≡◌, ℕ, List, [], ◌∷◌, length, Some, unwrap_or, refl, arith}
+use Rattle.csv.specs.Records.{field_at}
+use Rattle.sheet_format.specs.Columns.{columns_of}
+
+abbrev pub at : List (List ℕ) → ℕ → List ℕ
+at fs i = unwrap_or (field_at fs i) []
+
+pub five : (fs : List (List ℕ)) → length fs ≡ 5 → columns_of fs ≡ Some (record { kind = at fs 0; number = at fs 1; name = at fs 2; value = at fs 3; turn = at fs 4 })
+unfolding field_at
+five [] e = absurd (omega (arith, e))
+five (a ∷ []) e = absurd (omega (arith, e))
+five (a ∷ b ∷ []) e = absurd (omega (arith, e))
+five (a ∷ b ∷ c ∷ []) e = absurd (omega (arith, e))
+five (a ∷ b ∷ c ∷ d ∷ []) e = absurd (omega (arith, e))
+five (a ∷ b ∷ c ∷ d ∷ x ∷ []) e = refl
+five (a ∷ b ∷ c ∷ d ∷ x ∷ y ∷ rest) e = absurd (omega (arith, e))

@@ -1,0 +1,15 @@
+pub mod CanonicalDecimals
+pub mod WrittenNumbers
+pub mod OneForm
+pub mod RecordFacts
+pub mod FiveColumns
+pub mod NameTests
+pub mod Ranges
+pub mod SaidBy
+pub mod DraftRows
+pub mod FirstFaults
+pub mod SheetRows
+pub mod OneAnswer
+pub mod TextRows
+pub mod TextLengths
+pub mod TextAgain

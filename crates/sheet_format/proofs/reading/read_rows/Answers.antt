@@ -1,0 +1,67 @@
+use Rattle.std.proofs.Common.{◌∙◌, ◌+◌, ◌∷◌, Bor, List, ℕ, Some, refl, subst, inl, inr, arith, length}
+use Rattle.csv.specs.Reading.{default_config, records_from, strip_bom}
+use Rattle.csv.specs.Records.{fields_of}
+use Rattle.csv.proofs.ReadFacts.{rows-end}
+use Rattle.sheet_format.specs.Rows.{records_of}
+use Rattle.sheet_format.proofs.FirstFaults.{HasRead, read-begin, read-end, read-fault, read-more, read-whole}
+use Rattle.sheet_format.proofs.RecordFacts.{records-end, records-step, row-read}
+use Rattle.sheet_format.proofs.reading.read_rows.Goals as goal
+
+pub rows-init : goal.rows-init
+rows-init c =
+    let fr = c.from_reader-reader.ensures in
+    let e = c.flexible.ensures in
+    let h = c.has_headers.ensures in
+    rw (c.new-draft.ensures, fr.state) (
+      rw (e, h) at fr.trim ∙ c.new.ensures.trim,
+      inr (inr (rw (e, h) at fr.has_headers, fr.headers)),
+      rw (e, h) at fr.config ∙ c.new.ensures.config,
+      refl,
+      strip_bom c.args.bytes.now,
+      fr.source,
+      length (strip_bom c.args.bytes.now) + 1,
+      omega arith,
+      read-begin (records_of c.args.bytes.now),
+    )
+
+pub rows-preserved : goal.rows-preserved
+rows-preserved c =
+    let (trim, ready, config, well, y, source, n, room, read) = c.rows.invariant in
+    let got = rw c.if-not-found.false at (c.in-Ok.ensures.reads trim ready) in
+    let row = fields_of c.read_byte_record.new.row in
+    let (z, at_z, next) = row-read (λ (b : Bor (List ℕ)). Some b.now) c.rows.reader c.read_byte_record.new.self row y config source got in
+    let (m, more, room2, well2) = records-step n c.rows.reader.state y (row, c.read_byte_record.new.self.state, z) next well room in
+    let rest = records_from default_config m c.read_byte_record.new.self.state z in
+    let here = subst (HasRead (records_of c.args.bytes.now) c.rows.draft) {y = row ∷ rest} more read in
+    let after = read-more (records_of c.args.bytes.now) c.rows.draft c.take_row.new.self row rest here c.in-Ok-take_row.ensures.faultless c.in-Ok-take_row.ensures.taken in
+    (got.3 ∙ trim, inl (c.in-Ok.ensures.ready trim), got.2 ∙ config, well2, z, at_z, m, room2, after)
+
+pub returns-in-Err-Fault-clause-fault : goal.returns-in-Err-Fault-clause-fault
+returns-in-Err-Fault-clause-fault c =
+    let (trim, ready, config, well, y, source, n, room, read) = c.rows.invariant in
+    let got = rw c.if-not-found.false at (c.in-Ok.ensures.reads trim ready) in
+    let row = fields_of c.read_byte_record.new.row in
+    let (z, at_z, next) = row-read (λ (b : Bor (List ℕ)). Some b.now) c.rows.reader c.read_byte_record.new.self row y config source got in
+    let (m, more, room2, well2) = records-step n c.rows.reader.state y (row, c.read_byte_record.new.self.state, z) next well room in
+    let rest = records_from default_config m c.read_byte_record.new.self.state z in
+    let here = subst (HasRead (records_of c.args.bytes.now) c.rows.draft) {y = row ∷ rest} more read in
+    let refused = rw c.in-Err-Fault.is at c.take_row.ensures.err in
+    let found = read-fault (records_of c.args.bytes.now) c.rows.draft row rest c.in-Err-Fault.kind here (rw c.in-Err-Fault.field-0-is at refused) in
+    rw (c.taken-number.ensures, c.in-Err-Fault.kind-is) (c.requires, _, refl, found)
+
+pub returns-in-None-clause-fault : goal.returns-in-None-clause-fault
+returns-in-None-clause-fault c =
+    let (trim, ready, config, well, y, source, n, room, read) = c.rows.invariant in
+    let got = rw c.if-not-found.true at (c.in-Ok.ensures.reads trim ready) in
+    let end = rows-end (λ (b : Bor (List ℕ)). Some b.now) c.rows.reader c.read_byte_record.new.self (fields_of c.read_byte_record.new.row) default_config y config source got in
+    let here = subst (HasRead (records_of c.args.bytes.now) c.rows.draft) (records-end n c.rows.reader.state y end) read in
+    let found = read-end (records_of c.args.bytes.now) c.rows.draft here c.in-None.ensures.none in
+    rw c.taken-number.ensures (c.requires, _, refl, found)
+
+pub returns-in-Some-clause-sheet : goal.returns-in-Some-clause-sheet
+returns-in-Some-clause-sheet c =
+    let (trim, ready, config, well, y, source, n, room, read) = c.rows.invariant in
+    let got = rw c.if-not-found.true at (c.in-Ok.ensures.reads trim ready) in
+    let end = rows-end (λ (b : Bor (List ℕ)). Some b.now) c.rows.reader c.read_byte_record.new.self (fields_of c.read_byte_record.new.row) default_config y config source got in
+    let here = subst (HasRead (records_of c.args.bytes.now) c.rows.draft) (records-end n c.rows.reader.state y end) read in
+    read-whole c.args.bytes.now c.rows.draft c.in-Some.sheet c.requires here c.in-Some.ensures.some c.in-Some.ensures.valid

@@ -1,0 +1,14 @@
+use Rattle.std.proofs.Common.{◌≡◌, ◌<◌, ℕ, List, Some, false, length}
+use Rattle.csv.specs.Machine.{ends_at_end}
+use Rattle.csv.specs.Reading.{Ready, default_config, records_from, source_of}
+use Rattle.csv.specs.declared.reader.Trim.TheVariants as trim
+use Rattle.sheet_format.specs.Rows.{records_of}
+use Rattle.sheet_format.proofs.FirstFaults.{HasRead}
+use Rattle.sheet_format.proofs.reading.read_rows.Given as goal
+
+abbrev pub invariant-rows : goal.invariant-rows
+invariant-rows l = (l.reader.trim ≡ trim.None) × Ready l.reader × (l.reader.config ≡ default_config)
+    × (ends_at_end l.reader.state ≡ false)
+    × (y : List ℕ) × (source_of (λ s. Some s.now) l.reader ≡ Some y)
+    × (n : ℕ) × (length y < n)
+    × HasRead (records_of l.fn.bytes) l.draft (records_from default_config n l.reader.state y)

@@ -1,0 +1,107 @@
+-- What the rows that were read so far say of the sheet, and what one more row adds.
+use Rattle.std.specs.Prelude.{◌≡◌, ℕ, ◌==◌, if◌then◌else◌, List, [], ◌∷◌, ◌++◌, length, Option, Some, None, unwrap_or}
+use Rattle.adjust_kernel.specs.Sheets.{SheetValue}
+use Rattle.adjust_kernel.specs.declared.row.Direction.{Direction}
+use Rattle.adjust_kernel.specs.declared.row.Orientation.{Orientation}
+use Rattle.adjust_kernel.specs.declared.row.Row.{Row}
+use Rattle.sheet_format.specs.Columns.{Fields, columns_of}
+use Rattle.sheet_format.specs.Faults.{Before}
+use Rattle.sheet_format.specs.Kinds.{kind_of}
+use Rattle.sheet_format.specs.Numbers.{natural_of, value_of}
+use Rattle.sheet_format.specs.Rows.{body_rows, sheet_fields}
+use Rattle.sheet_format.specs.Versions.{version_of}
+use Rattle.sheet_format.specs.declared.draft.Refusal.{Refusal}
+use Rattle.sheet_format.specs.declared.draft.Refusal.TheVariants.{Fault, Memory}
+use Rattle.sheet_format.specs.declared.entry.Header.{Header}
+use Rattle.sheet_format.specs.declared.fault.RowKind.{RowKind}
+use Rattle.sheet_format.specs.declared.kind.Kind.{Kind}
+use Rattle.sheet_format.specs.declared.kind.Kind.TheVariants as kind
+use Rattle.sheet_format.specs.declared.version.Version.{Version}
+use Rattle.sheet_format.specs.declared.version.Version.TheVariants as version
+
+-- the first row, if it was read, and the entries of the others
+pub record DraftValue : Type 0 where
+  pub header : Option Header
+  pub directions : List Direction
+  pub orientations : List Orientation
+  pub rows : List Row
+
+-- the draft before any row
+abbrev pub blank : DraftValue
+blank = record { header = None; directions = []; orientations = []; rows = [] }
+
+-- the rows that a draft stands for
+abbrev pub header_rows : Option Header → List (List (List ℕ))
+header_rows None = []
+header_rows (Some h) = sheet_fields h.version h.name h.denominator ∷ []
+
+abbrev pub rows_of_draft : DraftValue → List (List (List ℕ))
+rows_of_draft d = header_rows d.header ++ body_rows d.directions d.orientations d.rows
+
+-- a sheet has the parts of a draft
+abbrev pub sheet_of : Header → DraftValue → SheetValue
+sheet_of h d = record { name = h.name; denominator = h.denominator; directions = d.directions; orientations = d.orientations; rows = d.rows }
+
+abbrev pub HasParts : Option Header → DraftValue → SheetValue → Type 0
+HasParts None d s = ⊥
+HasParts (Some h) d s = s ≡ sheet_of h d
+
+abbrev pub IsOfDraft : DraftValue → SheetValue → Type 0
+IsOfDraft d s = HasParts d.header d s
+
+-- the kind of its last row
+abbrev pub last_of_header : Option Header → Option Kind
+last_of_header None = None
+last_of_header (Some h) = Some kind.Sheet
+
+abbrev pub last_of_draft : DraftValue → Option Kind
+last_of_draft d =
+    if length d.rows == 0
+    then (if length d.orientations == 0
+    then (if length d.directions == 0 then last_of_header d.header else Some kind.Target)
+    else Some kind.Set)
+    else Some kind.Obs
+
+abbrev pub version_of_header : Option Header → Version
+version_of_header None = version.One
+version_of_header (Some h) = h.version
+
+-- what its rows say of the next
+abbrev pub said_by_draft : DraftValue → Before
+said_by_draft d = record { last = last_of_draft d; version = version_of_header d.header; targets = length d.directions; sets = length d.orientations; obs = length d.rows }
+
+-- what the columns of a row without a fault state
+abbrev pub header_of : Fields → Header
+header_of c = record { version = unwrap_or (version_of c.number) version.One; name = c.name; denominator = natural_of (value_of c.value) }
+
+abbrev pub direction_of : Fields → Direction
+direction_of c = record { name = c.name; value = value_of c.value }
+
+abbrev pub orientation_of : Fields → Orientation
+orientation_of c = record { set = natural_of (value_of c.number); value = value_of c.value }
+
+abbrev pub obs_row_of : Fields → Row
+obs_row_of c = record { set = natural_of (value_of c.number); target = c.name; value = natural_of (value_of c.value); turn = value_of c.turn }
+
+-- the draft with the entry of one more row
+abbrev pub with_columns : Kind → DraftValue → Fields → DraftValue
+with_columns kind.Sheet d c = record { header = Some (header_of c); directions = d.directions; orientations = d.orientations; rows = d.rows }
+with_columns kind.Target d c = record { header = d.header; directions = d.directions ++ (direction_of c ∷ []); orientations = d.orientations; rows = d.rows }
+with_columns kind.Set d c = record { header = d.header; directions = d.directions; orientations = d.orientations ++ (orientation_of c ∷ []); rows = d.rows }
+with_columns kind.Obs d c = record { header = d.header; directions = d.directions; orientations = d.orientations; rows = d.rows ++ (obs_row_of c ∷ []) }
+
+abbrev pub with_kind : Option Kind → DraftValue → Fields → DraftValue
+with_kind None d c = d
+with_kind (Some k) d c = with_columns k d c
+
+abbrev pub with_fields : DraftValue → Option Fields → DraftValue
+with_fields d None = d
+with_fields d (Some c) = with_kind (kind_of c.kind) d c
+
+unfoldable pub with_row : DraftValue → List (List ℕ) → DraftValue
+with_row d row = with_fields d (columns_of row)
+
+-- why a row was not taken: its fault, or want of memory
+abbrev pub ExplainsRow : Refusal → Option RowKind → Type 0
+ExplainsRow (Fault k) found = found ≡ Some k
+ExplainsRow Memory found = Unit {0}

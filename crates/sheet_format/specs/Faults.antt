@@ -1,0 +1,182 @@
+-- The faults of a sheet: of a row by the rows before it, and the first of all.
+use Rattle.std.specs.Prelude.{◌≡◌, ℕ, ◌+◌, ◌<◌, ◌≤◌, Bool, ◌&&◌, ◌==◌, if◌then◌else◌, nat_lt, nat_le, List, [], ◌∷◌, length, take, drop, ℤ, pos, Option, Some, None, unwrap_or, ◌-◌, ◌⊎◌}
+use Rattle.std.specs.Int.{is_in_range}
+use Rattle.std.specs.List.{count_by, list_all}
+use Rattle.std.specs.Option.{option_or}
+use Rattle.adjust_kernel.specs.Sheets.{SheetValue}
+use Rattle.adjust_kernel.specs.declared.limits.TheConstants.{LARGEST_SET_NUMBER, LARGEST_TURN, LONGEST_NAME, MOST_ROWS, MOST_SETS, MOST_TARGETS, TURN}
+use Rattle.adjust_kernel.specs.declared.name.TheConstants.{FIRST_PRINTABLE, LAST_PRINTABLE}
+use Rattle.sheet_format.specs.Columns.{Fields, columns_of}
+use Rattle.sheet_format.specs.Kinds.{kind_of, may_end, may_follow, names_kind}
+use Rattle.sheet_format.specs.Numbers.{is_at_most, is_canonical, is_within, value_of}
+use Rattle.sheet_format.specs.Rows.{IsSheetText, records_of}
+use Rattle.sheet_format.specs.Versions.{largest_angle, largest_denominator, version_of}
+use Rattle.sheet_format.specs.declared.fault.RowKind.{RowKind}
+use Rattle.sheet_format.specs.declared.fault.RowKind.TheVariants as fault
+use Rattle.sheet_format.specs.declared.fault.SheetFault.{SheetFault}
+use Rattle.sheet_format.specs.declared.fault.SheetFault.TheVariants.{TooLong, Row, Memory}
+use Rattle.sheet_format.specs.declared.kind.Kind.{Kind}
+use Rattle.sheet_format.specs.declared.kind.Kind.TheVariants as kind
+use Rattle.sheet_format.specs.declared.reading.TheConstants.{LONGEST_SHEET}
+use Rattle.sheet_format.specs.declared.version.Version.{Version}
+use Rattle.sheet_format.specs.declared.version.Version.TheVariants as version
+
+-- a fault, where what is asked for is not so
+abbrev pub unless : Bool → RowKind → Option RowKind
+unless met fault = if met then None else Some fault
+
+-- the first fault of a list of tests
+abbrev pub first_fault : List (Option RowKind) → Option RowKind
+first_fault [] = None
+first_fault (test ∷ later) = option_or test (first_fault later)
+
+abbrev pub is_empty : List ℕ → Bool
+is_empty field = length field == 0
+
+-- whether a field is a name: 1 to 16 bytes, each from the blank to the tilde
+abbrev pub is_name : List ℕ → Bool
+is_name field = (nat_le 1 (length field) && nat_le (length field) LONGEST_NAME) && list_all (λ b. is_in_range FIRST_PRINTABLE LAST_PRINTABLE b) field
+
+-- whether a number may be that of a set
+abbrev pub is_set_number : ℤ → Bool
+is_set_number number = is_within (pos 1) (pos LARGEST_SET_NUMBER) number
+
+-- whether a number is a direction on the circle
+abbrev pub is_circle_value : ℤ → Bool
+is_circle_value number = is_within (pos 0) (pos (TURN - 1)) number
+
+-- The tests of a row's columns, in order: the columns that are to be empty, the name, the form of all its numbers,
+-- and then their ranges.
+
+-- the first row, whose version was read
+abbrev pub versioned_fault : Version → Fields → Option RowKind
+versioned_fault v c = first_fault (
+    unless (is_empty c.turn) fault.NotEmpty
+    ∷ unless (is_name c.name) fault.Name
+    ∷ unless (is_canonical c.value) fault.Number
+    ∷ unless (is_within (pos 1) (pos (largest_denominator v)) (value_of c.value)) fault.Range
+    ∷ [])
+
+abbrev pub by_version : Option Version → Fields → Option RowKind
+by_version None c = Some fault.Version
+by_version (Some v) c = versioned_fault v c
+
+-- the first row
+abbrev pub sheet_row_fault : Fields → Option RowKind
+sheet_row_fault c = by_version (version_of c.number) c
+
+-- the row of a target
+abbrev pub target_fault : Version → Fields → Option RowKind
+target_fault v c = first_fault (
+    unless (is_empty c.number && is_empty c.turn) fault.NotEmpty
+    ∷ unless (is_name c.name) fault.Name
+    ∷ unless (is_canonical c.value) fault.Number
+    ∷ unless (is_at_most (largest_angle v) (value_of c.value)) fault.Range
+    ∷ [])
+
+-- the row of a set
+abbrev pub set_fault : Version → Fields → Option RowKind
+set_fault v c = first_fault (
+    unless (is_empty c.name && is_empty c.turn) fault.NotEmpty
+    ∷ unless (is_canonical c.number && is_canonical c.value) fault.Number
+    ∷ unless (is_set_number (value_of c.number) && is_at_most (largest_angle v) (value_of c.value)) fault.Range
+    ∷ [])
+
+-- the row of an observation
+abbrev pub obs_fault : Fields → Option RowKind
+obs_fault c = first_fault (
+    unless (is_name c.name) fault.Name
+    ∷ unless (is_canonical c.number && is_canonical c.value && is_canonical c.turn) fault.Number
+    ∷ unless (is_set_number (value_of c.number) && is_circle_value (value_of c.value) && is_at_most LARGEST_TURN (value_of c.turn)) fault.Range
+    ∷ [])
+
+-- what the rows before a row say of it: the kind of the last of them, the version of the sheet, and how many of each
+-- kind they are
+pub record Before : Type 0 where
+  pub last : Option Kind
+  pub version : Version
+  pub targets : ℕ
+  pub sets : ℕ
+  pub obs : ℕ
+
+-- the first field of a row
+abbrev pub first_field : List (List ℕ) → List ℕ
+first_field [] = []
+first_field (field ∷ others) = field
+
+-- the kind of the last of these rows, or where there is none, this kind
+abbrev pub last_kind : Option Kind → List (List (List ℕ)) → Option Kind
+last_kind kind [] = kind
+last_kind kind (row ∷ others) = last_kind (kind_of (first_field row)) others
+
+-- the version that the first of these rows names
+abbrev pub version_of_row : Option Fields → Version
+version_of_row None = version.One
+version_of_row (Some c) = unwrap_or (version_of c.number) version.One
+
+abbrev pub version_of_rows : List (List (List ℕ)) → Version
+version_of_rows [] = version.One
+version_of_rows (first ∷ others) = version_of_row (columns_of first)
+
+-- how many of these rows are of a kind
+abbrev pub count_of : Kind → List (List (List ℕ)) → ℕ
+count_of k rows = count_by (λ row. names_kind k (first_field row)) rows
+
+abbrev pub said_by : List (List (List ℕ)) → Before
+said_by rows = record { last = last_kind None rows; version = version_of_rows rows; targets = count_of kind.Target rows; sets = count_of kind.Set rows; obs = count_of kind.Obs rows }
+
+-- the fault of the columns of a row of this kind, and then too many of its kind
+abbrev pub columns_fault : Before → Kind → Fields → Option RowKind
+columns_fault b kind.Sheet c = sheet_row_fault c
+columns_fault b kind.Target c = option_or (target_fault b.version c) (unless (nat_lt b.targets MOST_TARGETS) fault.TooMany)
+columns_fault b kind.Set c = option_or (set_fault b.version c) (unless (nat_lt b.sets MOST_SETS) fault.TooMany)
+columns_fault b kind.Obs c = option_or (obs_fault c) (unless (nat_lt b.obs MOST_ROWS) fault.TooMany)
+
+abbrev pub kind_fault : Before → Option Kind → Fields → Option RowKind
+kind_fault b None c = Some fault.Kind
+kind_fault b (Some k) c = option_or (unless (may_follow b.last k) fault.Kind) (columns_fault b k c)
+
+abbrev pub fields_fault : Before → Option Fields → Option RowKind
+fields_fault b None = Some fault.Fields
+fields_fault b (Some c) = kind_fault b (kind_of c.kind) c
+
+-- the fault of a row, if it has one, by what the rows before it say: the number of its columns, its kind, and then its
+-- columns
+unfoldable pub row_fault : Before → List (List ℕ) → Option RowKind
+row_fault b row = fields_fault b (columns_of row)
+
+-- the fault at a place, by the rows before it and those from there on: of the row there, or of the end
+unfoldable pub fault_between : List (List (List ℕ)) → List (List (List ℕ)) → Option RowKind
+fault_between before [] = unless (may_end (last_kind None before)) fault.Unfinished
+fault_between before (row ∷ others) = row_fault (said_by before) row
+
+-- the fault at a place of the rows, counted from 0
+abbrev pub fault_at : List (List (List ℕ)) → ℕ → Option RowKind
+fault_at rows place = fault_between (take place rows) (drop place rows)
+
+-- no place before this one has a fault
+abbrev pub NoFaultBefore : List (List (List ℕ)) → ℕ → Type 0
+NoFaultBefore rows place = (earlier : ℕ) → earlier < place → fault_at rows earlier ≡ None
+
+-- a place has this fault, and none before it has one
+pub record IsFirstFault (rows : List (List (List ℕ))) (place : ℕ) (kind : RowKind) : Type 0 where
+  pub here : fault_at rows place ≡ Some kind
+  pub before : NoFaultBefore rows place
+
+-- The fault of a sheet's bytes: too many of them; else the first row with a fault, counted from 1, where the row after
+-- the last is `Unfinished` if no observation was the last. Want of memory is no fault of the bytes.
+abbrev pub IsSheetFault : List ℕ → SheetFault → Type 0
+IsSheetFault bytes TooLong = LONGEST_SHEET < length bytes
+IsSheetFault bytes (Row number kind) = (length bytes ≤ LONGEST_SHEET) × (place : ℕ) × (number ≡ place + 1) × IsFirstFault (records_of bytes) place kind
+IsSheetFault bytes Memory = ⊥
+
+-- a refusal is the fault of the bytes, or want of memory
+abbrev pub IsFaultOrMemory : List ℕ → SheetFault → Type 0
+IsFaultOrMemory bytes TooLong = IsSheetFault bytes TooLong
+IsFaultOrMemory bytes (Row number kind) = IsSheetFault bytes (Row number kind)
+IsFaultOrMemory bytes Memory = Unit {0}
+
+-- Bytes stand for a sheet or have a fault, and never both.
+pub record IsSheetOrFault (bytes : List ℕ) : Type 0 where
+  pub either : ((s : SheetValue) × IsSheetText bytes s) ⊎ ((f : SheetFault) × IsSheetFault bytes f)
+  pub never_both : (s : SheetValue) (f : SheetFault) → IsSheetText bytes s → IsSheetFault bytes f → ⊥

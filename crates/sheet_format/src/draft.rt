@@ -1,0 +1,216 @@
+//! The sheet as far as its rows were read.
+//!
+//! A draft takes the rows one by one and keeps the entry of each. What may come next follows from the entries that it
+//! has, so it keeps no other state.
+
+ghost use Rattle.std.specs.Prelude.{◌≡◌, ◌≤◌, if◌then◌else◌, length, None, Some, IfErr, IfNone, IfSome, OnOk};
+ghost use Rattle.adjust_kernel.specs.Sheets.{IsSheet, SheetValue};
+ghost use Rattle.csv.specs.Records.{fields_of};
+ghost use Rattle.sheet_format.specs.Columns.{columns_view};
+ghost use Rattle.sheet_format.specs.Drafts as spec;
+ghost use Rattle.sheet_format.specs.Faults as faults;
+ghost use Rattle.sheet_format.specs.declared.kind.Kind.TheVariants as kind;
+
+use crate::columns::Columns;
+use crate::entry::{Header, direction_of, header_of, obs_row_of, orientation_of};
+use crate::fault::RowKind;
+use crate::kind::Kind;
+use crate::version::Version;
+use adjust_kernel::{Direction, MOST_ROWS, MOST_SETS, MOST_TARGETS, Orientation, Row, Sheet};
+use csv::ByteRecord;
+use std::alloc::Global;
+use std::marker::Model;
+
+/// Why a row was not taken.
+#[derive(Drop)]
+pub(crate) enum Refusal {
+    Fault(RowKind),
+    Memory,
+}
+
+/// The entries of the rows that were read so far.
+#[derive(Drop)]
+pub(crate) struct Draft {
+    header: Option<Header>,
+    directions: Vec<Direction>,
+    orientations: Vec<Orientation>,
+    rows: Vec<Row>,
+}
+
+impl Model for Draft {
+    ghost use Rattle.std.specs.Prelude.{◌≤◌, length};
+    ghost use Rattle.adjust_kernel.specs.declared.limits.TheConstants.{MOST_ROWS, MOST_SETS, MOST_TARGETS};
+    ghost use Rattle.sheet_format.specs.Drafts as spec;
+
+    ghost Value = { spec.DraftValue };
+
+    ghost view = { λ d. record { header = d.header; directions = d.directions.items; orientations = d.orientations.items; rows = d.rows.items } };
+
+    ghost invariant = { λ d. (length d.directions.items ≤ MOST_TARGETS) × (length d.orientations.items ≤ MOST_SETS) × (length d.rows.items ≤ MOST_ROWS) };
+}
+
+impl Draft {
+    /// The draft before any row.
+    pub(crate) fn new(alloc: Global) -> Draft
+        ensures { result ≡ spec.blank }
+    {
+        Draft {
+            header: None,
+            directions: Vec::new(alloc),
+            orientations: Vec::new(alloc),
+            rows: Vec::new(alloc),
+        }
+    }
+
+    /// The kind of the last row.
+    fn last(&self) -> Option<Kind>
+        ensures { result ≡ spec.last_of_draft self.now }
+    {
+        if !self.rows.is_empty() {
+            Some(Kind::Obs)
+        } else if !self.orientations.is_empty() {
+            Some(Kind::Set)
+        } else if !self.directions.is_empty() {
+            Some(Kind::Target)
+        } else {
+            self.header.map(|_| Kind::Sheet)
+        }
+    }
+
+    /// The version that the first row named.
+    fn version(&self) -> Version
+        ensures { result ≡ spec.version_of_header self.now.header }
+    {
+        match self.header {
+            Some(header) => header.version,
+            None => Version::One,
+        }
+    }
+
+    /// How many rows were taken.
+    pub(crate) fn taken(&self) -> u32
+        ensures { result ≡ length (spec.rows_of_draft self.now) }
+    {
+        let headers = if self.header.is_some() { 1 } else { 0 };
+        headers
+            + self.directions.len() as u32
+            + self.orientations.len() as u32
+            + self.rows.len() as u32
+    }
+
+    /// The sheet of these rows, if it has all parts of one.
+    pub(crate) fn finish(self) -> Option<Sheet>
+        ensures some { IfSome result (λ sheet. spec.IsOfDraft self sheet) }
+        ensures valid { IfSome result IsSheet }
+        ensures none { IfNone result ((sheet : SheetValue) → spec.IsOfDraft self sheet → IsSheet sheet → ⊥) }
+    {
+        let Draft {
+            header,
+            directions,
+            orientations,
+            rows,
+        } = self;
+        match header {
+            Some(header) => Sheet::new(
+                header.name,
+                header.denominator,
+                directions,
+                orientations,
+                rows,
+            ),
+            None => None,
+        }
+    }
+
+    /// Takes the next row.
+    #[tactic(auto, unfolding(crate::specs::Faults::row_fault, crate::specs::Drafts::with_row))]
+    pub(crate) fn take_row(&mut self, row: &ByteRecord) -> Result<(), Refusal>
+        ensures faultless { OnOk result (faults.row_fault (spec.said_by_draft self.old) (fields_of row.now) ≡ None) }
+        ensures taken { OnOk result (self.new ≡ spec.with_row self.old (fields_of row.now)) }
+        ensures err { IfErr result (λ e. spec.ExplainsRow e (faults.row_fault (spec.said_by_draft self.old) (fields_of row.now))) }
+    {
+        let Some(columns) = Columns::of(row) else {
+            return Err(Refusal::Fault(RowKind::Fields));
+        };
+        let Some(kind) = Kind::of(columns.kind) else {
+            return Err(Refusal::Fault(RowKind::Kind));
+        };
+        if !kind.may_follow(self.last()) {
+            return Err(Refusal::Fault(RowKind::Kind));
+        }
+        match kind {
+            Kind::Sheet => self.take_header(&columns),
+            Kind::Target => self.take_target(&columns),
+            Kind::Set => self.take_set(&columns),
+            Kind::Obs => self.take_obs(&columns),
+        }
+    }
+
+    fn take_header(&mut self, columns: &Columns<'_>) -> Result<(), Refusal>
+        ensures faultless { OnOk result (faults.columns_fault (spec.said_by_draft self.old) kind.Sheet (columns_view columns.now) ≡ None) }
+        ensures taken { OnOk result (self.new ≡ spec.with_columns kind.Sheet self.old (columns_view columns.now)) }
+        ensures err { IfErr result (λ e. spec.ExplainsRow e (faults.columns_fault (spec.said_by_draft self.old) kind.Sheet (columns_view columns.now))) }
+    {
+        match header_of(columns) {
+            Ok(header) => {
+                self.header = Some(header);
+                Ok(())
+            }
+            Err(kind) => Err(Refusal::Fault(kind)),
+        }
+    }
+
+    fn take_target(&mut self, columns: &Columns<'_>) -> Result<(), Refusal>
+        ensures faultless { OnOk result (faults.columns_fault (spec.said_by_draft self.old) kind.Target (columns_view columns.now) ≡ None) }
+        ensures taken { OnOk result (self.new ≡ spec.with_columns kind.Target self.old (columns_view columns.now)) }
+        ensures err { IfErr result (λ e. spec.ExplainsRow e (faults.columns_fault (spec.said_by_draft self.old) kind.Target (columns_view columns.now))) }
+    {
+        let direction = match direction_of(columns, self.version()) {
+            Ok(direction) => direction,
+            Err(kind) => return Err(Refusal::Fault(kind)),
+        };
+        if self.directions.len() >= MOST_TARGETS {
+            return Err(Refusal::Fault(RowKind::TooMany));
+        }
+        match self.directions.push(direction) {
+            Ok(()) => Ok(()),
+            Err(_) => Err(Refusal::Memory),
+        }
+    }
+
+    fn take_set(&mut self, columns: &Columns<'_>) -> Result<(), Refusal>
+        ensures faultless { OnOk result (faults.columns_fault (spec.said_by_draft self.old) kind.Set (columns_view columns.now) ≡ None) }
+        ensures taken { OnOk result (self.new ≡ spec.with_columns kind.Set self.old (columns_view columns.now)) }
+        ensures err { IfErr result (λ e. spec.ExplainsRow e (faults.columns_fault (spec.said_by_draft self.old) kind.Set (columns_view columns.now))) }
+    {
+        let orientation = match orientation_of(columns, self.version()) {
+            Ok(orientation) => orientation,
+            Err(kind) => return Err(Refusal::Fault(kind)),
+        };
+        if self.orientations.len() >= MOST_SETS {
+            return Err(Refusal::Fault(RowKind::TooMany));
+        }
+        match self.orientations.push(orientation) {
+            Ok(()) => Ok(()),
+            Err(_) => Err(Refusal::Memory),
+        }
+    }
+
+    fn take_obs(&mut self, columns: &Columns<'_>) -> Result<(), Refusal>
+        ensures faultless { OnOk result (faults.columns_fault (spec.said_by_draft self.old) kind.Obs (columns_view columns.now) ≡ None) }
+        ensures taken { OnOk result (self.new ≡ spec.with_columns kind.Obs self.old (columns_view columns.now)) }
+        ensures err { IfErr result (λ e. spec.ExplainsRow e (faults.columns_fault (spec.said_by_draft self.old) kind.Obs (columns_view columns.now))) }
+    {
+        let row = match obs_row_of(columns) {
+            Ok(row) => row,
+            Err(kind) => return Err(Refusal::Fault(kind)),
+        };
+        if self.rows.len() >= MOST_ROWS {
+            return Err(Refusal::Fault(RowKind::TooMany));
+        }
+        match self.rows.push(row) {
+            Ok(()) => Ok(()),
+            Err(_) => Err(Refusal::Memory),
+        }
+    }
+}

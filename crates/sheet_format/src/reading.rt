@@ -1,0 +1,69 @@
+//! Bytes as a sheet.
+//!
+//! The rows are read one by one into one record, which is used again, so that the memory grows with the sheet alone.
+//! The first row with a fault ends the reading.
+
+ghost use Rattle.std.specs.Prelude.{◌≡◌, ◌≤◌, ◌⊎◌, length, Err, IfErr, IfOk, Ok};
+ghost use Rattle.adjust_kernel.specs.Sheets.{SheetValue};
+ghost use Rattle.sheet_format.specs.Faults.{IsFaultOrMemory, IsSheetFault, IsSheetOrFault};
+ghost use Rattle.sheet_format.specs.Rows.{IsSheetText};
+ghost use Rattle.sheet_format.specs.declared.fault.SheetFault.TheVariants.{Memory};
+
+use crate::draft::{Draft, Refusal};
+use crate::fault::{RowKind, SheetFault};
+use adjust_kernel::Sheet;
+use csv::{ByteRecord, ReaderBuilder};
+use std::alloc::Global;
+
+/// The most bytes of a sheet.
+pub const LONGEST_SHEET: usize = 1_048_576;
+
+/// The sheet that these bytes stand for, or their first fault.
+///
+/// Memory that is refused is answered as such, in place of either.
+pub fn read_sheet(alloc: Global, bytes: &[u8]) -> Result<Sheet, SheetFault>
+    ensures sheet { IfOk result (λ sheet. IsSheetText bytes.now sheet) }
+    ensures fault { IfErr result (λ fault. IsFaultOrMemory bytes.now fault) }
+
+    // Bytes that stand for a sheet, and bytes with a fault, get no other answer but want of memory.
+    ensures stands { (sheet : SheetValue) → IsSheetText bytes.now sheet → (result ≡ Ok sheet) ⊎ (result ≡ Err Memory) }
+    ensures refused { (fault : SheetFault) → IsSheetFault bytes.now fault → (result ≡ Err fault) ⊎ (result ≡ Err Memory) }
+    ensures one { IsSheetOrFault bytes.now }
+{
+    if bytes.len() > LONGEST_SHEET {
+        return Err(SheetFault::TooLong);
+    }
+    read_rows(alloc, bytes)
+}
+
+// The sheet of bytes that are not too many, or the fault of their rows.
+fn read_rows(alloc: Global, bytes: &[u8]) -> Result<Sheet, SheetFault>
+    requires { length bytes.now ≤ LONGEST_SHEET }
+    ensures sheet { IfOk result (λ sheet. IsSheetText bytes.now sheet) }
+    ensures fault { IfErr result (λ fault. IsFaultOrMemory bytes.now fault) }
+{
+    let mut reader = ReaderBuilder::new()
+        .has_headers(false)
+        .flexible(true)
+        .from_reader(alloc, bytes);
+    let mut draft = Draft::new(alloc);
+    let mut row = ByteRecord::new(alloc);
+    'rows: for _ in 0..u64::MAX {
+        let Ok(found) = reader.read_byte_record(&mut row) else {
+            return Err(SheetFault::Memory);
+        };
+        let number = draft.taken() + 1;
+        if !found {
+            match draft.finish() {
+                Some(sheet) => return Ok(sheet),
+                None => return Err(SheetFault::Row(number, RowKind::Unfinished)),
+            }
+        }
+        match draft.take_row(&row) {
+            Ok(()) => {}
+            Err(Refusal::Fault(kind)) => return Err(SheetFault::Row(number, kind)),
+            Err(Refusal::Memory) => return Err(SheetFault::Memory),
+        }
+    }
+    Err(SheetFault::Memory)
+}

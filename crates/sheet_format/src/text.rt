@@ -1,0 +1,194 @@
+//! The text of a sheet, made in memory.
+//!
+//! The rows go through `csv`'s writer, which puts quotes where a name asks for them.
+
+ghost use Rattle.std.specs.Prelude.{◌≡◌, [], ◌∷◌, ◌++◌, List, ℕ, map, IfErr, IfOk, OnOk};
+ghost use Rattle.adjust_kernel.specs.Sheets.{IsSheet};
+ghost use Rattle.csv.specs.Writing.{default_writer, row_text};
+ghost use Rattle.sheet_format.specs.Rows.{obs_fields, set_fields, sheet_fields, target_fields};
+ghost use Rattle.sheet_format.specs.Texts as spec;
+ghost use Rattle.sheet_format.specs.declared.fault.WriteFault.TheVariants.{Memory};
+
+use crate::fault::WriteFault;
+use crate::version::Version;
+use adjust_kernel::{Direction, Name, Orientation, Row, Sheet};
+use csv::{Writer, WriterBuilder};
+use itoa::Buffer;
+use std::alloc::Global;
+use std::io::Write;
+
+/// The text of a sheet.
+pub(crate) fn sheet_text(alloc: Global, sheet: &Sheet) -> Result<Vec<u8>, WriteFault>
+    ensures text { IfOk result (λ text. text.items ≡ spec.sheet_text sheet.now) }
+    ensures valid { IsSheet sheet.now }
+    ensures err { IfErr result (λ fault. fault ≡ Memory) }
+{
+    let mut writer = WriterBuilder::new().from_writer(Vec::new(alloc));
+    push_sheet(&mut writer, sheet)?;
+    match writer.into_inner() {
+        Ok(text) => Ok(text),
+        Err(_) => Err(WriteFault::Memory),
+    }
+}
+
+// Writes the rows of a sheet.
+fn push_sheet<W: Write + Drop>(writer: &mut Writer<W>, sheet: &Sheet) -> Result<(), WriteFault>
+    ensures ok { OnOk result ((text : List ℕ) → spec.HasWritten W.contents writer.old text
+        → spec.HasWritten W.contents writer.new (text ++ spec.sheet_text sheet.now)) }
+    ensures valid { IsSheet sheet.now }
+    ensures err { IfErr result (λ fault. fault ≡ Memory) }
+{
+    push_header(
+        writer,
+        Version::for_sheet(sheet),
+        sheet.name(),
+        sheet.denominator(),
+    )?;
+    push_targets(writer, sheet.directions())?;
+    push_sets(writer, sheet.orientations())?;
+    push_obs(writer, sheet.rows())
+}
+
+// Writes one row after those that were written.
+fn push_row<W: Write + Drop>(writer: &mut Writer<W>, fields: &[&[u8]]) -> Result<(), WriteFault>
+    ensures ok { OnOk result ((text : List ℕ) → spec.HasWritten W.contents writer.old text
+        → spec.HasWritten W.contents writer.new (text ++ row_text default_writer (map (λ f. f.now) fields.now))) }
+    ensures err { IfErr result (λ fault. fault ≡ Memory) }
+{
+    match writer.write_fields(fields) {
+        Ok(()) => Ok(()),
+        Err(_) => Err(WriteFault::Memory),
+    }
+}
+
+// Writes the first row.
+fn push_header<W: Write + Drop>(
+    writer: &mut Writer<W>,
+    version: Version,
+    name: Name,
+    denominator: u64,
+) -> Result<(), WriteFault>
+    ensures ok { OnOk result ((text : List ℕ) → spec.HasWritten W.contents writer.old text
+        → spec.HasWritten W.contents writer.new (text ++ row_text default_writer (sheet_fields version name denominator))) }
+    ensures err { IfErr result (λ fault. fault ≡ Memory) }
+{
+    let mut number = Buffer::new();
+    push_row(
+        writer,
+        &[
+            b"sheet".as_slice(),
+            version.text(),
+            name.bytes(),
+            number.format(denominator).as_bytes(),
+            b"".as_slice(),
+        ],
+    )
+}
+
+// Writes the row of a target.
+fn push_target<W: Write + Drop>(
+    writer: &mut Writer<W>,
+    direction: &Direction,
+) -> Result<(), WriteFault>
+    ensures ok { OnOk result ((text : List ℕ) → spec.HasWritten W.contents writer.old text
+        → spec.HasWritten W.contents writer.new (text ++ row_text default_writer (target_fields direction.now))) }
+    ensures err { IfErr result (λ fault. fault ≡ Memory) }
+{
+    let mut value = Buffer::new();
+    push_row(
+        writer,
+        &[
+            b"target".as_slice(),
+            b"".as_slice(),
+            direction.name.bytes(),
+            value.format(direction.value).as_bytes(),
+            b"".as_slice(),
+        ],
+    )
+}
+
+// Writes the row of a set.
+fn push_set<W: Write + Drop>(
+    writer: &mut Writer<W>,
+    orientation: &Orientation,
+) -> Result<(), WriteFault>
+    ensures ok { OnOk result ((text : List ℕ) → spec.HasWritten W.contents writer.old text
+        → spec.HasWritten W.contents writer.new (text ++ row_text default_writer (set_fields orientation.now))) }
+    ensures err { IfErr result (λ fault. fault ≡ Memory) }
+{
+    let mut number = Buffer::new();
+    let mut value = Buffer::new();
+    push_row(
+        writer,
+        &[
+            b"set".as_slice(),
+            number.format(orientation.set).as_bytes(),
+            b"".as_slice(),
+            value.format(orientation.value).as_bytes(),
+            b"".as_slice(),
+        ],
+    )
+}
+
+// Writes the row of an observation.
+fn push_obs_row<W: Write + Drop>(writer: &mut Writer<W>, row: &Row) -> Result<(), WriteFault>
+    ensures ok { OnOk result ((text : List ℕ) → spec.HasWritten W.contents writer.old text
+        → spec.HasWritten W.contents writer.new (text ++ row_text default_writer (obs_fields row.now))) }
+    ensures err { IfErr result (λ fault. fault ≡ Memory) }
+{
+    let mut number = Buffer::new();
+    let mut value = Buffer::new();
+    let mut turn = Buffer::new();
+    push_row(
+        writer,
+        &[
+            b"obs".as_slice(),
+            number.format(row.set).as_bytes(),
+            row.target.bytes(),
+            value.format(row.value).as_bytes(),
+            turn.format(row.turn).as_bytes(),
+        ],
+    )
+}
+
+// Writes the rows of the targets.
+fn push_targets<W: Write + Drop>(
+    writer: &mut Writer<W>,
+    directions: &[Direction],
+) -> Result<(), WriteFault>
+    ensures ok { OnOk result ((text : List ℕ) → spec.HasWritten W.contents writer.old text
+        → spec.HasWritten W.contents writer.new (text ++ spec.rows_text (map target_fields directions.now))) }
+    ensures err { IfErr result (λ fault. fault ≡ Memory) }
+{
+    for direction in directions {
+        push_target(writer, direction)?;
+    }
+    Ok(())
+}
+
+// Writes the rows of the sets.
+fn push_sets<W: Write + Drop>(
+    writer: &mut Writer<W>,
+    orientations: &[Orientation],
+) -> Result<(), WriteFault>
+    ensures ok { OnOk result ((text : List ℕ) → spec.HasWritten W.contents writer.old text
+        → spec.HasWritten W.contents writer.new (text ++ spec.rows_text (map set_fields orientations.now))) }
+    ensures err { IfErr result (λ fault. fault ≡ Memory) }
+{
+    for orientation in orientations {
+        push_set(writer, orientation)?;
+    }
+    Ok(())
+}
+
+// Writes the rows of the observations.
+fn push_obs<W: Write + Drop>(writer: &mut Writer<W>, rows: &[Row]) -> Result<(), WriteFault>
+    ensures ok { OnOk result ((text : List ℕ) → spec.HasWritten W.contents writer.old text
+        → spec.HasWritten W.contents writer.new (text ++ spec.rows_text (map obs_fields rows.now))) }
+    ensures err { IfErr result (λ fault. fault ≡ Memory) }
+{
+    for row in rows {
+        push_obs_row(writer, row)?;
+    }
+    Ok(())
+}
