@@ -1,25 +1,13 @@
 //! Where a line ends, and whether it has anything but blanks.
-//!
-//! A search for the end of a line looks at each byte of the file, so it goes by chunks: whether a
-//! chunk has an end is a test without a branch, which the compiler makes a few vector instructions
-//! of. Only in the chunk that has one are the bytes looked at one by one.
 
-ghost use Rattle.std.specs.Prelude.{◌≡◌, ◌≤◌, ◌<◌, ◌+◌, true, length, take, slice_index};
-ghost use Rattle.std.specs.List.{list_any};
+ghost use Rattle.std.specs.Prelude.{◌≡◌, ◌≤◌, ◌<◌, true, length, take, slice_index};
 ghost use Rattle.gsi_file.specs.Parts.{is_line_end, has_ink, HasNoEnd};
 
-/// How many bytes are tested at once.
-const CHUNK: usize = 16;
+use memchr::memchr2;
 
 const LINE_FEED: u8 = 10;
 
 const CARRIAGE_RETURN: u8 = 13;
-
-pub(crate) fn is_line_end(byte: u8) -> bool
-    ensures { result ≡ is_line_end byte }
-{
-    byte == LINE_FEED || byte == CARRIAGE_RETURN
-}
 
 /// Whether a part has a byte other than a blank.
 pub(crate) fn has_ink(part: &[u8]) -> bool
@@ -28,15 +16,10 @@ pub(crate) fn has_ink(part: &[u8]) -> bool
     part.iter().any(|b| *b != b' ')
 }
 
-/// Whether one of the bytes ends a line.
-fn has_line_end(bytes: &[u8]) -> bool
-    ensures { result ≡ list_any is_line_end bytes.now }
+fn is_line_end(byte: u8) -> bool
+    ensures { result ≡ is_line_end byte }
 {
-    let mut found = false;
-    for byte in bytes {
-        found |= is_line_end(*byte);
-    }
-    found
+    byte == LINE_FEED || byte == CARRIAGE_RETURN
 }
 
 /// The place of the first byte that ends a line, where none before `from` does, or `to` where none
@@ -48,12 +31,12 @@ pub(crate) fn line_end(bytes: &[u8], from: usize, to: usize) -> usize
     ensures plain { HasNoEnd (take result bytes.now) }
     ensures end { result < to → is_line_end (slice_index bytes.now result) ≡ true }
 {
-    let mut place = from;
-    'chunks: while to - place >= CHUNK && !has_line_end(&bytes[place..place + CHUNK]) {
-        place += CHUNK;
+    // Behind a carriage return the line feed stands at once: no search is begun for it.
+    if from < to && is_line_end(bytes[from]) {
+        return from;
     }
-    'bytes: while place < to && !is_line_end(bytes[place]) {
-        place += 1;
+    match memchr2(LINE_FEED, CARRIAGE_RETURN, &bytes[from..to]) {
+        Some(after) => from + after,
+        None => to,
     }
-    place
 }

@@ -1,17 +1,11 @@
-use Rattle.std.proofs.Common.{sym, ◌∙◌, arith}
-use Rattle.gsi_file.proofs.LineEnds.{plain_chunk, plain_more}
+use Rattle.std.proofs.Common.{rules, ◌+◌, ◌-◌, arith}
+use Rattle.gsi_file.proofs.LineEnds.{plain_past}
 use Rattle.gsi_file.proofs.line_end.line_end.Goals as goal
 
-pub chunks-preserved : goal.chunks-preserved
-chunks-preserved c = record {
-  begun = omega (arith, c.chunks.invariant.begun);
-  within = omega (arith, c.chunks-test.true);
-  plain = plain_chunk c.args.bytes.now c.chunks.place 16 c.chunks.invariant.plain (sym c.has_line_end.ensures ∙ c.if-not-has_line_end.true);
-}
+pub returns-in-Some-clause-plain : goal.returns-in-Some-clause-plain
+returns-in-Some-clause-plain c =
+    plain_past c.args.bytes.now c.args.from c.args.to c.in-Some.after (c.args.from + c.in-Some.after) (search rules) (search rules) (search rules) c.requires.known (search rules)
 
-pub bytes-preserved : goal.bytes-preserved
-bytes-preserved c = record {
-  begun = omega (arith, c.bytes.invariant.begun);
-  within = omega (arith, c.bytes-test.true);
-  plain = plain_more c.args.bytes.now c.bytes.place (omega (arith, c.bytes-test.true, c.requires.range)) c.bytes.invariant.plain (sym c.is_line_end.ensures ∙ c.if-not-is_line_end.true);
-}
+pub returns-in-None-clause-plain : goal.returns-in-None-clause-plain
+returns-in-None-clause-plain c =
+    plain_past c.args.bytes.now c.args.from c.args.to (c.args.to - c.args.from) c.args.to (omega (arith, c.requires.range)) (search rules) (search rules) c.requires.known (search rules)
