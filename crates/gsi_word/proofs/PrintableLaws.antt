@@ -1,8 +1,9 @@
 -- Bytes that may stand in a line: the fact and its test.
-use Rattle.std.proofs.Common.{◌≡◌, ◌∙◌, sym, ℕ, true, false, List, All}
+use Rattle.std.proofs.Common.{◌≡◌, ◌∙◌, sym, subst, ℕ, ◌≤◌, true, false, List, take, drop, take-take, All}
 use Rattle.std.specs.List.{list_all}
 use Rattle.std.proofs.lemmas.Bool.{false≢true, leb-true, le-leb, and_parts, and_from}
-use Rattle.std.proofs.lemmas.List.Elements.{All-weaker}
+use Rattle.std.proofs.lemmas.List.{take-append-drop}
+use Rattle.std.proofs.lemmas.List.Elements.{All-append, All-take, All-weaker}
 use Rattle.std.proofs.lemmas.List.Sums.{AllPass-from_list_all, list_all-from_AllPass}
 use Rattle.gsi_word.specs.Words.{IsPrintable}
 use Rattle.gsi_word.specs.Layout.{is_printable}
@@ -21,3 +22,9 @@ test_from_printable bytes h = list_all-from_AllPass is_printable bytes (All-weak
 
 pub no_printable : (b : ℕ) → is_printable b ≡ false → ¬ IsPrintable b
 no_printable b e h = false≢true (sym e ∙ true_test b h)
+
+-- The first n bytes, and those from a place among them or behind them on, are all bytes.
+pub all_of_both : (bytes : List ℕ) (n from : ℕ) → from ≤ n → All IsPrintable (take n bytes) → All IsPrintable (drop from bytes) → All IsPrintable bytes
+all_of_both bytes n from le front rest =
+    let before = subst (All IsPrintable) (take-take from n bytes le) (All-take IsPrintable from (take n bytes) front) in
+    subst (All IsPrintable) (take-append-drop from bytes) (All-append IsPrintable (take from bytes) (drop from bytes) before rest)

@@ -1,10 +1,12 @@
 //! Reading a line: is it a block, or what is its first fault?
 //!
 //! A line is looked at twice, from left to right. First all its bytes: whether each may stand in a
-//! line. This loop has no early end, so that the compiler can test many bytes at once; only a line
-//! that fails is searched for its first bad byte. Then the words: of printable bytes only the two
-//! digits, the information, the sign and the byte behind the word are left to be tested, and the
-//! content is not looked at again.
+//! line. This loop has no early end, so that the compiler can test many bytes at once. It goes over
+//! a number of bytes that fills its chunks, and then over the last chunk of the line, so that no
+//! bytes are left to be tested one by one; some are tested twice. Only a line that fails is searched
+//! for its first bad byte. Then the words: of printable bytes only the two digits, the information,
+//! the sign and the byte behind the word are left to be tested, and the content is not looked at
+//! again.
 
 ghost use Rattle.std.specs.Prelude.{◌≡◌, ◌≢◌, ◌↔◌, ◌⊎◌, ◌≤◌, ◌+◌, length, drop, replicate, All, Any, IsTrue, IfOk, IfErr, OnOk};
 ghost use Rattle.std.specs.Bool.{OnTrue, OnFalse};
@@ -19,6 +21,9 @@ use crate::block::Block;
 use crate::line_fault::LineFault;
 use crate::shape::Shape;
 use crate::word::{CONTENT, INFO, SIGN, index_of};
+
+/// How many bytes are tested together.
+const CHUNK: usize = 16;
 
 /// The first byte of a GSI-16 line.
 const STAR: u8 = b'*';
@@ -89,6 +94,17 @@ fn is_printable(byte: u8) -> bool
 
 /// Whether all bytes may stand in a line.
 fn are_printable(bytes: &[u8]) -> bool
+    ensures { IsTrue result ↔ All IsPrintable bytes.now }
+{
+    if bytes.len() < CHUNK {
+        return has_no_stray(bytes);
+    }
+    let whole = bytes.len() / CHUNK * CHUNK;
+    has_no_stray(&bytes[..whole]) && has_no_stray(&bytes[bytes.len() - CHUNK..])
+}
+
+/// The same, in one pass.
+fn has_no_stray(bytes: &[u8]) -> bool
     ensures { IsTrue result ↔ All IsPrintable bytes.now }
 {
     let mut stray = false;

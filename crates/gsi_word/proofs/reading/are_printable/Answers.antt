@@ -1,13 +1,15 @@
-use Rattle.std.proofs.Common.{◌≡◌, List, ℕ, ap, sym, ◌∙◌, not, arith}
-use Rattle.std.specs.List.{list_all}
-use Rattle.std.proofs.lemmas.List.{take_all}
-use Rattle.gsi_word.specs.Layout.{is_printable}
-use Rattle.gsi_word.proofs.PrintableLaws.{printable_from_test, test_from_printable}
+use Rattle.std.proofs.Common.{rules, ◌-◌, ◌*◌, ◌/◌, length, sym, subst, All, arith}
+use Rattle.std.proofs.lemmas.List.{take_rest}
+use Rattle.std.proofs.lemmas.List.Elements.{All-drop}
+use Rattle.gsi_word.specs.Words.{IsPrintable}
+use Rattle.gsi_word.proofs.PrintableLaws.{all_of_both}
 use Rattle.gsi_word.proofs.reading.are_printable.Goals as goal
 
-pub returns : goal.returns
-returns c =
+pub returns-then-has_no_stray : goal.returns-then-has_no_stray
+returns-then-has_no_stray c =
     let bytes = c.args.bytes.now in
-    let whole : not c.loop-byte.stray ≡ list_all is_printable bytes =
-    c.loop-byte.invariant ∙ ap (λ (r : List ℕ). list_all is_printable r) (take_all c.loop-byte.byte-index bytes (omega arith)) in
-    (λ h. printable_from_test bytes (sym whole ∙ h), λ h. whole ∙ test_from_printable bytes h)
+    let last = length bytes - 16 in
+    let rest = take_rest bytes last in (
+      λ yes. all_of_both bytes (length bytes / 16 * 16) last (omega arith) (search rules) (subst (All IsPrintable) rest (c.has_no_stray-then-has_no_stray.ensures.0 yes)),
+      λ all. c.has_no_stray-then-has_no_stray.ensures.1 (subst (All IsPrintable) (sym rest) (All-drop IsPrintable last bytes all)),
+    )
