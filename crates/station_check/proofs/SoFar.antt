@@ -1,11 +1,10 @@
 -- The blocks of a file, printed one by one.
 use Rattle.std.proofs.Common.{◌≡◌, ℕ, ◌+◌, List, [], ◌∷◌, ◌++◌, length, Option, Some, None, Result, Ok, Err, refl, sym, ap, subst, ◌∙◌, append_assoc, arith}
 use Rattle.std.specs.Prelude.{IfSome}
-use Rattle.std.specs.List.{AllZip, enumerate_from, flat_map}
+use Rattle.std.specs.List.{AllZip}
 use Rattle.std.specs.Io.KnownBytes.{Appends}
 use Rattle.std.proofs.lemmas.List.{append-nil, length-append}
 use Rattle.byte_ends.specs.Sink.{AppendsSome}
-use Rattle.byte_ends.proofs.Writing.{appends_none, appends_then}
 use Rattle.gsi_word.specs.Blocks.{GsiBlock, IsBlock}
 use Rattle.gsi_file.specs.FileAnswers.{FileAnswers}
 use Rattle.gsi_file.specs.ToCome.{ToCome, Answers, FaultIsNext, TakesLine, only}
@@ -16,7 +15,7 @@ use Rattle.station_check.specs.declared.fault.Fault.{Fault}
 use Rattle.station_check.specs.declared.fault.Fault.TheVariants.{Gsi, Write, Memory}
 use Rattle.station_check.specs.Texts.{block_text, blocks_from, words_text}
 use Rattle.station_check.specs.Printing.{Prints, PrintsSome}
-use Rattle.station_check.specs.Words.{Begins, EndsWell, EndsAtFault, StopsInText, AnswersWords}
+use Rattle.station_check.specs.Words.{Begins, StopsInText, AnswersWords}
 use Rattle.station_check.proofs.Partway.{prints_then, prints_then_some, prints_in_page, all_got, some_got}
 
 -- The first lines of a file were blocks, so many, and their text was printed.

@@ -6,6 +6,7 @@
 
 mod command_line;
 mod fault;
+mod label;
 mod page;
 #[cfg(test)]
 mod tests;

@@ -10,6 +10,9 @@ use std::marker::Model;
 /// Bytes that a page has room for.
 pub const PAGE: usize = 8_192;
 
+/// Bytes of a short piece.
+pub const SHORT: usize = 16;
+
 /// Bytes that wait to be written together.
 #[derive(Drop)]
 pub struct Page {
@@ -29,7 +32,7 @@ impl Model for Page {
 }
 
 impl Page {
-    ghost use Rattle.std.specs.Prelude.{◌≡◌, ◌<◌, ◌≤◌, ◌+◌, ◌++◌, ◌∷◌, [], length, OnOk, OnErr};
+    ghost use Rattle.std.specs.Prelude.{◌≡◌, ◌<◌, ◌≤◌, ◌+◌, ◌++◌, ◌∷◌, [], length, take, OnOk, OnErr};
     ghost use Rattle.std.specs.Io.KnownBytes.{Appends};
     ghost use Rattle.byte_ends.specs.Sink.{failed_after, AppendsSome};
     ghost use Rattle.station_check.specs.Printing.{Prints, PrintsSome};
@@ -71,18 +74,32 @@ impl Page {
         self.len = end;
     }
 
+    /// Adds the first n of these bytes.
+    ///
+    /// All are copied, since a copy of a known length is a load and a store.
+    pub fn extend_short(&mut self, bytes: &[u8; SHORT], n: usize)
+        requires room { length self.old + SHORT ≤ PAGE }
+        requires short { n ≤ SHORT }
+        ensures { self.new ≡ self.old ++ take n bytes.now }
+    {
+        let end = self.len + SHORT;
+        self.bytes[self.len..end].copy_from_slice(bytes);
+        self.len += n;
+    }
+
     fn clear(&mut self)
         ensures { self.new ≡ [] }
     {
         self.len = 0;
     }
 
-    /// Writes out all that waits, with nothing left to wait.
+    /// Writes out all that waits, with nothing left to wait. At a failed write the page stays as it was.
     pub fn write_out<W: Sink>(&mut self, writer: &mut W) -> Result<(), Failed>
         ensures failed { W.failed writer.new ≡ failed_after (W.failed writer.old) result }
         ensures ok { OnOk result (Appends (W.holds writer.old) (W.holds writer.new) self.old) }
         ensures empty { OnOk result (self.new ≡ []) }
         ensures err { OnErr result (AppendsSome (W.holds writer.old) (W.holds writer.new) self.old) }
+        ensures kept { OnErr result (self.new ≡ self.old) }
     {
         match writer.write_all(self.bytes()) {
             Ok(()) => {
@@ -93,13 +110,14 @@ impl Page {
         }
     }
 
-    /// Sees that there is room for this many bytes more.
+    /// Sees that there is room for this many bytes more. At a failed write the page stays as it was.
     pub fn make_room<W: Sink>(&mut self, bytes: usize, writer: &mut W) -> Result<(), Failed>
         requires { bytes ≤ PAGE }
         ensures failed { W.failed writer.new ≡ failed_after (W.failed writer.old) result }
         ensures ok { OnOk result (Prints (W.holds writer.old) self.old (W.holds writer.new) self.new []) }
         ensures room { OnOk result (length self.new + bytes ≤ PAGE) }
         ensures err { OnErr result (PrintsSome (W.holds writer.old) self.old (W.holds writer.new) []) }
+        ensures kept { OnErr result (self.new ≡ self.old) }
     {
         if PAGE - self.bytes().len() >= bytes {
             return Ok(());

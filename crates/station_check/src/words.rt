@@ -13,13 +13,13 @@ ghost use Rattle.station_check.specs.Printing.{Prints, PrintsSome};
 ghost use Rattle.station_check.specs.Words.{AnswersWords, WritesWords, MemoryWritesNothing, FailsAtWrite, RunsWords};
 
 use crate::fault::Fault;
+use crate::label::Label;
 use crate::page::Page;
 use crate::verdict_line::refusal_line;
 use crate::word_line::{LONGEST_WORD_LINE, add_word};
 use byte_ends::{Failed, Sink, Source};
 use gsi_file::Lines;
 use gsi_word::Block;
-use itoa::Buffer;
 use std::alloc::Global;
 
 /// Prints the words of one block.
@@ -33,14 +33,13 @@ fn print_block<W: Sink>(
     ensures ok { OnOk result (Prints (W.holds writer.old) page.old (W.holds writer.new) page.new (block_text number (block_of block.now).words)) }
     ensures err { OnErr result (PrintsSome (W.holds writer.old) page.old (W.holds writer.new) (block_text number (block_of block.now).words)) }
 {
-    let mut digits = Buffer::new();
-    let label = digits.format(number).as_bytes();
+    let label = Label::new(number);
     'printing: for place in 0..block.len() {
         let Some(word) = block.word(place) else {
             unreachable!()
         };
         match page.make_room(LONGEST_WORD_LINE, writer) {
-            Ok(()) => add_word(page, label, place + 1, &word),
+            Ok(()) => add_word(page, &label, place + 1, &word),
             Err(_) => return Err(Failed),
         }
     }

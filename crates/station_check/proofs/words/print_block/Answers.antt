@@ -1,4 +1,4 @@
-use Rattle.std.proofs.Common.{◌≡◌, ◌+◌, ◌≤◌, length, drop, sym, ap, ◌∙◌, arith}
+use Rattle.std.proofs.Common.{◌+◌, sym, ap, ◌∙◌, arith}
 use Rattle.std.proofs.lemmas.List.{drop_all}
 use Rattle.gsi_word.specs.BlockViews.{block_of}
 use Rattle.station_check.specs.Texts.{words_from}
@@ -12,7 +12,7 @@ printing-preserved g c =
     let word = sym c.word.ensures.value ∙ c.in-Some.is in
     record {
       text = partway_more _ _ _ _ _ _ _ _ _ c.make_room.new.self _ c.printing.invariant.text c.in-Ok.ensures.ok
-          (c.add_word.ensures c.args.number (c.as_bytes-label.ensures.value ∙ c.format.ensures.text)) (next_word c.args.number c.printing.place words c.in-Some.word word);
+          (c.add_word.ensures c.args.number c.new-label.ensures.text) (next_word c.args.number c.printing.place words c.in-Some.word word);
       failed = c.in-Ok.ensures.failed ∙ c.printing.invariant.failed;
     }
 
