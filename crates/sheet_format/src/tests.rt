@@ -2,7 +2,7 @@
 
 use crate::{WriteFault, read_sheet, write_sheet};
 use adjust_kernel::{Direction, Name, Orientation, Row, Sheet};
-use byte_ends::Held;
+use byte_ends::{Failed, Held, Sink};
 use std::alloc::Global;
 use std::process::Abort;
 use std::test::Fail;
@@ -39,6 +39,19 @@ fn changed(alloc: Global, row: usize, line: &str) -> Result<String, Fail> {
     let mut text = String::new(alloc);
     for (place, old) in SHEET.iter().enumerate() {
         text.push_str(if place + 1 == row { line } else { old })?;
+        text.push_str("\n")?;
+    }
+    Ok(text)
+}
+
+/// The sheet above with another version, denominator, direction of B and orientations.
+fn restated(alloc: Global, stated: [&str; 5]) -> Result<String, Fail> {
+    let [version, denominator, direction, first, second] = stated;
+    let mut text = format!(in alloc;
+        "sheet,{version},S1,{denominator},\ntarget,,A,0,\ntarget,,B,{direction},\nset,1,,{first},\nset,2,,{second},\n"
+    )?;
+    for line in &SHEET[5..] {
+        text.push_str(line)?;
         text.push_str("\n")?;
     }
     Ok(text)
@@ -150,6 +163,8 @@ fn a_changed_row_is_refused_for_its_first_fault(rt: HostRuntime) -> Result<(), F
         (5, "target,,C,0,", "Row(5, Kind)"),
         (6, "target,,C,0,", "Row(6, Kind)"),
         (7, "set,3,,0,", "Row(7, Kind)"),
+        (6, "obs,1,A,80000000,0", "Row(6, Range)"),
+        (6, "obs,1,A,6,-10", "Row(6, Range)"),
         (7, "obs,1,,10000010,0", "Row(7, Name)"),
         (7, "obs,1,,-0,0", "Row(7, Name)"),
         (7, "obs,01,B,80000000,0", "Row(7, Number)"),
@@ -222,6 +237,76 @@ fn each_version_has_its_ranges(rt: HostRuntime) -> Result<(), Fail> {
         )?;
         let found = answer(alloc, text.as_bytes())?;
         assert!(rt; found.as_str().starts_with(expected), "of {text}");
+    }
+    Ok(())
+}
+
+/// The largest numbers of version 1, for the sheet above.
+const LARGEST_OF_1: [&str; 5] = [
+    "1",
+    "1000000000",
+    "1000000000000000000",
+    "-1000000000000000000",
+    "-1000000000000000000",
+];
+
+/// Numbers that only version 2 takes, for the sheet above.
+const OF_2: [&str; 5] = [
+    "2",
+    "1000000000000",
+    "10000006000000000000",
+    "-5000000000000",
+    "-20000005000000000000",
+];
+
+/// The largest numbers of version 2, for the sheet above.
+const LARGEST_OF_2: [&str; 5] = [
+    "2",
+    "1000000000000",
+    "1000000000000000000000",
+    "-1000000000000000000000",
+    "-1000000000000000000000",
+];
+
+/// These numbers of a sheet with one of them changed.
+fn with(mut stated: [&'static str; 5], at: usize, number: &'static str) -> [&'static str; 5] {
+    stated[at.min(4)] = number;
+    stated
+}
+
+#[test]
+fn the_worked_sheet_is_read_up_to_the_limits_of_its_version(rt: HostRuntime) -> Result<(), Fail> {
+    let alloc = rt.alloc();
+    let small = ["1", "4", "40000024", "-20", "-80000020"];
+    for (stated, expected) in [
+        (small, NUMBERS),
+        (with(small, 1, "1000000001"), "Row(1, Range)"),
+        (
+            LARGEST_OF_1,
+            "S1/1000000000; A 0; B 1000000000000000000; 1 -1000000000000000000;",
+        ),
+        (
+            with(LARGEST_OF_1, 2, "1000000000000000001"),
+            "Row(3, Range)",
+        ),
+        (
+            OF_2,
+            "S1/1000000000000; A 0; B 10000006000000000000; 1 -5000000000000; 2 -20000005000000000000; 1 A 6 0;",
+        ),
+        (with(OF_2, 0, "1"), "Row(1, Range)"),
+        (with(OF_2, 1, "1000000000001"), "Row(1, Range)"),
+        (
+            LARGEST_OF_2,
+            "S1/1000000000000; A 0; B 1000000000000000000000; 1 -1000000000000000000000;",
+        ),
+        (
+            with(LARGEST_OF_2, 2, "1000000000000000000001"),
+            "Row(3, Range)",
+        ),
+    ] {
+        let text = restated(alloc, stated)?;
+        let found = answer(alloc, text.as_bytes())?;
+        assert!(rt; found.as_str().starts_with(expected), "{found} of {text}");
     }
     Ok(())
 }
@@ -311,6 +396,9 @@ fn counted(alloc: Global, targets: u32, sets: u32, rows: u32) -> Result<String, 
 fn the_row_that_is_too_many_is_named(rt: HostRuntime) -> Result<(), Fail> {
     let alloc = rt.alloc();
     for (targets, sets, rows, expected) in [
+        (101, 0, 0, "Row(102, TooMany)"),
+        (1, 41, 0, "Row(43, TooMany)"),
+        (1, 1, 4_001, "Row(4004, TooMany)"),
         (101, 40, 4_000, "Row(102, TooMany)"),
         (100, 41, 4_000, "Row(142, TooMany)"),
         (100, 40, 4_001, "Row(4142, TooMany)"),
@@ -364,9 +452,11 @@ fn a_sheet_is_written_as_the_bytes_that_it_was_read_of(rt: HostRuntime) -> Resul
     let alloc = rt.alloc();
     let plain = text_of(alloc, &SHEET, "\n")?;
     expect_written_again(&rt, alloc, plain.as_str())?;
+    for stated in [LARGEST_OF_1, OF_2, LARGEST_OF_2] {
+        expect_written_again(&rt, alloc, restated(alloc, stated)?.as_str())?;
+    }
     for text in [
         "sheet,1,S1,1,\ntarget,,\"A,\"\"1\",0,\nset,1,,-6,\nobs,1,\"A,\"\"1\",6,0\n",
-        "sheet,2,S1,1000000000000,\ntarget,,A,0,\ntarget,,B,10000006000000000000,\nset,1,,-5000000000000,\nset,2,,-20000005000000000000,\nobs,1,A,6,0\n",
         "sheet,2,S1,1000000000000,\ntarget,,A,1000000000000000000000,\nset,1,,-1000000000000000000000,\nobs,9999,A,79999999,-9\n",
     ] {
         expect_written_again(&rt, alloc, text)?;
@@ -461,4 +551,38 @@ fn a_sheet_at_all_limits_is_read_and_written(rt: HostRuntime) -> Result<(), Fail
     assert_eq!(rt; sheet.orientations().len(), 40);
     assert_eq!(rt; sheet.rows().len(), 4_000);
     expect_written_again(&rt, alloc, text.as_str())
+}
+
+/// A writer that takes all bytes, and counts its flushes.
+#[derive(Drop)]
+struct FlushCount {
+    flushes: u32,
+}
+
+impl Sink for FlushCount {
+    ghost use Rattle.std.specs.Prelude.{false, None};
+
+    ghost failed = { λ _. false };
+
+    ghost holds = { λ _. None };
+
+    fn write(&mut self, bytes: &[u8]) -> Result<usize, Failed> {
+        Ok(bytes.len())
+    }
+
+    fn flush(&mut self) -> Result<(), Failed> {
+        self.flushes = self.flushes.saturating_add(1);
+        Ok(())
+    }
+}
+
+#[test]
+fn a_writer_is_flushed_once(rt: HostRuntime) -> Result<(), Fail> {
+    let alloc = rt.alloc();
+    let text = text_of(alloc, &SHEET, "\n")?;
+    let sheet = read_sheet(alloc, text.as_bytes())?;
+    let mut writer = FlushCount { flushes: 0 };
+    write_sheet(alloc, &sheet, &mut writer)?;
+    assert_eq!(rt; writer.flushes, 1);
+    Ok(())
 }
