@@ -30,8 +30,8 @@ pub fn write_sheet<W: Sink>(alloc: Global, sheet: &Sheet, writer: &mut W) -> Res
     if writer.write_all(&text).is_err() {
         return Err(WriteFault::Write);
     }
-    if writer.flush().is_err() {
-        return Err(WriteFault::Write);
+    match writer.flush() {
+        Ok(()) => Ok(()),
+        Err(_) => Err(WriteFault::Write),
     }
-    Ok(())
 }

@@ -7,8 +7,8 @@ returns-in_err-text-clause-stands g c = text-again c.args.sheet.now c.sheet_text
 pub returns-then-is_err-clause-stands : goal.returns-then-is_err-clause-stands
 returns-then-is_err-clause-stands g c = text-again c.args.sheet.now c.sheet_text.ensures.valid
 
-pub returns-then-is_err-2-clause-stands : goal.returns-then-is_err-2-clause-stands
-returns-then-is_err-2-clause-stands g c = text-again c.args.sheet.now c.sheet_text.ensures.valid
-
 pub returns-clause-stands : goal.returns-clause-stands
 returns-clause-stands g c = text-again c.args.sheet.now c.sheet_text.ensures.valid
+
+pub returns-in-Ok-clause-stands : goal.returns-in-Ok-clause-stands
+returns-in-Ok-clause-stands g c = text-again c.args.sheet.now c.sheet_text.ensures.valid
