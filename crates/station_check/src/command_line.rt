@@ -8,8 +8,8 @@ const ABOUT: &str = "Checks survey station adjustments against the field file";
 const LONG_ABOUT: &str = "\
 Checks survey station adjustments against the field file.
 
-A total station writes a field file in Leica's GSI format. station_check reads the bytes of that
-file itself, and answers only what is proved of its code: no other program is taken on trust.
+A total station writes a field file in Leica's GSI format. What station_check prints of the bytes
+of that file is proved of its code. This version prints words; the check of a sheet is to come.
 
 Units: one unit is 0.00001 gon (0.01 mgon), the last digit of an angle in gon. A circle of 400 gon
 is 40000000 units.";
