@@ -1,4 +1,4 @@
-# station_check: proved, built, tested and installed. Needs the toolchain's `rt`, make and Python 3 alone.
+# station_check: proved, built, tested and installed. Needs the toolchain's `rt` and make; the gate needs Python 3, bash and git too.
 
 RT ?= rt
 PREFIX ?= /usr/local
@@ -31,6 +31,7 @@ clean:
 # Proves the program and its crates, and links it. A failed proof is a failed build.
 $(PROGRAM): toolchain
 	@mkdir -p crates/station_check/out
+	@echo 'proving and building the program; the first time takes minutes' >&2
 	@cd crates/station_check && $(RT) run < /dev/null > out/build.log 2>&1 || { tail -n 20 out/build.log; exit 1; }
 
 toolchain:
