@@ -141,7 +141,7 @@ pub fn write_words<R: Source, W: Sink>(alloc: Global, gsi: R, writer: &mut W) ->
 }
 
 /// Writes the words of a field file to `out`, or the line of a refusal to `err`, and answers the exit status: 0 where
-/// all was written, else 1. A failed write to `err` is passed over.
+/// all was written, else 1. Where `err` fails, the line is lost and the status stays.
 pub fn run_words<R: Source, W: Sink, E: Sink>(alloc: Global, gsi: R, out: &mut W, err: &mut E) -> u8
     ensures { RunsWords result (R.told gsi) (W.holds out.old) (W.holds out.new) (W.failed out.old) (W.failed out.new)
         (E.failed err.new) (E.holds err.old) (E.holds err.new) }
