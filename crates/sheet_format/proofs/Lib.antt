@@ -1,3 +1,4 @@
+pub mod Bounds
 pub mod CanonicalDecimals
 pub mod WrittenNumbers
 pub mod OneForm
