@@ -1,4 +1,4 @@
-"""A caller that holds a block while it asks for the next line is refused by the compiler."""
+"""The compiler refuses a caller that still has a block in its hands when it asks for a further line."""
 
 import os
 import shutil

@@ -1,4 +1,4 @@
--- The verdict on a sheet of a station: the first fault in the order in which they are looked for, or the acceptance.
+-- The verdict on a sheet of a station: the first of its faults, in a stated order, or the acceptance.
 -- An office may state a residual limit.
 use Rattle.std.specs.Prelude.{◌≡◌, ◌≢◌, ℕ, pos, ◌+◌, ◌<◌, List, length, Option, Result, Ok, Err, IfSome, IsSomeAnd}
 use Rattle.adjust_kernel.specs.declared.accepted.Accepted.{Accepted}
@@ -40,7 +40,7 @@ abbrev pub AtNth : (ℕ → Type 0) → ℕ → Type 0
 AtNth P n = (place : ℕ) × (n ≡ place + 1) × P place
 
 -- This fault stands (profile, but for the sums and the connection, which are the textbook's): something is not as it
--- has to be, and a number counts from 1 and is the least that stands.
+-- has to be; where the fault has a number, it is the least one of its kind, from 1.
 abbrev pub Stands : StationValue → SheetValue → Option ℕ → KernelFault → Type 0
 Stands station sheet limit Name = sheet.name ≢ station.name
 Stands station sheet limit (TargetRow n) = AtNth (IsFirstDifference (names_of sheet) station.targets) n

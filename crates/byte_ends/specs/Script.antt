@@ -3,7 +3,7 @@ use Rattle.std.specs.Prelude.{ℕ}
 use Rattle.byte_ends.specs.declared.script.Script.{Script}
 use Rattle.byte_ends.specs.Source.{Told}
 
--- the bytes that it still gives, and whether it then fails
+-- what it has left to give, and how it ends
 abbrev pub script_told : Script → Told
 script_told s = record { bytes = s.rest.now; fails = s.fails }
 

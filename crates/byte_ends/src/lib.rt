@@ -2,9 +2,9 @@
 //! goes.
 //!
 //! A [`Source`] is read and a [`Sink`] is written. In contracts, and only there, a source may tell
-//! the bytes that it still gives and whether it then fails; a sink tells whether a call of it has
-//! failed, and may tell the bytes that it holds. So a caller says of any reader or writer what it
-//! answers, however the bytes are cut.
+//! what bytes are left in it and whether it ends or fails behind them; a sink tells whether it has
+//! ever failed, and may tell the bytes that it holds. So a caller says of any reader or writer what
+//! it answers, however the bytes are cut.
 //!
 //! [`OfRead`] and [`OfWrite`] are std's readers and writers, which tell no bytes. [`Script`] and
 //! [`Held`] tell theirs, for tests.

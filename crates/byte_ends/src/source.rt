@@ -5,7 +5,7 @@ use crate::failed::Failed;
 
 /// What bytes are read from.
 pub trait Source: Drop {
-    // The bytes that it still gives and whether it then fails, or nothing.
+    // The bytes left in it and whether it fails behind them; or nothing is told.
     ghost told: { Self → Option Told };
 
     /// Reads once, into the front of `buf`, and answers how many bytes came.

@@ -3,7 +3,7 @@
 /// What is wrong with a field file.
 #[derive(Clone, Copy, Debug, PartialEq, Eq)]
 pub enum FileKind {
-    /// A read failed, after all lines that had ended in the bytes read before.
+    /// A read failed. The lines that the bytes before it had ended were given first.
     Read,
     /// The file has more than 16,777,216 bytes.
     FileTooLong,

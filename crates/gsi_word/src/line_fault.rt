@@ -5,8 +5,9 @@
 pub enum LineFault {
     /// The byte at this place, from 1, is no blank and no visible character of ASCII.
     Byte(usize),
-    /// The word at this place, from 1, is cut short, has no two digits, has a blank in its information, has no sign, or is
-    /// followed by a byte that is no blank. A line without any word has this fault at word 1.
+    /// What stands at the place of this word, from 1, is none: it is too short, begins with other than two digits, has a
+    /// blank in its information, lacks its sign, or a byte other than a blank stands behind it. A line without any word
+    /// has this fault at word 1.
     Word(usize),
     /// The first word is neither a point number (11) nor a code number (41).
     FirstWord,

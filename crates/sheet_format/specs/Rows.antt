@@ -41,8 +41,8 @@ pub record IsOfVersion (version : Version) (s : SheetValue) : Type 0 where
   pub directions : All (λ d. IsWithin (largest_angle version) d.value) s.directions
   pub orientations : All (λ o. IsWithin (largest_angle version) o.value) s.orientations
 
--- the records of a text, as `csv` reads them: no header row, rows of any number of fields, a byte order mark at the
--- start taken off, lines without a byte passed over
+-- the records of a text, as `csv` reads them where no row is a header and rows may differ in their number of fields: it
+-- drops a byte order mark at the start, and passes over lines without a byte
 abbrev pub records_of : List ℕ → List (List (List ℕ))
 records_of bytes = records default_config (strip_bom bytes)
 

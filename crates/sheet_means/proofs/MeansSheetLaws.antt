@@ -1,5 +1,5 @@
--- The sheet of means: within the limits of a sheet, as defined, with no full turns in the first set
--- and for the first target, and accepted.
+-- The sheet of means: within the limits of a sheet, as defined, unturned in its first row and first
+-- column of readings, and accepted.
 use Rattle.std.proofs.Common.{◌≡◌, ◌⊎◌, inl, inr, ℕ, suc, zero, ◌*◌, ◌<◌, ◌≤◌, List, [], length, map, get_or, ℤ, pos, negsuc, ◌+ℤ◌, None, Ok, arith, ap, refl, sym, ◌∙◌, subst}
 use Rattle.std.proofs.Math.IntN.{◌*ℤ◌, ◌-ℤ◌}
 use Rattle.std.proofs.Math.Nat.{mul-le-mul}

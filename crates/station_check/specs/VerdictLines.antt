@@ -30,7 +30,7 @@ fault_text Memory = codes "out of memory"
 abbrev pub refusal_line : Fault → List ℕ
 refusal_line fault = codes "refused: " ++ fault_text fault ++ codes "\n"
 
--- the exit status of an answer: 0 where all was accepted and written, else 1
+-- the exit status of an answer: 1 for a refusal of any kind, and else 0
 abbrev pub status_of : {A : Type 0} → Result A Fault → ℕ
 status_of (Ok x) = 0
 status_of (Err fault) = 1
