@@ -4,25 +4,28 @@
 /// Numbers count from 1, and each is the least that stands.
 #[derive(Clone, Copy, Debug, PartialEq, Eq, Drop)]
 pub enum KernelFault {
-    /// The sheet is of another station.
+    /// The sheet is of another station: look for the sheet of this one.
     Name,
     /// At this place the sheet's targets are not the station's, or one of both lists has ended:
     /// name the targets as the station has them, in the order of their first reading.
     TargetRow(u32),
-    /// At this place the sheet's sets are not the station's, or one of both lists has ended.
+    /// At this place the sheet's sets are not the station's, or one of both lists has ended: number
+    /// the sets as the station does, in the order in which they were observed.
     SetRow(u32),
     /// At this place the sheet's observations are not the station's (set, target or direction), or
-    /// one of both lists has ended.
+    /// one of both lists has ended: state each observation as it was measured, by set and within a
+    /// set by target.
     ObsRow(u32),
-    /// The direction of the first target is not 0.
+    /// The direction of the first target is not 0: take it off all directions and orientations.
     Datum,
     /// The residuals of this target do not add to 0, so another direction of it is better.
     TargetSum(u32),
     /// The residuals of this set do not add to 0, so another orientation of it is better.
     SetSum(u32),
     /// The sets and targets fall into parts with no observation between them, so that no adjustment
-    /// ties them.
+    /// ties them: observe targets of both parts in one set, or adjust the parts as two stations.
     NotConnected,
-    /// The residual of this row is above the residual limit that was stated.
+    /// The residual of this row is above the residual limit that was stated: look at the full turns
+    /// of its target and set first, and then at the observation.
     Residual(u32),
 }

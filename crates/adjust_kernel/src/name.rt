@@ -73,7 +73,8 @@ fn is_name(bytes: &[u8]) -> bool
             .all(|byte| (FIRST_PRINTABLE..=LAST_PRINTABLE).contains(byte))
 }
 
-/// Whether a name keeps its rules: it always does, and who asks may rest on it.
+/// Whether a name keeps its rules: it always does, and who asks may rest on it. The field is named
+/// so that a proof sees them.
 pub fn is_valid(name: &Name) -> bool
     ensures { IsTrue result ↔ IsName name.now }
 {

@@ -7,7 +7,7 @@ use std::marker::Model;
 
 /// The largest residual that an office accepts, in half units (0.005 mgon each): 0 to 2,000.
 ///
-/// Under such a limit the full turns of a sheet can't be foolish: no other full turns give a
+/// The full turns of a sheet that is accepted under such a limit can't be foolish: no others give a
 /// smaller sum of squares.
 #[derive(Clone, Copy, Debug, PartialEq, Eq, Drop)]
 pub struct ResidualLimit {

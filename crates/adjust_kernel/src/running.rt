@@ -40,7 +40,7 @@ impl Running {
 }
 
 impl Default for Running {
-    ghost is_default = { λ running. AreSumsOf [] running.targets running.sets running.taken };
+    ghost is_default = { λ running. ⟦<Running as Tally>⟧.StandsFor running [] × (⟦<Running as Tally>⟧.room running ≡ MOST_ROWS) };
 
     fn default() -> Running {
         Running::new()

@@ -36,8 +36,8 @@ impl Model for Sheet {
 }
 
 impl Sheet {
-    /// The sheet with these parts, if all numbers are within a sheet's limits; otherwise the lists
-    /// are dropped.
+    /// The sheet with these parts, if all numbers and the lengths of the lists are within a sheet's
+    /// limits; otherwise the lists are dropped.
     pub fn new(
         name: Name,
         denominator: u64,

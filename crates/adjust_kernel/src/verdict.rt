@@ -33,8 +33,11 @@ use crate::tally::Tally;
 ///
 /// An accepted sheet has just the station's observations, and no other directions and orientations,
 /// over any denominator, give with its full turns a smaller sum of squared residuals. Under a
-/// residual limit no other full turns do so either. Otherwise the answer is the first fault that
-/// stands.
+/// residual limit no other full turns do so either.
+///
+/// # Errors
+///
+/// The first fault that stands, in the order of `KernelFault`.
 pub fn check(
     station: &Station,
     sheet: &Sheet,

@@ -1,3 +1,4 @@
+pub mod Bounds
 pub mod CompleteLaws
 pub mod GridLaws
 pub mod BalanceOfMeans

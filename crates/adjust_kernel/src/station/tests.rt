@@ -33,7 +33,7 @@ fn station_of(
 #[test]
 fn a_station_keeps_its_rules(rt: HostRuntime) -> Result<(), Fail> {
     let good = [(0, 0, 6), (0, 1, 10), (1, 0, 20), (1, 1, 79_999_999)];
-    let cases: [(&str, &[u8], [u16; 2], [(u32, u32, u32); 4], bool); 9] = [
+    let cases: [(&str, &[u8], [u16; 2], [(u32, u32, u32); 4], bool); 11] = [
         ("good", b"AB", [1, 9_999], good, true),
         ("two targets of one name", b"AA", [1, 2], good, false),
         ("set number 0", b"AB", [0, 2], good, false),
@@ -54,6 +54,20 @@ fn a_station_keeps_its_rules(rt: HostRuntime) -> Result<(), Fail> {
             false,
         ),
         ("a target with no observation", b"ABC", [1, 2], good, false),
+        (
+            "a set with no observation",
+            b"ABCD",
+            [1, 2],
+            [(0, 0, 6), (0, 1, 10), (0, 2, 20), (0, 3, 30)],
+            false,
+        ),
+        (
+            "a target that is none of the station's",
+            b"A",
+            [1, 2],
+            good,
+            false,
+        ),
         (
             "a value past the circle",
             b"AB",

@@ -4,6 +4,7 @@ use crate::limits::MOST_ROWS;
 use crate::running::Running;
 use crate::scan::Scan;
 use crate::tally::Tally;
+use std::alloc::Global;
 use std::process::Abort;
 use std::test::Fail;
 
@@ -29,4 +30,42 @@ fn running_sums_count_what_was_added(rt: HostRuntime) {
 fn a_scan_counts_what_was_added(rt: HostRuntime) -> Result<(), Fail> {
     tells_its_sums(&rt, Scan::new(rt.alloc())?);
     Ok(())
+}
+
+/// How many blocks of memory are held at most.
+const BLOCKS: usize = 60_000;
+
+/// How many sizes of blocks are tried, each half of the one before: from 2^40 bytes down to 2^16,
+/// which is less than a scan takes.
+const SIZES: usize = 25;
+
+// Holds all memory that there is, but for small blocks.
+fn hoard(alloc: Global) -> Vec<Vec<u8>> {
+    let mut hoard: Vec<Vec<u8>> = Vec::new(alloc);
+    if hoard.reserve(BLOCKS).is_err() {
+        return hoard;
+    }
+    let mut size: usize = 1 << 40;
+    for _ in 0..SIZES {
+        for _ in 0..BLOCKS {
+            match Vec::<u8>::with_capacity(alloc, size) {
+                Ok(block) => {
+                    if hoard.push(block).is_err() {
+                        return hoard;
+                    }
+                }
+                Err(_) => break,
+            }
+        }
+        size /= 2;
+    }
+    hoard
+}
+
+#[test]
+fn a_scan_without_memory_is_refused(rt: HostRuntime) {
+    let held = hoard(rt.alloc());
+    let is_refused = Scan::new(rt.alloc()).is_err();
+    drop(held);
+    assert!(rt; is_refused);
 }

@@ -90,6 +90,14 @@ fn complete_sets_have_the_sheet_of_their_means(rt: HostRuntime) -> Result<(), Fa
             turns: &[0],
             greatest: 0,
         },
+        Worked {
+            targets: 1,
+            values: &[6],
+            directions: &[0],
+            orientations: &[-6],
+            turns: &[0],
+            greatest: 0,
+        },
         // A target on both sides of the zero of the circle, forth and back.
         Worked {
             targets: 2,
@@ -163,7 +171,13 @@ fn a_missing_observation_is_no_complete_station(rt: HostRuntime) -> Result<(), F
         (
             2,
             3,
-            [(0, 0, 6), (0, 1, 10), (0, 2, 20), (1, 0, 4), (1, 1, 12)],
+            [
+                (0, 0, 6),
+                (0, 1, 10_000_010),
+                (0, 2, 20_000_002),
+                (1, 0, 20_000_004),
+                (1, 1, 30_000_012),
+            ],
         ),
         // The last is missing.
         (
