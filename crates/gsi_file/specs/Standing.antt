@@ -25,6 +25,10 @@ comes_in (Failed kind) count room hand told =
 abbrev pub to_come : {R : Type 0} → (R → Option Told) → Lines R → ToCome
 to_come told l = comes_in l.state l.count l.room (unused l.hand) (told l.reader)
 
+-- the reader, as it stands
+abbrev pub reader_of : {R : Type 0} → Lines R → R
+reader_of l = l.reader
+
 -- the line that was found
 abbrev pub line_found : {R : Type 0} → Lines R → List ℕ
 line_found l = line_in_hand l.hand
