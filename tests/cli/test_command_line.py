@@ -1,10 +1,13 @@
 """The command line: statuses, streams and messages as users meet them."""
 
 import os
+import resource
 import shutil
 import subprocess
 
 from program import EXAMPLE, PROGRAM, ProgramTest, Run, answer_of
+
+NO_MEMORY = (1, b"", b"refused: out of memory\n")
 
 MORE = b"\nFor more information, try '--help'.\n"
 
@@ -59,17 +62,34 @@ class CommandLineTest(ProgramTest):
                 self.assertLessEqual(max(map(len, stdout.splitlines())), 100)
 
     def test_an_output_that_takes_nothing_is_a_refusal(self):
-        for output in [">/dev/full", ">&-"]:
-            with self.subTest(output=output):
-                done = subprocess.run(["bash", "-c", f"'{PROGRAM}' words '{EXAMPLE}' {output}"], capture_output=True, timeout=60)
-                self.assertEqual((1, b"refused: write failed\n"), (done.returncode, done.stderr))
+        for args in [f"words '{EXAMPLE}'", "--help"]:
+            for output in [">/dev/full", ">&-"]:
+                with self.subTest(args=args, output=output):
+                    done = subprocess.run(["bash", "-c", f"'{PROGRAM}' {args} {output}"], capture_output=True, timeout=60)
+                    self.assertEqual((1, b"refused: write failed\n"), (done.returncode, done.stderr))
 
     def test_an_input_that_cannot_be_read_is_a_refusal(self):
         done = subprocess.run(["bash", "-c", f"'{PROGRAM}' <&-"], capture_output=True, timeout=60)
         self.assertEqual((1, b"", b"refused: block 1: Read\n"), (done.returncode, done.stdout, done.stderr))
 
+    def test_want_of_memory_is_a_refusal(self):
+        """The room of the process grows page by page, from too little to load the program to as much as it wants."""
+        for args in [["words", str(EXAMPLE)], ["words", "x" * 100_000], ["--help"]]:
+            with self.subTest(args[-1][:20]):
+                ample, answers = answer_of(args), []
+                for room in range(1 << 20, 64 << 20, resource.getpagesize()):
+                    answer = answer_of(args, preexec_fn=lambda: resource.setrlimit(resource.RLIMIT_AS, (room, room)))
+                    loaded = answer[0] in (0, 1, 2)
+                    if loaded or answers:
+                        answers.append(answer)
+                    if answer == ample:
+                        break
+                self.assertEqual(ample, answers.pop())
+                self.assertTrue(answers)
+                self.assertEqual({NO_MEMORY}, set(answers))
+
     def test_a_closed_standard_error_changes_no_status(self):
-        for args, status in [(f"words {self.folder}/missing", 2), ("nonsense", 2)]:
+        for args, status in [(f"words {self.folder}", 1), (f"words {self.folder}/missing", 2), ("nonsense", 2)]:
             with self.subTest(args=args):
                 done = subprocess.run(["bash", "-c", f"'{PROGRAM}' {args} 2>&-"], capture_output=True, timeout=60)
                 self.assertEqual((status, b""), (done.returncode, done.stdout))

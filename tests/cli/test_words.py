@@ -21,7 +21,23 @@ WORDS = FIRST_BLOCK + (
     b"3 3 22 .102 +10000000\n"
 )
 
-FIRST_WORD = LINES.replace(b"410002+00000020", b"510002+00000000")
+# The first three lines, of which the second begins with another word.
+FIRST_WORD = LINES.replace(b"410002+00000020 42....+00000001", b"510002+00000000")
+
+# The lines of the example up to the fifth, and what is printed of the fourth and the fifth.
+FIVE_LINES = LINES + (
+    b"110004+0000000B 21.102+05000000 22.102+10000000\r\n"
+    b"110005+0000000B 21.102+25000010 22.102+30000000\r\n"
+)
+
+TWO_MORE = (
+    b"4 1 11 0004 +0000000B\n"
+    b"4 2 21 .102 +05000000\n"
+    b"4 3 22 .102 +10000000\n"
+    b"5 1 11 0005 +0000000B\n"
+    b"5 2 21 .102 +25000010\n"
+    b"5 3 22 .102 +30000000\n"
+)
 
 
 def refused(reason):
@@ -48,7 +64,13 @@ RUNS = [
     Run("blank lines before a fault are not numbered", stdin=b"\n" + FIRST_WORD, stdout=FIRST_BLOCK, stderr=refused(b"block 2: FirstWord"), status=1),
     Run("a tab", stdin=b"110001+0000000A\t21.102+00000000", stderr=refused(b"block 1: Byte 16"), status=1),
     Run("a foreign first word", stdin=b"510001+00000000", stderr=refused(b"block 1: FirstWord"), status=1),
-    Run("a cut word", stdin=LINES + b"110006+0000000A 21.102+20000006 22.102+2999", stdout=WORDS, stderr=refused(b"block 4: Word 3"), status=1),
+    Run(
+        "a cut word",
+        stdin=FIVE_LINES + b"110006+0000000A 21.102+20000006 22.102+2999",
+        stdout=WORDS + TWO_MORE,
+        stderr=refused(b"block 6: Word 3"),
+        status=1,
+    ),
     Run("1,024 blanks", stdin=b" " * 1024 + b"\n"),
     Run("1,025 blanks", stdin=b" " * 1025, stderr=refused(b"block 1: LineTooLong"), status=1),
     Run("as many line feeds as a file may have", stdin=b"\n" * 16_777_216),

@@ -58,7 +58,7 @@ impl Held {
 }
 
 impl Sink for Held {
-    ghost use Rattle.std.specs.Prelude.{◌-◌, ◌↔◌, min, true, OnErr, IsErr, MatchResult};
+    ghost use Rattle.std.specs.Prelude.{◌-◌, ◌↔◌, min, true, IsErr, MatchResult};
     ghost use Rattle.byte_ends.specs.Held.{held_bytes, held_room, held_step, held_flush_fails, has_failed, IsSetTo};
 
     ghost failed = { λ s. has_failed s };
@@ -72,7 +72,7 @@ impl Sink for Held {
             result bytes.now }
         ensures count { IfOk result (λ n. n ≡ min (held_step self.old)
             (min (held_room self.old) (length bytes.now))) }
-        ensures full { OnErr result (held_room self.old ≡ 0) }
+        ensures full { IsErr result ↔ ((held_room self.old ≡ 0) × (0 < length bytes.now)) }
         ensures set { MatchResult result
             (λ n. IsSetTo self.new (held_room self.old - n) (held_step self.old)
             (held_flush_fails self.old))

@@ -34,7 +34,7 @@ impl<'a> Script<'a> {
 }
 
 impl Source for Script<'_> {
-    ghost use Rattle.std.specs.Prelude.{◌≡◌, min, true, OnErr};
+    ghost use Rattle.std.specs.Prelude.{◌≡◌, ◌↔◌, [], min, true, IsErr};
     ghost use Rattle.byte_ends.specs.Script.{script_told, script_step};
 
     ghost told = { λ s. Some (script_told s) };
@@ -45,7 +45,8 @@ impl Source for Script<'_> {
             result buf.new }
         ensures count { IfOk result (λ n. n ≡ min (script_step self.old)
             (min (length (script_told self.old).bytes) (length buf.new))) }
-        ensures fails { OnErr result ((script_told self.old).fails ≡ true) }
+        ensures fails { IsErr result ↔ (((script_told self.old).bytes ≡ [])
+            × ((script_told self.old).fails ≡ true)) }
         ensures step { script_step self.new ≡ script_step self.old }
     {
         if self.rest.is_empty() && self.fails {

@@ -1,5 +1,5 @@
 -- What lines stand for.
-use Rattle.std.specs.Prelude.{ℕ, ◌<◌, List, ⊤, Option, Some, None, Result, Ok, Err}
+use Rattle.std.specs.Prelude.{◌≡◌, Bool, true, false, ℕ, ◌<◌, List, ⊤, Option, Some, None, Result, Ok, Err}
 use Rattle.byte_ends.specs.Source.{Told}
 use Rattle.gsi_word.specs.declared.shape.Shape.{Shape}
 use Rattle.gsi_file.specs.declared.line.Line.{Line}
@@ -21,9 +21,35 @@ comes_in End count room hand told = record { number = count; answers = Some (onl
 comes_in (Failed kind) count room hand told =
     record { number = count; answers = Some (only (Some kind)) }
 
+-- whether the end or a fault is settled in a state
+abbrev pub settled_in : State → Bool
+settled_in Open = false
+settled_in End = true
+settled_in (Failed kind) = true
+
 -- what is to come of lines
 abbrev pub to_come : {R : Type 0} → (R → Option Told) → Lines R → ToCome
 to_come told l = comes_in l.state l.count l.room (unused l.hand) (told l.reader)
+
+-- the reader, as it stands
+abbrev pub reader_of : {R : Type 0} → Lines R → R
+reader_of l = l.reader
+
+-- whether the end or a fault is settled
+abbrev pub is_settled : {R : Type 0} → Lines R → Bool
+is_settled l = settled_in l.state
+
+-- whether a call gave no line
+abbrev pub gives_none : {A E : Type 0} → Result (Option A) E → Bool
+gives_none (Ok (Some x)) = false
+gives_none (Ok None) = true
+gives_none (Err e) = true
+
+-- An answer that is no line settles the end or a fault, and once one is settled the reader is not
+-- asked again.
+pub record AsksNoMore {A E R : Type 0} (result : Result (Option A) E) (old new : Lines R) : Type 0 where
+  pub settles : gives_none result ≡ true → is_settled new ≡ true
+  pub unread : is_settled old ≡ true → reader_of new ≡ reader_of old
 
 -- the line that was found
 abbrev pub line_found : {R : Type 0} → Lines R → List ℕ

@@ -75,10 +75,11 @@ impl<R: Source> Lines<R> {
     ghost use Rattle.gsi_file.specs.contracts.lines.Lines.{the_row};
     ghost use Rattle.gsi_file.specs.FileAnswers.{file_answers};
     ghost use Rattle.gsi_file.specs.ToCome.{ToCome, Answers, FindsNext};
-    ghost use Rattle.gsi_file.specs.Standing.{to_come, line_found, bytes_left, Progresses, LineProgresses};
+    ghost use Rattle.gsi_file.specs.Standing.{to_come, reader_of, AsksNoMore, line_found, bytes_left, Progresses, LineProgresses};
 
     /// Takes the one buffer, and reads nothing. Where there is no memory the reader is dropped.
     pub fn new(alloc: Global, reader: R) -> Result<Lines<R>, OutOfMemory>
+        ensures unread { IfOk result (λ l. reader_of l ≡ reader) }
         ensures number { IfOk result (λ l. (to_come R.told l).number ≡ 0) }
         ensures room { IfOk result (λ l. bytes_left l ≡ LONGEST_FILE) }
         ensures answers { IfSome (R.told reader) (λ told. IfOk result
@@ -104,7 +105,8 @@ impl<R: Source> Lines<R> {
     pub fn next(&mut self) -> Result<Option<Line<'_>>, FileFault>
         ensures* after { sem 𝓛 (Rests (the_row R.row) self.entry (λ new.
             Answers (to_come R.told self.old) result (to_come R.told new)
-            × LineProgresses result (bytes_left self.old) (bytes_left new))) }
+            × LineProgresses result (bytes_left self.old) (bytes_left new)
+            × AsksNoMore result self.old new)) }
     {
         match self.advance()? {
             Some(shape) => {
@@ -120,6 +122,7 @@ impl<R: Source> Lines<R> {
     fn advance(&mut self) -> Result<Option<Shape>, FileFault>
         ensures finds { FindsNext (to_come R.told self.old) result (to_come R.told self.new)
             (line_found self.new) }
+        ensures settled { AsksNoMore result self.old self.new }
         ensures progress { Progresses result (bytes_left self.old) (bytes_left self.new) }
     {
         match self.state {

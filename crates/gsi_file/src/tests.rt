@@ -4,7 +4,7 @@
 
 ghost use Rattle.std.specs.Prelude.{◌<◌};
 
-use crate::{FileFault, FileKind, LONGEST_FILE, LONGEST_LINE, Lines};
+use crate::{FileFault, FileKind, LONGEST_FILE, LONGEST_LINE, Lines, laws};
 use byte_ends::{OfRead, Script, Source};
 use gsi_word::{LineFault, read_block};
 use std::alloc::Global;
@@ -405,18 +405,41 @@ impl Read for Recovers<'_> {
 #[test]
 fn a_reader_that_failed_or_ended_is_not_asked_again(rt: HostRuntime) -> Result<(), Fail> {
     for (text, fails) in [(b"110001+0000000A\n", true), (b"110001+0000000A ", false)] {
-        let reader = Recovers {
+        let mut reader = Recovers {
             first: text,
             asked: 0,
             fails,
         };
-        let mut lines = Lines::new(rt.alloc(), OfRead::new(reader)).map_err(|_| "no memory")?;
+        let mut lines = Lines::new(rt.alloc(), OfRead::new(&mut reader)).map_err(|_| "no memory")?;
         take_blocks(&rt, &mut lines, &[1]);
         if fails {
             expect_fault(&rt, &mut lines, 2, FileKind::Read);
         } else {
             expect_end(&rt, &mut lines);
         }
+        drop(lines);
+        assert_eq!(rt; reader.asked, 2);
     }
     Ok(())
+}
+
+#[test]
+fn lines_of_both_widths_may_stand_in_one_file(rt: HostRuntime) -> Result<(), Fail> {
+    let text = b"410001+00000010 42....+000000S1\r\n\
+*410002+0000000000000020 42....+0000000000000001\r\n";
+    let mut lines = lines_cut(rt.alloc(), text, 7, false)?;
+    for (number, width) in [(1, 8), (2, 16)] {
+        match lines.next() {
+            Ok(Some(line)) => assert_eq!(rt; (line.number, line.block.width()), (number, width)),
+            _ => panic!(rt; "no line {number}"),
+        }
+    }
+    expect_end(&rt, &mut lines);
+    Ok(())
+}
+
+#[test]
+fn the_laws_are_calls(_rt: HostRuntime) {
+    laws::failed_read_needs_a_failing_source();
+    laws::limits();
 }

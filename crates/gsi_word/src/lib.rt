@@ -6,17 +6,17 @@
 //! line: nothing is copied, and no call takes memory.
 #![tactic(auto)]
 
-pub mod angle;
-pub mod block;
-pub mod decimal;
-pub mod found;
+mod angle;
+mod block;
+mod decimal;
+mod found;
 pub mod laws;
-pub mod line_fault;
-pub mod reading;
-pub mod shape;
+mod line_fault;
+mod reading;
+mod shape;
 #[cfg(test)]
 mod tests;
-pub mod word;
+mod word;
 
 pub use angle::AngleFault;
 pub use block::Block;
