@@ -37,8 +37,8 @@ keys_of sheet = map key_of_row sheet.rows
 abbrev pub observed : StationValue → List Key
 observed station = map (key_of_obs station.sets station.targets) station.obs
 
--- The sheet is of this station: its name, targets, sets and observations are the station's, each list in the station's
--- order and of its length, so that nothing is missing, added, moved or altered; and the first direction is 0 (profile).
+-- The sheet is of this station (profile): it has the station's name, and its lists of targets, of sets and of
+-- observations equal the station's, so that nothing is missing, added, moved or altered; and the first direction is 0.
 pub record Matches (station : StationValue) (sheet : SheetValue) : Type 0 where
   pub name : sheet.name ≡ station.name
   pub targets : names_of sheet ≡ station.targets

@@ -1,7 +1,7 @@
 //! Why a sheet is refused.
 
-/// The first fault of a sheet against its station, in the order in which they are looked for.
-/// Numbers count from 1, and each is the least that stands.
+/// The first fault of a sheet against its station: the kinds are looked for from the top, and the
+/// number of a fault, from 1, is the least of its kind.
 #[derive(Clone, Copy, Debug, PartialEq, Eq, Drop)]
 pub enum KernelFault {
     /// The sheet is of another station: look for the sheet of this one.

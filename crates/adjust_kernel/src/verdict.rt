@@ -31,9 +31,10 @@ use crate::tally::Tally;
 
 /// Checks a sheet against its station, under a residual limit where one is stated. Takes no memory.
 ///
-/// An accepted sheet has just the station's observations, and no other directions and orientations,
-/// over any denominator, give with its full turns a smaller sum of squared residuals. Under a
-/// residual limit no other full turns do so either.
+/// An accepted sheet has just the station's observations, and is their least-squares adjustment for
+/// the full turns that it states: whatever directions and orientations one takes, fractions of any
+/// denominator, the sum of squares is no smaller. Under a residual limit it is no smaller for any
+/// other full turns either.
 ///
 /// # Errors
 ///
