@@ -10,14 +10,6 @@ use Rattle.station_check.specs.Printing.{Prints, PrintsSome}
 pub prints_in_page : (old : Option (List ℕ)) (waited waits text : List ℕ) → waits ≡ waited ++ text → Prints old waited old waits text
 prints_in_page old waited waits text e = record { written = []; got = appends_none old; order = sym e }
 
--- what is written out, with nothing left to wait
-pub prints_written_out : (old new : Option (List ℕ)) (waited waits : List ℕ) → Appends old new waited → waits ≡ [] → Prints old waited new waits []
-prints_written_out old new waited waits h e = record { written = waited; got = h; order = ap (λ (r : List ℕ). waited ++ r) (sym e) }
-
--- what is to be written out was written in part
-pub prints_cut : (old new : Option (List ℕ)) (waited : List ℕ) → AppendsSome old new waited → PrintsSome old waited new []
-prints_cut old new waited h = subst (λ (r : List ℕ). AppendsSome old new r) (sym (append-nil waited)) h
-
 -- one text after another
 pub prints_then : (old now new : Option (List ℕ)) (waited between waits a b : List ℕ) → Prints old waited now between a → Prints now between new waits b → Prints old waited new waits (a ++ b)
 prints_then old now new waited between waits a b p q = record {

@@ -78,13 +78,8 @@ fn finish<W: Sink>(page: &mut Page, writer: &mut W) -> Result<(), Failed>
     ensures ok { OnOk result (Appends (W.holds writer.old) (W.holds writer.new) page.old) }
     ensures err { OnErr result (AppendsSome (W.holds writer.old) (W.holds writer.new) page.old) }
 {
-    match page.write_out(writer) {
-        Ok(()) => match writer.flush() {
-            Ok(()) => Ok(()),
-            Err(_) => Err(Failed),
-        },
-        Err(_) => Err(Failed),
-    }
+    page.write_out(writer)?;
+    writer.flush()
 }
 
 /// Whether a call of the writer failed.
