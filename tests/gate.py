@@ -31,7 +31,7 @@ def command_line_passed_and_failed():
     suite = unittest.defaultTestLoader.discover(str(ROOT / "tests" / "cli"))
     result = unittest.TextTestRunner(stream=sys.stdout, verbosity=2).run(suite)
     failed = len(result.failures) + len(result.errors) + len(result.unexpectedSuccesses)
-    return max(result.testsRun - failed, 0), failed
+    return max(result.testsRun - failed - len(result.skipped), 0), failed
 
 
 def main():
