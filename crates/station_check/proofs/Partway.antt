@@ -1,5 +1,6 @@
 -- A text that is printed piece by piece.
 use Rattle.std.proofs.Common.{◌≡◌, ℕ, List, [], ◌++◌, take, drop, length, Option, refl, sym, ap, subst, ◌∙◌, append_assoc, arith}
+use Rattle.std.specs.Prelude.{Result, Ok, Err, OnErr}
 use Rattle.std.specs.Io.KnownBytes.{Appends}
 use Rattle.std.proofs.lemmas.List.{append-nil, take-append-drop, take_at, take_all}
 use Rattle.byte_ends.specs.Sink.{AppendsSome}
@@ -76,3 +77,8 @@ pub some_got : (old now new : Option (List ℕ)) (waits text : List ℕ) → Pri
 some_got old now new waits text p h =
     let most = appends_some_more old new p.written waits [] h.0 (appends_then old now new p.written (take h.0 waits) (p.written ++ take h.0 waits) p.got h.1 refl) in
     subst (λ (r : List ℕ). AppendsSome old new r) (append-nil (p.written ++ waits) ∙ sym p.order) most
+
+-- what holds, whatever was answered, is so where a failure was
+pub in_any_case : {T E P : Type 0} (r : Result T E) → P → OnErr r P
+in_any_case (Ok x) p = tt
+in_any_case (Err e) p = p
