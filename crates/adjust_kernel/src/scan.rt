@@ -25,10 +25,8 @@ impl Scan {
         ensures nothing { IfOk result (λ scan. ⟦<Scan as Tally>⟧.StandsFor scan []) }
         ensures room { IfOk result (λ scan. ⟦<Scan as Tally>⟧.room scan ≡ MOST_ROWS) }
     {
-        match Vec::with_capacity(alloc, MOST_ROWS) {
-            Ok(added) => Ok(Scan { added }),
-            Err(_) => Err(OutOfMemory),
-        }
+        let added = Vec::with_capacity(alloc, MOST_ROWS).map_err(|_| OutOfMemory)?;
+        Ok(Scan { added })
     }
 }
 

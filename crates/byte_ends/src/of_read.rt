@@ -33,9 +33,6 @@ impl<R: Read + Drop> Source for OfRead<R> {
         ensures passes_on { ReadConsumes (R.remaining (reader_of self.old))
             (R.remaining (reader_of self.new)) result buf.new }
     {
-        match self.reader.read(buf) {
-            Ok(n) => Ok(n),
-            Err(_) => Err(Failed),
-        }
+        self.reader.read(buf).map_err(|_| Failed)
     }
 }

@@ -105,13 +105,9 @@ impl Buffer {
         self.room.copy_within(start..end, 0);
         self.start = 0;
         self.end = held;
-        match read_behind(from, &mut self.room[..], held) {
-            Ok(n) => {
-                self.end = held + n;
-                Ok(n)
-            }
-            Err(failed) => Err(failed),
-        }
+        let n = read_behind(from, &mut self.room[..], held)?;
+        self.end = held + n;
+        Ok(n)
     }
 }
 

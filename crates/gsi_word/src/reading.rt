@@ -47,10 +47,8 @@ pub fn read_block(line: &[u8]) -> Result<Block<'_>, LineFault>
     ensures block { IfOk result (λ b. IsBlock line.now (block_of b)) }
     ensures fault { IfErr result (IsLineFault line.now) }
 {
-    match read_shape(line) {
-        Ok(shape) => Ok(block_in(line, shape)),
-        Err(fault) => Err(fault),
-    }
+    let shape = read_shape(line)?;
+    Ok(block_in(line, shape))
 }
 
 /// The shape of the block that a line is, or the line's first fault, for a caller that looks at the

@@ -172,10 +172,7 @@ impl Draft {
         if self.directions.len() >= MOST_TARGETS {
             return Err(Refusal::Fault(RowKind::TooMany));
         }
-        match self.directions.push(direction) {
-            Ok(()) => Ok(()),
-            Err(_) => Err(Refusal::Memory),
-        }
+        self.directions.push(direction).map_err(|_| Refusal::Memory)
     }
 
     fn take_set(&mut self, columns: &Columns<'_>) -> Result<(), Refusal>
@@ -190,10 +187,9 @@ impl Draft {
         if self.orientations.len() >= MOST_SETS {
             return Err(Refusal::Fault(RowKind::TooMany));
         }
-        match self.orientations.push(orientation) {
-            Ok(()) => Ok(()),
-            Err(_) => Err(Refusal::Memory),
-        }
+        self.orientations
+            .push(orientation)
+            .map_err(|_| Refusal::Memory)
     }
 
     fn take_obs(&mut self, columns: &Columns<'_>) -> Result<(), Refusal>
@@ -208,9 +204,6 @@ impl Draft {
         if self.rows.len() >= MOST_ROWS {
             return Err(Refusal::Fault(RowKind::TooMany));
         }
-        match self.rows.push(row) {
-            Ok(()) => Ok(()),
-            Err(_) => Err(Refusal::Memory),
-        }
+        self.rows.push(row).map_err(|_| Refusal::Memory)
     }
 }

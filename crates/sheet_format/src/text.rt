@@ -25,10 +25,7 @@ pub(crate) fn sheet_text(alloc: Global, sheet: &Sheet) -> Result<Vec<u8>, WriteF
 {
     let mut writer = WriterBuilder::new().from_writer(Vec::new(alloc));
     push_sheet(&mut writer, sheet)?;
-    match writer.into_inner() {
-        Ok(text) => Ok(text),
-        Err(_) => Err(WriteFault::Memory),
-    }
+    writer.into_inner().map_err(|_| WriteFault::Memory)
 }
 
 // Writes the rows of a sheet.
@@ -55,10 +52,7 @@ fn push_row<W: Write + Drop>(writer: &mut Writer<W>, fields: &[&[u8]]) -> Result
         → spec.HasWritten W.contents writer.new (text ++ row_text default_writer (map (λ f. f.now) fields.now))) }
     ensures err { IfErr result (λ fault. fault ≡ Memory) }
 {
-    match writer.write_fields(fields) {
-        Ok(()) => Ok(()),
-        Err(_) => Err(WriteFault::Memory),
-    }
+    writer.write_fields(fields).map_err(|_| WriteFault::Memory)
 }
 
 // Writes the first row.

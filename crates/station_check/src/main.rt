@@ -57,10 +57,7 @@ fn command_line_words(rt: &HostRuntime) -> Result<Vec<String>, u8> {
             return Err(USAGE);
         }
     };
-    match given.collect(rt.alloc()) {
-        Ok(words) => Ok(words),
-        Err(_) => Err(out_of_memory(rt)),
-    }
+    given.collect(rt.alloc()).map_err(|_| out_of_memory(rt))
 }
 
 fn out_of_memory(rt: &HostRuntime) -> u8 {
