@@ -9,6 +9,9 @@ from program import EXAMPLE, PROGRAM, ProgramTest, Run, answer_of
 
 NO_MEMORY = (1, b"", b"refused: out of memory\n")
 
+# The status that the loader of shared libraries ends with.
+NOT_LOADED = 127
+
 MORE = b"\nFor more information, try '--help'.\n"
 
 
@@ -18,7 +21,7 @@ def answer_in(room, args):
         answer = answer_of(args, preexec_fn=lambda: resource.setrlimit(resource.RLIMIT_AS, (room, room)))
     except (OSError, subprocess.SubprocessError):
         return None
-    return answer if answer[0] in (0, 1, 2) else None
+    return answer if answer[0] != NOT_LOADED else None
 
 
 class CommandLineTest(ProgramTest):
@@ -82,19 +85,25 @@ class CommandLineTest(ProgramTest):
         self.assertEqual((1, b"", b"refused: block 1: Read\n"), (done.returncode, done.stdout, done.stderr))
 
     def test_want_of_memory_is_a_refusal(self):
-        """The room of the process grows page by page: the loader fails, then the program, until it has all it wants."""
+        """The room of the process grows page by page: the loader fails, then the program, until it has all it wants.
+
+        What comes before the last failure of the loader is none of the program's answers; what comes after is, and a
+        death by a signal would be one."""
         met = set()
         for args in [["words", str(EXAMPLE)], ["words", "x" * 100_000], ["--help"]]:
             with self.subTest(args[-1][:20]):
-                ample = answer_of(args)
+                ample, answers = answer_of(args), set()
                 for room in range(1 << 20, 64 << 20, resource.getpagesize()):
                     answer = answer_in(room, args)
                     if answer == ample:
                         break
-                    if answer is not None:
-                        self.assertEqual(NO_MEMORY, answer)
-                        met.add(answer)
+                    if answer is None:
+                        answers.clear()
+                    else:
+                        answers.add(answer)
                 self.assertEqual(ample, answer)
+                self.assertLessEqual(answers, {NO_MEMORY})
+                met |= answers
         if not met:
             self.skipTest("the loader of this machine wants more room than the program")
 

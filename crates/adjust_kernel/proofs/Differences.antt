@@ -1,7 +1,6 @@
 -- Lists that agree at each place.
-use Rattle.std.proofs.Common.{◌≡◌, ℕ, suc, zero, ◌+◌, ◌≤◌, List, [], ◌∷◌, length, take, ap, refl, sym, ◌∙◌, add-one}
+use Rattle.std.proofs.Common.{◌≡◌, ℕ, suc, zero, ◌+◌, List, [], ◌∷◌, take, ap, refl, add-one}
 use Rattle.std.specs.List.{slice_get}
-use Rattle.std.proofs.lemmas.List.{take_all}
 
 module _ {X : Type 0} where
   agree_suc : (xs ys : List X) (i : ℕ) → take i xs ≡ take i ys → slice_get xs i ≡ slice_get ys i → take (suc i) xs ≡ take (suc i) ys
@@ -18,6 +17,3 @@ module _ {X : Type 0} where
 
   pub agree_more : (xs ys : List X) (i : ℕ) → take i xs ≡ take i ys → slice_get xs i ≡ slice_get ys i → take (i + 1) xs ≡ take (i + 1) ys
   agree_more xs ys i e f = rw (add-one i) (agree_suc xs ys i e f)
-
-  pub agree_all : (xs ys : List X) (i : ℕ) → take i xs ≡ take i ys → length xs ≤ i → length ys ≤ i → xs ≡ ys
-  agree_all xs ys i e h k = sym (take_all i xs h) ∙ e ∙ take_all i ys k

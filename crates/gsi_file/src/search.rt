@@ -1,8 +1,8 @@
 //! The search for the next numbered line, over what is in hand and what the reader gives.
 //!
-//! Each byte is looked at once as a possible end of its line: what was looked at before a read is
-//! not looked at again. A search looks no further than one byte past the longest line, nor past
-//! what may still be taken of the file, so at the same byte the file's limit comes first.
+//! A byte that was found to be no end of its line is not looked at again after a read. A search
+//! looks no further than one byte past the longest line, nor past what may still be taken of the
+//! file, so at the same byte the file's limit comes first.
 
 ghost use Rattle.std.specs.Prelude.{◌≡◌, ◌<◌, ◌+◌, ◌-◌, true, false};
 ghost use Rattle.gsi_file.specs.Finding.{Finds};

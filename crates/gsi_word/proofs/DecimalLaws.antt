@@ -1,5 +1,5 @@
 -- Numbers that fit, read digit by digit.
-use Rattle.std.proofs.Common.{◌≡◌, ℕ, zero, suc, ◌+◌, ◌-◌, ◌*◌, ◌^◌, ◌<◌, ◌≤◌, ap, subst, arith}
+use Rattle.std.proofs.Common.{◌≡◌, ℕ, zero, suc, ◌+◌, ◌-◌, ◌^◌, ◌<◌, ◌≤◌, ap, subst, arith}
 use Rattle.std.proofs.Math.Nat.{pow-suc}
 
 -- fewer digits write no greater numbers
@@ -15,9 +15,3 @@ below_fifteen i n le lt =
     let e : i + (15 - i) ≡ 15 = omega arith in
     let most : 10 ^ (i + (15 - i)) ≡ 1000000000000000 = ap (λ (k : ℕ). 10 ^ k) e in
     omega (arith, lt, power_below i (15 - i), most)
-
--- one more digit
-pub next_power : (i n d : ℕ) → n < 10 ^ i → d ≤ 9 → 10 * n + d < 10 ^ (i + 1)
-next_power i n d lt le =
-    let e : suc i ≡ i + 1 = omega arith in
-    subst (λ (k : ℕ). 10 * n + d < 10 ^ k) e (omega (arith, lt, le, pow-suc 10 i))

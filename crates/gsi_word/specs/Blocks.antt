@@ -1,4 +1,5 @@
--- A line that is a block of words (GSI manual; that a line may end with its last word, or with any number of blanks, is profile).
+-- A line that is a block of words (GSI manual; that a line may end with its last word, or with any number of blanks, is
+-- profile).
 use Rattle.std.specs.Prelude.{◌≡◌, ◌==◌, ℕ, ◌<◌, Bool, false, List, [], ◌∷◌, ◌++◌, length, drop, map, All, replicate, if◌then◌else◌, ◌⊎◌}
 use Rattle.std.specs.List.{join_with_byte}
 use Rattle.gsi_word.specs.Words.{GsiWord, IsWord, spelled}

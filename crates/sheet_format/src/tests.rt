@@ -380,14 +380,14 @@ fn counted(alloc: Global, targets: u32, sets: u32, rows: u32) -> Result<String, 
     let mut text = String::new(alloc);
     text.push_str("sheet,1,S1,4000,\n")?;
     for target in 0..targets {
-        text.push_str(format!(in alloc; "target,,T{target},{target},\n")?.as_str())?;
+        text.push_str(format!(in alloc; "target,,P{target},{target},\n")?.as_str())?;
     }
     for set in 0..sets {
         text.push_str(format!(in alloc; "set,{},,-{},\n", set % 40 + 1, set + 1)?.as_str())?;
     }
     for row in 0..rows {
         let set = row / 100 % 40 + 1;
-        text.push_str(format!(in alloc; "obs,{set},T{},{row},-9\n", row % 100)?.as_str())?;
+        text.push_str(format!(in alloc; "obs,{set},P{},{row},-9\n", row % 100)?.as_str())?;
     }
     Ok(text)
 }
@@ -409,7 +409,7 @@ fn the_row_that_is_too_many_is_named(rt: HostRuntime) -> Result<(), Fail> {
         assert_eq!(rt; found.as_str(), expected);
     }
     let mut text = counted(alloc, 100, 40, 4_000)?;
-    text.push_str("obs,10000,T1,0,0\n")?;
+    text.push_str("obs,10000,P1,0,0\n")?;
     let found = answer(alloc, text.as_bytes())?;
     assert_eq!(rt; found.as_str(), "Row(4142, Range)");
     Ok(())

@@ -1,14 +1,11 @@
 -- Lists that have a property at each place, made one element at a time.
-use Rattle.std.proofs.Common.{◌≡◌, ℕ, ◌+◌, ◌<◌, List, [], ◌∷◌, ◌++◌, length, get_or, arith, ap, refl, sym, ◌∙◌, subst}
+use Rattle.std.proofs.Common.{◌≡◌, ℕ, ◌+◌, ◌<◌, List, [], ◌∷◌, ◌++◌, length, get_or, arith, ap, sym, ◌∙◌, subst}
 use Rattle.std.proofs.lemmas.List.{length-append, get_or_append_left}
 use Rattle.std.proofs.Math.Seq.{get_or-append_seam}
 use Rattle.sheet_means.specs.Parts.{AreEach}
 use native.Mathlib.Decide.{dec_lt}
 
 module _ {X : Type 0} (P : ℕ → X → Type 0) where
-  pub none_each : AreEach P 0 []
-  none_each = record { long = refl; at = λ k d h. absurd (omega arith) }
-
   pub each_more : (n : ℕ) (xs : List X) (x : X) → AreEach P n xs → P n x → AreEach P (n + 1) (xs ++ x ∷ [])
   each_more n xs x e p = record {
     long = length-append xs (x ∷ []) ∙ ap (λ k. k + 1) e.long;

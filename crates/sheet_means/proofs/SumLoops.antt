@@ -1,5 +1,5 @@
 -- Sums as loops make them.
-use Rattle.std.proofs.Common.{◌≡◌, ℕ, suc, ◌+◌, ℤ, pos, ◌+ℤ◌, arith, ap, refl, sym, ◌∙◌}
+use Rattle.std.proofs.Common.{◌≡◌, ℕ, suc, ◌+◌, ℤ, pos, ◌+ℤ◌, arith, ap, sym, ◌∙◌}
 use lib.IntN.{◌*ℤ◌}
 use Rattle.std.proofs.lemmas.Int.{ints}
 use Rattle.adjust_kernel.specs.Within.{IsWithin}
@@ -10,9 +10,6 @@ use Rattle.sheet_means.proofs.GridLaws.{sum_below}
 pub record IsSumTo (f : ℕ → ℤ) (most : ℤ) (n : ℕ) (total : ℤ) : Type 0 where
   pub total_is : total ≡ sum_below n f
   pub bound : IsWithin (most *ℤ pos n) total
-
-pub no_sum : (f : ℕ → ℤ) (most : ℤ) → IsSumTo f most 0 (pos 0)
-no_sum f most = record { total_is = refl; bound = record { low = omega (arith, ints); high = omega (arith, ints) } }
 
 pub sum_more : (f : ℕ → ℤ) (most : ℤ) (n : ℕ) (total : ℤ) → IsSumTo f most n total → IsWithin most (f n) → IsSumTo f most (n + 1) (total +ℤ f n)
 sum_more f most n total s w =
