@@ -1,0 +1,158 @@
+-- From the kernel's verdict to what an acceptance and a refusal say.
+use Rattle.std.proofs.Common.{◌≡◌, ℕ, zero, suc, ◌+◌, ◌<◌, Bool, true, false, List, [], ◌∷◌, ◌++◌, length, Option, Some, None, Result, Ok, Err, refl, sym, ap, subst, ◌∙◌, inl, inr, ◌⊎◌, arith, find, if◌then◌else◌}
+use Rattle.std.specs.Prelude.{All, IfSome, IfOk, IfErr, reverse}
+use mathlib.Core.List.{reverse_aux}
+use Rattle.std.specs.List.{AllZip, Contains}
+use Rattle.std.specs.Str.{bytes_eq}
+use Rattle.std.proofs.lemmas.List.{reverse-reverse}
+use Rattle.byte_ends.specs.Source.{Told}
+use Rattle.gsi_word.specs.Blocks.{GsiBlock, IsBlock}
+use Rattle.gsi_file.specs.FileAnswers.{FileAnswers, file_answers}
+use Rattle.gsi_file.specs.declared.file_fault.FileKind.{FileKind}
+use Rattle.adjust_kernel.specs.Sheets.{SheetValue}
+use Rattle.adjust_kernel.specs.declared.accepted.Accepted.{Accepted}
+use Rattle.adjust_kernel.specs.declared.kernel_fault.KernelFault.{KernelFault}
+use Rattle.adjust_kernel.specs.declared.kernel_fault.KernelFault.TheVariants.{Residual}
+use Rattle.station_book.specs.declared.fault.BookKind.{BookKind}
+use Rattle.station_book.specs.declared.faces.Faces.{Faces}
+use Rattle.station_book.specs.Faults.{fault_at_end, name_at, IsWithoutFault}
+use Rattle.station_book.specs.Limits.{FaceLimits}
+use Rattle.station_book.specs.Places.{History, Place}
+use Rattle.station_book.specs.Stations.{Couple, SurveyedStation, HasFaces, IsSurveyed, AreStations, stations_of, station_named}
+use Rattle.station_check.specs.declared.fault.Fault.{Fault}
+use Rattle.station_check.specs.declared.fault.Fault.TheVariants.{Gsi, Book, SheetRead, Sheet, NoStation, Means, Kernel, Write, Memory}
+use Rattle.station_check.specs.Records.{ComesTo, FileComesTo, at_end, file_fault}
+use Rattle.station_check.specs.Surveys.{IsSurvey, Surveys}
+use Rattle.station_check.specs.Accepted.{AreWithin, IsAccepted}
+use Rattle.station_check.specs.Judged.{IsJudged, IsJudgedSheet, IfKernels}
+use Rattle.station_check.specs.Refused.{IsRefusedByKernel, TellsOfRefusal}
+use Rattle.station_check.specs.Telling.{WhereBothTell}
+use Rattle.station_check.proofs.Named.{has_name}
+
+-- Lines and the end after them come to these blocks: they are the blocks of the lines behind those
+-- before them, and no fault stands.
+record CameWell (limits : FaceLimits) (past : History) (lines : List (List ℕ)) (last : Option FileKind) (blocks : History) : Type 0 where
+  pub more : List GsiBlock
+  pub each : AllZip IsBlock lines more
+  pub split : blocks ≡ reverse_aux more past
+  pub ended : last ≡ None
+  pub faultless : IsWithoutFault limits blocks
+  pub closed : fault_at_end blocks ≡ None
+
+-- the end of the lines, where the fault of the end is this
+well_at_end : (limits : FaceLimits) (past blocks : History) (o : Option BookKind) → IsWithoutFault limits past → fault_at_end past ≡ o → Ok blocks ≡ at_end past o → CameWell limits past [] None blocks
+well_at_end limits past blocks None clean e h =
+    let same : past ≡ blocks = cc in
+    subst (λ (b : History). CameWell limits past [] None b) same (record { more = []; each = tt; split = refl; ended = refl; faultless = clean; closed = e })
+well_at_end limits past blocks (Some kind) clean e h = cc
+
+came_well : (limits : FaceLimits) (past : History) (lines : List (List ℕ)) (last : Option FileKind) (blocks : History) → IsWithoutFault limits past → ComesTo limits past lines last (Ok blocks) → CameWell limits past lines last blocks
+came_well limits past [] (Some kind) blocks clean h = cc
+came_well limits past [] None blocks clean h = well_at_end limits past blocks (fault_at_end past) clean refl h
+came_well limits past (line ∷ lines) last blocks clean (inl h) = let e = h.answer in cc
+came_well limits past (line ∷ lines) last blocks clean (inr (inl h)) = let e = h.answer in cc
+came_well limits past (line ∷ lines) last blocks clean (inr (inr h)) =
+    let rest = came_well limits (h.block ∷ past) lines last blocks (h.clean, clean) h.after in
+    record { more = h.block ∷ rest.more; each = (h.is_block, rest.each); split = rest.split; ended = rest.ended; faultless = rest.faultless; closed = rest.closed }
+
+-- What is found in the second of two lists, and what stands in the first for it.
+record IsPartner {A B : Type 0} (R : A → B → Type 0) (xs : List A) (y : B) : Type 0 where
+  pub partner : A
+  pub among : Contains xs partner
+  pub related : R partner y
+
+one_further : {A B : Type 0} (R : A → B → Type 0) (x : A) (xs : List A) (y : B) → IsPartner R xs y → IsPartner R (x ∷ xs) y
+one_further R x xs y p = record { partner = p.partner; among = (suc p.among.0, omega (arith, p.among.1), p.among.2); related = p.related }
+
+partner_of : {A B : Type 0} (R : A → B → Type 0) (p : B → Bool) (xs : List A) (ys : List B) (y : B) → AllZip R xs ys → find p ys ≡ Some y → IsPartner R xs y
+partner_of R p [] [] y h e = cc
+partner_of R p [] (z ∷ ys) y h e = absurd h
+partner_of R p (x ∷ xs) [] y h e = absurd h
+partner_of R p (x ∷ xs) (z ∷ ys) y h e = split (partner_of R p xs ys y h.1) (p z) e where
+  split : (find p ys ≡ Some y → IsPartner R xs y) → (b : Bool) → (if b then Some z else find p ys) ≡ Some y → IsPartner R (x ∷ xs) y
+  split rest true g = let same : z ≡ y = cc in record { partner = x; among = (zero, omega arith, refl); related = subst (R x) same h.0 }
+  split rest false g = one_further R x xs y (rest g)
+
+all_within : (limits : FaceLimits) (couples : List Couple) (faces : List Faces) → AllZip (HasFaces limits) couples faces → All (AreWithin limits) faces
+all_within limits [] [] h = λ k d l. absurd (omega (arith, l))
+all_within limits [] (f ∷ faces) h = absurd h
+all_within limits (c ∷ couples) [] h = absurd h
+all_within limits (c ∷ couples) (f ∷ faces) h = each (all_within limits couples faces h.1) where
+  each : All (AreWithin limits) faces → All (AreWithin limits) (f ∷ faces)
+  each rest zero d l = record { two_c = h.0.two_c.within; two_i = h.0.two_i.within }
+  each rest (suc k) d l = rest k d (omega (arith, l))
+
+-- A sheet that was judged well is accepted.
+accepted_of : (limits : FaceLimits) (most : Option ℕ) (gsi told : Told) (stations : List SurveyedStation) (a : Accepted) → IsSurvey limits (file_answers gsi) stations → IsJudgedSheet stations most told (Ok a) → IsAccepted limits most gsi told a
+unfolding AreStations
+accepted_of limits most gsi told stations a survey judged =
+    let blocks = survey.blocks in
+    let its = judged.judged.its in
+    let well = came_well limits [] (file_answers gsi).lines (file_answers gsi).last blocks tt survey.file in
+    let in_order : well.more ≡ reverse blocks = sym (ap reverse well.split ∙ reverse-reverse well.more) in
+    let p = partner_of (IsSurveyed limits blocks) (λ s. bytes_eq s.station.name judged.sheet.name) (stations_of blocks) stations its survey.stations_are judged.judged.named in
+    record {
+      blocks = blocks;
+      ended = well.ended;
+      lines = subst (λ (bs : List GsiBlock). AllZip IsBlock (file_answers gsi).lines bs) in_order well.each;
+      faultless = well.faultless;
+      closed = well.closed;
+      bytes = judged.bytes;
+      whole = judged.whole;
+      sheet = judged.sheet;
+      states = judged.states;
+      place = p.partner;
+      listed = p.among;
+      named = p.related.name ∙ ap Some (has_name judged.sheet.name stations its judged.judged.named);
+      its = its;
+      surveyed = p.related;
+      within = all_within limits _ its.faces p.related.differences;
+      matches = judged.judged.matches;
+      least = judged.judged.squares.0.least;
+      unique = judged.judged.squares.0.unique;
+      limited = judged.judged.verdict.0 (Residual 0);
+      over_turns = judged.judged.squares.1;
+      says = judged.judged.verdict.1;
+    }
+
+-- the same of an answer, where both readers tell
+pub accepted_so : (limits : FaceLimits) (most : Option ℕ) (gsi told : Option Told) (stations : List SurveyedStation) (r : Result Accepted Fault) → IfSome gsi (λ file. Surveys limits (file_answers file) (Ok stations))
+    → IfSome told (λ stated. IfKernels (IsJudgedSheet stations most stated) r) → WhereBothTell gsi told (λ file stated. IfOk r (IsAccepted limits most file stated))
+accepted_so limits most None told stations r s j = tt
+accepted_so limits most (Some file) None stations r s j = tt
+accepted_so limits most (Some file) (Some stated) stations (Ok a) s j = accepted_of limits most file stated stations a s j
+accepted_so limits most (Some file) (Some stated) stations (Err fault) s j = tt
+
+-- A sheet that was judged badly is refused so.
+refused_of : (limits : FaceLimits) (most : Option ℕ) (gsi told : Told) (stations : List SurveyedStation) (fault : KernelFault) → IsSurvey limits (file_answers gsi) stations → IsJudgedSheet stations most told (Err fault) → IsRefusedByKernel limits most gsi told fault
+refused_of limits most gsi told stations fault survey judged = record {
+  stations = stations;
+  survey = survey;
+  bytes = judged.bytes;
+  whole = judged.whole;
+  sheet = judged.sheet;
+  states = judged.states;
+  its = judged.judged.its;
+  named = judged.judged.named;
+  first = judged.judged.verdict;
+  squares = judged.judged.squares;
+}
+
+by_fault : (limits : FaceLimits) (most : Option ℕ) (gsi told : Told) (stations : List SurveyedStation) (fault : Fault) → IsSurvey limits (file_answers gsi) stations → IfKernels (IsJudgedSheet stations most told) (Err fault) → TellsOfRefusal limits most gsi told fault
+by_fault limits most gsi told stations (Gsi fault) s j = tt
+by_fault limits most gsi told stations (Book fault) s j = tt
+by_fault limits most gsi told stations SheetRead s j = tt
+by_fault limits most gsi told stations (Sheet fault) s j = tt
+by_fault limits most gsi told stations NoStation s j = tt
+by_fault limits most gsi told stations (Means fault) s j = tt
+by_fault limits most gsi told stations (Kernel fault) s j = refused_of limits most gsi told stations fault s j
+by_fault limits most gsi told stations Write s j = tt
+by_fault limits most gsi told stations Memory s j = tt
+
+-- the same of an answer, where both readers tell
+pub refused_so : (limits : FaceLimits) (most : Option ℕ) (gsi told : Option Told) (stations : List SurveyedStation) (r : Result Accepted Fault) → IfSome gsi (λ file. Surveys limits (file_answers file) (Ok stations))
+    → IfSome told (λ stated. IfKernels (IsJudgedSheet stations most stated) r) → WhereBothTell gsi told (λ file stated. IfErr r (TellsOfRefusal limits most file stated))
+refused_so limits most None told stations r s j = tt
+refused_so limits most (Some file) None stations r s j = tt
+refused_so limits most (Some file) (Some stated) stations (Ok a) s j = tt
+refused_so limits most (Some file) (Some stated) stations (Err fault) s j = by_fault limits most file stated stations fault s j

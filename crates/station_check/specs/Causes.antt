@@ -1,0 +1,76 @@
+-- Which faults a call may answer, whatever its readers and writers tell. Each part's want of memory
+-- is answered as `Memory`, and `Write` only where a call of the writer failed.
+use Rattle.std.specs.Prelude.{◌≡◌, Bool, true, Result, Ok, Err}
+use Rattle.gsi_file.specs.declared.file_fault.FileFault.TheVariants as file
+use Rattle.station_book.specs.declared.fault.BookFault.{BookFault}
+use Rattle.station_book.specs.declared.fault.BookFault.TheVariants as book
+use Rattle.sheet_format.specs.declared.fault.SheetFault.{SheetFault}
+use Rattle.sheet_format.specs.declared.fault.SheetFault.TheVariants as sheet
+use Rattle.sheet_means.specs.declared.fault.MeansFault.TheVariants as means
+use Rattle.station_check.specs.declared.fault.Fault.{Fault}
+use Rattle.station_check.specs.declared.fault.Fault.TheVariants.{Gsi, Book, SheetRead, Sheet, NoStation, Means, Kernel, Write, Memory}
+
+-- a fault of the book as one of a run
+abbrev pub of_book : BookFault → Fault
+of_book (book.At number kind) = Book (book.At number kind)
+of_book book.Memory = Memory
+
+-- a fault of the sheet as one of a run
+abbrev pub of_sheet : SheetFault → Fault
+of_sheet sheet.TooLong = Sheet sheet.TooLong
+of_sheet (sheet.Row number kind) = Sheet (sheet.Row number kind)
+of_sheet sheet.Memory = Memory
+
+-- A fault of the field file or of its blocks, or want of memory.
+abbrev pub IsOfFile : Fault → Type 0
+IsOfFile (Gsi (file.At number what)) = Unit {0}
+IsOfFile (Book (book.At number what)) = Unit {0}
+IsOfFile Memory = Unit {0}
+IsOfFile fault = ⊥
+
+-- A fault that comes from the sheet on, or want of memory.
+abbrev pub IsOfSheet : Fault → Type 0
+IsOfSheet SheetRead = Unit {0}
+IsOfSheet (Sheet sheet.TooLong) = Unit {0}
+IsOfSheet (Sheet (sheet.Row number what)) = Unit {0}
+IsOfSheet NoStation = Unit {0}
+IsOfSheet (Kernel fault) = Unit {0}
+IsOfSheet Memory = Unit {0}
+IsOfSheet fault = ⊥
+
+-- What a check may answer.
+abbrev pub IsOfCheck : Fault → Type 0
+IsOfCheck (Gsi (file.At number what)) = Unit {0}
+IsOfCheck (Book (book.At number what)) = Unit {0}
+IsOfCheck fault = IsOfSheet fault
+
+-- What the writing of a list may answer.
+abbrev pub IsOfList : Fault → Type 0
+IsOfList Write = Unit {0}
+IsOfList fault = IsOfFile fault
+
+-- What the writing of a sheet of means may answer.
+abbrev pub IsOfMeans : Fault → Type 0
+IsOfMeans NoStation = Unit {0}
+IsOfMeans (Means means.Incomplete) = Unit {0}
+IsOfMeans Write = Unit {0}
+IsOfMeans fault = IsOfFile fault
+
+-- What the writing of words may answer.
+abbrev pub IsOfWords : Fault → Type 0
+IsOfWords (Gsi (file.At number what)) = Unit {0}
+IsOfWords Write = Unit {0}
+IsOfWords Memory = Unit {0}
+IsOfWords fault = ⊥
+
+-- A call of the writer failed just where the answer says so.
+abbrev pub FailsAtWrite : {A : Type 0} → Result A Fault → Bool → Bool → Type 0
+FailsAtWrite (Err Write) old new = new ≡ true
+FailsAtWrite (Err fault) old new = new ≡ old
+FailsAtWrite (Ok x) old new = new ≡ old
+
+-- At a refusal other than a failed write nothing was asked of the writer.
+abbrev pub IsUnwritten : {A W : Type 0} → Result A Fault → W → W → Type 0
+IsUnwritten (Ok x) old new = Unit {0}
+IsUnwritten (Err Write) old new = Unit {0}
+IsUnwritten (Err fault) old new = new ≡ old

@@ -1,0 +1,39 @@
+-- The kernel's verdict on a sheet, as it came about.
+use Rattle.std.specs.Prelude.{◌≡◌, ℕ, List, length, Option, Some, Result, Ok, Err, OnOk}
+use Rattle.byte_ends.specs.Source.{Told}
+use Rattle.byte_ends.specs.Input.{input_within, Ended}
+use Rattle.adjust_kernel.specs.Matching.{Matches}
+use Rattle.adjust_kernel.specs.Pairs.{choice_stated_by}
+use Rattle.adjust_kernel.specs.Promises.{TellsOfSquares}
+use Rattle.adjust_kernel.specs.Sheets.{SheetValue}
+use Rattle.adjust_kernel.specs.Verdict.{IsVerdict, readings}
+use Rattle.adjust_kernel.specs.declared.accepted.Accepted.{Accepted}
+use Rattle.adjust_kernel.specs.declared.kernel_fault.KernelFault.{KernelFault}
+use Rattle.sheet_format.specs.Rows.{IsSheetText}
+use Rattle.sheet_format.specs.declared.reading.TheConstants.{LONGEST_SHEET}
+use Rattle.station_book.specs.Stations.{SurveyedStation, station_named}
+use Rattle.station_check.specs.declared.fault.Fault.{Fault}
+use Rattle.station_check.specs.declared.fault.Fault.TheVariants.{Kernel}
+
+-- Of these stations the one of the sheet's name was found, and the kernel gave this verdict, which
+-- tells of least squares what the kernel's verdicts tell.
+pub record IsJudged (stations : List SurveyedStation) (most : Option ℕ) (sheet : SheetValue) (v : Result Accepted KernelFault) : Type 0 where
+  pub its : SurveyedStation
+  pub named : station_named sheet.name stations ≡ Some its
+  pub verdict : IsVerdict its.station sheet most v
+  pub matches : OnOk v (Matches its.station sheet)
+  pub squares : TellsOfSquares most (length its.station.sets) (length its.station.targets) (choice_stated_by sheet) (readings its.station sheet) v
+
+-- The sheet was read to its end, its bytes state this sheet, and it was judged so.
+pub record IsJudgedSheet (stations : List SurveyedStation) (most : Option ℕ) (told : Told) (v : Result Accepted KernelFault) : Type 0 where
+  pub bytes : List ℕ
+  pub whole : input_within LONGEST_SHEET told ≡ Ended bytes
+  pub sheet : SheetValue
+  pub states : IsSheetText bytes sheet
+  pub judged : IsJudged stations most sheet v
+
+-- what P says of the kernel's verdict, where the answer is one
+abbrev pub IfKernels : (Result Accepted KernelFault → Type 0) → Result Accepted Fault → Type 0
+IfKernels P (Ok accepted) = P (Ok accepted)
+IfKernels P (Err (Kernel fault)) = P (Err fault)
+IfKernels P (Err fault) = Unit {0}

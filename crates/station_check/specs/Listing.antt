@@ -1,0 +1,29 @@
+-- What is answered and written of the list of a field file's stations.
+use Rattle.std.specs.Prelude.{◌≡◌, ℕ, List, Option, Result, Ok, Err}
+use Rattle.std.specs.Io.KnownBytes.{Appends}
+use Rattle.byte_ends.specs.Sink.{AppendsSome}
+use Rattle.gsi_file.specs.FileAnswers.{FileAnswers}
+use Rattle.station_book.specs.Limits.{FaceLimits}
+use Rattle.station_book.specs.Stations.{SurveyedStation}
+use Rattle.station_check.specs.declared.fault.Fault.{Fault}
+use Rattle.station_check.specs.declared.fault.Fault.TheVariants.{Write, Memory}
+use Rattle.station_check.specs.ListTexts.{list_text}
+use Rattle.station_check.specs.Records.{FileComesTo}
+use Rattle.station_check.specs.Surveys.{IsSurvey}
+
+-- The file ended without a fault, and this is the list of its stations.
+pub record IsList (limits : FaceLimits) (answers : FileAnswers) (text : List ℕ) : Type 0 where
+  pub stations : List SurveyedStation
+  pub survey : IsSurvey limits answers stations
+  pub text_is : text ≡ list_text stations
+
+-- The list was written whole; or, where a call of the writer failed, some of its first bytes; else
+-- the file's first fault is answered, or want of memory.
+abbrev pub WritesList : FaceLimits → FileAnswers → {A : Type 0} → Result A Fault
+    → Option (List ℕ) → Option (List ℕ) → Type 0
+WritesList limits answers (Ok x) old new =
+    (text : List ℕ) × IsList limits answers text × Appends old new text
+WritesList limits answers (Err Write) old new =
+    (text : List ℕ) × IsList limits answers text × AppendsSome old new text
+WritesList limits answers (Err Memory) old new = Unit {0}
+WritesList limits answers (Err fault) old new = FileComesTo limits answers (Err fault)
