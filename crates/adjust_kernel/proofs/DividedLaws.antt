@@ -2,6 +2,7 @@
 use Rattle.std.proofs.Common.{◌≡◌, ◌≢◌, ◌⊎◌, inl, inr, ℕ, ◌<◌, Bool, true, false, List, ℤ, pos, ◌+ℤ◌, arith, ap, refl, ◌∙◌}
 use Rattle.std.proofs.Math.IntN.{◌*ℤ◌, ◌-ℤ◌}
 use Rattle.std.proofs.lemmas.Int.{ints}
+use Rattle.std.proofs.lemmas.List.Elements.{recursion_from_All}
 use Rattle.adjust_kernel.specs.Readings.{Reading}
 use Rattle.adjust_kernel.specs.Sums.{squared}
 use Rattle.adjust_kernel.specs.Residuals.{Choice, residual, unrolled}
@@ -23,7 +24,7 @@ lift_same false = refl
 unlike : (z : ℤ) (b side : Bool) → side ≡ b → (b0 : Bool) → lift b0 b ≡ pos 1 → z +ℤ lift b0 side ≢ z
 unlike z b side e b0 k h = let m : lift b0 side ≡ pos 1 = ap (lift b0) e ∙ k in omega (arith, ints)
 
-module _ (sets targets : ℕ) (c : Choice) (readings : List Reading) (d : IsDivided sets targets readings) where
+module _ (sets targets : ℕ) (c : Choice) (readings : List Reading) (datum : c.direction 0 ≡ pos 0) (d : IsDivided sets targets readings) where
   abbrev b0 : Bool
   b0 = d.part_of_target 0
 
@@ -56,7 +57,7 @@ module _ (sets targets : ℕ) (c : Choice) (readings : List Reading) (d : IsDivi
   divided_has_another = record {
     other = turned;
     denominator = refl;
-    first = let e = lift_same b0 in omega (arith, ints);
+    first = let e = lift_same b0 in omega (arith, ints, datum);
     different = different b0 refl;
-    same_sum = int_sum_by-same_at (λ r. squared (residual turned r)) (λ r. squared (residual c r)) readings (AllByRecursion-map _ _ at_row readings d.within);
+    same_sum = int_sum_by-same_at (λ r. squared (residual turned r)) (λ r. squared (residual c r)) readings (AllByRecursion-map _ _ at_row readings (recursion_from_All (λ r. d.part_of_set r.set ≡ d.part_of_target r.target) readings d.none_between));
   }

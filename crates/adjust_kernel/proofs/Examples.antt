@@ -1,6 +1,7 @@
 -- The definitions at stations worked by hand.
 use Rattle.std.proofs.Common.{◌≡◌, inl, ℕ, zero, suc, Bool, true, false, List, [], ◌∷◌, ℤ, pos, neg_ℤ, arith, refl}
 use Rattle.std.specs.Prelude.{map}
+use Rattle.std.proofs.lemmas.List.Elements.{All-from_recursion}
 use Rattle.adjust_kernel.specs.Readings.{Reading}
 use Rattle.adjust_kernel.specs.Residuals.{Choice, choice_of, residual, sum_of_squares, target_sum, set_sum}
 use Rattle.adjust_kernel.specs.Connected.{IsDivided}
@@ -68,7 +69,7 @@ two_pairs_divided : IsDivided 2 4 two_pairs
 two_pairs_divided = record {
   part_of_set = first_set;
   part_of_target = first_targets;
-  within = (refl, (refl, (refl, (refl, tt))));
+  none_between = All-from_recursion (λ (r : Reading). first_set r.set ≡ first_targets r.target) two_pairs (refl, (refl, (refl, (refl, tt))));
   first_part = inl (0, (omega arith), refl);
   second_part = inl (1, (omega arith), refl);
 }

@@ -4,8 +4,9 @@ use Rattle.std.proofs.Math.IntN.{◌*ℤ◌, ◌-ℤ◌, *ℤ-zero, +ℤ_idl}
 use Rattle.std.proofs.lemmas.Int.{ints}
 use Rattle.adjust_kernel.specs.Readings.{Reading}
 use Rattle.adjust_kernel.specs.Sums.{int_sum_by, squared}
-use Rattle.adjust_kernel.specs.Residuals.{Choice, residual, sum_of_squares, unrolled, IsBalanced}
+use Rattle.adjust_kernel.specs.Residuals.{Choice, residual, sum_of_squares, unrolled}
 use Rattle.adjust_kernel.specs.Least.{IsLeast}
+use Rattle.adjust_kernel.proofs.BalanceLaws.{IsBalanced}
 use Rattle.adjust_kernel.proofs.Ring.{num, ◌⊕◌, ◌⊖◌, ◌⊗◌, same_value}
 use Rattle.adjust_kernel.proofs.SumLaws.{int_sum_by-same, int_sum_by-add, int_sum_by-sub, int_sum_by-scale, int_sum_by-not_negative, int_sum_by-keys}
 

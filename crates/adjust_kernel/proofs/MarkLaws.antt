@@ -7,10 +7,12 @@ use Rattle.std.proofs.lemmas.List.{get_or-set_same, get_or-set_other, length-set
 use native.Mathlib.Decide.{ℕ_discrete, dec_lt}
 use Rattle.adjust_kernel.specs.declared.obs.Obs.{Obs}
 use Rattle.adjust_kernel.specs.declared.row.Row.{Row}
-use Rattle.adjust_kernel.specs.Connected.{IsDivided, AllWithin, HasMember}
+use Rattle.adjust_kernel.specs.Connected.{IsDivided, HasMember}
 use Rattle.adjust_kernel.specs.Marks.{AreAlike, IsOpen, mark}
 use Rattle.adjust_kernel.specs.Pairs.{readings_of}
+use Rattle.adjust_kernel.specs.Readings.{Reading}
 use Rattle.adjust_kernel.specs.Stations.{IsObs}
+use Rattle.adjust_kernel.proofs.ReachLaws.{AllWithin}
 
 -- the part of a node
 abbrev pub part_of : ℕ → (ℕ → Bool) → (ℕ → Bool) → ℕ → Bool
@@ -102,7 +104,7 @@ spread_start sets targets obs h = record {
 pub marked_is_whole : (sets targets : ℕ) (obs : List Obs) (marks : List Bool) → IsSpread sets targets obs marks → ((n : ℕ) → n < sets + targets → mark marks n ≡ true)
     → (rows : List Row) → length rows ≡ length obs → IsDivided sets targets (readings_of obs rows) → ⊥
 marked_is_whole sets targets obs marks s all rows same_length d =
-    let u = obs_within d.part_of_set d.part_of_target obs rows same_length d.within in
+    let u = obs_within d.part_of_set d.part_of_target obs rows same_length (recursion_from_All (λ (r : Reading). d.part_of_set r.set ≡ d.part_of_target r.target) (readings_of obs rows) d.none_between) in
     let at : (b : Bool) → HasMember sets targets d.part_of_set d.part_of_target b → b ≡ d.part_of_target 0 = λ b n. ⊎_elim
     (λ m. sym m.2 ∙ sym (set_node sets m.0 d.part_of_set d.part_of_target m.1) ∙ s.one_part d.part_of_set d.part_of_target u m.0 (all m.0 (omega (arith, m.1))))
     (λ m. sym m.2 ∙ sym (target_node sets m.0 d.part_of_set d.part_of_target) ∙ s.one_part d.part_of_set d.part_of_target u (sets + m.0) (all (sets + m.0) (omega (arith, m.1))))
@@ -116,7 +118,8 @@ pub marks_divide : (sets targets : ℕ) (obs : List Obs) (marks : List Bool) →
 marks_divide sets targets obs marks some s alike n h e rows = record {
   part_of_set = mark marks;
   part_of_target = λ t. mark marks (sets + t);
-  within = readings_within (mark marks) (λ t. mark marks (sets + t)) obs rows (recursion_from_All (AreAlike marks sets) obs alike);
+  none_between = All-from_recursion (λ (r : Reading). mark marks r.set ≡ mark marks (sets + r.target)) (readings_of obs rows)
+      (readings_within (mark marks) (λ t. mark marks (sets + t)) obs rows (recursion_from_All (AreAlike marks sets) obs alike));
   first_part = inr (0, some, ap (mark marks) (add-zero sets) ∙ s.first);
   second_part = by (dec_lt n sets);
 }

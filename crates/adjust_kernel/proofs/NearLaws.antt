@@ -6,11 +6,13 @@ use Rattle.std.proofs.Math.IntN.{◌*ℤ◌, ◌-ℤ◌}
 use Rattle.std.proofs.Math.Nat.{mul-le-mul}
 use Rattle.std.specs.List.{AllByRecursion}
 use Rattle.std.proofs.lemmas.Int.{ints}
-use Rattle.adjust_kernel.specs.Readings.{Reading, IsPlaced}
-use Rattle.adjust_kernel.specs.Connected.{IsConnected, HasMember, AllWithin}
+use Rattle.std.proofs.lemmas.List.Elements.{All-from_recursion}
+use Rattle.adjust_kernel.specs.Readings.{Reading}
+use Rattle.adjust_kernel.specs.Connected.{IsConnected, HasMember}
 use Rattle.adjust_kernel.specs.Within.{IsWithin}
 use Rattle.adjust_kernel.proofs.Ring.{num, ◌⊕◌, ◌⊖◌, ◌⊗◌, same_value}
-use Rattle.adjust_kernel.proofs.ReachLaws.{unmarked, mark_too, unmarked-at_most, all_marked, some_unmarked, one_fewer, mark_too-was, mark_too-keeps, IsOpen, open_or_within}
+use Rattle.adjust_kernel.proofs.ReadingLaws.{IsPlaced}
+use Rattle.adjust_kernel.proofs.ReachLaws.{AllWithin, unmarked, mark_too, unmarked-at_most, all_marked, some_unmarked, one_fewer, mark_too-was, mark_too-keeps, IsOpen, open_or_within}
 use native.Mathlib.Decide.{dec_lt}
 
 -- a step along a reading, to its target and to its set
@@ -99,7 +101,7 @@ module _ (sets targets q u : ℕ) (of_target of_set : ℕ → ℤ) where
     no_rest mark_set mark_target first within h = connected record {
       part_of_set = mark_set;
       part_of_target = mark_target;
-      within = within;
+      none_between = All-from_recursion (λ r. mark_set r.set ≡ mark_target r.target) readings within;
       first_part = inr (0, some, first);
       second_part = by (dec_lt 0 (unmarked sets mark_set));
     }

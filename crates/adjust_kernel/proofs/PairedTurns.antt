@@ -3,11 +3,13 @@ use Rattle.std.proofs.Common.{◌≡◌, ℕ, ◌≤◌, Bool, List, [], ◌∷�
 use Rattle.std.specs.Prelude.{map}
 use Rattle.std.proofs.Math.IntN.{◌-ℤ◌}
 use Rattle.std.specs.List.{AllByRecursion}
+use Rattle.std.proofs.lemmas.List.Elements.{All-from_recursion, recursion_from_All}
 use Rattle.adjust_kernel.specs.Sums.{int_sum_by, squared}
 use Rattle.adjust_kernel.specs.Readings.{Reading}
 use Rattle.adjust_kernel.specs.Residuals.{Choice, residual, sum_of_squares}
-use Rattle.adjust_kernel.specs.Connected.{AllWithin, IsDivided}
+use Rattle.adjust_kernel.specs.Connected.{IsDivided}
 use Rattle.adjust_kernel.specs.Turns.{with_turns}
+use Rattle.adjust_kernel.proofs.ReachLaws.{AllWithin}
 
 -- a reading and another number of full turns for it
 abbrev pub Pair : Type 0
@@ -61,10 +63,14 @@ pub differences-divided : (sets targets : ℕ) (readings : List Reading) (turns 
 differences-divided sets targets readings turns e d = record {
   part_of_set = d.part_of_set;
   part_of_target = d.part_of_target;
-  within = differences-within d.part_of_set d.part_of_target readings turns e d.within;
+  none_between = All-from_recursion between readings
+      (differences-within d.part_of_set d.part_of_target readings turns e (recursion_from_All between (map difference (paired readings turns)) d.none_between));
   first_part = d.first_part;
   second_part = d.second_part;
 }
+  where
+    between : Reading → Type 0
+    between r = d.part_of_set r.set ≡ d.part_of_target r.target
 
 -- turns that are given by each reading
 pub turns_by : (f : Reading → ℤ) (readings : List Reading) (turns : List ℤ) → length turns ≡ length readings

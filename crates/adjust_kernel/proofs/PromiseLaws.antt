@@ -3,12 +3,13 @@
 use Rattle.std.proofs.Common.{◌≡◌, ℕ, ◌≤◌, ◌<◌, List, length, All, pos}
 use Rattle.std.proofs.lemmas.List.Elements.{recursion_from_All}
 use Rattle.adjust_kernel.specs.declared.limits.TheConstants.{MOST_TARGETS, MOST_SETS, MOST_ROWS, LARGEST_RESIDUAL_LIMIT}
-use Rattle.adjust_kernel.specs.Readings.{Reading, IsPlaced}
-use Rattle.adjust_kernel.specs.Residuals.{Choice, residual, target_sum, set_sum, IsBalanced}
+use Rattle.adjust_kernel.specs.Readings.{Reading}
+use Rattle.adjust_kernel.specs.Residuals.{Choice, residual, target_sum, set_sum}
 use Rattle.adjust_kernel.specs.Connected.{IsConnected}
 use Rattle.adjust_kernel.specs.Turns.{IsLimited}
 use Rattle.adjust_kernel.specs.Promises.{IsAdjusted, IsAdjustedOverTurns}
-use Rattle.adjust_kernel.proofs.BalanceLaws.{all_vanish}
+use Rattle.adjust_kernel.proofs.BalanceLaws.{IsBalanced, all_vanish}
+use Rattle.adjust_kernel.proofs.ReadingLaws.{IsPlaced}
 use Rattle.adjust_kernel.proofs.LeastLaws.{balanced_is_least}
 use Rattle.adjust_kernel.proofs.UniqueLaws.{least_is_unique}
 use Rattle.adjust_kernel.proofs.TurnLaws.{IsAcceptedUnder, limited_is_least_over_turns, limited_equal_only_turned}

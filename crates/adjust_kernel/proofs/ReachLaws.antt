@@ -4,8 +4,11 @@ use Rattle.std.specs.List.{AllByRecursion}
 use Rattle.std.proofs.lemmas.Bool.{ne_eqb}
 use Rattle.std.proofs.lemmas.Bool.Decides.{nat_tests}
 use Rattle.adjust_kernel.specs.Readings.{Reading}
-use Rattle.adjust_kernel.specs.Connected.{AllWithin}
 use native.Mathlib.Decide.{ℕ_discrete}
+
+-- no reading stands between the two parts
+abbrev pub AllWithin : (ℕ → Bool) → (ℕ → Bool) → List Reading → Type 0
+AllWithin part_of_set part_of_target readings = AllByRecursion (λ r. part_of_set r.set ≡ part_of_target r.target) readings
 
 -- how many of the first places are not marked
 abbrev pub unmarked : ℕ → (ℕ → Bool) → ℕ

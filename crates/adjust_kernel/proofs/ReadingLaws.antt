@@ -5,6 +5,11 @@ use Rattle.adjust_kernel.specs.declared.row.Row.{Row}
 use Rattle.adjust_kernel.specs.Readings.{Reading}
 use Rattle.adjust_kernel.specs.Pairs.{reading_of, readings_of}
 
+-- the reading's set is one of this many sets, and its target one of this many targets
+pub record IsPlaced (sets targets : ℕ) (reading : Reading) : Type 0 where
+  pub set_in : reading.set < sets
+  pub target_in : reading.target < targets
+
 pub length-readings_of : (obs : List Obs) (rows : List Row) → length obs ≡ length rows → length (readings_of obs rows) ≡ length obs
 length-readings_of [] rows e = refl
 length-readings_of (o ∷ obs) [] e = cc

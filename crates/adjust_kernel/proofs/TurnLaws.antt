@@ -10,12 +10,15 @@ use Rattle.std.specs.List.{AllByRecursion}
 use Rattle.std.proofs.lemmas.Int.{ints, by_lt_z}
 use Rattle.std.proofs.lemmas.List.Elements.{recursion_from_All}
 use Rattle.adjust_kernel.specs.declared.limits.TheConstants.{TURN, MOST_TARGETS, MOST_SETS, MOST_ROWS, LARGEST_RESIDUAL_LIMIT}
-use Rattle.adjust_kernel.specs.Sums.{int_sum_by, squared, square_times}
+use Rattle.adjust_kernel.specs.Sums.{int_sum_by, squared}
 use Rattle.adjust_kernel.specs.Within.{IsWithin}
-use Rattle.adjust_kernel.specs.Readings.{Reading, IsPlaced}
-use Rattle.adjust_kernel.specs.Residuals.{Choice, residual, sum_of_squares, IsBalanced}
+use Rattle.adjust_kernel.specs.Readings.{Reading}
+use Rattle.adjust_kernel.specs.Residuals.{Choice, residual, sum_of_squares}
 use Rattle.adjust_kernel.specs.Connected.{IsConnected}
+use Rattle.adjust_kernel.specs.Least.{IsNoLargerSum, sum_beside}
 use Rattle.adjust_kernel.specs.Turns.{IsLimited, with_turns, IsLeastOverTurns, AreTurnedWhole, OnlyTurnedWhole}
+use Rattle.adjust_kernel.proofs.BalanceLaws.{IsBalanced}
+use Rattle.adjust_kernel.proofs.ReadingLaws.{IsPlaced}
 use Rattle.adjust_kernel.proofs.Ring.{num, ◌⊕◌, ◌⊖◌, ◌⊗◌, same_value}
 use Rattle.adjust_kernel.proofs.SumLaws.{AllByRecursion-map, AllByRecursion-both}
 use Rattle.adjust_kernel.proofs.LeastLaws.{moved_direction, moved_orientation, balanced_is_least}
@@ -73,7 +76,7 @@ within_three j u x y z a b c =
 
 module _ (limit sets targets : ℕ) (c : Choice) (readings : List Reading) (a : IsAcceptedUnder limit sets targets c readings)
     (other : Choice) (turns : List ℤ) (long : length turns ≡ length readings) (fraction : 1 ≤ other.denominator)
-    (not_greater : square_times c.denominator (sum_of_squares other (with_turns readings turns)) ≤ℤ square_times other.denominator (sum_of_squares c readings)) where
+    (not_greater : IsNoLargerSum other (with_turns readings turns) c readings) where
   abbrev unit : ℕ
   unit = c.denominator * other.denominator
 
@@ -188,10 +191,10 @@ module _ (other : Choice) (of_target of_set : ℕ → ℤ) where
 
 pub limited_is_least_over_turns : (limit sets targets : ℕ) (c : Choice) (readings : List Reading) → IsAcceptedUnder limit sets targets c readings → IsLeastOverTurns c readings
 limited_is_least_over_turns limit sets targets c readings a other turns long h =
-    by_lt_z (square_times c.denominator (sum_of_squares other (with_turns readings turns))) (square_times other.denominator (sum_of_squares c readings))
+    by_lt_z (sum_beside c other (with_turns readings turns)) (sum_beside other c readings)
     (λ lt. let t = turned limit sets targets c readings a other turns long h (omega (arith, ints)) in
-    let e : square_times c.denominator (sum_of_squares (taken other t.of_target t.of_set) readings) ≡ square_times c.denominator (sum_of_squares other (with_turns readings turns)) =
-    ap (λ z. square_times c.denominator z) (taken_squares other t.of_target t.of_set readings ∙ ap (λ (ks : List ℤ). sum_of_squares other (with_turns readings ks)) (sym t.turns_are)) in
+    let e : sum_beside c (taken other t.of_target t.of_set) readings ≡ sum_beside c other (with_turns readings turns) =
+    ap (λ z. pos (c.denominator * c.denominator) *ℤ z) (taken_squares other t.of_target t.of_set readings ∙ ap (λ (ks : List ℤ). sum_of_squares other (with_turns readings ks)) (sym t.turns_are)) in
     let k = balanced_is_least c readings a.balanced (taken other t.of_target t.of_set) h in
     omega (arith, ints))
     (λ le. le)

@@ -3,11 +3,13 @@ use Rattle.std.proofs.Common.{◌≡◌, inl, inr, ℕ, suc, zero, ◌<◌, Bool
 use Rattle.std.proofs.Math.IntN.{◌*ℤ◌, ◌-ℤ◌, *ℤ-zero, ℤ_discrete}
 use Rattle.std.specs.List.{AllByRecursion}
 use Rattle.std.proofs.lemmas.Int.{ints}
+use Rattle.std.proofs.lemmas.List.Elements.{All-from_recursion}
 use Rattle.adjust_kernel.specs.Readings.{Reading}
 use Rattle.adjust_kernel.specs.Sums.{int_sum_by, squared}
-use Rattle.adjust_kernel.specs.Residuals.{Choice, IsBalanced}
+use Rattle.adjust_kernel.specs.Residuals.{Choice}
 use Rattle.adjust_kernel.specs.Least.{DiffersByRotation, IsUnique}
 use Rattle.adjust_kernel.specs.Connected.{IsDivided, IsConnected, HasMember}
+use Rattle.adjust_kernel.proofs.BalanceLaws.{IsBalanced}
 use Rattle.adjust_kernel.proofs.SumLaws.{AllByRecursion-map, int_sum_by-not_negative}
 use Rattle.adjust_kernel.proofs.LeastLaws.{squared-not_negative, squares-moved, moved, moved_direction, moved_orientation}
 
@@ -63,7 +65,8 @@ module _ (sets targets : ℕ) (c other : Choice) (readings : List Reading) (some
     division n = record {
       part_of_set = λ s. same_z (moved_orientation c other s) first;
       part_of_target = λ t. same_z (moved_direction c other t) first;
-      within = AllByRecursion-map _ _ alike readings still;
+      none_between = All-from_recursion (λ r. same_z (moved_orientation c other r.set) first ≡ same_z (moved_direction c other r.target) first) readings
+          (AllByRecursion-map (λ r. moved c other r ≡ pos 0) (λ r. same_z (moved_orientation c other r.set) first ≡ same_z (moved_direction c other r.target) first) alike readings still);
       first_part = inr (0, some, is_so (ℤ_discrete first first) refl);
       second_part = n;
     }

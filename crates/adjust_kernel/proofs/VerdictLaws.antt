@@ -1,120 +1,236 @@
--- At most one verdict stands for a station, a sheet and a limit.
-use Rattle.std.proofs.Common.{◌≡◌, ◌≢◌, ℕ, suc, zero, ◌+◌, ◌*◌, ◌<◌, ◌≤◌, List, [], ◌∷◌, length, take, ℤ, pos, negsuc, Option, Some, None, Result, Ok, Err, arith, ap, refl, sym, ◌∙◌, subst, get_or}
-use Rattle.std.specs.List.{slice_get}
+-- Verdicts: at most one stands for a station, a sheet and a limit; what holds where a fault of a
+-- kind does not stand; and the verdicts of each test, in their order.
+use Rattle.std.proofs.Common.{◌≡◌, ◌≢◌, ℕ, ◌+◌, ◌*◌, ◌<◌, ◌≤◌, List, length, pos, Option, Some, None, Result, Ok, Err, arith, ap, refl, sym, ◌∙◌, subst, get_or}
+use Rattle.std.specs.Prelude.{map, slice_index_or, IfSome}
 use Rattle.std.specs.Int.RustNames.{unsigned_abs}
-use Rattle.std.proofs.lemmas.Int.{ints}
+use Rattle.std.specs.Str.{bytes_eq}
+use Rattle.std.proofs.Math.IntN.{ℤ_discrete}
 use Rattle.std.proofs.lemmas.List.{get_or-map}
-use native.Mathlib.Decide.{dec_lt}
+use Rattle.std.proofs.lemmas.Slice.Eq.{bytes_eq-Decides}
+use native.Mathlib.Decide.{dec_lt, ℕ_discrete}
 use Rattle.adjust_kernel.specs.declared.accepted.Accepted.{Accepted}
 use Rattle.adjust_kernel.specs.declared.kernel_fault.KernelFault.{KernelFault}
 use Rattle.adjust_kernel.specs.declared.kernel_fault.KernelFault.TheVariants.{Name, TargetRow, SetRow, ObsRow, Datum, TargetSum, SetSum, NotConnected, Residual}
-use Rattle.adjust_kernel.specs.Firsts.{IsFirstDifference, IsFirstWhere}
-use Rattle.adjust_kernel.specs.Matching.{Matches}
+use Rattle.adjust_kernel.specs.Connected.{IsDivided}
+use Rattle.adjust_kernel.specs.Firsts.{IsFirstWhere}
+use Rattle.adjust_kernel.specs.Matching.{Key, Matches, names_of, numbers_of, keys_of, observed}
 use Rattle.adjust_kernel.specs.Pairs.{choice_stated_by}
 use Rattle.adjust_kernel.specs.Readings.{Reading}
 use Rattle.adjust_kernel.specs.Residuals.{residual, target_sum, set_sum}
 use Rattle.adjust_kernel.specs.Sheets.{SheetValue}
 use Rattle.adjust_kernel.specs.Stations.{StationValue}
+use Rattle.adjust_kernel.specs.Turns.{IsAbove}
 use Rattle.adjust_kernel.specs.Within.{IsWithin}
-use Rattle.adjust_kernel.specs.Verdict.{AtNth, Stands, IsClearOf, IsVerdict, TargetsAddUp, order_of, readings}
+use Rattle.adjust_kernel.specs.Verdict.{AtNth, Stands, IsAcceptance, IsAcceptedSheet, IsFault, IsVerdict, TargetsAddUp, SetsAddUp, HoldsTogether, KeepsLimit, order_of, readings}
+use Rattle.adjust_kernel.proofs.FirstLaws.{one_difference, no_difference, one_first, same_where_none_differ, none_where_no_first, dec_by, dec_not, by_not_not}
+use Rattle.adjust_kernel.proofs.GreatestLaws.{size_within, within_size, greatest_size, greatest_is, one_greatest}
 
--- the size of a number within a bound
-pub size_within : (m : ℕ) (z : ℤ) → IsWithin (pos m) z → unsigned_abs z ≤ m
-size_within m (pos n) h = omega (arith, ints)
-size_within m (negsuc n) h = omega (arith, ints)
+-- No fault of this kind stands, whatever its number: what holds in its place.
+abbrev pub IsClearOf : StationValue → SheetValue → Option ℕ → KernelFault → Type 0
+IsClearOf station sheet limit Name = sheet.name ≡ station.name
+IsClearOf station sheet limit (TargetRow n) = names_of sheet ≡ station.targets
+IsClearOf station sheet limit (SetRow n) = numbers_of sheet ≡ station.sets
+IsClearOf station sheet limit (ObsRow n) = keys_of sheet ≡ observed station
+IsClearOf station sheet limit Datum = (choice_stated_by sheet).direction 0 ≡ pos 0
+IsClearOf station sheet limit (TargetSum n) = TargetsAddUp station sheet
+IsClearOf station sheet limit (SetSum n) = SetsAddUp station sheet
+IsClearOf station sheet limit NotConnected = HoldsTogether station sheet
+IsClearOf station sheet limit (Residual n) = IfSome limit (KeepsLimit station sheet)
 
--- two places of which neither is below the other are one
-same_place : (m n : ℕ) → (m < n → ⊥) → (n < m → ⊥) → m ≡ n
-same_place m n h k = by (dec_lt m n) (dec_lt n m) where
-  by : Dec (m < n) → Dec (n < m) → m ≡ n
-  by (yes e) f = absurd (h e)
-  by (no e) (yes f) = absurd (k f)
-  by (no e) (no f) = omega arith
+-- places counted from 1, of places from 0
+one_nth : (P : ℕ → Type 0) → ((j k : ℕ) → P j → P k → j ≡ k) → (m n : ℕ) → AtNth P m → AtNth P n → m ≡ n
+one_nth P one m n (j, e, f) (k, d, g) = e ∙ ap (λ i. i + 1) (one j k f g) ∙ sym d
 
--- the place of a list's beginning, and of the list
-slice_get-take : {X : Type 0} (n : ℕ) (xs : List X) (m : ℕ) → m < n → slice_get (take n xs) m ≡ slice_get xs m
-slice_get-take zero xs m h = absurd (omega arith)
-slice_get-take (suc n) [] m h = refl
-slice_get-take (suc n) (x ∷ xs) zero h = refl
-slice_get-take (suc n) (x ∷ xs) (suc m) h = slice_get-take n xs m (omega arith)
+same_bytes : (a b : List ℕ) → Dec (a ≡ b)
+same_bytes a b = dec_by (bytes_eq a b) (bytes_eq-Decides a b)
 
-module _ {X : Type 0} (xs ys : List X) where
-  not_earlier_difference : (m n : ℕ) → IsFirstDifference xs ys m → IsFirstDifference xs ys n → m < n → ⊥
-  not_earlier_difference m n f g below = f.differ (sym (slice_get-take n xs m below) ∙ ap (λ zs. slice_get zs m) g.before ∙ slice_get-take n ys m below)
+same_key : (a b : Key) → Dec (a ≡ b)
+same_key a b = by (ℕ_discrete a.set b.set) (same_bytes a.target b.target) (ℕ_discrete a.value b.value) where
+  by : Dec (a.set ≡ b.set) → Dec (a.target ≡ b.target) → Dec (a.value ≡ b.value) → Dec (a ≡ b)
+  by (yes e) (yes f) (yes g) = yes (λ i. record { set = e i; target = f i; value = g i })
+  by (no n) f g = no (λ h. n (ap (λ (k : Key). k.set) h))
+  by (yes e) (no n) g = no (λ h. n (ap (λ (k : Key). k.target) h))
+  by (yes e) (yes f) (no n) = no (λ h. n (ap (λ (k : Key). k.value) h))
 
-  one_difference : (m n : ℕ) → AtNth (IsFirstDifference xs ys) m → AtNth (IsFirstDifference xs ys) n → m ≡ n
-  one_difference m n (j, e, f) (k, d, g) =
-      let at : j ≡ k = same_place j k (not_earlier_difference j k f g) (not_earlier_difference k j g f) in
-      e ∙ ap (λ i. i + 1) at ∙ sym d
-
-one_first : (P : ℕ → Type 0) (count m n : ℕ) → AtNth (IsFirstWhere P count) m → AtNth (IsFirstWhere P count) n → m ≡ n
-one_first P count m n (j, e, f) (k, d, g) =
-    let at : j ≡ k = same_place j k (λ below. g.before j below f.here) (λ below. f.before k below g.here) in
-    e ∙ ap (λ i. i + 1) at ∙ sym d
+any_reading : Reading
+any_reading = record { set = 0; target = 0; value = 0; turn = pos 0 }
 
 module _ (station : StationValue) (sheet : SheetValue) where
-  not_standing : (limit : Option ℕ) (fault : KernelFault) → IsClearOf station sheet limit fault → Stands station sheet limit fault → ⊥
+  -- no residual is above the limit, and that of no row is
+  keeps_limit : (most : ℕ) → ((n : ℕ) → n < length (readings station sheet) → IsAbove most (choice_stated_by sheet) (readings station sheet) n → ⊥) → KeepsLimit station sheet most
+  keeps_limit most none k d inside =
+      let v = residual (choice_stated_by sheet) in
+      let rs = readings station sheet in
+      subst (IsWithin (pos (most * sheet.denominator))) (get_or-map v rs k d (pos 0) inside)
+      (within_size (most * sheet.denominator) (slice_index_or (map v rs) k (pos 0)) (none k inside))
+
+  none_above : (most : ℕ) → KeepsLimit station sheet most → (n : ℕ) → n < length (readings station sheet) → IsAbove most (choice_stated_by sheet) (readings station sheet) n → ⊥
+  none_above most keeps n inside above =
+      let v = residual (choice_stated_by sheet) in
+      let rs = readings station sheet in
+      let small = size_within (most * sheet.denominator) (v (get_or rs n any_reading)) (keeps n any_reading inside) in
+      let large = subst (λ z. most * sheet.denominator < unsigned_abs z) (get_or-map v rs n any_reading (pos 0) inside) above in
+      omega arith
+
+  -- a fault does not stand where what it denies holds
+  pub not_standing : (limit : Option ℕ) (fault : KernelFault) → IsClearOf station sheet limit fault → Stands station sheet limit fault → ⊥
   not_standing limit Name e stands = stands e
-  not_standing limit (TargetRow n) e (k, _, f) = f.differ (ap (λ xs. slice_get xs k) e)
-  not_standing limit (SetRow n) e (k, _, f) = f.differ (ap (λ xs. slice_get xs k) e)
-  not_standing limit (ObsRow n) e (k, _, f) = f.differ (ap (λ xs. slice_get xs k) e)
+  not_standing limit (TargetRow n) e (k, _, f) = no_difference _ _ e k f
+  not_standing limit (SetRow n) e (k, _, f) = no_difference _ _ e k f
+  not_standing limit (ObsRow n) e (k, _, f) = no_difference _ _ e k f
   not_standing limit Datum e stands = stands e
   not_standing limit (TargetSum n) clear (k, _, f) = f.here (clear k f.inside)
   not_standing limit (SetSum n) clear (k, _, f) = f.here (clear k f.inside)
   not_standing limit NotConnected clear stands = clear stands
   not_standing None (Residual n) clear stands = absurd stands
-  not_standing (Some most) (Residual n) clear (k, _, f) =
-      let at = get_or-map (residual (choice_stated_by sheet)) (readings station sheet) k any_reading (pos 0) f.inside in
-      let small = size_within (most * sheet.denominator) (residual (choice_stated_by sheet) (get_or (readings station sheet) k any_reading)) (clear k any_reading f.inside) in
-      let large = subst (λ z. most * sheet.denominator < unsigned_abs z) at f.here in
-      omega arith where
-        any_reading : Reading
-        any_reading = record { set = 0; target = 0; value = 0; turn = pos 0 }
+  not_standing (Some most) (Residual n) clear (k, _, f) = none_above most clear k f.inside f.here
 
   -- of two faults that stand, and that are looked for at one place in the order
   one_fault : (limit : Option ℕ) (f g : KernelFault) → order_of f ≡ order_of g → Stands station sheet limit f → Stands station sheet limit g → f ≡ g
   one_fault limit Name Name e a b = refl
-  one_fault limit (TargetRow m) (TargetRow n) e a b = ap TargetRow (one_difference _ _ m n a b)
-  one_fault limit (SetRow m) (SetRow n) e a b = ap SetRow (one_difference _ _ m n a b)
-  one_fault limit (ObsRow m) (ObsRow n) e a b = ap ObsRow (one_difference _ _ m n a b)
+  one_fault limit (TargetRow m) (TargetRow n) e a b = ap TargetRow (one_nth _ (one_difference _ _) m n a b)
+  one_fault limit (SetRow m) (SetRow n) e a b = ap SetRow (one_nth _ (one_difference _ _) m n a b)
+  one_fault limit (ObsRow m) (ObsRow n) e a b = ap ObsRow (one_nth _ (one_difference _ _) m n a b)
   one_fault limit Datum Datum e a b = refl
-  one_fault limit (TargetSum m) (TargetSum n) e a b = ap TargetSum (one_first _ _ m n a b)
-  one_fault limit (SetSum m) (SetSum n) e a b = ap SetSum (one_first _ _ m n a b)
+  one_fault limit (TargetSum m) (TargetSum n) e a b = ap TargetSum (one_nth _ (one_first _ _) m n a b)
+  one_fault limit (SetSum m) (SetSum n) e a b = ap SetSum (one_nth _ (one_first _ _) m n a b)
   one_fault limit NotConnected NotConnected e a b = refl
   one_fault None (Residual m) (Residual n) e a b = absurd a
-  one_fault (Some most) (Residual m) (Residual n) e a b = ap Residual (one_first _ _ m n a b)
+  one_fault (Some most) (Residual m) (Residual n) e a b = ap Residual (one_nth _ (one_first _ _) m n a b)
   one_fault limit f g e a b = absurd (omega arith)
+
+  one_acceptance : (a b : Accepted) → IsAcceptance station sheet a → IsAcceptance station sheet b → a ≡ b
+  one_acceptance a b f g = λ i. record {
+    name = (f.name ∙ sym g.name) i;
+    sets = (f.sets ∙ sym g.sets) i;
+    targets = (f.targets ∙ sym g.targets) i;
+    directions = (f.directions ∙ sym g.directions) i;
+    greatest = one_greatest (choice_stated_by sheet) (readings station sheet) a.greatest b.greatest f.greatest g.greatest i;
+    denominator = (f.denominator ∙ sym g.denominator) i;
+  }
 
   -- no two verdicts stand for one station, one sheet and one limit
   pub only_one_verdict : (limit : Option ℕ) (a b : Result Accepted KernelFault) → IsVerdict station sheet limit a → IsVerdict station sheet limit b → a ≡ b
-  only_one_verdict limit (Ok a) (Ok b) v w = ap Ok (v.1 ∙ sym w.1)
-  only_one_verdict limit (Ok a) (Err f) v w = absurd (not_standing limit f (v.0 f) w.0)
-  only_one_verdict limit (Err f) (Ok b) v w = absurd (not_standing limit f (w.0 f) v.0)
+  only_one_verdict limit (Ok a) (Ok b) v w = ap Ok (one_acceptance a b v.1 w.1)
+  only_one_verdict limit (Ok a) (Err f) v w = absurd (v.0 f w.0)
+  only_one_verdict limit (Err f) (Ok b) v w = absurd (w.0 f v.0)
   only_one_verdict limit (Err f) (Err g) v w = ap Err (by (dec_lt (order_of f) (order_of g)) (dec_lt (order_of g) (order_of f))) where
     by : Dec (order_of f < order_of g) → Dec (order_of g < order_of f) → f ≡ g
-    by (yes e) d = absurd (not_standing limit f (w.1 f e) v.0)
-    by (no e) (yes d) = absurd (not_standing limit g (v.1 g d) w.0)
+    by (yes e) d = absurd (w.1 f e v.0)
+    by (no e) (yes d) = absurd (v.1 g d w.0)
     by (no e) (no d) = one_fault limit f g (omega arith) v.0 w.0
 
-  -- the verdict where the sum of a target is refused
-  pub target_sum_verdict : (n : ℕ) → Matches station sheet → IsFirstWhere (λ t. target_sum (choice_stated_by sheet) (readings station sheet) t ≢ pos 0) (length station.targets) n → (limit : Option ℕ) → IsVerdict station sheet limit (Err (TargetSum (n + 1)))
-  target_sum_verdict n matches first limit = ((n, refl, first), clear) where
-    clear : (other : KernelFault) → order_of other < 6 → IsClearOf station sheet limit other
-    clear Name h = matches.name
-    clear (TargetRow n) h = matches.targets
-    clear (SetRow n) h = matches.sets
-    clear (ObsRow n) h = matches.rows
-    clear Datum h = matches.datum
-    clear other h = absurd (omega arith)
+  -- what holds where no fault of a kind stands, whatever its number
+  clear_where_none_stands : (limit : Option ℕ) (fault : KernelFault) → ((other : KernelFault) → order_of other ≡ order_of fault → Stands station sheet limit other → ⊥) → IsClearOf station sheet limit fault
+  clear_where_none_stands limit Name none = by_not_not (same_bytes sheet.name station.name) (none Name refl)
+  clear_where_none_stands limit (TargetRow n) none = same_where_none_differ same_bytes (names_of sheet) station.targets (λ k f. none (TargetRow (k + 1)) refl (k, refl, f))
+  clear_where_none_stands limit (SetRow n) none = same_where_none_differ ℕ_discrete (numbers_of sheet) station.sets (λ k f. none (SetRow (k + 1)) refl (k, refl, f))
+  clear_where_none_stands limit (ObsRow n) none = same_where_none_differ same_key (keys_of sheet) (observed station) (λ k f. none (ObsRow (k + 1)) refl (k, refl, f))
+  clear_where_none_stands limit Datum none = by_not_not (ℤ_discrete ((choice_stated_by sheet).direction 0) (pos 0)) (none Datum refl)
+  clear_where_none_stands limit (TargetSum n) none = λ t h.
+      let sum = target_sum (choice_stated_by sheet) (readings station sheet) in
+      by_not_not (ℤ_discrete (sum t) (pos 0)) (none_where_no_first (λ t. sum t ≢ pos 0) (λ t. dec_not (ℤ_discrete (sum t) (pos 0))) (length station.targets) (λ k f. none (TargetSum (k + 1)) refl (k, refl, f)) t h)
+  clear_where_none_stands limit (SetSum n) none = λ s h.
+      let sum = set_sum (choice_stated_by sheet) (readings station sheet) in
+      by_not_not (ℤ_discrete (sum s) (pos 0)) (none_where_no_first (λ s. sum s ≢ pos 0) (λ s. dec_not (ℤ_discrete (sum s) (pos 0))) (length station.sets) (λ k f. none (SetSum (k + 1)) refl (k, refl, f)) s h)
+  clear_where_none_stands limit NotConnected none = none NotConnected refl
+  clear_where_none_stands None (Residual n) none = tt
+  clear_where_none_stands (Some most) (Residual n) none =
+      let v = residual (choice_stated_by sheet) in
+      let rs = readings station sheet in
+      keeps_limit most (none_where_no_first (IsAbove most (choice_stated_by sheet) rs) (λ k. dec_lt (most * sheet.denominator) (unsigned_abs (slice_index_or (map v rs) k (pos 0)))) (length rs) (λ k f. none (Residual (k + 1)) refl (k, refl, f)))
 
-  -- the verdict where the sum of a set is refused
-  pub set_sum_verdict : (n : ℕ) → Matches station sheet → TargetsAddUp station sheet → IsFirstWhere (λ s. set_sum (choice_stated_by sheet) (readings station sheet) s ≢ pos 0) (length station.sets) n → (limit : Option ℕ) → IsVerdict station sheet limit (Err (SetSum (n + 1)))
-  set_sum_verdict n matches targets first limit = ((n, refl, first), clear) where
+  -- what holds of an accepted sheet
+  pub clear_where_accepted : (limit : Option ℕ) (accepted : Accepted) → IsVerdict station sheet limit (Ok accepted) → (fault : KernelFault) → IsClearOf station sheet limit fault
+  clear_where_accepted limit accepted v fault = clear_where_none_stands limit fault (λ other same. v.0 other)
+
+  -- what holds of a refused sheet
+  pub clear_where_refused : (limit : Option ℕ) (fault : KernelFault) → IsVerdict station sheet limit (Err fault) → (other : KernelFault) → order_of other < order_of fault → IsClearOf station sheet limit other
+  clear_where_refused limit fault v other before = clear_where_none_stands limit other (λ f same. v.1 f (omega (arith, same, before)))
+
+  matches_where_clear : (limit : Option ℕ) → ((fault : KernelFault) → order_of fault < 6 → IsClearOf station sheet limit fault) → Matches station sheet
+  matches_where_clear limit clear = record {
+    name = clear Name (omega arith);
+    targets = clear (TargetRow 0) (omega arith);
+    sets = clear (SetRow 0) (omega arith);
+    rows = clear (ObsRow 0) (omega arith);
+    datum = clear Datum (omega arith);
+  }
+
+  -- an accepted sheet is of the station
+  pub matches_where_accepted : (limit : Option ℕ) (accepted : Accepted) → IsVerdict station sheet limit (Ok accepted) → Matches station sheet
+  matches_where_accepted limit accepted v = matches_where_clear limit (λ fault h. clear_where_accepted limit accepted v fault)
+
+  -- so is one that is refused for its sums or for what is looked for after them
+  pub matches_where_refused : (limit : Option ℕ) (fault : KernelFault) → IsVerdict station sheet limit (Err fault) → 5 < order_of fault → Matches station sheet
+  matches_where_refused limit fault v past = matches_where_clear limit (λ other h. clear_where_refused limit fault v other (omega arith))
+
+  -- what a sheet keeps that is of the station
+  kept : Matches station sheet → (limit : Option ℕ) (fault : KernelFault) → order_of fault < 6 → IsClearOf station sheet limit fault
+  kept matches limit Name h = matches.name
+  kept matches limit (TargetRow n) h = matches.targets
+  kept matches limit (SetRow n) h = matches.sets
+  kept matches limit (ObsRow n) h = matches.rows
+  kept matches limit Datum h = matches.datum
+  kept matches limit fault h = absurd (omega arith)
+
+  -- the verdict where all is as it has to be
+  pub accepted_verdict : (limit : Option ℕ) (accepted : Accepted) → Matches station sheet → TargetsAddUp station sheet → SetsAddUp station sheet → HoldsTogether station sheet → IfSome limit (KeepsLimit station sheet)
+      → IsAcceptance station sheet accepted → IsVerdict station sheet limit (Ok accepted)
+  accepted_verdict limit accepted matches targets sets connected within said = ((λ fault. not_standing limit fault (clear fault)), said) where
+    clear : (fault : KernelFault) → IsClearOf station sheet limit fault
+    clear (TargetSum n) = targets
+    clear (SetSum n) = sets
+    clear NotConnected = connected
+    clear (Residual n) = within
+    clear Name = matches.name
+    clear (TargetRow n) = matches.targets
+    clear (SetRow n) = matches.sets
+    clear (ObsRow n) = matches.rows
+    clear Datum = matches.datum
+
+  -- such a sheet with some readings is accepted
+  pub accepted_sheet : (limit : Option ℕ) → Matches station sheet → TargetsAddUp station sheet → SetsAddUp station sheet → HoldsTogether station sheet → IfSome limit (KeepsLimit station sheet)
+      → 1 ≤ length (readings station sheet) → IsAcceptedSheet station sheet limit
+  accepted_sheet limit matches targets sets connected within some =
+      let said : Accepted = record {
+        name = station.name;
+        sets = length station.sets;
+        targets = length station.targets;
+        directions = length station.obs;
+        greatest = pos (greatest_size (choice_stated_by sheet) (readings station sheet));
+        denominator = sheet.denominator;
+      } in
+      (said, accepted_verdict limit said matches targets sets connected within (record {
+        name = refl; sets = refl; targets = refl; directions = refl; denominator = refl;
+        greatest = greatest_is (choice_stated_by sheet) (readings station sheet) some;
+      }))
+
+  -- the verdict of a fault that stands, where what is looked for before it is as it has to be
+  refused : (limit : Option ℕ) (fault : KernelFault) → Stands station sheet limit fault → ((other : KernelFault) → order_of other < order_of fault → IsClearOf station sheet limit other) → IsVerdict station sheet limit (Err fault)
+  refused limit fault stands clear = (stands, λ other h. not_standing limit other (clear other h))
+
+  pub target_sum_fault : (n : ℕ) → Matches station sheet → IsFirstWhere (λ t. target_sum (choice_stated_by sheet) (readings station sheet) t ≢ pos 0) (length station.targets) n → IsFault station sheet (TargetSum (n + 1))
+  target_sum_fault n matches first limit = refused limit (TargetSum (n + 1)) (n, refl, first) (kept matches limit)
+
+  pub set_sum_fault : (n : ℕ) → Matches station sheet → TargetsAddUp station sheet → IsFirstWhere (λ s. set_sum (choice_stated_by sheet) (readings station sheet) s ≢ pos 0) (length station.sets) n → IsFault station sheet (SetSum (n + 1))
+  set_sum_fault n matches targets first limit = refused limit (SetSum (n + 1)) (n, refl, first) clear where
     clear : (other : KernelFault) → order_of other < 7 → IsClearOf station sheet limit other
-    clear Name h = matches.name
-    clear (TargetRow n) h = matches.targets
-    clear (SetRow n) h = matches.sets
-    clear (ObsRow n) h = matches.rows
-    clear Datum h = matches.datum
-    clear (TargetSum n) h = targets
-    clear other h = absurd (omega arith)
+    clear (TargetSum m) h = targets
+    clear other h = kept matches limit other (omega arith)
+
+  pub connection_fault : Matches station sheet → TargetsAddUp station sheet → SetsAddUp station sheet → IsDivided (length station.sets) (length station.targets) (readings station sheet) → IsFault station sheet NotConnected
+  connection_fault matches targets sets divided limit = refused limit NotConnected divided clear where
+    clear : (other : KernelFault) → order_of other < 8 → IsClearOf station sheet limit other
+    clear (TargetSum m) h = targets
+    clear (SetSum m) h = sets
+    clear other h = kept matches limit other (omega arith)
+
+  pub residual_fault : (most n : ℕ) → Matches station sheet → TargetsAddUp station sheet → SetsAddUp station sheet → HoldsTogether station sheet
+      → IsFirstWhere (IsAbove most (choice_stated_by sheet) (readings station sheet)) (length (readings station sheet)) n → IsVerdict station sheet (Some most) (Err (Residual (n + 1)))
+  residual_fault most n matches targets sets connected first = refused (Some most) (Residual (n + 1)) (n, refl, first) clear where
+    clear : (other : KernelFault) → order_of other < 9 → IsClearOf station sheet (Some most) other
+    clear (TargetSum m) h = targets
+    clear (SetSum m) h = sets
+    clear NotConnected h = connected
+    clear other h = kept matches (Some most) other (omega arith)

@@ -1,5 +1,5 @@
 -- What a verdict tells of least squares, case by case.
-use Rattle.std.proofs.Common.{ℕ, suc, ◌≤◌, List, [], ◌∷◌, length, All, Option, Some, None, Result, Ok, Err, arith}
+use Rattle.std.proofs.Common.{◌≡◌, pos, ℕ, suc, ◌≤◌, List, [], ◌∷◌, length, All, Option, Some, None, Result, Ok, Err, arith}
 use Rattle.std.specs.Prelude.{IfSome, OnOk}
 use Rattle.std.proofs.lemmas.List.Elements.{All-cons}
 use Rattle.adjust_kernel.specs.declared.accepted.Accepted.{Accepted}
@@ -8,13 +8,13 @@ use Rattle.adjust_kernel.specs.declared.kernel_fault.KernelFault.TheVariants.{Na
 use Rattle.adjust_kernel.specs.declared.limits.TheConstants.{LARGEST_RESIDUAL_LIMIT}
 use Rattle.adjust_kernel.specs.declared.obs.Obs.{Obs}
 use Rattle.adjust_kernel.specs.declared.row.Row.{Row}
-use Rattle.adjust_kernel.specs.Matching.{Matches}
 use Rattle.adjust_kernel.specs.Pairs.{choice_stated_by, readings_of}
 use Rattle.adjust_kernel.specs.Promises.{TellsOfSquares}
-use Rattle.adjust_kernel.specs.Readings.{IsPlaced}
 use Rattle.adjust_kernel.specs.Sheets.{SheetValue, IsSheet}
 use Rattle.adjust_kernel.specs.Stations.{StationValue, IsStation, IsObs}
-use Rattle.adjust_kernel.specs.Verdict.{IsVerdict, IsClearOf, readings}
+use Rattle.adjust_kernel.specs.Verdict.{IsVerdict, readings}
+use Rattle.adjust_kernel.proofs.ReadingLaws.{IsPlaced}
+use Rattle.adjust_kernel.proofs.VerdictLaws.{IsClearOf, clear_where_accepted, clear_where_refused}
 use Rattle.adjust_kernel.proofs.BetterLaws.{target_sum_has_better, set_sum_has_better}
 use Rattle.adjust_kernel.proofs.DividedLaws.{divided_has_another}
 use Rattle.adjust_kernel.proofs.PromiseLaws.{IsAccepted, AreWithinLimits, accepted_is_adjusted, limited_is_adjusted_over_turns}
@@ -45,19 +45,24 @@ module _ (station : StationValue) (sheet : SheetValue) (is_station : IsStation s
     connected = clear NotConnected;
   }
 
+  -- the first direction is 0 where the connection is refused
+  datum_there : (limit : Option ℕ) → IsVerdict station sheet limit (Err NotConnected) → (choice_stated_by sheet).direction 0 ≡ pos 0
+  datum_there limit v = clear_where_refused station sheet limit NotConnected v Datum (omega arith)
+
   pub tells_of_squares : (limit : Option ℕ) (result : Result Accepted KernelFault)
       → OnOk result (IfSome limit (λ most. most ≤ LARGEST_RESIDUAL_LIMIT)) → IsVerdict station sheet limit result
-      → TellsOfSquares limit (length station.sets) (length station.targets) (choice_stated_by sheet) (readings station sheet) result
-  tells_of_squares None (Ok accepted) h v = (accepted_is_adjusted _ _ _ _ (is_accepted None v.0), tt)
+      → TellsOfSquares station sheet limit result
+  tells_of_squares None (Ok accepted) h v = (accepted_is_adjusted _ _ _ _ (is_accepted None (clear_where_accepted station sheet None accepted v)), tt)
   tells_of_squares (Some most) (Ok accepted) h v =
-      let a = is_accepted (Some most) v.0 in
+      let clear = clear_where_accepted station sheet (Some most) accepted v in
+      let a = is_accepted (Some most) clear in
       let within : AreWithinLimits most (length station.sets) (length station.targets) (readings station sheet) = record {
         sets_in = is_station.sets.few;
         targets_in = is_station.targets.few;
         readings_in = omega (arith, length-readings_of station.obs sheet.rows, is_sheet.rows.few);
         limit_in = h;
       } in
-      (accepted_is_adjusted _ _ _ _ a, limited_is_adjusted_over_turns _ _ _ _ most within a (v.0 (Residual 0)))
+      (accepted_is_adjusted _ _ _ _ a, limited_is_adjusted_over_turns _ _ _ _ most within a (clear (Residual 0)))
   tells_of_squares limit (Err Name) h v = tt
   tells_of_squares limit (Err (TargetRow n)) h v = tt
   tells_of_squares limit (Err (SetRow n)) h v = tt
@@ -65,16 +70,5 @@ module _ (station : StationValue) (sheet : SheetValue) (is_station : IsStation s
   tells_of_squares limit (Err Datum) h v = tt
   tells_of_squares limit (Err (TargetSum n)) h ((k, _, first), _) = target_sum_has_better (choice_stated_by sheet) (readings station sheet) k is_sheet.denominator.0 first.here
   tells_of_squares limit (Err (SetSum n)) h ((k, _, first), _) = set_sum_has_better (choice_stated_by sheet) (readings station sheet) k is_sheet.denominator.0 first.here
-  tells_of_squares limit (Err NotConnected) h v = divided_has_another (length station.sets) (length station.targets) (choice_stated_by sheet) (readings station sheet) v.0
+  tells_of_squares limit (Err NotConnected) h v = divided_has_another (length station.sets) (length station.targets) (choice_stated_by sheet) (readings station sheet) (datum_there limit v) v.0
   tells_of_squares limit (Err (Residual n)) h v = tt
-
--- an accepted sheet is of the station
-pub matches_where_accepted : (station : StationValue) (sheet : SheetValue) (limit : Option ℕ) (result : Result Accepted KernelFault) → IsVerdict station sheet limit result → OnOk result (Matches station sheet)
-matches_where_accepted station sheet limit (Err fault) v = tt
-matches_where_accepted station sheet limit (Ok accepted) v = record {
-  name = v.0 Name;
-  targets = v.0 (TargetRow 0);
-  sets = v.0 (SetRow 0);
-  rows = v.0 (ObsRow 0);
-  datum = v.0 Datum;
-}

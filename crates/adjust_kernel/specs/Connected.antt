@@ -1,24 +1,24 @@
 -- Whether the readings hold all sets and targets of a station together (textbook).
-use Rattle.std.specs.Prelude.{◌≡◌, ℕ, ◌<◌, Bool, true, false, List}
-use Rattle.std.specs.List.{AllByRecursion}
-use Rattle.std.proofs.Common.{◌⊎◌}
+use Rattle.std.specs.Prelude.{◌≡◌, ◌⊎◌, ℕ, ◌<◌, Bool, true, false, List, All}
 use Rattle.adjust_kernel.specs.Readings.{Reading}
 
 -- some set or some target is in this part; the parts are called true and false
 abbrev pub HasMember : ℕ → ℕ → (ℕ → Bool) → (ℕ → Bool) → Bool → Type 0
 HasMember sets targets part_of_set part_of_target part =
-    ((s : ℕ) × (s < sets) × (part_of_set s ≡ part)) ⊎ ((t : ℕ) × (t < targets) × (part_of_target t ≡ part))
+    ((s : ℕ) × (s < sets) × (part_of_set s ≡ part))
+    ⊎ ((t : ℕ) × (t < targets) × (part_of_target t ≡ part))
 
 -- no reading stands between the two parts
-abbrev pub AllWithin : (ℕ → Bool) → (ℕ → Bool) → List Reading → Type 0
-AllWithin part_of_set part_of_target readings = AllByRecursion (λ r. part_of_set r.set ≡ part_of_target r.target) readings
+abbrev pub HasNoneBetween : (ℕ → Bool) → (ℕ → Bool) → List Reading → Type 0
+HasNoneBetween part_of_set part_of_target readings =
+    All (λ r. part_of_set r.set ≡ part_of_target r.target) readings
 
 -- the sets and targets together can be divided into two parts, neither of them empty, with no
 -- reading between the parts
 pub record IsDivided (sets targets : ℕ) (readings : List Reading) : Type 0 where
   pub part_of_set : ℕ → Bool
   pub part_of_target : ℕ → Bool
-  pub within : AllWithin part_of_set part_of_target readings
+  pub none_between : HasNoneBetween part_of_set part_of_target readings
   pub first_part : HasMember sets targets part_of_set part_of_target true
   pub second_part : HasMember sets targets part_of_set part_of_target false
 

@@ -11,7 +11,3 @@ pub record IsFirstWhere (P : ℕ → Type 0) (count n : ℕ) : Type 0 where
   pub inside : n < count
   pub here : P n
   pub before : (m : ℕ) → m < n → P m → ⊥
-
--- it holds of no number below the count
-abbrev pub HoldsNowhere : (ℕ → Type 0) → ℕ → Type 0
-HoldsNowhere P count = (n : ℕ) → n < count → P n → ⊥

@@ -1,9 +1,11 @@
 -- The greatest residual of a sheet, in size.
-use Rattle.std.specs.Prelude.{ℕ, List, fold, max}
+use Rattle.std.specs.Prelude.{◌≡◌, List, ℤ, pos, All, Any}
 use Rattle.std.specs.Int.RustNames.{unsigned_abs}
 use Rattle.adjust_kernel.specs.Readings.{Reading}
 use Rattle.adjust_kernel.specs.Residuals.{Choice, residual}
+use Rattle.adjust_kernel.specs.Within.{IsWithin}
 
--- the greatest size of a residual
-abbrev pub greatest_size : Choice → List Reading → ℕ
-greatest_size c readings = fold (λ g r. max g (unsigned_abs (residual c r))) 0 readings
+-- no residual is larger in size than this, and that of some reading is as large
+pub record IsGreatest (c : Choice) (readings : List Reading) (size : ℤ) : Type 0 where
+  pub bound : All (λ r. IsWithin size (residual c r)) readings
+  pub reached : Any (λ r. pos (unsigned_abs (residual c r)) ≡ size) readings

@@ -1,6 +1,7 @@
 -- Marks on the sets and targets of a station, kept in one list: first the sets, then the targets. A place in it is a node.
-use Rattle.std.specs.Prelude.{◌≡◌, ℕ, ◌<◌, ◌+◌, List, Bool, true, false, length, Contains, slice_index_or}
-use Rattle.std.proofs.Common.{◌⊎◌}
+use Rattle.std.specs.Prelude.{
+  ◌≡◌, ◌⊎◌, ℕ, ◌<◌, ◌+◌, List, Bool, true, false, length, Contains, slice_index_or
+}
 use Rattle.adjust_kernel.specs.declared.obs.Obs.{Obs}
 
 abbrev pub mark : List Bool → ℕ → Bool

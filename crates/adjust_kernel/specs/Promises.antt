@@ -1,12 +1,18 @@
 -- What a verdict on a sheet says of least squares.
-use Rattle.std.specs.Prelude.{ℕ, List, Option, IfSome, Result, Ok, Err, ⊤}
+use Rattle.std.specs.Prelude.{ℕ, List, length, Option, IfSome, Result, Ok, Err, ⊤}
 use Rattle.adjust_kernel.specs.declared.accepted.Accepted.{Accepted}
 use Rattle.adjust_kernel.specs.declared.kernel_fault.KernelFault.{KernelFault}
-use Rattle.adjust_kernel.specs.declared.kernel_fault.KernelFault.TheVariants.{TargetSum, SetSum, NotConnected}
+use Rattle.adjust_kernel.specs.declared.kernel_fault.KernelFault.TheVariants.{
+  TargetSum, SetSum, NotConnected
+}
+use Rattle.adjust_kernel.specs.Least.{IsLeast, IsUnique, HasBetter, HasAnother}
+use Rattle.adjust_kernel.specs.Pairs.{choice_stated_by}
 use Rattle.adjust_kernel.specs.Readings.{Reading}
 use Rattle.adjust_kernel.specs.Residuals.{Choice}
-use Rattle.adjust_kernel.specs.Least.{IsLeast, IsUnique, HasBetter, HasAnother}
+use Rattle.adjust_kernel.specs.Sheets.{SheetValue}
+use Rattle.adjust_kernel.specs.Stations.{StationValue}
 use Rattle.adjust_kernel.specs.Turns.{IsLeastOverTurns, OnlyTurnedWhole}
+use Rattle.adjust_kernel.specs.Verdict.{readings}
 
 -- The choice is the least-squares adjustment of the readings with their turns: no choice has a
 -- smaller sum of squares, and what reaches the same sum is a rotation of it.
@@ -23,9 +29,17 @@ pub record IsAdjustedOverTurns (c : Choice) (readings : List Reading) : Type 0 w
 -- all turns where a residual limit was stated; where the sum of a target or of a set is refused,
 -- some other choice is better; where nothing holds the sets and targets together, another choice is
 -- as good. The other faults tell nothing.
-abbrev pub TellsOfSquares : Option ℕ → ℕ → ℕ → Choice → List Reading → Result Accepted KernelFault → Type 0
-TellsOfSquares limit sets targets c readings (Ok accepted) = IsAdjusted sets targets c readings × IfSome limit (λ n. IsAdjustedOverTurns c readings)
-TellsOfSquares limit sets targets c readings (Err (TargetSum n)) = HasBetter c readings
-TellsOfSquares limit sets targets c readings (Err (SetSum n)) = HasBetter c readings
-TellsOfSquares limit sets targets c readings (Err NotConnected) = HasAnother sets targets c readings
-TellsOfSquares limit sets targets c readings (Err fault) = ⊤
+abbrev pub TellsOfSquares :
+    StationValue → SheetValue → Option ℕ → Result Accepted KernelFault → Type 0
+TellsOfSquares station sheet limit (Ok accepted) =
+    IsAdjusted (length station.sets) (length station.targets)
+      (choice_stated_by sheet) (readings station sheet)
+    × IfSome limit (λ n. IsAdjustedOverTurns (choice_stated_by sheet) (readings station sheet))
+TellsOfSquares station sheet limit (Err (TargetSum n)) =
+    HasBetter (choice_stated_by sheet) (readings station sheet)
+TellsOfSquares station sheet limit (Err (SetSum n)) =
+    HasBetter (choice_stated_by sheet) (readings station sheet)
+TellsOfSquares station sheet limit (Err NotConnected) =
+    HasAnother (length station.sets) (length station.targets)
+      (choice_stated_by sheet) (readings station sheet)
+TellsOfSquares station sheet limit (Err fault) = ⊤

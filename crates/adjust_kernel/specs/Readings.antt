@@ -1,6 +1,6 @@
 -- The readings of a station with the full turns that a sheet adds to them: what least squares is
 -- about.
-use Rattle.std.specs.Prelude.{ℕ, ℤ, ◌<◌}
+use Rattle.std.specs.Prelude.{ℕ, ℤ}
 
 -- A reading: its set and its target by their places from 0, its value on the circle in half units
 -- (0.005 mgon), and the full turns that the sheet adds to it.
@@ -9,8 +9,3 @@ pub record Reading : Type 0 where
   pub target : ℕ
   pub value : ℕ
   pub turn : ℤ
-
--- the reading's set is one of this many sets, and its target one of this many targets
-pub record IsPlaced (sets targets : ℕ) (reading : Reading) : Type 0 where
-  pub set_in : reading.set < sets
-  pub target_in : reading.target < targets

@@ -1,7 +1,6 @@
 -- Residuals of directions and orientations against the readings (textbook, scaled by a denominator
 -- so that all numbers are whole).
-use Rattle.std.specs.Prelude.{◌≡◌, ℕ, List, ℤ, pos, ◌+ℤ◌, ◌==◌, slice_index_or}
-use lib.IntN.{◌*ℤ◌, ◌-ℤ◌}
+use Rattle.std.specs.Prelude.{ℕ, List, ℤ, pos, ◌+ℤ◌, ◌-ℤ◌, ◌*ℤ◌, ◌==◌, slice_index_or}
 use Rattle.adjust_kernel.specs.declared.limits.TheConstants.{TURN}
 use Rattle.adjust_kernel.specs.Readings.{Reading}
 use Rattle.adjust_kernel.specs.Sums.{int_sum_by, int_sum_where, squared}
@@ -40,8 +39,3 @@ target_sum c readings t = int_sum_where (λ r. r.target == t) (residual c) readi
 -- the sum of the residuals of one set
 abbrev pub set_sum : Choice → List Reading → ℕ → ℤ
 set_sum c readings s = int_sum_where (λ r. r.set == s) (residual c) readings
-
--- the residuals of each target and of each set add to 0: the normal equations
-pub record IsBalanced (c : Choice) (readings : List Reading) : Type 0 where
-  pub targets : (t : ℕ) → target_sum c readings t ≡ pos 0
-  pub sets : (s : ℕ) → set_sum c readings s ≡ pos 0

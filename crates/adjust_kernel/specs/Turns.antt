@@ -1,19 +1,22 @@
 -- Least squares over all full turns too: what a residual limit adds.
-use Rattle.std.specs.Prelude.{◌≡◌, ℕ, ◌≤◌, ◌<◌, ◌*◌, List, [], ◌∷◌, All, length, map, slice_index_or, ℤ, pos, ◌+ℤ◌, ◌≤ℤ◌}
-use lib.IntN.{◌-ℤ◌}
+use Rattle.std.specs.Prelude.{
+  ◌≡◌, ℕ, ◌≤◌, ◌<◌, ◌*◌, List, [], ◌∷◌, All, length, map, slice_index_or, ℤ, pos, ◌+ℤ◌, ◌-ℤ◌
+}
 use Rattle.std.specs.Int.RustNames.{unsigned_abs}
+use Rattle.adjust_kernel.specs.Least.{IsNoLargerSum, IsSameSum}
 use Rattle.adjust_kernel.specs.Readings.{Reading}
-use Rattle.adjust_kernel.specs.Residuals.{Choice, residual, sum_of_squares}
+use Rattle.adjust_kernel.specs.Residuals.{Choice, residual}
 use Rattle.adjust_kernel.specs.Within.{IsWithin}
-use Rattle.adjust_kernel.specs.Sums.{square_times}
 
 -- no residual is above the limit, which is in half units
 abbrev pub IsLimited : ℕ → Choice → List Reading → Type 0
-IsLimited limit c readings = All (λ r. IsWithin (pos (limit * c.denominator)) (residual c r)) readings
+IsLimited limit c readings =
+    All (λ r. IsWithin (pos (limit * c.denominator)) (residual c r)) readings
 
 -- the residual of the reading at this place is in size above the limit, which is in half units
 abbrev pub IsAbove : ℕ → Choice → List Reading → ℕ → Type 0
-IsAbove limit c readings place = limit * c.denominator < unsigned_abs (slice_index_or (map (residual c) readings) place (pos 0))
+IsAbove limit c readings place =
+    limit * c.denominator < unsigned_abs (slice_index_or (map (residual c) readings) place (pos 0))
 
 -- the readings with these full turns, one for each, in place of their own
 abbrev pub with_turns : List Reading → List ℤ → List Reading
@@ -25,7 +28,7 @@ with_turns (r ∷ readings) (k ∷ turns) = record r { turn = k } ∷ with_turns
 abbrev pub IsLeastOverTurns : Choice → List Reading → Type 0
 IsLeastOverTurns c readings =
     (other : Choice) (turns : List ℤ) → length turns ≡ length readings → 1 ≤ other.denominator
-    → square_times other.denominator (sum_of_squares c readings) ≤ℤ square_times c.denominator (sum_of_squares other (with_turns readings turns))
+    → IsNoLargerSum c readings other (with_turns readings turns)
 
 -- these turns are the readings' own but for whole turns of targets and of sets
 pub record AreTurnedWhole (readings : List Reading) (turns : List ℤ) : Type 0 where
@@ -37,5 +40,4 @@ pub record AreTurnedWhole (readings : List Reading) (turns : List ℤ) : Type 0 
 abbrev pub OnlyTurnedWhole : Choice → List Reading → Type 0
 OnlyTurnedWhole c readings =
     (other : Choice) (turns : List ℤ) → length turns ≡ length readings → 1 ≤ other.denominator
-    → square_times other.denominator (sum_of_squares c readings) ≡ square_times c.denominator (sum_of_squares other (with_turns readings turns))
-    → AreTurnedWhole readings turns
+    → IsSameSum c readings other (with_turns readings turns) → AreTurnedWhole readings turns

@@ -1,12 +1,16 @@
--- The verdict on a sheet of a station: the first of its faults, in a stated order, or the acceptance.
--- An office may state a residual limit.
-use Rattle.std.specs.Prelude.{◌≡◌, ◌≢◌, ℕ, pos, ◌+◌, ◌<◌, List, length, Option, Result, Ok, Err, IfSome, IsSomeAnd}
+-- The verdict on a sheet of a station: the first of its faults, in a stated order, or the
+-- acceptance. An office may state a residual limit.
+use Rattle.std.specs.Prelude.{
+  ◌≡◌, ◌≢◌, ℕ, pos, ◌+◌, ◌<◌, List, length, Option, Result, Ok, Err, IsSomeAnd
+}
 use Rattle.adjust_kernel.specs.declared.accepted.Accepted.{Accepted}
 use Rattle.adjust_kernel.specs.declared.kernel_fault.KernelFault.{KernelFault}
-use Rattle.adjust_kernel.specs.declared.kernel_fault.KernelFault.TheVariants.{Name, TargetRow, SetRow, ObsRow, Datum, TargetSum, SetSum, NotConnected, Residual}
+use Rattle.adjust_kernel.specs.declared.kernel_fault.KernelFault.TheVariants.{
+  Name, TargetRow, SetRow, ObsRow, Datum, TargetSum, SetSum, NotConnected, Residual
+}
 use Rattle.adjust_kernel.specs.Connected.{IsConnected, IsDivided}
 use Rattle.adjust_kernel.specs.Firsts.{IsFirstDifference, IsFirstWhere}
-use Rattle.adjust_kernel.specs.Greatest.{greatest_size}
+use Rattle.adjust_kernel.specs.Greatest.{IsGreatest}
 use Rattle.adjust_kernel.specs.Matching.{names_of, numbers_of, keys_of, observed}
 use Rattle.adjust_kernel.specs.Pairs.{choice_stated_by, readings_of}
 use Rattle.adjust_kernel.specs.Readings.{Reading}
@@ -21,15 +25,20 @@ readings station sheet = readings_of station.obs sheet.rows
 
 -- the residuals of each target add to 0
 abbrev pub TargetsAddUp : StationValue → SheetValue → Type 0
-TargetsAddUp station sheet = (t : ℕ) → t < length station.targets → target_sum (choice_stated_by sheet) (readings station sheet) t ≡ pos 0
+TargetsAddUp station sheet =
+    (t : ℕ) → t < length station.targets
+    → target_sum (choice_stated_by sheet) (readings station sheet) t ≡ pos 0
 
 -- the residuals of each set add to 0
 abbrev pub SetsAddUp : StationValue → SheetValue → Type 0
-SetsAddUp station sheet = (s : ℕ) → s < length station.sets → set_sum (choice_stated_by sheet) (readings station sheet) s ≡ pos 0
+SetsAddUp station sheet =
+    (s : ℕ) → s < length station.sets
+    → set_sum (choice_stated_by sheet) (readings station sheet) s ≡ pos 0
 
 -- the observations hold all sets and targets together
 abbrev pub HoldsTogether : StationValue → SheetValue → Type 0
-HoldsTogether station sheet = IsConnected (length station.sets) (length station.targets) (readings station sheet)
+HoldsTogether station sheet =
+    IsConnected (length station.sets) (length station.targets) (readings station sheet)
 
 -- no residual is above this limit
 abbrev pub KeepsLimit : StationValue → SheetValue → ℕ → Type 0
@@ -39,30 +48,30 @@ KeepsLimit station sheet most = IsLimited most (choice_stated_by sheet) (reading
 abbrev pub AtNth : (ℕ → Type 0) → ℕ → Type 0
 AtNth P n = (place : ℕ) × (n ≡ place + 1) × P place
 
--- This fault stands (profile, but for the sums and the connection, which are the textbook's): something is not as it
--- has to be; where the fault has a number, it is the least one of its kind, from 1.
+-- This fault stands (profile, but for the sums and the connection, which are the textbook's):
+-- something is not as it has to be; where the fault has a number, it is the least one of its kind,
+-- from 1.
 abbrev pub Stands : StationValue → SheetValue → Option ℕ → KernelFault → Type 0
 Stands station sheet limit Name = sheet.name ≢ station.name
-Stands station sheet limit (TargetRow n) = AtNth (IsFirstDifference (names_of sheet) station.targets) n
-Stands station sheet limit (SetRow n) = AtNth (IsFirstDifference (numbers_of sheet) station.sets) n
-Stands station sheet limit (ObsRow n) = AtNth (IsFirstDifference (keys_of sheet) (observed station)) n
+Stands station sheet limit (TargetRow n) =
+    AtNth (IsFirstDifference (names_of sheet) station.targets) n
+Stands station sheet limit (SetRow n) =
+    AtNth (IsFirstDifference (numbers_of sheet) station.sets) n
+Stands station sheet limit (ObsRow n) =
+    AtNth (IsFirstDifference (keys_of sheet) (observed station)) n
 Stands station sheet limit Datum = (choice_stated_by sheet).direction 0 ≢ pos 0
-Stands station sheet limit (TargetSum n) = AtNth (IsFirstWhere (λ t. target_sum (choice_stated_by sheet) (readings station sheet) t ≢ pos 0) (length station.targets)) n
-Stands station sheet limit (SetSum n) = AtNth (IsFirstWhere (λ s. set_sum (choice_stated_by sheet) (readings station sheet) s ≢ pos 0) (length station.sets)) n
-Stands station sheet limit NotConnected = IsDivided (length station.sets) (length station.targets) (readings station sheet)
-Stands station sheet limit (Residual n) = IsSomeAnd limit (λ most. AtNth (IsFirstWhere (IsAbove most (choice_stated_by sheet) (readings station sheet)) (length (readings station sheet))) n)
-
--- No fault of this kind stands, whatever its number.
-abbrev pub IsClearOf : StationValue → SheetValue → Option ℕ → KernelFault → Type 0
-IsClearOf station sheet limit Name = sheet.name ≡ station.name
-IsClearOf station sheet limit (TargetRow n) = names_of sheet ≡ station.targets
-IsClearOf station sheet limit (SetRow n) = numbers_of sheet ≡ station.sets
-IsClearOf station sheet limit (ObsRow n) = keys_of sheet ≡ observed station
-IsClearOf station sheet limit Datum = (choice_stated_by sheet).direction 0 ≡ pos 0
-IsClearOf station sheet limit (TargetSum n) = TargetsAddUp station sheet
-IsClearOf station sheet limit (SetSum n) = SetsAddUp station sheet
-IsClearOf station sheet limit NotConnected = HoldsTogether station sheet
-IsClearOf station sheet limit (Residual n) = IfSome limit (KeepsLimit station sheet)
+Stands station sheet limit (TargetSum n) =
+    AtNth (IsFirstWhere (λ t. target_sum (choice_stated_by sheet) (readings station sheet) t ≢ pos 0)
+      (length station.targets)) n
+Stands station sheet limit (SetSum n) =
+    AtNth (IsFirstWhere (λ s. set_sum (choice_stated_by sheet) (readings station sheet) s ≢ pos 0)
+      (length station.sets)) n
+Stands station sheet limit NotConnected =
+    IsDivided (length station.sets) (length station.targets) (readings station sheet)
+Stands station sheet limit (Residual n) =
+    IsSomeAnd limit (λ most.
+      AtNth (IsFirstWhere (IsAbove most (choice_stated_by sheet) (readings station sheet))
+        (length (readings station sheet))) n)
 
 -- the order in which the faults are looked for
 abbrev pub order_of : KernelFault → ℕ
@@ -77,23 +86,31 @@ order_of NotConnected = 8
 order_of (Residual n) = 9
 
 -- what is said of a sheet that is accepted
-abbrev pub acceptance_of : StationValue → SheetValue → Accepted
-acceptance_of station sheet = record {
-  name = station.name;
-  sets = length station.sets;
-  targets = length station.targets;
-  directions = length station.obs;
-  greatest = pos (greatest_size (choice_stated_by sheet) (readings station sheet));
-  denominator = sheet.denominator;
-}
+pub record IsAcceptance (station : StationValue) (sheet : SheetValue) (accepted : Accepted) :
+    Type 0 where
+  pub name : accepted.name ≡ station.name
+  pub sets : accepted.sets ≡ length station.sets
+  pub targets : accepted.targets ≡ length station.targets
+  pub directions : accepted.directions ≡ length station.obs
+  pub greatest :
+      IsGreatest (choice_stated_by sheet) (readings station sheet) accepted.greatest
+  pub denominator : accepted.denominator ≡ sheet.denominator
 
--- The verdict: a fault that stands, where none stands that is looked for before it; or the acceptance, where none stands.
+-- The verdict: a fault that stands, where none stands that is looked for before it; or the
+-- acceptance, where none stands.
 abbrev pub IsVerdict : StationValue → SheetValue → Option ℕ → Result Accepted KernelFault → Type 0
 IsVerdict station sheet limit (Err fault) =
-    Stands station sheet limit fault × ((other : KernelFault) → order_of other < order_of fault → IsClearOf station sheet limit other)
+    Stands station sheet limit fault
+    × ((other : KernelFault) → order_of other < order_of fault → Stands station sheet limit other → ⊥)
 IsVerdict station sheet limit (Ok accepted) =
-    ((other : KernelFault) → IsClearOf station sheet limit other) × (accepted ≡ acceptance_of station sheet)
+    ((fault : KernelFault) → Stands station sheet limit fault → ⊥)
+    × IsAcceptance station sheet accepted
 
 -- the verdict is this fault, whatever limit is stated
 abbrev pub IsFault : StationValue → SheetValue → KernelFault → Type 0
 IsFault station sheet fault = (limit : Option ℕ) → IsVerdict station sheet limit (Err fault)
+
+-- the verdict is an acceptance
+abbrev pub IsAcceptedSheet : StationValue → SheetValue → Option ℕ → Type 0
+IsAcceptedSheet station sheet limit =
+    (accepted : Accepted) × IsVerdict station sheet limit (Ok accepted)

@@ -1,6 +1,5 @@
 -- Numbers of a bounded size.
-use Rattle.std.specs.Prelude.{ℤ, ◌≤ℤ◌}
-use lib.IntN.{neg_ℤ}
+use Rattle.std.specs.Prelude.{ℤ, neg_ℤ, ◌≤ℤ◌}
 
 -- the size of z is at most this
 pub record IsWithin (most : ℤ) (z : ℤ) : Type 0 where

@@ -1,7 +1,7 @@
 //! The greatest residual of a sheet, in size.
 ghost use Rattle.std.specs.Prelude.{◌≡◌, pos, ℕ, max};
 ghost use Rattle.std.specs.Int.RustNames.{unsigned_abs};
-ghost use Rattle.adjust_kernel.specs.Greatest.{greatest_size};
+ghost use Rattle.adjust_kernel.specs.Greatest.{IsGreatest};
 ghost use Rattle.adjust_kernel.specs.Pairs.{ArePaired, choice_stated_by, readings_of};
 ghost use Rattle.adjust_kernel.specs.Within.{IsWithin};
 
@@ -21,10 +21,12 @@ fn larger_size(size: i128, residual: i128) -> i128
 /// The greatest of the sizes of the scaled residuals of all rows.
 pub fn greatest_residual(sheet: &Sheet, obs: &[Obs]) -> i128
     requires { ArePaired sheet.now obs.now }
-    ensures { result ≡ pos (greatest_size (choice_stated_by sheet.now) (readings_of obs.now sheet.now.rows)) }
+    ensures {
+        IsGreatest (choice_stated_by sheet.now) (readings_of obs.now sheet.now.rows) result
+    }
 {
     let mut greatest = 0;
-    for row in 0..obs.len() {
+    for row in 0..sheet.rows().len() {
         greatest = larger_size(greatest, row_residual(sheet, obs, row));
     }
     greatest

@@ -11,6 +11,7 @@ mod connection;
 mod excess;
 mod greatest;
 mod kernel_fault;
+pub mod laws;
 mod limits;
 mod matching;
 mod name;

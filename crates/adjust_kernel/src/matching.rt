@@ -109,9 +109,9 @@ fn has_datum(sheet: &Sheet) -> bool
     sheet.directions()[0].value == 0
 }
 
-/// Whether the sheet is of this station, place by place, with its first direction 0; if not, the
-/// first fault.
-pub fn matches_station(station: &Station, sheet: &Sheet) -> Result<(), KernelFault>
+/// Nothing where the sheet is of this station, place by place, with its first direction 0; if not,
+/// the first fault.
+pub fn check_matches(station: &Station, sheet: &Sheet) -> Result<(), KernelFault>
     ensures ok { OnOk result (Matches station.now sheet.now) }
     ensures err { IfErr result (IsFault station.now sheet.now) }
     ensures valid_station { IsStation station.now }

@@ -4,6 +4,7 @@
 //! hashed without memory, and contracts see it as the list of its bytes.
 
 ghost use Rattle.std.specs.Prelude.{◌≡◌, ℕ, List, ◌↔◌, IfSome, IfNone, IsTrue};
+ghost use Rattle.std.specs.Str.{bytes_eq};
 ghost use Rattle.adjust_kernel.specs.Names.{IsName};
 
 use crate::limits::LONGEST_NAME;
@@ -45,12 +46,20 @@ impl Name {
         if !is_name(bytes) {
             return None;
         }
+        Some(Name::of_valid(bytes))
+    }
+
+    /// The name of these bytes, which are known to be those of a name: nothing is tested.
+    pub fn of_valid(bytes: &[u8]) -> Name
+        requires { IsName bytes.now }
+        ensures { result ≡ bytes.now }
+    {
         let mut kept = [0; LONGEST_NAME];
         kept[..bytes.len()].copy_from_slice(bytes);
-        Some(Name {
+        Name {
             bytes: kept,
             len: bytes.len(),
-        })
+        }
     }
 
     /// Its bytes.
@@ -59,6 +68,13 @@ impl Name {
         ensures valid { IsName self.now }
     {
         &self.bytes[..self.len]
+    }
+
+    /// Whether these are its bytes.
+    pub fn is(&self, bytes: &[u8]) -> bool
+        ensures { result ≡ bytes_eq self.now bytes.now }
+    {
+        self.bytes() == bytes
     }
 }
 

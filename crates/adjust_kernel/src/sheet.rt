@@ -55,15 +55,40 @@ impl Sheet {
             && are_orientations(&orientations)
             && are_rows(&rows)
         {
-            return Some(Sheet {
+            return Some(Sheet::of_valid(
                 name,
                 denominator,
                 directions,
                 orientations,
                 rows,
-            });
+            ));
         }
         None
+    }
+
+    /// The sheet with these parts, which are known to be within a sheet's limits: nothing is
+    /// tested.
+    pub fn of_valid(
+        name: Name,
+        denominator: u64,
+        directions: Vec<Direction>,
+        orientations: Vec<Orientation>,
+        rows: Vec<Row>,
+    ) -> Sheet
+        requires {
+            IsSheet (sheet_of name denominator directions.items orientations.items rows.items)
+        }
+        ensures {
+            result ≡ sheet_of name denominator directions.items orientations.items rows.items
+        }
+    {
+        Sheet {
+            name,
+            denominator,
+            directions,
+            orientations,
+            rows,
+        }
     }
 
     /// The station's name.

@@ -46,14 +46,23 @@ impl Station {
             && are_sets(&sets)
             && are_obs(&obs, sets.len(), targets.len())
         {
-            return Some(Station {
-                name,
-                targets,
-                sets,
-                obs,
-            });
+            return Some(Station::of_valid(name, targets, sets, obs));
         }
         None
+    }
+
+    /// The station with these parts, which are known to keep the rules of a station: nothing is
+    /// tested.
+    pub fn of_valid(name: Name, targets: Vec<Name>, sets: Vec<u16>, obs: Vec<Obs>) -> Station
+        requires { IsStation (station_of name targets.items sets.items obs.items) }
+        ensures { result ≡ station_of name targets.items sets.items obs.items }
+    {
+        Station {
+            name,
+            targets,
+            sets,
+            obs,
+        }
     }
 
     /// Its name.

@@ -8,12 +8,11 @@ ghost use Rattle.std.specs.Prelude.{◌≡◌, ◌≤◌, ◌<◌, ℕ, pos, [],
 ghost use Rattle.adjust_kernel.specs.declared.accepted.Accepted.{Accepted};
 ghost use Rattle.adjust_kernel.specs.declared.kernel_fault.KernelFault.{KernelFault};
 ghost use Rattle.adjust_kernel.specs.Matching.{Matches};
-ghost use Rattle.adjust_kernel.specs.Pairs.{choice_stated_by};
 ghost use Rattle.adjust_kernel.specs.Promises.{TellsOfSquares};
 ghost use Rattle.adjust_kernel.specs.Sheets.{IsSheet};
 ghost use Rattle.adjust_kernel.specs.Stations.{IsStation};
 ghost use Rattle.adjust_kernel.specs.Tallies.{all_added};
-ghost use Rattle.adjust_kernel.specs.Verdict.{IsVerdict, IsFault, TargetsAddUp, SetsAddUp, HoldsTogether, KeepsLimit, acceptance_of, readings};
+ghost use Rattle.adjust_kernel.specs.Verdict.{IsVerdict, IsFault, TargetsAddUp, SetsAddUp, HoldsTogether, KeepsLimit, IsAcceptance};
 
 use crate::accepted::Accepted;
 use crate::connection::is_connected;
@@ -21,7 +20,7 @@ use crate::excess::first_excess;
 use crate::greatest::greatest_residual;
 use crate::kernel_fault::KernelFault;
 use crate::limits::{LARGEST_RESIDUAL_LIMIT, MOST_ROWS};
-use crate::matching::matches_station;
+use crate::matching::check_matches;
 use crate::residual_limit::ResidualLimit;
 use crate::running::Running;
 use crate::sheet::Sheet;
@@ -45,10 +44,12 @@ pub fn check(
     residual: Option<ResidualLimit>,
 ) -> Result<Accepted, KernelFault>
     ensures verdict { IsVerdict station.now sheet.now residual result }
-    ensures no_other_verdict { (other : Result Accepted KernelFault) → IsVerdict station.now sheet.now residual other → result ≡ other }
+    ensures no_other_verdict {
+        (other : Result Accepted KernelFault)
+        → IsVerdict station.now sheet.now residual other → result ≡ other
+    }
     ensures matches { OnOk result (Matches station.now sheet.now) }
-    ensures squares { TellsOfSquares residual (length station.now.sets) (length station.now.targets)
-        (choice_stated_by sheet.now) (readings station.now sheet.now) result }
+    ensures squares { TellsOfSquares station.now sheet.now residual result }
 {
     check_with(Running::new(), station, sheet, residual)
 }
@@ -63,15 +64,17 @@ pub fn check_with<T: Tally>(
     requires nothing { T.StandsFor tally [] }
     requires room { T.room tally ≡ MOST_ROWS }
     ensures verdict { IsVerdict station.now sheet.now residual result }
-    ensures no_other_verdict { (other : Result Accepted KernelFault) → IsVerdict station.now sheet.now residual other → result ≡ other }
+    ensures no_other_verdict {
+        (other : Result Accepted KernelFault)
+        → IsVerdict station.now sheet.now residual other → result ≡ other
+    }
     ensures matches { OnOk result (Matches station.now sheet.now) }
-    ensures squares { TellsOfSquares residual (length station.now.sets) (length station.now.targets)
-        (choice_stated_by sheet.now) (readings station.now sheet.now) result }
+    ensures squares { TellsOfSquares station.now sheet.now residual result }
 {
     verdict_of(tally, station, sheet, residual)
 }
 
-// The verdict: the tests in their order.
+/// The verdict: the tests in their order.
 fn verdict_of<T: Tally>(
     tally: T,
     station: &Station,
@@ -85,15 +88,15 @@ fn verdict_of<T: Tally>(
     ensures valid_sheet { IsSheet sheet.now }
     ensures valid_limit { OnOk result (IfSome residual (λ most. most ≤ LARGEST_RESIDUAL_LIMIT)) }
 {
-    matches_station(station, sheet)?;
-    adds_up(tally, station, sheet)?;
-    is_held_together(station, sheet)?;
-    keeps_limit(station, sheet, residual)?;
+    check_matches(station, sheet)?;
+    check_sums(tally, station, sheet)?;
+    check_connection(station, sheet)?;
+    check_limit(station, sheet, residual)?;
     Ok(acceptance(station, sheet))
 }
 
-// Whether the residuals of each target and of each set add to 0.
-fn adds_up<T: Tally>(tally: T, station: &Station, sheet: &Sheet) -> Result<(), KernelFault>
+/// Nothing where the residuals of each target and of each set add to 0; if not, the first that don't.
+fn check_sums<T: Tally>(tally: T, station: &Station, sheet: &Sheet) -> Result<(), KernelFault>
     requires nothing { T.StandsFor tally [] }
     requires room { T.room tally ≡ MOST_ROWS }
     requires matches { Matches station.now sheet.now }
@@ -111,8 +114,8 @@ fn adds_up<T: Tally>(tally: T, station: &Station, sheet: &Sheet) -> Result<(), K
     Ok(())
 }
 
-// Whether the observations hold all sets and targets together.
-fn is_held_together(station: &Station, sheet: &Sheet) -> Result<(), KernelFault>
+/// Nothing where the observations hold all sets and targets together.
+fn check_connection(station: &Station, sheet: &Sheet) -> Result<(), KernelFault>
     requires matches { Matches station.now sheet.now }
     requires targets { TargetsAddUp station.now sheet.now }
     requires sets { SetsAddUp station.now sheet.now }
@@ -125,8 +128,8 @@ fn is_held_together(station: &Station, sheet: &Sheet) -> Result<(), KernelFault>
     Err(KernelFault::NotConnected)
 }
 
-// Whether each residual is within the limit, if one is stated.
-fn keeps_limit(
+/// Nothing where each residual is within the limit, if one is stated; if not, the first that isn't.
+fn check_limit(
     station: &Station,
     sheet: &Sheet,
     residual: Option<ResidualLimit>,
@@ -147,10 +150,10 @@ fn keeps_limit(
     Ok(())
 }
 
-// What is said of an accepted sheet.
+/// What is said of an accepted sheet.
 fn acceptance(station: &Station, sheet: &Sheet) -> Accepted
     requires matches { Matches station.now sheet.now }
-    ensures { result ≡ acceptance_of station.now sheet.now }
+    ensures { IsAcceptance station.now sheet.now result }
 {
     Accepted {
         name: station.name(),

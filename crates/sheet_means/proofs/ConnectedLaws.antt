@@ -1,7 +1,6 @@
 -- A complete station is connected: each set and each target shares a reading with the first of the
 -- other kind.
 use Rattle.std.proofs.Common.{◌≡◌, ⊎_elim, ℕ, ◌+◌, ◌*◌, ◌<◌, Bool, true, false, List, ap, sym, ◌∙◌}
-use Rattle.std.proofs.lemmas.List.Elements.{All-from_recursion}
 use Rattle.adjust_kernel.specs.Readings.{Reading}
 use Rattle.adjust_kernel.specs.Connected.{IsConnected, IsDivided, HasMember}
 use Rattle.sheet_means.proofs.GridLaws.{AreGrid, any_reading, inside}
@@ -10,7 +9,7 @@ module _ (sets targets : ℕ) (readings : List Reading) (grid : AreGrid sets tar
   together : (d : IsDivided sets targets readings) (s t : ℕ) → s < sets → t < targets → d.part_of_set s ≡ d.part_of_target t
   together d s t h k =
       let p = grid.at_place s t h k in
-      sym (ap d.part_of_set p.0) ∙ All-from_recursion (λ (r : Reading). d.part_of_set r.set ≡ d.part_of_target r.target) readings d.within (s * targets + t) any_reading (inside sets targets readings grid s t h k) ∙ ap d.part_of_target p.1
+      sym (ap d.part_of_set p.0) ∙ d.none_between (s * targets + t) any_reading (inside sets targets readings grid s t h k) ∙ ap d.part_of_target p.1
 
   one_part : (d : IsDivided sets targets readings) (part : Bool) → HasMember sets targets d.part_of_set d.part_of_target part → part ≡ d.part_of_target 0
   one_part d part m = ⊎_elim

@@ -1,12 +1,10 @@
 -- The sheet of means: within the limits of a sheet, as defined, unturned in its first row and first
 -- column of readings, and accepted.
-use Rattle.std.proofs.Common.{◌≡◌, ◌⊎◌, inl, inr, ℕ, suc, zero, ◌*◌, ◌<◌, ◌≤◌, List, [], length, map, get_or, ℤ, pos, negsuc, ◌+ℤ◌, None, Ok, arith, ap, refl, sym, ◌∙◌, subst}
+use Rattle.std.proofs.Common.{◌≡◌, ◌⊎◌, inl, inr, ℕ, suc, zero, ◌*◌, ◌<◌, ◌≤◌, List, [], length, map, get_or, ℤ, pos, negsuc, ◌+ℤ◌, arith, ap, refl, sym, ◌∙◌, subst}
 use Rattle.std.proofs.Math.IntN.{◌*ℤ◌, ◌-ℤ◌}
 use Rattle.std.proofs.Math.Nat.{mul-le-mul}
 use Rattle.std.proofs.lemmas.Int.{ints}
 use Rattle.std.proofs.lemmas.List.{ext_get_or, length-map, get_or-map}
-use Rattle.adjust_kernel.specs.declared.kernel_fault.KernelFault.{KernelFault}
-use Rattle.adjust_kernel.specs.declared.kernel_fault.KernelFault.TheVariants.{Name, TargetRow, SetRow, ObsRow, Datum, TargetSum, SetSum, NotConnected, Residual}
 use Rattle.adjust_kernel.specs.declared.limits.TheConstants.{TURN, MOST_ROWS, LARGEST_ANGLE}
 use Rattle.adjust_kernel.specs.declared.row.Direction.{Direction}
 use Rattle.adjust_kernel.specs.declared.row.Orientation.{Orientation}
@@ -16,7 +14,7 @@ use Rattle.adjust_kernel.specs.Pairs.{choice_stated_by, readings_of}
 use Rattle.adjust_kernel.specs.Readings.{Reading}
 use Rattle.adjust_kernel.specs.Sheets.{SheetValue, IsSheet, IsSetNumber}
 use Rattle.adjust_kernel.specs.Stations.{StationValue, IsStation}
-use Rattle.adjust_kernel.specs.Verdict.{IsVerdict, IsClearOf, acceptance_of}
+use Rattle.adjust_kernel.specs.Verdict.{TargetsAddUp, SetsAddUp, HoldsTogether}
 use Rattle.adjust_kernel.specs.Within.{IsWithin}
 use Rattle.sheet_means.specs.declared.adjusted.TheConstants.{LARGEST_MEAN}
 use Rattle.sheet_means.specs.Complete.{IsComplete}
@@ -83,7 +81,17 @@ module _ (station : StationValue) (valid : IsStation station) (complete : IsComp
   }
 
   pub is_means_sheet : IsMeansSheet station means_sheet
-  is_means_sheet = record { name = refl; targets = names; sets = numbers; rows = means_rows.keys; turned = means_rows.turned; means = means }
+  is_means_sheet = record {
+    matches = record {
+      name = refl;
+      targets = names;
+      sets = numbers;
+      rows = means_rows.keys;
+      datum = first_direction S T readings (grid station valid complete rows means_rows) (choice_stated_by means_sheet) means valid.targets.some;
+    };
+    turned = means_rows.turned;
+    means = means;
+  }
 
   unturned_at : (r : Reading) → IsTurned station.obs r → (r.set ≡ 0) ⊎ (r.target ≡ 0) → r.turn ≡ pos 0
   unturned_at r h (inl e) =
@@ -129,16 +137,14 @@ module _ (station : StationValue) (valid : IsStation station) (complete : IsComp
     };
   }
 
-  clear : (fault : KernelFault) → IsClearOf station means_sheet None fault
-  clear Name = refl
-  clear (TargetRow n) = names
-  clear (SetRow n) = numbers
-  clear (ObsRow n) = means_rows.keys
-  clear Datum = first_direction S T readings (grid station valid complete rows means_rows) (choice_stated_by means_sheet) means valid.targets.some
-  clear (TargetSum n) = target_sums_vanish S T readings (grid station valid complete rows means_rows) (choice_stated_by means_sheet) means valid.targets.some
-  clear (SetSum n) = set_sums_vanish S T readings (grid station valid complete rows means_rows) (choice_stated_by means_sheet) means valid.targets.some
-  clear NotConnected = complete_is_connected S T readings (grid station valid complete rows means_rows) valid.sets.some valid.targets.some
-  clear (Residual n) = tt
+  pub targets_add_up : TargetsAddUp station means_sheet
+  targets_add_up = target_sums_vanish S T readings (grid station valid complete rows means_rows) (choice_stated_by means_sheet) means valid.targets.some
 
-  pub is_accepted : IsVerdict station means_sheet None (Ok (acceptance_of station means_sheet))
-  is_accepted = (clear, refl)
+  pub sets_add_up : SetsAddUp station means_sheet
+  sets_add_up = set_sums_vanish S T readings (grid station valid complete rows means_rows) (choice_stated_by means_sheet) means valid.targets.some
+
+  pub holds_together : HoldsTogether station means_sheet
+  holds_together = complete_is_connected S T readings (grid station valid complete rows means_rows) valid.sets.some valid.targets.some
+
+  pub some_readings : 1 ≤ length readings
+  some_readings = let g = (grid station valid complete rows means_rows).long in omega (arith, some)

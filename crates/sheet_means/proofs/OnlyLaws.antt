@@ -29,13 +29,13 @@ one_turn d k m h j = by_lt_z k m (λ lt. absurd (not_fewer d k m h j lt)) (λ le
 
 module _ (station : StationValue) (sheet : SheetValue) (means : IsMeansSheet station sheet) where
   as_many_rows : length station.obs ≡ length sheet.rows
-  as_many_rows = sym (length-map station.obs (key_of_obs station.sets station.targets)) ∙ ap length (sym means.rows) ∙ length-map sheet.rows key_of_row
+  as_many_rows = sym (length-map station.obs (key_of_obs station.sets station.targets)) ∙ ap length (sym means.matches.rows) ∙ length-map sheet.rows key_of_row
 
   as_many_directions : length sheet.directions ≡ length station.targets
-  as_many_directions = sym (length-map sheet.directions (λ (d : Direction). d.name)) ∙ ap length means.targets
+  as_many_directions = sym (length-map sheet.directions (λ (d : Direction). d.name)) ∙ ap length means.matches.targets
 
   as_many_orientations : length sheet.orientations ≡ length station.sets
-  as_many_orientations = sym (length-map sheet.orientations (λ (o : Orientation). o.set)) ∙ ap length means.sets
+  as_many_orientations = sym (length-map sheet.orientations (λ (o : Orientation). o.set)) ∙ ap length means.matches.sets
 
   abbrev obs_at : ℕ → Obs
   obs_at i = get_or station.obs i any_obs
@@ -47,7 +47,7 @@ module _ (station : StationValue) (sheet : SheetValue) (means : IsMeansSheet sta
   key_at i h =
       let k : Key = record { set = 0; target = []; value = 0 } in
       sym (get_or-map key_of_row sheet.rows i any_row k (omega (arith, h, as_many_rows)))
-      ∙ ap (λ (l : List Key). get_or l i k) means.rows
+      ∙ ap (λ (l : List Key). get_or l i k) means.matches.rows
       ∙ get_or-map (key_of_obs station.sets station.targets) station.obs i any_obs k h
 
   turn_at : (i : ℕ) → i < length station.obs → IsInHalfCircle (angle_difference station.obs (obs_at i).set (obs_at i).target +ℤ pos TURN *ℤ (row_at i).turn)
@@ -84,7 +84,7 @@ module _ (station : StationValue) (one other : SheetValue) (a : IsMeansSheet sta
       same i h =
           let inside : i < length station.targets = omega (arith, h, as_many_directions station one a) in
           let k : i < length other.directions = omega (arith, inside, as_many_directions station other b) in
-          let name = sym (get_or-map (λ (d : Direction). d.name) one.directions i any_direction [] h) ∙ ap (λ (l : List (List ℕ)). get_or l i []) (a.targets ∙ sym b.targets) ∙ get_or-map (λ (d : Direction). d.name) other.directions i any_direction [] k in
+          let name = sym (get_or-map (λ (d : Direction). d.name) one.directions i any_direction [] h) ∙ ap (λ (l : List (List ℕ)). get_or l i []) (a.matches.targets ∙ sym b.matches.targets) ∙ get_or-map (λ (d : Direction). d.name) other.directions i any_direction [] k in
           let stated = a.means.directions i inside ∙ ap (λ (rows : List Row). direction_by rows i) same_rows ∙ sym (b.means.directions i inside) in
           let value = sym (get_or-map (λ (d : Direction). d.value) one.directions i any_direction (pos 0) h) ∙ stated ∙ get_or-map (λ (d : Direction). d.value) other.directions i any_direction (pos 0) k in
           λ j. record { name = name j; value = value j }
@@ -96,14 +96,14 @@ module _ (station : StationValue) (one other : SheetValue) (a : IsMeansSheet sta
       same i h =
           let inside : i < length station.sets = omega (arith, h, as_many_orientations station one a) in
           let k : i < length other.orientations = omega (arith, inside, as_many_orientations station other b) in
-          let set = sym (get_or-map (λ (o : Orientation). o.set) one.orientations i any_orientation 0 h) ∙ ap (λ (l : List ℕ). get_or l i 0) (a.sets ∙ sym b.sets) ∙ get_or-map (λ (o : Orientation). o.set) other.orientations i any_orientation 0 k in
+          let set = sym (get_or-map (λ (o : Orientation). o.set) one.orientations i any_orientation 0 h) ∙ ap (λ (l : List ℕ). get_or l i 0) (a.matches.sets ∙ sym b.matches.sets) ∙ get_or-map (λ (o : Orientation). o.set) other.orientations i any_orientation 0 k in
           let stated = a.means.orientations i inside ∙ ap (λ (rows : List Row). orientation_by rows i) same_rows ∙ sym (b.means.orientations i inside) in
           let value = sym (get_or-map (λ (o : Orientation). o.value) one.orientations i any_orientation (pos 0) h) ∙ stated ∙ get_or-map (λ (o : Orientation). o.value) other.orientations i any_orientation (pos 0) k in
           λ j. record { set = set j; value = value j }
 
   pub same_sheet : one ≡ other
   same_sheet = λ i. record {
-    name = (a.name ∙ sym b.name) i;
+    name = (a.matches.name ∙ sym b.matches.name) i;
     denominator = (a.means.denominator ∙ sym b.means.denominator) i;
     directions = same_directions i;
     orientations = same_orientations i;

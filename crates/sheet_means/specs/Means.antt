@@ -1,10 +1,9 @@
 -- The sheet of means of a complete station (textbook): each direction is the mean over the sets of
 -- the target's readings, less that of the first target, and each orientation the mean over the
 -- targets of direction less reading; all times sets times targets.
-use Rattle.std.specs.Prelude.{◌≡◌, ◌⊎◌, ℕ, ◌*◌, ◌<◌, ◌≤◌, List, All, length, pos}
-use lib.IntN.{◌*ℤ◌, ◌-ℤ◌}
+use Rattle.std.specs.Prelude.{◌≡◌, ◌⊎◌, ℕ, ◌*◌, ◌<◌, ◌≤◌, List, All, length, ℤ, pos, ◌*ℤ◌, ◌-ℤ◌}
 use Rattle.adjust_kernel.specs.declared.limits.TheConstants.{MOST_ROWS}
-use Rattle.adjust_kernel.specs.Matching.{names_of, numbers_of, keys_of, observed}
+use Rattle.adjust_kernel.specs.Matching.{Matches}
 use Rattle.adjust_kernel.specs.Pairs.{choice_stated_by, readings_of}
 use Rattle.adjust_kernel.specs.Readings.{Reading}
 use Rattle.adjust_kernel.specs.Residuals.{Choice}
@@ -16,21 +15,33 @@ use Rattle.sheet_means.specs.declared.turn.TheConstants.{MOST_TURNS}
 use Rattle.sheet_means.specs.Totals.{target_total, set_total, whole_total}
 use Rattle.sheet_means.specs.Turning.{IsTurned}
 
+-- the direction of a target, times sets times targets: the mean of its readings over the sets, less
+-- that of the first target
+abbrev pub mean_direction : ℕ → List Reading → ℕ → ℤ
+mean_direction targets readings t =
+    pos targets *ℤ (target_total readings t -ℤ target_total readings 0)
+
+-- the orientation of a set, times sets times targets: the mean over the targets of direction less
+-- reading
+abbrev pub mean_orientation : ℕ → ℕ → List Reading → ℕ → ℤ
+mean_orientation sets targets readings s =
+    whole_total readings -ℤ pos sets *ℤ set_total readings s
+    -ℤ pos targets *ℤ target_total readings 0
+
 -- the directions and orientations are the means of these readings, over sets times targets
 pub record AreMeans (sets targets : ℕ) (readings : List Reading) (c : Choice) : Type 0 where
   pub denominator : c.denominator ≡ sets * targets
-  pub directions : (t : ℕ) → t < targets → c.direction t ≡ pos targets *ℤ (target_total readings t -ℤ target_total readings 0)
-  pub orientations : (s : ℕ) → s < sets → c.orientation s ≡ whole_total readings -ℤ pos sets *ℤ set_total readings s -ℤ pos targets *ℤ target_total readings 0
+  pub directions : (t : ℕ) → t < targets → c.direction t ≡ mean_direction targets readings t
+  pub orientations : (s : ℕ) → s < sets
+      → c.orientation s ≡ mean_orientation sets targets readings s
 
 -- The sheet of means: of this station, with its targets, sets and observations in their order, the
 -- full turns of each reading, and the means.
 pub record IsMeansSheet (station : StationValue) (sheet : SheetValue) : Type 0 where
-  pub name : sheet.name ≡ station.name
-  pub targets : names_of sheet ≡ station.targets
-  pub sets : numbers_of sheet ≡ station.sets
-  pub rows : keys_of sheet ≡ observed station
+  pub matches : Matches station sheet
   pub turned : All (IsTurned station.obs) (readings_of station.obs sheet.rows)
-  pub means : AreMeans (length station.sets) (length station.targets) (readings_of station.obs sheet.rows) (choice_stated_by sheet)
+  pub means : AreMeans (length station.sets) (length station.targets)
+      (readings_of station.obs sheet.rows) (choice_stated_by sheet)
 
 -- The numbers of the sheet are small: they are well within the ranges of the first version of
 -- sheets, and no reading has more than two full turns.
@@ -42,4 +53,5 @@ pub record HasSmallNumbers (sheet : SheetValue) : Type 0 where
 
 -- no reading of the first set or of the first target has full turns
 abbrev pub IsUnturnedAtFirst : StationValue → SheetValue → Type 0
-IsUnturnedAtFirst station sheet = All (λ r. (r.set ≡ 0) ⊎ (r.target ≡ 0) → r.turn ≡ pos 0) (readings_of station.obs sheet.rows)
+IsUnturnedAtFirst station sheet =
+    All (λ r. (r.set ≡ 0) ⊎ (r.target ≡ 0) → r.turn ≡ pos 0) (readings_of station.obs sheet.rows)

@@ -1,6 +1,5 @@
 -- The parts of the sheet of means, as the code makes them one after another.
-use Rattle.std.specs.Prelude.{◌≡◌, ℕ, ◌<◌, List, [], All, length, map, pos, slice_index_or}
-use lib.IntN.{◌*ℤ◌, ◌-ℤ◌}
+use Rattle.std.specs.Prelude.{◌≡◌, ℕ, ◌<◌, List, [], All, length, map, slice_index_or}
 use Rattle.adjust_kernel.specs.declared.row.Direction.{Direction}
 use Rattle.adjust_kernel.specs.declared.row.Orientation.{Orientation}
 use Rattle.adjust_kernel.specs.declared.row.Row.{Row}
@@ -12,7 +11,7 @@ use Rattle.adjust_kernel.specs.Stations.{StationValue}
 use Rattle.adjust_kernel.specs.Within.{IsWithin}
 use Rattle.sheet_means.specs.declared.adjusted.TheConstants.{LARGEST_MEAN}
 use Rattle.sheet_means.specs.declared.turn.TheConstants.{MOST_TURNS}
-use Rattle.sheet_means.specs.Totals.{target_total, set_total, whole_total}
+use Rattle.sheet_means.specs.Means.{mean_direction, mean_orientation}
 use Rattle.sheet_means.specs.Turning.{IsTurned}
 
 -- a row of the sheet of means: a row of a sheet, with few full turns
@@ -34,14 +33,17 @@ pub record AreEach {X : Type 0} (P : ℕ → X → Type 0) (count : ℕ) (xs : L
 
 -- The direction of the target at this place: its name, and the mean of its readings less the first
 -- target's
-pub record IsMeansDirection (station : StationValue) (readings : List Reading) (t : ℕ) (d : Direction) : Type 0 where
+pub record IsMeansDirection (station : StationValue) (readings : List Reading) (t : ℕ)
+    (d : Direction) : Type 0 where
   pub name : d.name ≡ slice_index_or station.targets t []
-  pub value : d.value ≡ pos (length station.targets) *ℤ (target_total readings t -ℤ target_total readings 0)
+  pub value : d.value ≡ mean_direction (length station.targets) readings t
   pub bound : IsWithin LARGEST_MEAN d.value
 
 -- The orientation of the set at this place: its number, and the mean over the targets of direction
 -- less reading.
-pub record IsMeansOrientation (station : StationValue) (readings : List Reading) (s : ℕ) (o : Orientation) : Type 0 where
+pub record IsMeansOrientation (station : StationValue) (readings : List Reading) (s : ℕ)
+    (o : Orientation) : Type 0 where
   pub set : o.set ≡ slice_index_or station.sets s 0
-  pub value : o.value ≡ whole_total readings -ℤ pos (length station.sets) *ℤ set_total readings s -ℤ pos (length station.targets) *ℤ target_total readings 0
+  pub value : o.value
+      ≡ mean_orientation (length station.sets) (length station.targets) readings s
   pub bound : IsWithin LARGEST_MEAN o.value

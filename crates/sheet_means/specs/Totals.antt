@@ -19,4 +19,6 @@ whole_total readings = int_sum_by unrolled readings
 -- the reading of a set and a target, where the readings stand set by set and within a set target by
 -- target
 abbrev pub reading_at : List Reading → ℕ → ℕ → ℕ → Reading
-reading_at readings targets s t = slice_index_or readings (s * targets + t) (record { set = 0; target = 0; value = 0; turn = pos 0 })
+reading_at readings targets s t =
+    slice_index_or readings (s * targets + t)
+      (record { set = 0; target = 0; value = 0; turn = pos 0 })

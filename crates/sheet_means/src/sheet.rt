@@ -1,8 +1,8 @@
 //! The sheet of means.
-ghost use Rattle.std.specs.Prelude.{◌≡◌, ◌↔◌, length, Ok, Err, None, IfOk, OnOk};
+ghost use Rattle.std.specs.Prelude.{◌≡◌, ◌↔◌, length, Err, None, IfOk, OnOk};
 ghost use Rattle.adjust_kernel.specs.Pairs.{readings_of};
 ghost use Rattle.adjust_kernel.specs.Sheets.{SheetValue};
-ghost use Rattle.adjust_kernel.specs.Verdict.{IsVerdict, acceptance_of};
+ghost use Rattle.adjust_kernel.specs.Verdict.{IsAcceptedSheet};
 ghost use Rattle.sheet_means.specs.Complete.{IsComplete};
 ghost use Rattle.sheet_means.specs.Means.{IsMeansSheet, HasSmallNumbers, IsUnturnedAtFirst};
 ghost use Rattle.sheet_means.specs.Parts.{AreEach, AreMeansRows, IsMeansDirection, IsMeansOrientation};
@@ -11,10 +11,10 @@ use crate::adjusted::{directions_of, orientations_of};
 use crate::complete::is_complete;
 use crate::fault::MeansFault;
 use crate::rows::rows_of;
-use adjust_kernel::{Direction, Orientation, Row, Sheet, Station};
+use adjust_kernel::{Direction, Orientation, Row, Sheet, Station, laws};
 use std::alloc::Global;
 
-// The sheet with these means.
+/// The sheet with these means.
 fn sheet_of(
     station: &Station,
     directions: Vec<Direction>,
@@ -22,19 +22,23 @@ fn sheet_of(
     rows: Vec<Row>,
 ) -> Sheet
     requires complete { IsComplete station.now }
-    requires directions { AreEach (IsMeansDirection station.now (readings_of station.now.obs rows.items)) (length station.now.targets) directions.items }
-    requires orientations { AreEach (IsMeansOrientation station.now (readings_of station.now.obs rows.items)) (length station.now.sets) orientations.items }
+    requires directions {
+        AreEach (IsMeansDirection station.now (readings_of station.now.obs rows.items))
+            (length station.now.targets) directions.items
+    }
+    requires orientations {
+        AreEach (IsMeansOrientation station.now (readings_of station.now.obs rows.items))
+            (length station.now.sets) orientations.items
+    }
     requires rows { AreMeansRows station.now rows.items }
     ensures sheet { IsMeansSheet station.now result }
-    ensures accepted { IsVerdict station.now result None (Ok (acceptance_of station.now result)) }
+    ensures accepted { IsAcceptedSheet station.now result None }
     ensures unturned { IsUnturnedAtFirst station.now result }
     ensures small { HasSmallNumbers result }
 {
     let denominator = station.sets().len() as u64 * station.targets().len() as u64;
-    match Sheet::new(station.name(), denominator, directions, orientations, rows) {
-        Some(sheet) => sheet,
-        None => unreachable!(),
-    }
+    laws::acceptance();
+    Sheet::of_valid(station.name(), denominator, directions, orientations, rows)
 }
 
 /// The sheet of means of a station: the least-squares adjustment of complete sets.
@@ -50,10 +54,13 @@ pub fn means(alloc: Global, station: &Station) -> Result<Sheet, MeansFault>
     ensures incomplete { (result ≡ Err MeansFault.Incomplete) ↔ (IsComplete station.now → ⊥) }
     ensures complete { OnOk result (IsComplete station.now) }
     ensures sheet { IfOk result (IsMeansSheet station.now) }
-    ensures only { IfOk result (λ sheet. (other : SheetValue) → IsMeansSheet station.now other → other ≡ sheet) }
+    ensures only {
+        IfOk result (λ sheet.
+            (other : SheetValue) → IsMeansSheet station.now other → other ≡ sheet)
+    }
 
     // Whatever memory there is, the kernel accepts the sheet.
-    ensures accepted { IfOk result (λ sheet. IsVerdict station.now sheet None (Ok (acceptance_of station.now sheet))) }
+    ensures accepted { IfOk result (λ sheet. IsAcceptedSheet station.now sheet None) }
     ensures unturned { IfOk result (IsUnturnedAtFirst station.now) }
     ensures small { IfOk result HasSmallNumbers }
 {

@@ -1,18 +1,13 @@
-use Rattle.std.proofs.Common.{◌<◌, ◌≤◌, ◌≡◌, ◌*◌, ℕ, ℤ, true, false, suc, pos, negsuc, subst, arith, below_more}
+use Rattle.std.proofs.Common.{◌<◌, ◌≡◌, ◌*◌, ℕ, true, false, pos, subst, arith, below_more}
 use Rattle.std.specs.Prelude.{map, slice_index_or}
 use Rattle.std.specs.Int.RustNames.{unsigned_abs}
-use Rattle.std.proofs.lemmas.Int.{ints}
 use Rattle.std.proofs.lemmas.List.{get_or-map}
 use Rattle.adjust_kernel.specs.Within.{IsWithin}
 use Rattle.adjust_kernel.specs.Residuals.{residual}
 use Rattle.adjust_kernel.specs.Pairs.{choice_stated_by, readings_of}
+use Rattle.adjust_kernel.proofs.GreatestLaws.{within_size}
 use Rattle.adjust_kernel.proofs.ReadingLaws.{length-readings_of}
 use Rattle.adjust_kernel.proofs.excess.first_excess.Goals as goal
-
--- what isn't above a size is within it
-within_size : (most : ℕ) (z : ℤ) → (most < unsigned_abs z → ⊥) → IsWithin (pos most) z
-within_size most (pos n) h = let le : n ≤ most = omega (arith, h) in record { low = omega (arith, ints); high = omega (arith, ints) }
-within_size most (negsuc n) h = let le : suc n ≤ most = omega (arith, h) in record { low = omega (arith, ints); high = omega (arith, ints) }
 
 pub loop-row-preserved : goal.loop-row-preserved
 loop-row-preserved c =

@@ -1,6 +1,6 @@
 use Rattle.std.proofs.Common.{◌≡◌, take, pos}
-use Rattle.adjust_kernel.specs.Greatest.{greatest_size}
 use Rattle.adjust_kernel.specs.Pairs.{choice_stated_by, readings_of}
+use Rattle.adjust_kernel.proofs.GreatestLaws.{greatest_size}
 use Rattle.adjust_kernel.proofs.greatest.greatest_residual.Given as goal
 
 abbrev pub invariant-loop-row : goal.invariant-loop-row

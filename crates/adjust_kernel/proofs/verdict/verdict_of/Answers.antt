@@ -1,17 +1,24 @@
 use Rattle.std.proofs.lemmas.Result.{err_from_is_err_and}
+use Rattle.adjust_kernel.proofs.VerdictLaws.{accepted_verdict}
 use Rattle.adjust_kernel.proofs.verdict.verdict_of.Goals as goal
 
-pub returns-in_err-matches_station-clause-verdict : goal.returns-in_err-matches_station-clause-verdict
-returns-in_err-matches_station-clause-verdict g c =
+pub returns-in_err-check_matches-clause-verdict : goal.returns-in_err-check_matches-clause-verdict
+returns-in_err-check_matches-clause-verdict g c =
     let p = err_from_is_err_and c.from_residual.result c.from_residual.ensures.1 in
-    rw (p.1, p.2) (c.in_err-matches_station.ensures.err c.args.residual)
+    rw (p.1, p.2) (c.in_err-check_matches.ensures.err c.args.residual)
 
-pub returns-in_err-adds_up-clause-verdict : goal.returns-in_err-adds_up-clause-verdict
-returns-in_err-adds_up-clause-verdict g c =
-    let p = err_from_is_err_and c.from_residual-in_err-adds_up.result c.from_residual-in_err-adds_up.ensures.1 in
-    rw (p.1, p.2) (c.in_err-adds_up.ensures.err c.args.residual)
+pub returns-in_err-check_sums-clause-verdict : goal.returns-in_err-check_sums-clause-verdict
+returns-in_err-check_sums-clause-verdict g c =
+    let p = err_from_is_err_and c.from_residual-in_err-check_sums.result c.from_residual-in_err-check_sums.ensures.1 in
+    rw (p.1, p.2) (c.in_err-check_sums.ensures.err c.args.residual)
 
-pub returns-in_err-is_held_together-clause-verdict : goal.returns-in_err-is_held_together-clause-verdict
-returns-in_err-is_held_together-clause-verdict g c =
-    let p = err_from_is_err_and c.from_residual-in_err-is_held_together.result c.from_residual-in_err-is_held_together.ensures.1 in
-    rw (p.1, p.2) (c.in_err-is_held_together.ensures.err c.args.residual)
+pub returns-in_err-check_connection-clause-verdict : goal.returns-in_err-check_connection-clause-verdict
+returns-in_err-check_connection-clause-verdict g c =
+    let p = err_from_is_err_and c.from_residual-in_err-check_connection.result c.from_residual-in_err-check_connection.ensures.1 in
+    rw (p.1, p.2) (c.in_err-check_connection.ensures.err c.args.residual)
+
+pub returns-clause-verdict : goal.returns-clause-verdict
+returns-clause-verdict g c =
+    accepted_verdict c.args.station.now c.args.sheet.now c.args.residual c.acceptance.result
+    c.in_ok-check_matches.ensures.ok c.in_ok-check_sums.ensures.targets c.in_ok-check_sums.ensures.sets c.in_ok-check_connection.ensures.ok c.in_ok-check_limit.ensures.ok
+    c.acceptance.ensures

@@ -1,7 +1,7 @@
 use Rattle.adjust_kernel.specs.Pairs.{choice_stated_by}
 use Rattle.adjust_kernel.specs.Verdict.{readings}
-use Rattle.adjust_kernel.proofs.VerdictLaws.{target_sum_verdict, set_sum_verdict}
-use Rattle.adjust_kernel.proofs.verdict.adds_up.Goals as goal
+use Rattle.adjust_kernel.proofs.VerdictLaws.{target_sum_fault, set_sum_fault}
+use Rattle.adjust_kernel.proofs.verdict.check_sums.Goals as goal
 
 pub returns-in-Some-clause-err : goal.returns-in-Some-clause-err
 returns-in-Some-clause-err g c =
@@ -9,7 +9,7 @@ returns-in-Some-clause-err g c =
     let sheet = c.args.sheet.now in
     let added = rw c.obs.ensures.value at c.add_residuals-tally.ensures in
     let first = c.in-Some.ensures.some (choice_stated_by sheet) (readings station sheet) added in
-    target_sum_verdict station sheet c.in-Some.target c.requires.matches (rw (← c.targets.ensures.value) first)
+    target_sum_fault station sheet c.in-Some.target c.requires.matches (rw (← c.targets.ensures.value) first)
 
 pub returns-in-Some-first_uneven_set-clause-err : goal.returns-in-Some-first_uneven_set-clause-err
 returns-in-Some-first_uneven_set-clause-err g c =
@@ -18,4 +18,4 @@ returns-in-Some-first_uneven_set-clause-err g c =
     let added = rw c.obs.ensures.value at c.add_residuals-tally.ensures in
     let targets = c.in_default.ensures.none (choice_stated_by sheet) (readings station sheet) added in
     let first = c.in-Some-first_uneven_set.ensures.some (choice_stated_by sheet) (readings station sheet) added in
-    set_sum_verdict station sheet c.in-Some-first_uneven_set.set c.requires.matches (rw (← c.targets.ensures.value) targets) (rw (← c.sets.ensures.value) first)
+    set_sum_fault station sheet c.in-Some-first_uneven_set.set c.requires.matches (rw (← c.targets.ensures.value) targets) (rw (← c.sets.ensures.value) first)

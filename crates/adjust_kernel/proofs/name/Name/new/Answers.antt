@@ -1,6 +1,0 @@
-use Rattle.std.proofs.Common.{ap, refl, ◌++◌, drop, length, replicate}
-use Rattle.adjust_kernel.proofs.NameLaws.{made}
-use Rattle.adjust_kernel.proofs.name.Name.new.Goals as goal
-
-pub invariant_of-result : goal.invariant_of-result
-invariant_of-result c = made c.args.bytes.now _ (ap (λ s. s ++ drop (length c.args.bytes.now) (replicate 16 0)) c.copy_from_slice.ensures.after) (c.if-not-is_name.ensures.0 refl)
