@@ -6,17 +6,31 @@ pub record Told : Type 0 where
   pub bytes : List ℕ
   pub fails : Bool
 
+-- The source has given all its bytes, and ends.
+abbrev pub HasEnded : Told → Type 0
+HasEnded t = (t.bytes ≡ []) × (t.fails ≡ false)
+
+-- The source has given all its bytes, and fails.
+abbrev pub HasBrokenOff : Told → Type 0
+HasBrokenOff t = (t.bytes ≡ []) × (t.fails ≡ true)
+
+-- What was told before is told after too, and this holds of both; or nothing was told.
+abbrev pub WhereTold : {A B : Type 0} → Option A → Option B → (A → B → Type 0) → Type 0
+WhereTold None new P = ⊤
+WhereTold (Some old) None P = ⊥
+WhereTold (Some old) (Some new) P = P old new
+
 -- The bytes given are the next ones, and with some room none are given only at the end of a source
 -- that doesn't fail.
 pub record Gives (old new : Told) (given : List ℕ) (room : ℕ) : Type 0 where
   pub next : old.bytes ≡ given ++ new.bytes
   pub same : new.fails ≡ old.fails
-  pub end : given ≡ [] → 0 < room → (new.bytes ≡ []) × (new.fails ≡ false)
+  pub end : given ≡ [] → 0 < room → HasEnded new
 
 -- Nothing is given, and with some room a read fails only at the end of a source that fails.
 pub record Fails (old new : Told) (room : ℕ) : Type 0 where
   pub unchanged : new ≡ old
-  pub end : 0 < room → (new.bytes ≡ []) × (new.fails ≡ true)
+  pub end : 0 < room → HasBrokenOff new
 
 -- what a read into this buffer did to a source that tells
 abbrev pub AfterRead : {E : Type 0} → Told → Told → Result ℕ E → List ℕ → Type 0
@@ -25,12 +39,9 @@ AfterRead old new (Err e) buf = Fails old new (length buf)
 
 -- what a read into this buffer did, where the source tells
 abbrev pub Reads : {E : Type 0} → Option Told → Option Told → Result ℕ E → List ℕ → Type 0
-Reads None new r buf = ⊤
-Reads (Some old) None r buf = ⊥
-Reads (Some old) (Some new) r buf = AfterRead old new r buf
+Reads old new r buf = WhereTold old new (λ o n. AfterRead o n r buf)
 
 -- By some reads a source that tells has given these bytes: they come before what it still gives.
 abbrev pub HasGiven : Option Told → Option Told → List ℕ → Type 0
-HasGiven None new given = ⊤
-HasGiven (Some old) None given = ⊥
-HasGiven (Some old) (Some new) given = (old.bytes ≡ given ++ new.bytes) × (new.fails ≡ old.fails)
+HasGiven old new given =
+    WhereTold old new (λ o n. (o.bytes ≡ given ++ n.bytes) × (n.fails ≡ o.fails))

@@ -1,12 +1,10 @@
 -- What filling the buffer does, where the source tells.
-use Rattle.std.specs.Prelude.{◌≡◌, ℕ, true, List, [], ◌++◌, length, ⊤, Option, Some, None, Result, Ok, Err}
-use Rattle.byte_ends.specs.Source.{Told, Gives}
+use Rattle.std.specs.Prelude.{◌≡◌, ℕ, List, ◌++◌, length, Option, Result, Ok, Err}
+use Rattle.byte_ends.specs.Source.{Told, WhereTold, Gives, HasBrokenOff}
 
 -- The source gave these bytes, where it tells.
 abbrev pub GivesTold : Option Told → Option Told → List ℕ → Type 0
-GivesTold None new given = ⊤
-GivesTold (Some old) None given = ⊥
-GivesTold (Some old) (Some new) given = Gives old new given 1
+GivesTold old new given = WhereTold old new (λ o n. Gives o n given 1)
 
 -- So many bytes of the source came behind those in hand.
 pub record Grows (old new : Option Told) (hand hand' : List ℕ) (n : ℕ) : Type 0 where
@@ -15,11 +13,9 @@ pub record Grows (old new : Option Told) (hand hand' : List ℕ) (n : ℕ) : Typ
   pub count : length given ≡ n
   pub told : GivesTold old new given
 
--- The source has given all its bytes and fails, where it tells.
+-- The source has broken off and is unchanged, where it tells.
 abbrev pub FailsTold : Option Told → Option Told → Type 0
-FailsTold None new = ⊤
-FailsTold (Some old) None = ⊥
-FailsTold (Some old) (Some new) = (old.bytes ≡ []) × (old.fails ≡ true) × (new ≡ old)
+FailsTold old new = WhereTold old new (λ o n. HasBrokenOff o × (n ≡ o))
 
 -- what reading behind the bytes in hand did
 abbrev pub Fills : {E : Type 0} → Option Told → Option Told → List ℕ → List ℕ → Result ℕ E → Type 0

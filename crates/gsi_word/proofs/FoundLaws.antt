@@ -41,26 +41,21 @@ found_first index words i w none at e =
     let before : words_with index (take i words) ≡ [] = none_found (words_with index (take i words)) none in
     ap found_among (ap (λ (ws : List GsiWord). ws ++ w ∷ []) (sym before) ∙ sym (words_with_one index words i w (below words i w at) at e))
 
-twice : (before after : List GsiWord) (w : GsiWord) → found_among before ≢ Absent → Twice ≡ found_among ((before ++ w ∷ []) ++ after)
-twice [] after w some = absurd (some refl)
-twice (x ∷ []) after w some = refl
-twice (x ∷ y ∷ before) after w some = refl
+twice : (before : List GsiWord) (w : GsiWord) → found_among before ≢ Absent → Twice ≡ found_among (before ++ w ∷ [])
+twice [] w some = absurd (some refl)
+twice (x ∷ []) w some = refl
+twice (x ∷ y ∷ before) w some = refl
 
--- a second word of the index
-pub found_second : (index : ℕ) (words : List GsiWord) (i : ℕ) (w : GsiWord) → found_among (words_with index (take i words)) ≢ Absent → slice_get words i ≡ Some w → w.index ≡ index → Twice ≡ found_among (words_with index words)
-found_second index words i w some at e =
-    let before = words_with index (take i words) in
-    let after = words_with index (drop (i + 1) words) in
-    twice before after w some
-    ∙ ap (λ (ws : List GsiWord). found_among (ws ++ after)) (sym (words_with_one index words i w (below words i w at) at e))
-    ∙ ap found_among (sym (filter-append (λ (v : GsiWord). eqb v.index index) (take (i + 1) words) (drop (i + 1) words)))
-    ∙ ap (λ (ws : List GsiWord). found_among (words_with index ws)) (take-append-drop (i + 1) words)
+-- a further word of the index
+pub found_further : (index : ℕ) (words : List GsiWord) (i : ℕ) (w : GsiWord) → found_among (words_with index (take i words)) ≢ Absent → slice_get words i ≡ Some w → w.index ≡ index → Twice ≡ found_among (words_with index (take (i + 1) words))
+found_further index words i w some at e =
+    twice (words_with index (take i words)) w some ∙ ap found_among (sym (words_with_one index words i w (below words i w at) at e))
 
 -- one word of another index
 pub found_other : (index : ℕ) (words : List GsiWord) (i : ℕ) (w : GsiWord) → slice_get words i ≡ Some w → w.index ≢ index → found_among (words_with index (take i words)) ≡ found_among (words_with index (take (i + 1) words))
 found_other index words i w at ne = ap found_among (sym (words_with_other index words i w (below words i w at) at ne))
 
-past : (words : List GsiWord) (i : ℕ) → slice_get words i ≡ None → length words ≤ i
+pub past : (words : List GsiWord) (i : ℕ) → slice_get words i ≡ None → length words ≤ i
 past words i at = elim (slice_get_cases words i).1 [ inl found ↦ absurd (none_some found.0 (sym at ∙ found.2)) | inr out ↦ out.0 ]
 
 -- past the last word

@@ -7,3 +7,5 @@ pub mod DecimalLaws
 pub mod FoundLaws
 pub mod PrintableLaws
 pub mod AngleLaws
+pub mod LineCases
+pub mod WordsLeft

@@ -8,14 +8,14 @@ use Rattle.std.proofs.lemmas.List.Sums.{AllPass-from_list_all, list_all-from_All
 use Rattle.gsi_word.specs.Words.{IsPrintable}
 use Rattle.gsi_word.specs.Layout.{is_printable}
 
-test_true : (b : ℕ) → is_printable b ≡ true → IsPrintable b
-test_true b h = let p = and_parts _ _ h in (leb-true _ _ p.0, leb-true _ _ p.1)
+pub printable : (b : ℕ) → is_printable b ≡ true → IsPrintable b
+printable b h = let p = and_parts _ _ h in (leb-true _ _ p.0, leb-true _ _ p.1)
 
 true_test : (b : ℕ) → IsPrintable b → is_printable b ≡ true
 true_test b h = and_from _ _ (le-leb _ _ h.0) (le-leb _ _ h.1)
 
 pub printable_from_test : (bytes : List ℕ) → list_all is_printable bytes ≡ true → All IsPrintable bytes
-printable_from_test bytes h = All-weaker (λ b. is_printable b ≡ true) IsPrintable test_true bytes (AllPass-from_list_all is_printable bytes h)
+printable_from_test bytes h = All-weaker (λ b. is_printable b ≡ true) IsPrintable printable bytes (AllPass-from_list_all is_printable bytes h)
 
 pub test_from_printable : (bytes : List ℕ) → All IsPrintable bytes → list_all is_printable bytes ≡ true
 test_from_printable bytes h = list_all-from_AllPass is_printable bytes (All-weaker IsPrintable (λ b. is_printable b ≡ true) true_test bytes h)

@@ -1,5 +1,5 @@
 -- The words of one index in a block: what a search for an index is to find.
-use Rattle.std.specs.Prelude.{◌==◌, ℕ, List, [], ◌∷◌, filter}
+use Rattle.std.specs.Prelude.{◌==◌, ℕ, Bool, true, false, List, [], ◌∷◌, filter}
 use Rattle.gsi_word.specs.declared.found.Found.{Found}
 use Rattle.gsi_word.specs.declared.found.Found.TheVariants.{Absent, One, Twice}
 use Rattle.gsi_word.specs.Words.{GsiWord}
@@ -13,3 +13,19 @@ abbrev pub found_among : List GsiWord → Found
 found_among [] = Absent
 found_among (w ∷ []) = One w
 found_among (w ∷ v ∷ ws) = Twice
+
+-- what is found of an index among words: no word, the only one, or more than one
+abbrev pub found : ℕ → List GsiWord → Found
+found index words = found_among (words_with index words)
+
+-- whether no word was found
+abbrev pub is_absent : Found → Bool
+is_absent Absent = true
+is_absent (One w) = false
+is_absent Twice = false
+
+-- whether two words or more were found
+abbrev pub is_twice : Found → Bool
+is_twice Absent = false
+is_twice (One w) = false
+is_twice Twice = true

@@ -4,6 +4,7 @@ ghost use Rattle.gsi_word.specs.Layout.{KeepsWords};
 
 use crate::found::Found;
 use crate::word::{CONTENT, Word};
+use crate::words::Words;
 
 /// A block: a line of at least one word, of which the first is a point number or a code number.
 #[derive(Clone, Copy, Debug)]
@@ -18,10 +19,10 @@ pub struct Block<'a> {
 }
 
 impl<'a> Block<'a> {
-    ghost use Rattle.std.specs.Prelude.{◌≡◌, ◌<◌, ◌≤◌, length, IfSome, slice_get, ◌⊎◌};
+    ghost use Rattle.std.specs.Prelude.{◌≡◌, ◌<◌, ◌≤◌, length, Some, IfSome, slice_get, ◌⊎◌};
     ghost use Rattle.gsi_word.specs.Words.{IsWord};
-    ghost use Rattle.gsi_word.specs.BlockViews.{block_of};
-    ghost use Rattle.gsi_word.specs.FoundWords.{words_with, found_among};
+    ghost use Rattle.gsi_word.specs.BlockViews.{block_of, words_left};
+    ghost use Rattle.gsi_word.specs.FoundWords.{found};
 
     /// How many bytes the content of each word has: 8, or 16 in a line that begins with `*`.
     pub fn width(&self) -> u8
@@ -46,31 +47,69 @@ impl<'a> Block<'a> {
         ensures well_formed { IfSome result (IsWord (block_of self.now).width) }
     {
         if i < self.count {
-            let size = CONTENT + self.width as usize;
-            let start = (size + 1) * i;
-            Some(Word {
-                bytes: &self.bytes[start..start + size],
-            })
+            Some(self.word_within(i))
         } else {
             None
         }
     }
 
+    /// The first word.
+    pub fn first(&self) -> Word<'a>
+        ensures value { slice_get (block_of self.now).words 0 ≡ Some result }
+        ensures well_formed { IsWord (block_of self.now).width result }
+    {
+        self.word_within(0)
+    }
+
+    /// The words, in order.
+    pub fn words(&self) -> Words<'a>
+        ensures { words_left result ≡ (block_of self.now).words }
+    {
+        Words {
+            block: *self,
+            place: 0,
+        }
+    }
+
+    /// The word at a place that one has.
+    pub(crate) fn word_within(&self, i: usize) -> Word<'a>
+        requires { i < self.now.count }
+        ensures value { slice_get (block_of self.now).words i ≡ Some result }
+        ensures well_formed { IsWord (block_of self.now).width result }
+    {
+        let size = CONTENT + self.width as usize;
+        let start = (size + 1) * i;
+        Word {
+            bytes: &self.bytes[start..start + size],
+        }
+    }
+
     /// The word of this index, where there is just one.
     pub fn find(&self, index: u8) -> Found<'a>
-        ensures { result ≡ found_among (words_with index (block_of self.now).words) }
+        ensures { result ≡ found index (block_of self.now).words }
     {
-        let mut found = Found::Absent;
+        let mut sought = Found::Absent;
         let mut i = 0;
         while let Some(word) = self.word(i) {
+            sought.count(index, &word);
             i += 1;
-            if word.index() == index {
-                match found {
-                    Found::Absent => found = Found::One(word),
-                    _ => return Found::Twice,
-                }
-            }
         }
-        found
+        sought
+    }
+
+    /// The word of each of two indices, where there is just one, in one pass.
+    pub fn find_two(&self, first: u8, second: u8) -> (Found<'a>, Found<'a>)
+        ensures first { result.0 ≡ found first (block_of self.now).words }
+        ensures second { result.1 ≡ found second (block_of self.now).words }
+    {
+        let mut of_first = Found::Absent;
+        let mut of_second = Found::Absent;
+        let mut i = 0;
+        while let Some(word) = self.word(i) {
+            of_first.count(first, &word);
+            of_second.count(second, &word);
+            i += 1;
+        }
+        (of_first, of_second)
     }
 }

@@ -10,6 +10,7 @@ mod angle;
 mod block;
 mod decimal;
 mod found;
+mod index;
 pub mod laws;
 mod line_fault;
 mod reading;
@@ -17,12 +18,17 @@ mod shape;
 #[cfg(test)]
 mod tests;
 mod word;
+mod words;
 
 pub use angle::AngleFault;
 pub use block::Block;
 pub use decimal::decimal_number;
 pub use found::Found;
+pub use index::{
+    CODE_INFORMATION, CODE_NUMBER, HORIZONTAL_DIRECTION, POINT_NUMBER, VERTICAL_ANGLE,
+};
 pub use line_fault::LineFault;
 pub use reading::{block_in, read_block, read_shape};
 pub use shape::Shape;
 pub use word::Word;
+pub use words::Words;

@@ -18,6 +18,7 @@ ghost use Rattle.gsi_word.specs.BlockViews.{block_of};
 ghost use Rattle.gsi_word.specs.Shapes.{shaped, IsShape};
 
 use crate::block::Block;
+use crate::index::{CODE_NUMBER, POINT_NUMBER};
 use crate::line_fault::LineFault;
 use crate::shape::Shape;
 use crate::word::{CONTENT, INFO, SIGN, index_of};
@@ -33,12 +34,6 @@ const GSI_8: u8 = 8;
 
 /// How many bytes the content of a word has in a GSI-16 line.
 const GSI_16: u8 = 16;
-
-/// The index of the first word of a measurement block.
-const POINT_NUMBER: u8 = 11;
-
-/// The index of the first word of a code block.
-const CODE_NUMBER: u8 = 41;
 
 /// The block that a line is, or the line's first fault.
 ///

@@ -297,6 +297,8 @@ fn the_laws_are_calls(_rt: HostRuntime) {
     laws::one_block();
     laws::one_fault();
     laws::no_fault_in_a_block();
+    laws::block_or_fault();
     laws::one_name();
     laws::one_angle();
+    laws::indices();
 }

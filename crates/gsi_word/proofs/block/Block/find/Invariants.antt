@@ -1,11 +1,11 @@
 use Rattle.std.proofs.Common.{◌≡◌, ◌-◌, ◌≤◌, take}
-use Rattle.gsi_word.specs.FoundWords.{words_with, found_among}
+use Rattle.gsi_word.specs.FoundWords.{found}
 use Rattle.gsi_word.specs.BlockViews.{block_of}
 use Rattle.gsi_word.proofs.block.Block.find.Given as goal
 
 abbrev pub invariant-loop-word : goal.invariant-loop-word
 invariant-loop-word l = record {
-  so_far : l.found ≡ found_among (words_with l.index (take l.i (block_of l.self).words));
+  so_far : l.sought ≡ found l.index (take l.i (block_of l.self).words);
   inside : l.i ≤ l.self.count;
 }
 
