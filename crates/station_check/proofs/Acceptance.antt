@@ -1,6 +1,6 @@
 -- From the kernel's verdict to what an acceptance and a refusal say.
 use Rattle.std.proofs.Common.{◌≡◌, ℕ, zero, suc, ◌+◌, ◌<◌, Bool, true, false, List, [], ◌∷◌, ◌++◌, length, Option, Some, None, Result, Ok, Err, refl, sym, ap, subst, ◌∙◌, inl, inr, ◌⊎◌, arith, find, if◌then◌else◌}
-use Rattle.std.specs.Prelude.{All, IfSome, IfOk, IfErr, reverse}
+use Rattle.std.specs.Prelude.{◌↔◌, All, IfSome, IfOk, IfErr, reverse}
 use mathlib.Core.List.{reverse_aux}
 use Rattle.std.specs.List.{AllZip, Contains}
 use Rattle.std.specs.Str.{bytes_eq}
@@ -12,12 +12,13 @@ use Rattle.gsi_file.specs.declared.file_fault.FileKind.{FileKind}
 use Rattle.adjust_kernel.specs.Sheets.{SheetValue}
 use Rattle.adjust_kernel.specs.declared.accepted.Accepted.{Accepted}
 use Rattle.adjust_kernel.specs.declared.kernel_fault.KernelFault.{KernelFault}
-use Rattle.adjust_kernel.specs.declared.kernel_fault.KernelFault.TheVariants.{Residual}
+use Rattle.adjust_kernel.specs.Stations.{StationValue}
+use Rattle.adjust_kernel.specs.Verdict.{IsAcceptedSheet, KeepsLimit}
 use Rattle.station_book.specs.declared.fault.BookKind.{BookKind}
 use Rattle.station_book.specs.declared.faces.Faces.{Faces}
-use Rattle.station_book.specs.Faults.{fault_at_end, name_at, IsWithoutFault}
+use Rattle.station_book.specs.Faults.{fault_at_end, IsWithoutFault}
 use Rattle.station_book.specs.Limits.{FaceLimits}
-use Rattle.station_book.specs.Places.{History, Place}
+use Rattle.station_book.specs.Places.{History}
 use Rattle.station_book.specs.Stations.{Couple, SurveyedStation, HasFaces, IsSurveyed, AreStations, stations_of, station_named}
 use Rattle.station_check.specs.declared.fault.Fault.{Fault}
 use Rattle.station_check.specs.declared.fault.Fault.TheVariants.{Gsi, Book, SheetRead, Sheet, NoStation, Means, Kernel, Write, Memory}
@@ -27,7 +28,6 @@ use Rattle.station_check.specs.Accepted.{AreWithin, IsAccepted}
 use Rattle.station_check.specs.Judged.{IsJudged, IsJudgedSheet, IfKernels}
 use Rattle.station_check.specs.Refused.{IsRefusedByKernel, TellsOfRefusal}
 use Rattle.station_check.specs.Telling.{WhereBothTell}
-use Rattle.station_check.proofs.Named.{has_name}
 
 -- Lines and the end after them come to these blocks: they are the blocks of the lines behind those
 -- before them, and no fault stands.
@@ -82,15 +82,31 @@ all_within limits (c ∷ couples) (f ∷ faces) h = each (all_within limits coup
   each rest zero d l = record { two_c = h.0.two_c.within; two_i = h.0.two_i.within }
   each rest (suc k) d l = rest k d (omega (arith, l))
 
--- A sheet that was judged well is accepted.
-accepted_of : (limits : FaceLimits) (most : Option ℕ) (gsi told : Told) (stations : List SurveyedStation) (a : Accepted) → IsSurvey limits (file_answers gsi) stations → IsJudgedSheet stations most told (Ok a) → IsAccepted limits most gsi told a
+-- The station that a name finds is the only one that has it.
+abbrev pub FindsIts : Type 0
+FindsIts = (limits : FaceLimits) (h : History) (stations : List SurveyedStation) (name : List ℕ) (s : SurveyedStation) → IsWithoutFault limits h → AreStations limits h stations
+    → (station_named name stations ≡ Some s) ↔ (Contains stations s × (s.station.name ≡ name))
+
+-- An accepted sheet keeps the residual limit.
+abbrev pub KeepsResiduals : Type 0
+KeepsResiduals = (station : StationValue) (sheet : SheetValue) (limit : Option ℕ) → IsAcceptedSheet station sheet limit → IfSome limit (KeepsLimit station sheet)
+
+differences_within : (limits : FaceLimits) (blocks : History) (name : List ℕ) (stations : List SurveyedStation) (its : SurveyedStation) → AreStations limits blocks stations → station_named name stations ≡ Some its → All (AreWithin limits) its.faces
 unfolding AreStations
-accepted_of limits most gsi told stations a survey judged =
+differences_within limits blocks name stations its are named =
+    let p = partner_of (IsSurveyed limits blocks) (λ s. bytes_eq s.station.name name) (stations_of blocks) stations its are named in
+    all_within limits _ its.faces p.related.differences
+
+-- A sheet that was judged well is accepted.
+pub accepted_of : FindsIts → KeepsResiduals → (limits : FaceLimits) (most : Option ℕ) (gsi told : Told) (stations : List SurveyedStation) (a : Accepted) → IsSurvey limits (file_answers gsi) stations → IsJudgedSheet stations most told (Ok a)
+    → IsAccepted limits most gsi told a
+accepted_of finds keeps limits most gsi told stations a survey judged =
     let blocks = survey.blocks in
     let its = judged.judged.its in
+    let name = judged.sheet.name in
     let well = came_well limits [] (file_answers gsi).lines (file_answers gsi).last blocks tt survey.file in
     let in_order : well.more ≡ reverse blocks = sym (ap reverse well.split ∙ reverse-reverse well.more) in
-    let p = partner_of (IsSurveyed limits blocks) (λ s. bytes_eq s.station.name judged.sheet.name) (stations_of blocks) stations its survey.stations_are judged.judged.named in
+    let found = (finds limits blocks stations name its well.faultless survey.stations_are).0 judged.judged.named in
     record {
       blocks = blocks;
       ended = well.ended;
@@ -101,27 +117,33 @@ accepted_of limits most gsi told stations a survey judged =
       whole = judged.whole;
       sheet = judged.sheet;
       states = judged.states;
-      place = p.partner;
-      listed = p.among;
-      named = p.related.name ∙ ap Some (has_name judged.sheet.name stations its judged.judged.named);
+      stations = stations;
+      surveyed = survey.stations_are;
       its = its;
-      surveyed = p.related;
-      within = all_within limits _ its.faces p.related.differences;
+      listed = found.0;
+      named = found.1;
+      only = λ other among same.
+          let e : Some other ≡ Some its = sym ((finds limits blocks stations name other well.faultless survey.stations_are).1 (among, same)) ∙ judged.judged.named in cc;
+      within = differences_within limits blocks name stations its survey.stations_are judged.judged.named;
       matches = judged.judged.matches;
       least = judged.judged.squares.0.least;
       unique = judged.judged.squares.0.unique;
-      limited = judged.judged.verdict.0 (Residual 0);
+      limited = keeps its.station judged.sheet most (a, judged.judged.verdict);
       over_turns = judged.judged.squares.1;
       says = judged.judged.verdict.1;
     }
 
+-- what the law `acceptance` says
+abbrev pub Accepts : Type 0
+Accepts = (limits : FaceLimits) (most : Option ℕ) (gsi told : Told) (stations : List SurveyedStation) (a : Accepted) → IsSurvey limits (file_answers gsi) stations → IsJudgedSheet stations most told (Ok a) → IsAccepted limits most gsi told a
+
 -- the same of an answer, where both readers tell
-pub accepted_so : (limits : FaceLimits) (most : Option ℕ) (gsi told : Option Told) (stations : List SurveyedStation) (r : Result Accepted Fault) → IfSome gsi (λ file. Surveys limits (file_answers file) (Ok stations))
+pub accepted_so : Accepts → (limits : FaceLimits) (most : Option ℕ) (gsi told : Option Told) (stations : List SurveyedStation) (r : Result Accepted Fault) → IfSome gsi (λ file. Surveys limits (file_answers file) (Ok stations))
     → IfSome told (λ stated. IfKernels (IsJudgedSheet stations most stated) r) → WhereBothTell gsi told (λ file stated. IfOk r (IsAccepted limits most file stated))
-accepted_so limits most None told stations r s j = tt
-accepted_so limits most (Some file) None stations r s j = tt
-accepted_so limits most (Some file) (Some stated) stations (Ok a) s j = accepted_of limits most file stated stations a s j
-accepted_so limits most (Some file) (Some stated) stations (Err fault) s j = tt
+accepted_so accepts limits most None told stations r s j = tt
+accepted_so accepts limits most (Some file) None stations r s j = tt
+accepted_so accepts limits most (Some file) (Some stated) stations (Ok a) s j = accepts limits most file stated stations a s j
+accepted_so accepts limits most (Some file) (Some stated) stations (Err fault) s j = tt
 
 -- A sheet that was judged badly is refused so.
 refused_of : (limits : FaceLimits) (most : Option ℕ) (gsi told : Told) (stations : List SurveyedStation) (fault : KernelFault) → IsSurvey limits (file_answers gsi) stations → IsJudgedSheet stations most told (Err fault) → IsRefusedByKernel limits most gsi told fault

@@ -2,7 +2,7 @@
 -- exactly the two-face directions of its station in the field file, every face difference is within
 -- the limits, and no other directions and orientations, over any denominator, give with the sheet's
 -- full turns a smaller sum of squared residuals.
-use Rattle.std.specs.Prelude.{◌≡◌, ℕ, List, All, length, reverse, Option, Some, None, IfSome}
+use Rattle.std.specs.Prelude.{◌≡◌, ℕ, List, All, length, reverse, Option, None, IfSome}
 use Rattle.std.specs.List.{AllZip, Contains}
 use Rattle.byte_ends.specs.Source.{Told}
 use Rattle.byte_ends.specs.Input.{input_within, Ended}
@@ -13,15 +13,15 @@ use Rattle.adjust_kernel.specs.Matching.{Matches}
 use Rattle.adjust_kernel.specs.Pairs.{choice_stated_by}
 use Rattle.adjust_kernel.specs.Promises.{IsAdjustedOverTurns}
 use Rattle.adjust_kernel.specs.Sheets.{SheetValue}
-use Rattle.adjust_kernel.specs.Verdict.{KeepsLimit, acceptance_of, readings}
+use Rattle.adjust_kernel.specs.Verdict.{KeepsLimit, IsAcceptance, readings}
 use Rattle.adjust_kernel.specs.declared.accepted.Accepted.{Accepted}
 use Rattle.sheet_format.specs.Rows.{IsSheetText}
 use Rattle.sheet_format.specs.declared.reading.TheConstants.{LONGEST_SHEET}
-use Rattle.station_book.specs.Faults.{fault_at_end, name_at, IsWithoutFault}
+use Rattle.station_book.specs.Faults.{fault_at_end, IsWithoutFault}
 use Rattle.station_book.specs.Limits.{FaceLimits}
-use Rattle.station_book.specs.Places.{History, Place}
+use Rattle.station_book.specs.Places.{History}
 use Rattle.station_book.specs.Sights.{IsAtMost}
-use Rattle.station_book.specs.Stations.{SurveyedStation, IsSurveyed, stations_of}
+use Rattle.station_book.specs.Stations.{SurveyedStation, AreStations}
 use Rattle.station_book.specs.declared.faces.Faces.{Faces}
 
 -- Face differences are within their limits.
@@ -31,7 +31,8 @@ pub record AreWithin (limits : FaceLimits) (f : Faces) : Type 0 where
 
 -- Of what two readers tell, this is the acceptance; `most` is the residual limit in half units,
 -- where one is stated.
-pub record IsAccepted (limits : FaceLimits) (most : Option ℕ) (gsi told : Told) (a : Accepted) : Type 0 where
+pub record IsAccepted (limits : FaceLimits) (most : Option ℕ) (gsi told : Told) (a : Accepted)
+    : Type 0 where
   -- The field file was read to its end, and its numbered lines are these blocks, the newest first.
   pub blocks : History
   pub ended : (file_answers gsi).last ≡ None
@@ -44,23 +45,29 @@ pub record IsAccepted (limits : FaceLimits) (most : Option ℕ) (gsi told : Told
   pub whole : input_within LONGEST_SHEET told ≡ Ended bytes
   pub sheet : SheetValue
   pub states : IsSheetText bytes sheet
-  -- Its station: a block with code 10 that has sets after it, and names the sheet's station.
-  pub place : Place
-  pub listed : Contains (stations_of blocks) place
-  pub named : name_at place ≡ Some sheet.name
-  -- What was surveyed there: of each target that was read in a set in both faces, the two-face
-  -- direction and the face differences, each difference within its limit.
+  -- Its station: of the stations of these blocks the one that has the sheet's name.
+  pub stations : List SurveyedStation
+  pub surveyed : AreStations limits blocks stations
   pub its : SurveyedStation
-  pub surveyed : IsSurveyed limits blocks place its
+  pub listed : Contains stations its
+  pub named : its.station.name ≡ sheet.name
+  pub only : (other : SurveyedStation) → Contains stations other
+      → other.station.name ≡ sheet.name → other ≡ its
+
+  -- Every face difference that was measured there is within the limits.
   pub within : All (AreWithin limits) its.faces
-  -- The sheet's observations are exactly those, none missing, added, moved or altered.
+
+  -- The sheet's observations are exactly its two-face directions, none missing, added, moved or
+  -- altered.
   pub matches : Matches its.station sheet
   -- With the sheet's full turns no other directions and orientations, over any denominator, have a
   -- smaller sum of squared residuals; and those that have the same differ by one rotation.
   pub least : IsLeast (choice_stated_by sheet) (readings its.station sheet)
-  pub unique : IsUnique (length its.station.sets) (length its.station.targets) (choice_stated_by sheet) (readings its.station sheet)
+  pub unique : IsUnique (length its.station.sets) (length its.station.targets)
+      (choice_stated_by sheet) (readings its.station sheet)
   -- Where a residual limit is stated, no residual is above it, and no other full turns do better.
   pub limited : IfSome most (KeepsLimit its.station sheet)
-  pub over_turns : IfSome most (λ n. IsAdjustedOverTurns (choice_stated_by sheet) (readings its.station sheet))
+  pub over_turns : IfSome most (λ n.
+      IsAdjustedOverTurns (choice_stated_by sheet) (readings its.station sheet))
   -- What is answered: its name and numbers, its greatest residual and its denominator.
-  pub says : a ≡ acceptance_of its.station sheet
+  pub says : IsAcceptance its.station sheet a

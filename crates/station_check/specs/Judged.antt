@@ -1,12 +1,11 @@
 -- The kernel's verdict on a sheet, as it came about.
-use Rattle.std.specs.Prelude.{◌≡◌, ℕ, List, length, Option, Some, Result, Ok, Err, OnOk}
+use Rattle.std.specs.Prelude.{◌≡◌, ℕ, List, Option, Some, Result, Ok, Err, OnOk}
 use Rattle.byte_ends.specs.Source.{Told}
 use Rattle.byte_ends.specs.Input.{input_within, Ended}
 use Rattle.adjust_kernel.specs.Matching.{Matches}
-use Rattle.adjust_kernel.specs.Pairs.{choice_stated_by}
 use Rattle.adjust_kernel.specs.Promises.{TellsOfSquares}
 use Rattle.adjust_kernel.specs.Sheets.{SheetValue}
-use Rattle.adjust_kernel.specs.Verdict.{IsVerdict, readings}
+use Rattle.adjust_kernel.specs.Verdict.{IsVerdict}
 use Rattle.adjust_kernel.specs.declared.accepted.Accepted.{Accepted}
 use Rattle.adjust_kernel.specs.declared.kernel_fault.KernelFault.{KernelFault}
 use Rattle.sheet_format.specs.Rows.{IsSheetText}
@@ -17,15 +16,17 @@ use Rattle.station_check.specs.declared.fault.Fault.TheVariants.{Kernel}
 
 -- Of these stations the one of the sheet's name was found, and the kernel gave this verdict, which
 -- tells of least squares what the kernel's verdicts tell.
-pub record IsJudged (stations : List SurveyedStation) (most : Option ℕ) (sheet : SheetValue) (v : Result Accepted KernelFault) : Type 0 where
+pub record IsJudged (stations : List SurveyedStation) (most : Option ℕ) (sheet : SheetValue)
+    (v : Result Accepted KernelFault) : Type 0 where
   pub its : SurveyedStation
   pub named : station_named sheet.name stations ≡ Some its
   pub verdict : IsVerdict its.station sheet most v
   pub matches : OnOk v (Matches its.station sheet)
-  pub squares : TellsOfSquares most (length its.station.sets) (length its.station.targets) (choice_stated_by sheet) (readings its.station sheet) v
+  pub squares : TellsOfSquares its.station sheet most v
 
 -- The sheet was read to its end, its bytes state this sheet, and it was judged so.
-pub record IsJudgedSheet (stations : List SurveyedStation) (most : Option ℕ) (told : Told) (v : Result Accepted KernelFault) : Type 0 where
+pub record IsJudgedSheet (stations : List SurveyedStation) (most : Option ℕ) (told : Told)
+    (v : Result Accepted KernelFault) : Type 0 where
   pub bytes : List ℕ
   pub whole : input_within LONGEST_SHEET told ≡ Ended bytes
   pub sheet : SheetValue

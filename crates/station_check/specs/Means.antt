@@ -5,7 +5,7 @@ use Rattle.byte_ends.specs.Source.{Told}
 use Rattle.byte_ends.specs.Sink.{AppendsSome}
 use Rattle.gsi_file.specs.FileAnswers.{FileAnswers, file_answers}
 use Rattle.adjust_kernel.specs.Sheets.{SheetValue}
-use Rattle.adjust_kernel.specs.Verdict.{acceptance_of}
+use Rattle.adjust_kernel.specs.declared.accepted.Accepted.{Accepted}
 use Rattle.sheet_format.specs.Texts.{sheet_text}
 use Rattle.sheet_means.specs.Complete.{IsComplete}
 use Rattle.sheet_means.specs.Means.{IsMeansSheet}
@@ -48,7 +48,9 @@ pub record IsMeansText (limits : FaceLimits) (gsi : Told) (name : List ℕ) (tex
   pub sheet : SheetValue
   pub means : IsMeansSheet its.station sheet
   pub text_is : text ≡ sheet_text sheet
-  pub accepted : IsWholeVerdict limits None gsi (record { bytes = text; fails = false }) (Ok (acceptance_of its.station sheet))
+  pub acceptance : Accepted
+  pub accepted : IsWholeVerdict limits None gsi
+      (record { bytes = text; fails = false }) (Ok acceptance)
 
 -- The sheet of means was written whole; or, where a call of the writer failed, some of its first
 -- bytes; or there is no station of this name, or a set of it is incomplete; else the file's first
@@ -60,6 +62,7 @@ WritesMeans limits gsi name (Ok x) old new =
 WritesMeans limits gsi name (Err Write) old new =
     (text : List ℕ) × IsMeansText limits gsi name text × AppendsSome old new text
 WritesMeans limits gsi name (Err NoStation) old new = HasNoStation limits (file_answers gsi) name
-WritesMeans limits gsi name (Err (Means means.Incomplete)) old new = HasIncomplete limits (file_answers gsi) name
+WritesMeans limits gsi name (Err (Means means.Incomplete)) old new =
+    HasIncomplete limits (file_answers gsi) name
 WritesMeans limits gsi name (Err Memory) old new = Unit {0}
 WritesMeans limits gsi name (Err fault) old new = FileComesTo limits (file_answers gsi) (Err fault)

@@ -1,12 +1,11 @@
 -- What the refusal of a sheet says.
-use Rattle.std.specs.Prelude.{◌≡◌, ℕ, List, length, Option, Some, Result, Ok, Err}
+use Rattle.std.specs.Prelude.{◌≡◌, ℕ, List, Option, Some, Result, Ok, Err}
 use Rattle.byte_ends.specs.Source.{Told}
 use Rattle.byte_ends.specs.Input.{input_within, Ended}
 use Rattle.gsi_file.specs.FileAnswers.{file_answers}
-use Rattle.adjust_kernel.specs.Pairs.{choice_stated_by}
 use Rattle.adjust_kernel.specs.Promises.{TellsOfSquares}
 use Rattle.adjust_kernel.specs.Sheets.{SheetValue}
-use Rattle.adjust_kernel.specs.Verdict.{IsVerdict, readings}
+use Rattle.adjust_kernel.specs.Verdict.{IsVerdict}
 use Rattle.adjust_kernel.specs.declared.accepted.Accepted.{Accepted}
 use Rattle.adjust_kernel.specs.declared.kernel_fault.KernelFault.{KernelFault}
 use Rattle.sheet_format.specs.Rows.{IsSheetText}
@@ -19,7 +18,8 @@ use Rattle.station_check.specs.Records.{FileComesTo}
 use Rattle.station_check.specs.Surveys.{IsSurvey}
 
 -- Of what two readers tell, the kernel refuses the sheet with this fault.
-pub record IsRefusedByKernel (limits : FaceLimits) (most : Option ℕ) (gsi told : Told) (fault : KernelFault) : Type 0 where
+pub record IsRefusedByKernel (limits : FaceLimits) (most : Option ℕ) (gsi told : Told)
+    (fault : KernelFault) : Type 0 where
   -- The field file ended without a fault, and has these stations.
   pub stations : List SurveyedStation
   pub survey : IsSurvey limits (file_answers gsi) stations
@@ -34,7 +34,7 @@ pub record IsRefusedByKernel (limits : FaceLimits) (most : Option ℕ) (gsi told
   pub first : IsVerdict its.station sheet most (Err fault)
   -- Where a sum is not 0, some other choice of directions and orientations has a smaller sum of
   -- squares; where nothing holds the sets and targets together, another has the same.
-  pub squares : TellsOfSquares most (length its.station.sets) (length its.station.targets) (choice_stated_by sheet) (readings its.station sheet) (Err fault)
+  pub squares : TellsOfSquares its.station sheet most (Err fault)
 
 -- what a refusal by the kernel tells
 abbrev pub TellsOfRefusal : FaceLimits → Option ℕ → Told → Told → Fault → Type 0
