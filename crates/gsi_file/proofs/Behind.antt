@@ -23,7 +23,7 @@ fails_told (Some old) None mid e some h = h
 fails_told (Some old) (Some new) mid e some h =
     let same : new ≡ old = h.unchanged in
     let end = h.end some in
-    (sym (ap (λ (t : Told). t.bytes) same) ∙ end.0, sym (ap (λ (t : Told). t.fails) same) ∙ end.1, same)
+    ((sym (ap (λ (t : Told). t.bytes) same) ∙ end.0, sym (ap (λ (t : Told). t.fails) same) ∙ end.1), same)
 
 pub reads_behind : (old new : Option Told) (pre mid post : List ℕ) (held : ℕ) (r : Result ℕ Failed) → length pre ≡ held → 0 < length mid → IfOk r (λ n. n ≤ length mid) → Reads old new r mid →
     MatchResult r (λ n. Grows old new pre (take (held + n) (pre ++ (mid ++ post))) n) (λ _. (take held (pre ++ (mid ++ post)) ≡ pre) × FailsTold old new)

@@ -3,12 +3,13 @@ use Rattle.std.proofs.Common.{◌≡◌, ℕ, zero, suc, ◌+◌, ◌-◌, ◌<�
 use Rattle.std.specs.Prelude.{slice_index}
 use Rattle.std.proofs.lemmas.List.{take-append-drop, take-take, take_all, get_or-take, append-nil}
 use Rattle.std.proofs.lemmas.List.Elements.{All-nil, All-take}
-use Rattle.byte_ends.specs.Source.{Told}
+use Rattle.std.proofs.lemmas.Bool.{true≢false}
+use Rattle.byte_ends.specs.Source.{Told, HasBrokenOff}
 use Rattle.gsi_file.specs.declared.file_fault.FileKind.TheVariants.{Read, FileTooLong, LineTooLong}
 use Rattle.gsi_file.specs.Parts.{is_line_end, has_ink, HasNoEnd}
 use Rattle.gsi_file.specs.FileAnswers.{answers_within}
 use Rattle.gsi_file.specs.Filling.{Grows, FailsTold}
-use Rattle.gsi_file.specs.Finding.{answers_in, SameAnswers, AnswersAre, AnswersBegin, HasFound}
+use Rattle.gsi_file.specs.Finding.{answers_in, SameAnswers, AnswersAre, AnswersBegin, HasFound, BreaksOff}
 use Rattle.gsi_file.proofs.FirstBytes.{with_line, answers_end, answers_failed, answers_line, answers_long_file, answers_long_line}
 
 none_of : (xs : List ℕ) → length xs ≡ 0 → xs ≡ []
@@ -58,7 +59,13 @@ ends (Some a) None told' room h0 left line h h' e s g = absurd s.same
 ends (Some a) (Some b) None room h0 left line h h' e s g = absurd g.told
 ends (Some a) (Some b) (Some c) room h0 left line h h' e s g = at_end a b c room h0 left line h h' e s g
 
--- a failed read
+-- a failed read comes of a source that has broken off
+pub breaks_off : (told0 told told' : Option Told) (room : ℕ) (h0 : List ℕ) (left line : ℕ) (h : List ℕ) → Searching told0 told room h0 left line h → FailsTold told told' → BreaksOff told0 told'
+breaks_off None told told' room h0 left line h s f = tt
+breaks_off (Some a) None told' room h0 left line h s f = absurd s.same
+breaks_off (Some a) (Some b) None room h0 left line h s f = absurd f
+breaks_off (Some a) (Some b) (Some c) room h0 left line h s f = subst (λ (t : Told). HasBrokenOff t) (sym f.1) f.0
+
 pub fails : (told0 told told' : Option Told) (room : ℕ) (h0 : List ℕ) (left line : ℕ) (h : List ℕ) → line ≡ length h → Searching told0 told room h0 left line h → FailsTold told told' →
     AnswersAre told0 room h0 told' (record { lines = []; last = Some Read })
 fails None told told' room h0 left line h e s f = tt
@@ -68,9 +75,9 @@ fails (Some a) (Some b) (Some c) room h0 left line h e s f =
     let whole : take line h ≡ h = take_all line h (omega arith) in
     let plain : HasNoEnd h = subst (λ (zs : List ℕ). HasNoEnd zs) whole s.plain in
     s.same
-    ∙ ap (λ zs. answers_within left (h ++ zs) b.fails) f.0
+    ∙ ap (λ zs. answers_within left (h ++ zs) b.fails) f.0.0
     ∙ ap (λ zs. answers_within left zs b.fails) (append-nil h)
-    ∙ ap (answers_within left h) f.1
+    ∙ ap (answers_within left h) f.0.1
     ∙ answers_failed left h plain (omega (arith, s.short)) (omega (arith, s.fits))
 
 -- one byte too many in the file
@@ -151,14 +158,14 @@ pub found_ended : (told0 told : Option Told) (room : ℕ) (h0 : List ℕ) (left 
     HasFound told0 told room h0 h (record { line = line; used = line + 1; room = left - (line + 1); last = false })
 found_ended told0 told room h0 left line h lt less end ink s =
     let some : 0 < line = some_byte line h ink in
-    record { line = omega arith; used = omega arith; takes = omega (arith, s.most); told = finds told0 told room h0 left line h lt less end ink s }
+    record { line = omega arith; used = omega arith; ended = λ e. omega arith; takes = omega (arith, s.most); told = finds told0 told room h0 left line h lt less end ink s }
 
 -- the line found by the end of the source
 pub found_at_end : (told0 told told' : Option Told) (room : ℕ) (h0 : List ℕ) (left line : ℕ) (h h' : List ℕ) (n : ℕ) → line ≡ length h → n ≡ 0 → has_ink (take line h') ≡ true → Searching told0 told room h0 left line h → Grows told told' h h' n →
     HasFound told0 told' room h0 h' (record { line = line; used = line; room = 0; last = true })
 found_at_end told0 told told' room h0 left line h h' n e z ink s g =
     let some : 0 < line = some_byte line h' ink in
-    record { line = omega arith; used = omega (arith, grown_length told told' h h' n g); takes = omega (arith, s.most, s.fits); told = ends_by told0 told told' room h0 left line h h' n true e z ink s g }
+    record { line = omega arith; used = omega (arith, grown_length told told' h h' n g); ended = λ e. absurd (true≢false e); takes = omega (arith, s.most, s.fits); told = ends_by told0 told told' room h0 left line h h' n true e z ink s g }
 
 -- no byte, so no end
 pub none_plain : (h : List ℕ) → HasNoEnd (take 0 h)

@@ -4,3 +4,4 @@ pub mod Fronts
 pub mod FirstBytes
 pub mod Finding
 pub mod AnswerLaws
+pub mod LineFaultLaws

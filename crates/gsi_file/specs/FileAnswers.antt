@@ -13,6 +13,10 @@ pub record FileAnswers : Type 0 where
   pub lines : List (List ℕ)
   pub last : Option FileKind
 
+-- a line, and then these answers
+abbrev pub line_before : List ℕ → FileAnswers → FileAnswers
+line_before line a = record { lines = line ∷ a.lines; last = a.last }
+
 -- whether these bytes break no limit: there are at most `room` of them, in parts of at most 1,024
 abbrev pub is_within : ℕ → List ℕ → Bool
 is_within room bytes =

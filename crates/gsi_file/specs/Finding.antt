@@ -1,10 +1,10 @@
 -- What looking for the next line does, where the source tells.
-use Rattle.std.specs.Prelude.{◌≡◌, ℕ, ◌+◌, ◌<◌, ◌≤◌, ◌⊎◌, Bool, true, false, List, [], ◌∷◌, ◌++◌, length, take, drop, ⊤, Option, Some, None, Result, Ok, Err}
+use Rattle.std.specs.Prelude.{◌≡◌, ℕ, ◌+◌, ◌/◌, ◌<◌, ◌≤◌, Bool, true, false, List, ◌++◌, length, take, drop, Option, Some, None, Result, Ok, Err}
 use Rattle.byte_ends.specs.Source.{Told, WhereTold, HasBrokenOff}
 use Rattle.gsi_file.specs.declared.file_fault.FileKind.{FileKind}
 use Rattle.gsi_file.specs.declared.search.Found.{Found}
-use Rattle.gsi_file.specs.FileAnswers.{FileAnswers, answers_within, only, with_line}
-use Rattle.gsi_file.specs.FileFaults.{IsRead}
+use Rattle.gsi_file.specs.FileAnswers.{FileAnswers, answers_within, line_before}
+use Rattle.gsi_file.specs.ToCome.{IsRead, only}
 
 -- the answers of what is in hand and what the source gives, of which so many bytes may be taken
 abbrev pub answers_in : ℕ → List ℕ → Told → FileAnswers
@@ -17,7 +17,7 @@ SameAnswers old room hand new room' hand' =
 
 -- The answers to come are these, and the source still tells.
 abbrev pub AnswersAre : Option Told → ℕ → List ℕ → Option Told → FileAnswers → Type 0
-AnswersAre old room hand new answers = WhereTold old new (λ o _. answers_in room hand o ≡ answers)
+AnswersAre old room hand new answers = WhereTold old new (λ o n. answers_in room hand o ≡ answers)
 
 -- The answers to come are this line and then those after.
 abbrev pub AnswersBegin : Option Told → ℕ → List ℕ → Option Told → List ℕ → ℕ → List ℕ → Type 0
@@ -31,3 +31,23 @@ FindsLine old new room hand hand' line used room' true =
     AnswersAre old room hand new (line_before (take line hand') (only None))
 FindsLine old new room hand hand' line used room' false =
     AnswersBegin old room hand new (take line hand') room' (drop used hand')
+
+-- A line was found. It takes two bytes of those that may be taken, or all. Where it is not the last,
+-- a byte of those in hand ends it.
+pub record HasFound (old new : Option Told) (room : ℕ) (hand hand' : List ℕ) (f : Found) : Type 0 where
+  pub line : f.line ≤ f.used
+  pub used : f.used ≤ length hand'
+  pub ended : f.last ≡ false → f.line < f.used
+  pub takes : (f.room + 1) / 2 < (room + 1) / 2
+  pub told : FindsLine old new room hand hand' f.line f.used f.room f.last
+
+-- The source has given all its bytes and fails, where it tells.
+abbrev pub BreaksOff : Option Told → Option Told → Type 0
+BreaksOff old new = WhereTold old new (λ o n. HasBrokenOff n)
+
+-- A line was found, or the end, or a fault of the file; a read fails only at the end of the source.
+abbrev pub Finds : Option Told → Option Told → ℕ → List ℕ → List ℕ → Result (Option Found) FileKind → Type 0
+Finds old new room hand hand' (Ok (Some f)) = HasFound old new room hand hand' f
+Finds old new room hand hand' (Ok None) = AnswersAre old room hand new (only None)
+Finds old new room hand hand' (Err kind) =
+    AnswersAre old room hand new (only (Some kind)) × (IsRead kind → BreaksOff old new)

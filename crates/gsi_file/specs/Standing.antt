@@ -1,22 +1,21 @@
 -- What lines stand for.
 use Rattle.std.specs.Prelude.{◌≡◌, Bool, true, false, ℕ, ◌<◌, List, ⊤, Option, Some, None, Result, Ok, Err}
+use Rattle.std.specs.Option.{option_map}
 use Rattle.byte_ends.specs.Source.{Told}
-use Rattle.gsi_word.specs.declared.shape.Shape.{Shape}
-use Rattle.gsi_file.specs.declared.line.Line.{Line}
 use Rattle.gsi_file.specs.declared.file_fault.FileFault.{FileFault}
+use Rattle.gsi_file.specs.declared.file_fault.FileFault.TheVariants.{At, Memory}
 use Rattle.gsi_file.specs.declared.lines.State.{State}
 use Rattle.gsi_file.specs.declared.lines.State.TheVariants.{Open, End, Failed}
 use Rattle.gsi_file.specs.declared.lines.Lines.{Lines}
 use Rattle.gsi_file.specs.Hand.{line_in_hand, unused}
-use Rattle.gsi_file.specs.Finding.{answers_in}
-use Rattle.gsi_file.specs.ToCome.{ToCome, only}
+use Rattle.gsi_file.specs.Finding.{answers_in, BreaksOff}
+use Rattle.gsi_file.specs.ToCome.{ToCome, IsRead, only}
 
 -- what is to come in a state, of so many bytes that may be taken, with these in hand, of a reader
 -- that tells this
 abbrev pub comes_in : State → ℕ → ℕ → List ℕ → Option Told → ToCome
-comes_in Open count room hand None = record { number = count; answers = None }
-comes_in Open count room hand (Some told) =
-    record { number = count; answers = Some (answers_in room hand told) }
+comes_in Open count room hand told =
+    record { number = count; answers = option_map (answers_in room hand) told }
 comes_in End count room hand told = record { number = count; answers = Some (only None) }
 comes_in (Failed kind) count room hand told =
     record { number = count; answers = Some (only (Some kind)) }
@@ -39,34 +38,45 @@ reader_of l = l.reader
 abbrev pub is_settled : {R : Type 0} → Lines R → Bool
 is_settled l = settled_in l.state
 
+-- the line that was found
+abbrev pub line_found : {R : Type 0} → Lines R → List ℕ
+line_found l = line_in_hand l.hand
+
+-- the bytes that were read and not yet given up: the line that was found, the byte that ended it if
+-- one did, and those after
+abbrev pub bytes_in_hand : {R : Type 0} → Lines R → List ℕ
+bytes_in_hand l = l.hand.buffer
+
+-- how many bytes may still be taken
+abbrev pub bytes_left : {R : Type 0} → Lines R → ℕ
+bytes_left l = l.room
+
 -- whether a call gave no line
 abbrev pub gives_none : {A E : Type 0} → Result (Option A) E → Bool
 gives_none (Ok (Some x)) = false
 gives_none (Ok None) = true
 gives_none (Err e) = true
 
--- An answer that is no line settles the end or a fault, and once one is settled the reader is not
--- asked again.
+-- An answer that is no line settles the end or a fault. A line that no byte ended settles the end
+-- too. Once one is settled the reader is not asked again.
 pub record AsksNoMore {A E R : Type 0} (result : Result (Option A) E) (old new : Lines R) : Type 0 where
   pub settles : gives_none result ≡ true → is_settled new ≡ true
+  pub last : gives_none result ≡ false → bytes_in_hand new ≡ line_found new → is_settled new ≡ true
   pub unread : is_settled old ≡ true → reader_of new ≡ reader_of old
 
--- the line that was found
-abbrev pub line_found : {R : Type 0} → Lines R → List ℕ
-line_found l = line_in_hand l.hand
-
--- how many bytes may still be taken
-abbrev pub bytes_left : {R : Type 0} → Lines R → ℕ
-bytes_left l = l.room
-
--- A line that was found takes bytes.
-abbrev pub Progresses : Result (Option Shape) FileFault → ℕ → ℕ → Type 0
-Progresses (Ok (Some shape)) old new = new < old
+-- A line that was given takes bytes.
+abbrev pub Progresses : {A E : Type 0} → Result (Option A) E → ℕ → ℕ → Type 0
+Progresses (Ok (Some x)) old new = new < old
 Progresses (Ok None) old new = ⊤
-Progresses (Err fault) old new = ⊤
+Progresses (Err e) old new = ⊤
 
--- Each line takes bytes.
-abbrev pub LineProgresses : Result (Option Line) FileFault → ℕ → ℕ → Type 0
-LineProgresses (Ok (Some line)) old new = new < old
-LineProgresses (Ok None) old new = ⊤
-LineProgresses (Err fault) old new = ⊤
+-- A call answered a failed read.
+abbrev pub IsReadFault : {A : Type 0} → Result (Option A) FileFault → Type 0
+IsReadFault (Ok x) = ⊥
+IsReadFault (Err (At number kind)) = IsRead kind
+IsReadFault (Err Memory) = ⊥
+
+-- A failed read, where nothing was settled before it, comes of a reader that has given all its bytes
+-- and fails, where it tells.
+abbrev pub FailsAtItsEnd : {A : Type 0} → Result (Option A) FileFault → Bool → Option Told → Option Told → Type 0
+FailsAtItsEnd result settled old new = IsReadFault result → settled ≡ false → BreaksOff old new

@@ -1,5 +1,6 @@
 -- What is still to come of a file's lines, and what a call answers.
 use Rattle.std.specs.Prelude.{◌≡◌, ℕ, ◌+◌, ◌≤◌, List, [], ◌∷◌, ⊤, Option, Some, None, IfSome, Result, Ok, Err, ◌⊎◌}
+use Rattle.byte_ends.specs.Source.{WhereTold}
 use Rattle.gsi_word.specs.Blocks.{GsiBlock, IsBlock}
 use Rattle.gsi_word.specs.BlockViews.{block_of}
 use Rattle.gsi_word.specs.Shapes.{IsShape}
@@ -12,7 +13,7 @@ use Rattle.gsi_file.specs.declared.file_fault.FileKind.TheVariants.{Read, FileTo
 use Rattle.gsi_file.specs.declared.file_fault.FileFault.{FileFault}
 use Rattle.gsi_file.specs.declared.file_fault.FileFault.TheVariants.{At, Memory}
 use Rattle.gsi_file.specs.declared.limits.TheConstants.{LONGEST_FILE}
-use Rattle.gsi_file.specs.FileAnswers.{FileAnswers}
+use Rattle.gsi_file.specs.FileAnswers.{FileAnswers, line_before}
 
 -- how many lines came, and the answers still to come, where the reader tells or they are settled
 pub record ToCome : Type 0 where
@@ -28,16 +29,22 @@ IsFileFault l (Byte at) = IsLineFault l (line.Byte at)
 IsFileFault l (Word nth) = IsLineFault l (line.Word nth)
 IsFileFault l FirstWord = IsLineFault l line.FirstWord
 
+-- It is a failed read.
+abbrev pub IsRead : FileKind → Type 0
+IsRead Read = ⊤
+IsRead FileTooLong = ⊥
+IsRead LineTooLong = ⊥
+IsRead (Byte at) = ⊥
+IsRead (Word nth) = ⊥
+IsRead FirstWord = ⊥
+
 -- nothing comes but this, at every call
 abbrev pub only : Option FileKind → FileAnswers
 only last = record { lines = []; last = last }
 
 -- The first line to come is this, and the others come after it.
 abbrev pub TakesLine : Option FileAnswers → Option FileAnswers → List ℕ → Type 0
-TakesLine None after line = ⊤
-TakesLine (Some before) None line = ⊥
-TakesLine (Some before) (Some after) line =
-    before ≡ record { lines = line ∷ after.lines; last = after.last }
+TakesLine before after line = WhereTold before after (λ b a. b ≡ line_before line a)
 
 -- A call gives the next line, which is this block, under the next number.
 pub record GivesLine (t t' : ToCome) (number : ℕ) (block : GsiBlock) : Type 0 where

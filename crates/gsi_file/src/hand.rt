@@ -55,6 +55,7 @@ impl Hand {
     pub(crate) fn hold_line(&mut self, found: Found)
         requires inner { found.line ≤ found.used }
         requires held { found.used ≤ length self.old.buffer }
+        ensures kept { self.new.buffer ≡ self.old.buffer }
         ensures line { line_in_hand self.new ≡ take found.line self.old.buffer }
         ensures unused { unused self.new ≡ drop found.used self.old.buffer }
     {

@@ -75,7 +75,7 @@ impl<R: Source> Lines<R> {
     ghost use Rattle.gsi_file.specs.contracts.lines.Lines.{the_row};
     ghost use Rattle.gsi_file.specs.FileAnswers.{file_answers};
     ghost use Rattle.gsi_file.specs.ToCome.{ToCome, Answers, FindsNext};
-    ghost use Rattle.gsi_file.specs.Standing.{to_come, reader_of, AsksNoMore, line_found, bytes_left, Progresses, LineProgresses};
+    ghost use Rattle.gsi_file.specs.Standing.{to_come, reader_of, AsksNoMore, line_found, bytes_left, is_settled, Progresses, FailsAtItsEnd};
 
     /// Takes the one buffer, and reads nothing. Where there is no memory the reader is dropped.
     pub fn new(alloc: Global, reader: R) -> Result<Lines<R>, OutOfMemory>
@@ -105,8 +105,10 @@ impl<R: Source> Lines<R> {
     pub fn next(&mut self) -> Result<Option<Line<'_>>, FileFault>
         ensures* after { sem 𝓛 (Rests (the_row R.row) self.entry (λ new.
             Answers (to_come R.told self.old) result (to_come R.told new)
-            × LineProgresses result (bytes_left self.old) (bytes_left new)
-            × AsksNoMore result self.old new)) }
+            × Progresses result (bytes_left self.old) (bytes_left new)
+            × AsksNoMore result self.old new
+            × FailsAtItsEnd result (is_settled self.old)
+            (R.told (reader_of self.old)) (R.told (reader_of new)))) }
     {
         match self.advance()? {
             Some(shape) => {
@@ -124,6 +126,8 @@ impl<R: Source> Lines<R> {
             (line_found self.new) }
         ensures settled { AsksNoMore result self.old self.new }
         ensures progress { Progresses result (bytes_left self.old) (bytes_left self.new) }
+        ensures fails { FailsAtItsEnd result (is_settled self.old)
+            (R.told (reader_of self.old)) (R.told (reader_of self.new)) }
     {
         match self.state {
             State::Open => {}

@@ -441,5 +441,8 @@ fn lines_of_both_widths_may_stand_in_one_file(rt: HostRuntime) -> Result<(), Fai
 #[test]
 fn the_laws_are_calls(_rt: HostRuntime) {
     laws::failed_read_needs_a_failing_source();
+    laws::one_fault();
+    laws::no_fault_in_a_block();
+    laws::block_or_fault();
     laws::limits();
 }

@@ -1,7 +1,7 @@
 use Rattle.std.proofs.Common.{false, sym, subst, ◌∙◌, arith}
 use Rattle.gsi_file.specs.declared.search.Found.{Found}
 use Rattle.gsi_file.specs.Finding.{HasFound}
-use Rattle.gsi_file.proofs.Finding.{Searching, fails, file_too_long, line_too_long, found_ended, found_at_end, passes, ends_by, none_plain}
+use Rattle.gsi_file.proofs.Finding.{Searching, breaks_off, fails, file_too_long, line_too_long, found_ended, found_at_end, passes, ends_by, none_plain}
 use Rattle.gsi_file.proofs.search.find_line.Goals as goal
 
 pub returns-then-has_ink : goal.returns-then-has_ink
@@ -30,14 +30,14 @@ search-preserved-then-line-seen g c =
 
 pub returns-then-line-gt-LONGEST_LINE : goal.returns-then-line-gt-LONGEST_LINE
 returns-then-line-gt-LONGEST_LINE g c =
-    line_too_long _ _ _ _ c.search.left c.search.line c.line_end-line.result c.search.buffer c.if-line-gt-LONGEST_LINE.true (omega arith) (omega arith) c.line_end-line.ensures.plain c.search.invariant
+    (line_too_long _ _ _ _ c.search.left c.search.line c.line_end-line.result c.search.buffer c.if-line-gt-LONGEST_LINE.true (omega arith) (omega arith) c.line_end-line.ensures.plain c.search.invariant, λ other. absurd other)
 
 pub returns-then-line-len : goal.returns-then-line-len
 returns-then-line-len g c =
     let told = g.R.Source.told in
     let line = c.line_end-line.result in
     let s : Searching (told c.args.reader.now) (told c.search.reader) c.args.room c.args.buffer.now c.search.left line c.search.buffer = record { short = omega arith; inside = omega arith; fits = omega arith; most = c.search.invariant.most; plain = c.line_end-line.ensures.plain; same = c.search.invariant.same } in
-    file_too_long _ _ _ _ c.search.left line c.search.buffer (omega arith) (omega arith) s
+    (file_too_long _ _ _ _ c.search.left line c.search.buffer (omega arith) (omega arith) s, λ other. absurd other)
 
 pub returns-then-has_ink-2 : goal.returns-then-has_ink-2
 returns-then-has_ink-2 g c =
@@ -61,4 +61,5 @@ returns-in-Err g c =
     let told = g.R.Source.told in
     let line = c.line_end-line.result in
     let s : Searching (told c.args.reader.now) (told c.search.reader) c.args.room c.args.buffer.now c.search.left line c.search.buffer = record { short = omega arith; inside = omega arith; fits = omega arith; most = c.search.invariant.most; plain = c.line_end-line.ensures.plain; same = c.search.invariant.same } in
-    fails _ (told c.search.reader) _ _ _ c.search.left line c.search.buffer (omega arith) s c.in-Err.ensures.1
+    (fails _ (told c.search.reader) _ _ _ c.search.left line c.search.buffer (omega arith) s c.in-Err.ensures.1,
+    λ read. breaks_off _ (told c.search.reader) _ _ _ c.search.left line c.search.buffer s c.in-Err.ensures.1)

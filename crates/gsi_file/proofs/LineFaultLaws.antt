@@ -1,0 +1,45 @@
+-- The fault of a line, as one of the file: one at most, and none in a block.
+use Rattle.std.proofs.Common.{◌≡◌, ℕ, List, ◌⊎◌, inl, inr, refl, sym, ap, ◌∙◌}
+use Rattle.gsi_word.specs.Blocks.{GsiBlock, IsBlock}
+use Rattle.gsi_word.specs.LineFaults.{IsLineFault}
+use Rattle.gsi_word.specs.declared.line_fault.LineFault.{LineFault}
+use Rattle.gsi_word.specs.declared.line_fault.LineFault.TheVariants as line
+use Rattle.gsi_word.proofs.LineLaws.{same_fault, no_fault}
+use Rattle.gsi_word.proofs.LineCases as cases
+use Rattle.gsi_file.specs.ToCome.{IsFileFault}
+use Rattle.gsi_file.specs.declared.file_fault.FileKind.{FileKind}
+use Rattle.gsi_file.specs.declared.file_fault.FileKind.TheVariants.{Read, FileTooLong, LineTooLong, Byte, Word, FirstWord}
+
+-- a fault of a line as one of the file
+abbrev kind_of : LineFault → FileKind
+kind_of (line.Byte at) = Byte at
+kind_of (line.Word nth) = Word nth
+kind_of line.FirstWord = FirstWord
+
+as_file_fault : (l : List ℕ) (f : LineFault) → IsLineFault l f → IsFileFault l (kind_of f)
+as_file_fault l (line.Byte at) h = h
+as_file_fault l (line.Word nth) h = h
+as_file_fault l line.FirstWord h = h
+
+as_line_fault : (l : List ℕ) (kind : FileKind) → IsFileFault l kind → (f : LineFault) × IsLineFault l f × (kind ≡ kind_of f)
+as_line_fault l Read h = absurd h
+as_line_fault l FileTooLong h = absurd h
+as_line_fault l LineTooLong h = absurd h
+as_line_fault l (Byte at) h = (line.Byte at, h, refl)
+as_line_fault l (Word nth) h = (line.Word nth, h, refl)
+as_line_fault l FirstWord h = (line.FirstWord, h, refl)
+
+pub one_kind : (l : List ℕ) (a b : FileKind) → IsFileFault l a → IsFileFault l b → a ≡ b
+one_kind l a b h k =
+    let x = as_line_fault l a h in
+    let y = as_line_fault l b k in
+    x.2 ∙ ap kind_of (same_fault l x.0 y.0 x.1 y.1) ∙ sym y.2
+
+pub no_kind : (l : List ℕ) (a : FileKind) (b : GsiBlock) → IsFileFault l a → ¬ IsBlock l b
+no_kind l a b h k = let x = as_line_fault l a h in no_fault l b x.0 k x.1
+
+pub block_or_kind : (l : List ℕ) → ((b : GsiBlock) × IsBlock l b) ⊎ ((kind : FileKind) × IsFileFault l kind)
+block_or_kind l = elim (cases.block_or_fault l) [
+  | inl block ↦ inl block
+  | inr fault ↦ inr (kind_of fault.0, as_file_fault l fault.0 fault.1)
+]
