@@ -53,10 +53,8 @@ pub record IsAccepted (limits : FaceLimits) (most : Option ℕ) (gsi told : Told
   pub named : its.station.name ≡ sheet.name
   pub only : (other : SurveyedStation) → Contains stations other
       → other.station.name ≡ sheet.name → other ≡ its
-
   -- Every face difference that was measured there is within the limits.
   pub within : All (AreWithin limits) its.faces
-
   -- The sheet's observations are exactly its two-face directions, none missing, added, moved or
   -- altered.
   pub matches : Matches its.station sheet
