@@ -17,8 +17,10 @@ use Rattle.adjust_kernel.specs.Verdict.{IsAcceptedSheet, KeepsLimit}
 use Rattle.station_book.specs.declared.fault.BookKind.{BookKind}
 use Rattle.station_book.specs.declared.faces.Faces.{Faces}
 use Rattle.station_book.specs.Faults.{fault_at_end, IsWithoutFault}
-use Rattle.station_book.specs.Limits.{FaceLimits}
+use Rattle.station_book.specs.Limits.{FaceLimits, AreLimits}
 use Rattle.station_book.specs.Places.{History}
+use Rattle.station_book.specs.Recorded.{IsRecorded}
+use Rattle.adjust_kernel.specs.Matching.{Key, observed, keys_of}
 use Rattle.station_book.specs.Stations.{Couple, SurveyedStation, HasFaces, IsSurveyed, AreStations, stations_of, station_named}
 use Rattle.station_check.specs.declared.fault.Fault.{Fault}
 use Rattle.station_check.specs.declared.fault.Fault.TheVariants.{Gsi, Book, SheetRead, Sheet, NoStation, Means, Kernel, Write, Memory}
@@ -87,6 +89,11 @@ abbrev pub FindsIts : Type 0
 FindsIts = (limits : FaceLimits) (h : History) (stations : List SurveyedStation) (name : List ℕ) (s : SurveyedStation) → IsWithoutFault limits h → AreStations limits h stations
     → (station_named name stations ≡ Some s) ↔ (Contains stations s × (s.station.name ≡ name))
 
+-- What is listed of a station is what the blocks recorded of it.
+abbrev pub IsJustRecorded : Type 0
+IsJustRecorded = (limits : FaceLimits) (h : History) (stations : List SurveyedStation) (s : SurveyedStation) (k : Key) → AreLimits limits → IsWithoutFault limits h → AreStations limits h stations → Contains stations s
+    → Contains (observed s.station) k ↔ IsRecorded limits h s.station.name k
+
 -- An accepted sheet keeps the residual limit.
 abbrev pub KeepsResiduals : Type 0
 KeepsResiduals = (station : StationValue) (sheet : SheetValue) (limit : Option ℕ) → IsAcceptedSheet station sheet limit → IfSome limit (KeepsLimit station sheet)
@@ -98,9 +105,9 @@ differences_within limits blocks name stations its are named =
     all_within limits _ its.faces p.related.differences
 
 -- A sheet that was judged well is accepted.
-pub accepted_of : FindsIts → KeepsResiduals → (limits : FaceLimits) (most : Option ℕ) (gsi told : Told) (stations : List SurveyedStation) (a : Accepted) → IsSurvey limits (file_answers gsi) stations → IsJudgedSheet stations most told (Ok a)
+pub accepted_of : FindsIts → IsJustRecorded → KeepsResiduals → (limits : FaceLimits) (most : Option ℕ) (gsi told : Told) (stations : List SurveyedStation) (a : Accepted) → AreLimits limits → IsSurvey limits (file_answers gsi) stations → IsJudgedSheet stations most told (Ok a)
     → IsAccepted limits most gsi told a
-accepted_of finds keeps limits most gsi told stations a survey judged =
+accepted_of finds recorded keeps limits most gsi told stations a small survey judged =
     let blocks = survey.blocks in
     let its = judged.judged.its in
     let name = judged.sheet.name in
@@ -125,6 +132,10 @@ accepted_of finds keeps limits most gsi told stations a survey judged =
       only = λ other among same.
           let e : Some other ≡ Some its = sym ((finds limits blocks stations name other well.faultless survey.stations_are).1 (among, same)) ∙ judged.judged.named in cc;
       within = differences_within limits blocks name stations its survey.stations_are judged.judged.named;
+      exactly = λ k.
+          let just = recorded limits blocks stations its k small well.faultless survey.stations_are found.0 in
+          let by_name : Contains (observed its.station) k ↔ IsRecorded limits blocks name k = subst (λ (n : List ℕ). Contains (observed its.station) k ↔ IsRecorded limits blocks n k) found.1 just in
+          subst (λ (keys : List Key). Contains keys k ↔ IsRecorded limits blocks name k) (sym judged.judged.matches.rows) by_name;
       matches = judged.judged.matches;
       least = judged.judged.squares.0.least;
       unique = judged.judged.squares.0.unique;
@@ -135,15 +146,15 @@ accepted_of finds keeps limits most gsi told stations a survey judged =
 
 -- what the law `acceptance` says
 abbrev pub Accepts : Type 0
-Accepts = (limits : FaceLimits) (most : Option ℕ) (gsi told : Told) (stations : List SurveyedStation) (a : Accepted) → IsSurvey limits (file_answers gsi) stations → IsJudgedSheet stations most told (Ok a) → IsAccepted limits most gsi told a
+Accepts = (limits : FaceLimits) (most : Option ℕ) (gsi told : Told) (stations : List SurveyedStation) (a : Accepted) → AreLimits limits → IsSurvey limits (file_answers gsi) stations → IsJudgedSheet stations most told (Ok a) → IsAccepted limits most gsi told a
 
 -- the same of an answer, where both readers tell
-pub accepted_so : Accepts → (limits : FaceLimits) (most : Option ℕ) (gsi told : Option Told) (stations : List SurveyedStation) (r : Result Accepted Fault) → IfSome gsi (λ file. Surveys limits (file_answers file) (Ok stations))
+pub accepted_so : Accepts → (limits : FaceLimits) → AreLimits limits → (most : Option ℕ) (gsi told : Option Told) (stations : List SurveyedStation) (r : Result Accepted Fault) → IfSome gsi (λ file. Surveys limits (file_answers file) (Ok stations))
     → IfSome told (λ stated. IfKernels (IsJudgedSheet stations most stated) r) → WhereBothTell gsi told (λ file stated. IfOk r (IsAccepted limits most file stated))
-accepted_so accepts limits most None told stations r s j = tt
-accepted_so accepts limits most (Some file) None stations r s j = tt
-accepted_so accepts limits most (Some file) (Some stated) stations (Ok a) s j = accepts limits most file stated stations a s j
-accepted_so accepts limits most (Some file) (Some stated) stations (Err fault) s j = tt
+accepted_so accepts limits small most None told stations r s j = tt
+accepted_so accepts limits small most (Some file) None stations r s j = tt
+accepted_so accepts limits small most (Some file) (Some stated) stations (Ok a) s j = accepts limits most file stated stations a small s j
+accepted_so accepts limits small most (Some file) (Some stated) stations (Err fault) s j = tt
 
 -- A sheet that was judged badly is refused so.
 refused_of : (limits : FaceLimits) (most : Option ℕ) (gsi told : Told) (stations : List SurveyedStation) (fault : KernelFault) → IsSurvey limits (file_answers gsi) stations → IsJudgedSheet stations most told (Err fault) → IsRefusedByKernel limits most gsi told fault

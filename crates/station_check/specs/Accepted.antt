@@ -2,14 +2,14 @@
 -- exactly the two-face directions of its station in the field file, every face difference is within
 -- the limits, and no other directions and orientations, over any denominator, give with the sheet's
 -- full turns a smaller sum of squared residuals.
-use Rattle.std.specs.Prelude.{◌≡◌, ℕ, List, All, length, reverse, Option, None, IfSome}
+use Rattle.std.specs.Prelude.{◌≡◌, ◌↔◌, ℕ, List, All, length, reverse, Option, None, IfSome}
 use Rattle.std.specs.List.{AllZip, Contains}
 use Rattle.byte_ends.specs.Source.{Told}
 use Rattle.byte_ends.specs.Input.{input_within, Ended}
 use Rattle.gsi_word.specs.Blocks.{IsBlock}
 use Rattle.gsi_file.specs.FileAnswers.{file_answers}
 use Rattle.adjust_kernel.specs.Least.{IsLeast, IsUnique}
-use Rattle.adjust_kernel.specs.Matching.{Matches}
+use Rattle.adjust_kernel.specs.Matching.{Key, Matches, keys_of}
 use Rattle.adjust_kernel.specs.Pairs.{choice_stated_by}
 use Rattle.adjust_kernel.specs.Promises.{IsAdjustedOverTurns}
 use Rattle.adjust_kernel.specs.Sheets.{SheetValue}
@@ -20,6 +20,7 @@ use Rattle.sheet_format.specs.declared.reading.TheConstants.{LONGEST_SHEET}
 use Rattle.station_book.specs.Faults.{fault_at_end, IsWithoutFault}
 use Rattle.station_book.specs.Limits.{FaceLimits}
 use Rattle.station_book.specs.Places.{History}
+use Rattle.station_book.specs.Recorded.{IsRecorded}
 use Rattle.station_book.specs.Sights.{IsAtMost}
 use Rattle.station_book.specs.Stations.{SurveyedStation, AreStations}
 use Rattle.station_book.specs.declared.faces.Faces.{Faces}
@@ -55,8 +56,9 @@ pub record IsAccepted (limits : FaceLimits) (most : Option ℕ) (gsi told : Told
       → other.station.name ≡ sheet.name → other ≡ its
   -- Every face difference that was measured there is within the limits.
   pub within : All (AreWithin limits) its.faces
-  -- The sheet's observations are exactly its two-face directions, none missing, added, moved or
-  -- altered.
+  -- The sheet's observations are exactly its two-face directions: those that the blocks recorded in
+  -- both faces, and no others; place by place, none missing, added, moved or altered.
+  pub exactly : (k : Key) → Contains (keys_of sheet) k ↔ IsRecorded limits blocks sheet.name k
   pub matches : Matches its.station sheet
   -- With the sheet's full turns no other directions and orientations, over any denominator, have a
   -- smaller sum of squared residuals; and those that have the same differ by one rotation.

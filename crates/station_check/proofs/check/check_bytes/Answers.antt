@@ -7,7 +7,7 @@ use Rattle.station_check.proofs.check.check_bytes.Goals as goal
 
 pub returns-in-Ok-clause-accepted : goal.returns-in-Ok-clause-accepted
 returns-in-Ok-clause-accepted g c =
-    accepted_so c.acceptance.ensures c.args.limits c.args.residual _ _ c.in-Ok.stations c.check_sheet.result c.in-Ok.ensures.surveys c.check_sheet.ensures.judged
+    accepted_so c.acceptance.ensures c.args.limits c.are_limits.ensures c.args.residual _ _ c.in-Ok.stations c.check_sheet.result c.in-Ok.ensures.surveys c.check_sheet.ensures.judged
 
 pub returns-in-Ok-clause-no_other : goal.returns-in-Ok-clause-no_other
 returns-in-Ok-clause-no_other g c =
