@@ -47,7 +47,7 @@ fn read_rows(alloc: Global, bytes: &[u8]) -> Result<Sheet, SheetFault>
         .from_reader(alloc, bytes);
     let mut draft = Draft::new(alloc);
     let mut row = ByteRecord::new(alloc);
-    'rows: for _ in 0..u64::MAX {
+    'rows: loop {
         let Ok(found) = reader.read_byte_record(&mut row) else {
             return Err(SheetFault::Memory);
         };
@@ -64,5 +64,4 @@ fn read_rows(alloc: Global, bytes: &[u8]) -> Result<Sheet, SheetFault>
             Err(Refusal::Memory) => return Err(SheetFault::Memory),
         }
     }
-    Err(SheetFault::Memory)
 }
