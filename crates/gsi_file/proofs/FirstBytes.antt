@@ -9,8 +9,9 @@ use Rattle.std.proofs.lemmas.List.Splits.{slice_split_none, slice_split_at, leng
 use Rattle.std.proofs.lemmas.Bool.Decides.{nat_tests}
 use Rattle.gsi_file.specs.declared.file_fault.FileKind.TheVariants.{Read, FileTooLong, LineTooLong}
 use Rattle.gsi_file.specs.Parts.{parts, is_line_end, HasNoEnd, has_ink, front_of, ended_lines}
-use Rattle.gsi_file.specs.FileAnswers.{is_within, shortest_front, FileAnswers, answers_by, answers_within}
-use Rattle.gsi_file.proofs.Fronts.{same_first, first_after}
+use Rattle.gsi_file.specs.FileAnswers.{is_within, FileAnswers, answers_within}
+use Rattle.gsi_file.proofs.Breaks.{answers_by, breaks, same_answers}
+use Rattle.gsi_file.proofs.Fronts.{shortest_front, same_first, first_after}
 
 -- a line or none before the others
 abbrev pub with_line : List ℕ → FileAnswers → FileAnswers
@@ -47,10 +48,6 @@ within_line room part sep f plain end short lt =
     ap (λ (ps : List (List ℕ)). nat_le (length (part ++ sep ∷ f)) room && list_all (λ p. nat_le (length p) 1024) ps) (slice_split_at is_line_end part sep f plain end)
     ∙ line_le (length (part ++ sep ∷ f)) (length part) (length f) room (list_all (λ p. nat_le (length p) 1024) (parts f)) (length-append part (sep ∷ f)) short lt
 
--- whether a limit is broken
-abbrev breaks : ℕ → List ℕ → Bool
-breaks room f = not (is_within room f)
-
 not_broken : (room : ℕ) (front : List ℕ) → HasNoEnd front → length front ≤ 1024 → length front ≤ room → (i : ℕ) → i < length front → breaks room (take i front) ≡ false
 not_broken room front plain short le i lt = ap not (within_part room (take i front) (All-take (λ b. is_line_end b ≡ false) i front plain) (omega (arith, take_short i front)) (omega (arith, take_short i front)))
 
@@ -84,15 +81,15 @@ line_ended part sep rest plain end =
     ∙ ap (filter has_ink) (front_cons part (parts rest) (some_part rest))
 
 pub answers_end : (room : ℕ) (front : List ℕ) → HasNoEnd front → length front ≤ 1024 → length front ≤ room → answers_within room front false ≡ record { lines = cond (has_ink front) (front ∷ []) []; last = None }
-unfolding answers_within
 answers_end room front plain short le =
-    ap (answers_by room front false) (none_broken room front plain short le)
+    same_answers room front false
+    ∙ ap (answers_by room front false) (none_broken room front plain short le)
     ∙ ap (λ (ps : List (List ℕ)). record { lines = filter has_ink ps; last = None }) (slice_split_none is_line_end front plain)
 
 pub answers_failed : (room : ℕ) (front : List ℕ) → HasNoEnd front → length front ≤ 1024 → length front ≤ room → answers_within room front true ≡ record { lines = []; last = Some Read }
-unfolding answers_within
 answers_failed room front plain short le =
-    ap (answers_by room front true) (none_broken room front plain short le)
+    same_answers room front true
+    ∙ ap (answers_by room front true) (none_broken room front plain short le)
     ∙ ap (λ (ls : List (List ℕ)). record { lines = ls; last = Some Read }) (no_lines front plain)
 
 kind_after : (a b room n : ℕ) → a ≡ n + suc b → n < room → nat_lt room a ≡ nat_lt (room - (n + 1)) b
@@ -119,18 +116,19 @@ not_none p (x ∷ xs) h e = longer (shortest_front (λ f. p (x ∷ f)) xs) (ap (
     longer (Some f) e = cc
 
 pub answers_line : (room : ℕ) (part : List ℕ) (sep : ℕ) (rest : List ℕ) (fails : Bool) → HasNoEnd part → is_line_end sep ≡ true → length part ≤ 1024 → length part < room → answers_within room (part ++ sep ∷ rest) fails ≡ with_line part (answers_within (room - (length part + 1)) rest fails)
-unfolding answers_within
 answers_line room part sep rest fails plain end short lt =
     let le : length part ≤ room = omega arith in
-    ap (answers_by room (part ++ sep ∷ rest) fails) (behind room part sep rest plain short le)
+    same_answers room (part ++ sep ∷ rest) fails
+    ∙ ap (answers_by room (part ++ sep ∷ rest) fails) (behind room part sep rest plain short le)
     ∙ ap (λ o. answers_by room (part ++ sep ∷ rest) fails (option_map (λ g. part ++ g) (option_map (λ g. sep ∷ g) o))) (same_first (λ f. breaks room (part ++ sep ∷ f)) (breaks (room - (length part + 1))) rest (λ f. ap not (within_line room part sep f plain end short lt)))
     ∙ at_line room part sep rest fails (shortest_front (breaks (room - (length part + 1))) rest) plain end lt (not_none (breaks (room - (length part + 1))) rest (ap not (within_part (room - (length part + 1)) [] (All-nil (λ b. is_line_end b ≡ false)) (omega arith) (omega arith))))
+    ∙ ap (with_line part) (sym (same_answers (room - (length part + 1)) rest fails))
 
 -- a byte that breaks a limit
 broken : (room : ℕ) (front : List ℕ) (byte : ℕ) (rest : List ℕ) (fails : Bool) → HasNoEnd front → length front ≤ 1024 → length front ≤ room → is_within room (front ++ byte ∷ []) ≡ false → answers_within room (front ++ byte ∷ rest) fails ≡ record { lines = []; last = Some (cond (nat_lt room (length front + 1)) FileTooLong LineTooLong) }
-unfolding answers_within
 broken room front byte rest fails plain short le bad =
-    ap (answers_by room (front ++ byte ∷ rest) fails) (behind room front byte rest plain short le ∙ ap (λ o. option_map (λ g. front ++ g) (option_map (λ g. byte ∷ g) o)) (first_here (λ f. breaks room (front ++ byte ∷ f)) rest (ap not bad)))
+    same_answers room (front ++ byte ∷ rest) fails
+    ∙ ap (answers_by room (front ++ byte ∷ rest) fails) (behind room front byte rest plain short le ∙ ap (λ o. option_map (λ g. front ++ g) (option_map (λ g. byte ∷ g) o)) (first_here (λ f. breaks room (front ++ byte ∷ f)) rest (ap not bad)))
     ∙ ap (λ (zs : List ℕ). record { lines = ended_lines zs; last = Some (cond (nat_lt room (length (front ++ byte ∷ []))) FileTooLong LineTooLong) }) (front_append front (byte ∷ []) (omega arith) ∙ append-nil front)
     ∙ ap (λ (ls : List (List ℕ)). record { lines = ls; last = Some (cond (nat_lt room (length (front ++ byte ∷ []))) FileTooLong LineTooLong) }) (no_lines front plain)
     ∙ ap (λ (n : ℕ). record { lines = []; last = Some (cond (nat_lt room n) FileTooLong LineTooLong) }) (length-append front (byte ∷ []))

@@ -1,7 +1,14 @@
 -- The shortest first bytes that pass a test, behind bytes that don't.
 use Rattle.std.proofs.Common.{◌≡◌, ℕ, suc, ◌<◌, Bool, false, cond, List, [], ◌∷◌, ◌++◌, length, take, Option, None, Some, refl, ap, ◌∙◌, arith}
 use Rattle.std.specs.Option.{option_map}
-use Rattle.gsi_file.specs.FileAnswers.{shortest_front}
+use Rattle.std.specs.Prelude.{if◌then◌else◌}
+
+-- the shortest first bytes that pass a test
+abbrev pub shortest_front : (List ℕ → Bool) → List ℕ → Option (List ℕ)
+shortest_front p [] = if p [] then Some [] else None
+shortest_front p (x ∷ xs) =
+    if p [] then Some []
+    else option_map (λ front. x ∷ front) (shortest_front (λ front. p (x ∷ front)) xs)
 
 map_same : (o : Option (List ℕ)) → o ≡ option_map (λ f. f) o
 map_same None = refl

@@ -1,12 +1,12 @@
--- What a file answers, call by call: its numbered lines, and then the end or a fault.
-use Rattle.std.specs.Prelude.{ℕ, Bool, not, ◌&&◌, nat_le, nat_lt, List, [], ◌∷◌, length, Option, Some, None, if◌then◌else◌}
+-- What a file answers, call by call: its numbered lines, and then the end or a fault (profile).
+use Rattle.std.specs.Prelude.{◌≡◌, ℕ, zero, suc, ◌-◌, ◌<◌, ◌≤◌, Bool, true, false, not, ◌&&◌, nat_le, nat_lt, List, ◌∷◌, length, take, Option, Some, None, if◌then◌else◌}
 use Rattle.std.specs.List.{list_all}
 use Rattle.std.specs.Option.{option_map}
 use Rattle.byte_ends.specs.Source.{Told}
 use Rattle.gsi_file.specs.declared.file_fault.FileKind.{FileKind}
 use Rattle.gsi_file.specs.declared.file_fault.FileKind.TheVariants.{Read, FileTooLong, LineTooLong}
 use Rattle.gsi_file.specs.declared.limits.TheConstants.{LONGEST_LINE, LONGEST_FILE}
-use Rattle.gsi_file.specs.Parts.{parts, front_of, numbered_lines, ended_lines}
+use Rattle.gsi_file.specs.Parts.{parts, numbered_lines, ended_lines}
 
 -- lines, and then at every call the end, where `last` is None, or this fault
 pub record FileAnswers : Type 0 where
@@ -17,34 +17,48 @@ pub record FileAnswers : Type 0 where
 abbrev pub line_before : List ℕ → FileAnswers → FileAnswers
 line_before line a = record { lines = line ∷ a.lines; last = a.last }
 
--- whether these bytes break no limit: there are at most `room` of them, in parts of at most 1,024
+-- whether these bytes break no limit: there are at most `most` of them, in parts of at most 1,024
 abbrev pub is_within : ℕ → List ℕ → Bool
-is_within room bytes =
-    nat_le (length bytes) room && list_all (λ part. nat_le (length part) LONGEST_LINE) (parts bytes)
+is_within most bytes =
+    nat_le (length bytes) most && list_all (λ part. nat_le (length part) LONGEST_LINE) (parts bytes)
 
--- the shortest first bytes that pass a test
-abbrev pub shortest_front : (List ℕ → Bool) → List ℕ → Option (List ℕ)
-shortest_front p [] = if p [] then Some [] else None
-shortest_front p (x ∷ xs) =
-    if p [] then Some []
-    else option_map (λ front. x ∷ front) (shortest_front (λ front. p (x ∷ front)) xs)
+-- Byte x, from 1, is the first that breaks a limit: with it the bytes break one, and fewer break none.
+pub record IsFirstBreak (most : ℕ) (bytes : List ℕ) (x : ℕ) : Type 0 where
+  pub inside : x ≤ length bytes
+  pub breaks : is_within most (take x bytes) ≡ false
+  pub before : (n : ℕ) → n < x → is_within most (take n bytes) ≡ true
 
--- by the shortest first bytes that break a limit: the last of them is the byte that does, and at
--- one byte the file's limit comes first. Only lines that ended before that byte are answered. With
--- no such byte a source that fails gives the lines that ended, and one that ends gives all.
-abbrev pub answers_by : ℕ → List ℕ → Bool → Option (List ℕ) → FileAnswers
-answers_by room bytes fails (Some front) = record {
-  lines = ended_lines (front_of front);
-  last = Some (if nat_lt room (length front) then FileTooLong else LineTooLong);
+-- the least number, at most `last`, that passes a test
+abbrev pub least : (ℕ → Bool) → ℕ → Option ℕ
+least p zero = if p 0 then Some 0 else None
+least p (suc last) = if p 0 then Some 0 else option_map (λ n. suc n) (least (λ n. p (suc n)) last)
+
+-- the first byte, from 1, that breaks a limit
+abbrev pub first_break : ℕ → List ℕ → Option ℕ
+first_break most bytes = least (λ n. not (is_within most (take n bytes))) (length bytes)
+
+-- where byte x is the first that breaks a limit: the lines that ended before it, and then the fault;
+-- at one byte the file's limit comes first
+abbrev pub answers_before : ℕ → List ℕ → ℕ → FileAnswers
+answers_before most bytes x = record {
+  lines = ended_lines (take (x - 1) bytes);
+  last = Some (if nat_lt most x then FileTooLong else LineTooLong);
 }
-answers_by room bytes fails None =
+
+-- where no byte does: of a source that ends all lines, and of one that fails those that had ended
+abbrev pub answers_of_all : List ℕ → Bool → FileAnswers
+answers_of_all bytes fails =
     if fails then record { lines = ended_lines bytes; last = Some Read }
     else record { lines = numbered_lines bytes; last = None }
 
--- the answers of bytes of which at most `room` may be taken, and that then end or fail
+-- by the first byte that breaks a limit
+abbrev pub answers_by : ℕ → List ℕ → Bool → Option ℕ → FileAnswers
+answers_by most bytes fails (Some x) = answers_before most bytes x
+answers_by most bytes fails None = answers_of_all bytes fails
+
+-- the answers of bytes of which there may be at most `most`, and that then end or fail
 unfoldable pub answers_within : ℕ → List ℕ → Bool → FileAnswers
-answers_within room bytes fails =
-    answers_by room bytes fails (shortest_front (λ front. not (is_within room front)) bytes)
+answers_within most bytes fails = answers_by most bytes fails (first_break most bytes)
 
 -- the answers of a source, however its reads are cut
 abbrev pub file_answers : Told → FileAnswers

@@ -1,14 +1,27 @@
 //! Laws of the definitions that contracts cite. The functions do nothing.
 
-ghost use Rattle.std.specs.Prelude.{◌≡◌, ◌⊎◌, List, ℕ, Some, true};
+ghost use Rattle.std.specs.Prelude.{◌≡◌, ◌≤◌, ◌⊎◌, List, ℕ, length, take, Some, true};
 ghost use Rattle.byte_ends.specs.Source.{Told};
 ghost use Rattle.gsi_word.specs.Blocks.{GsiBlock, IsBlock};
 ghost use Rattle.gsi_file.specs.Parts.{ended_lines};
-ghost use Rattle.gsi_file.specs.FileAnswers.{file_answers};
+ghost use Rattle.gsi_file.specs.FileAnswers.{is_within, IsFirstBreak, answers_before, answers_of_all, file_answers};
 ghost use Rattle.gsi_file.specs.ToCome.{IsFileFault};
 ghost use Rattle.gsi_file.specs.declared.file_fault.FileKind.{FileKind};
 ghost use Rattle.gsi_file.specs.declared.file_fault.FileKind.TheVariants as kind;
 ghost use Rattle.gsi_file.specs.declared.limits.TheConstants.{LONGEST_LINE, LONGEST_FILE};
+
+/// Where a byte is the first that breaks a limit, a source answers the lines that ended before it.
+pub fn answers_before_a_broken_limit()
+    ensures { (told : Told) (x : ℕ) → IsFirstBreak LONGEST_FILE told.bytes x
+        → file_answers told ≡ answers_before LONGEST_FILE told.bytes x }
+{}
+
+/// Where no byte breaks a limit, a source answers by all its bytes.
+pub fn answers_within_the_limits()
+    ensures { (told : Told)
+        → ((n : ℕ) → n ≤ length told.bytes → is_within LONGEST_FILE (take n told.bytes) ≡ true)
+        → file_answers told ≡ answers_of_all told.bytes told.fails }
+{}
 
 /// A failed read comes only where the source gives all its bytes and then fails: all lines that its
 /// bytes end are answered before it.

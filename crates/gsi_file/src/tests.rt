@@ -440,6 +440,8 @@ fn lines_of_both_widths_may_stand_in_one_file(rt: HostRuntime) -> Result<(), Fai
 
 #[test]
 fn the_laws_are_calls(_rt: HostRuntime) {
+    laws::answers_before_a_broken_limit();
+    laws::answers_within_the_limits();
     laws::failed_read_needs_a_failing_source();
     laws::one_fault();
     laws::no_fault_in_a_block();

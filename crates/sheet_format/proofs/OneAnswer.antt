@@ -5,7 +5,7 @@ use Rattle.std.proofs.lemmas.Bool.{cases_Bool, cases_lt, ltb-false, ltb-true, ne
 use Rattle.std.proofs.lemmas.List.{take_all, drop_all}
 use Rattle.adjust_kernel.specs.Sheets.{IsSheet, SheetValue}
 use Rattle.sheet_format.specs.Drafts.{DraftValue, blank, last_of_draft, rows_of_draft, said_by_draft, with_row}
-use Rattle.sheet_format.specs.Faults.{Before, IsFaultOrMemory, IsFirstFault, IsSheetFault, IsSheetOrFault, fault_at, fault_between, last_kind, row_fault}
+use Rattle.sheet_format.specs.Faults.{Before, IsFaultOrMemory, IsFirstFault, IsSheetFault, fault_at, fault_between, last_kind, row_fault}
 use Rattle.sheet_format.specs.Kinds.{may_end}
 use Rattle.sheet_format.specs.Rows.{IsOfVersion, IsSheetText, body_rows, obs_fields, records_of, rows_of, set_fields, sheet_fields}
 use Rattle.sheet_format.specs.declared.entry.Header.{Header}
@@ -125,7 +125,7 @@ answers-fault bytes (Err g) ok err f fault = elim (fault-or-memory bytes g err) 
 ]
 
 -- rows that are left stand for the rest of a sheet, or one of them has a fault
-abbrev SheetOrFault : List ℕ → Type 0
+abbrev pub SheetOrFault : List ℕ → Type 0
 SheetOrFault bytes = ((s : SheetValue) × IsSheetText bytes s) ⊎ ((f : SheetFault) × IsSheetFault bytes f)
 
 decided-rows : (bytes : List ℕ) → length bytes ≤ LONGEST_SHEET → (rest : List (List (List ℕ))) (d : DraftValue) → HasRead (records_of bytes) d rest → SheetOrFault bytes
@@ -139,11 +139,8 @@ decided-rows bytes short (row ∷ rest) d read = by (row_fault (said_by_draft d)
     by None e later = later (read-more (records_of bytes) d (with_row d row) row rest read e refl)
     by (Some k) e later = inr (Row (length (rows_of_draft d) + 1) k, (short, length (rows_of_draft d), refl, read-fault (records_of bytes) d row rest k read e))
 
-pub sheet-or-fault : (bytes : List ℕ) → IsSheetOrFault bytes
-sheet-or-fault bytes = record {
-  either = elim (cases_lt LONGEST_SHEET (length bytes)) [
-    | inl long ↦ inr (TooLong, long)
-    | inr short ↦ decided-rows bytes short (records_of bytes) blank (read-begin (records_of bytes))
-  ];
-  never_both = never-both bytes;
-}
+pub sheet-or-fault : (bytes : List ℕ) → SheetOrFault bytes
+sheet-or-fault bytes = elim (cases_lt LONGEST_SHEET (length bytes)) [
+  | inl long ↦ inr (TooLong, long)
+  | inr short ↦ decided-rows bytes short (records_of bytes) blank (read-begin (records_of bytes))
+]

@@ -3,13 +3,12 @@ use Rattle.std.specs.Prelude.{◌≡◌, ℕ, ◌+◌, ◌<◌, ◌≤◌, Bool,
 use Rattle.std.specs.Int.{is_in_range}
 use Rattle.std.specs.List.{count_by, list_all}
 use Rattle.std.specs.Option.{option_or}
-use Rattle.adjust_kernel.specs.Sheets.{SheetValue}
 use Rattle.adjust_kernel.specs.declared.limits.TheConstants.{LARGEST_SET_NUMBER, LARGEST_TURN, LONGEST_NAME, MOST_ROWS, MOST_SETS, MOST_TARGETS, TURN}
 use Rattle.adjust_kernel.specs.declared.name.TheConstants.{FIRST_PRINTABLE, LAST_PRINTABLE}
 use Rattle.sheet_format.specs.Columns.{Fields, columns_of}
 use Rattle.sheet_format.specs.Kinds.{kind_of, may_end, may_follow, names_kind}
 use Rattle.sheet_format.specs.Numbers.{is_at_most, is_canonical, is_within, value_of}
-use Rattle.sheet_format.specs.Rows.{IsSheetText, records_of}
+use Rattle.sheet_format.specs.Rows.{records_of}
 use Rattle.sheet_format.specs.Versions.{largest_angle, largest_denominator, version_of}
 use Rattle.sheet_format.specs.declared.fault.RowKind.{RowKind}
 use Rattle.sheet_format.specs.declared.fault.RowKind.TheVariants as fault
@@ -175,8 +174,3 @@ abbrev pub IsFaultOrMemory : List ℕ → SheetFault → Type 0
 IsFaultOrMemory bytes TooLong = IsSheetFault bytes TooLong
 IsFaultOrMemory bytes (Row number kind) = IsSheetFault bytes (Row number kind)
 IsFaultOrMemory bytes Memory = Unit {0}
-
--- Bytes stand for a sheet or have a fault, and never both.
-pub record IsSheetOrFault (bytes : List ℕ) : Type 0 where
-  pub either : ((s : SheetValue) × IsSheetText bytes s) ⊎ ((f : SheetFault) × IsSheetFault bytes f)
-  pub never_both : (s : SheetValue) (f : SheetFault) → IsSheetText bytes s → IsSheetFault bytes f → ⊥

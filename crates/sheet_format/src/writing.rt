@@ -3,7 +3,6 @@
 ghost use Rattle.std.specs.Prelude.{◌≡◌, true, Err, OnOk};
 ghost use Rattle.std.specs.Io.KnownBytes.{Appends};
 ghost use Rattle.byte_ends.specs.Sink.{AppendsSome};
-ghost use Rattle.sheet_format.specs.Rows.{IsSheetText};
 ghost use Rattle.sheet_format.specs.Texts as spec;
 ghost use Rattle.sheet_format.specs.declared.fault.WriteFault.TheVariants as fault;
 
@@ -18,7 +17,6 @@ use std::alloc::Global;
 /// The text is made in memory first, so that a refusal of memory comes before anything is written.
 pub fn write_sheet<W: Sink>(alloc: Global, sheet: &Sheet, writer: &mut W) -> Result<(), WriteFault>
     ensures written { OnOk result (Appends (W.holds writer.old) (W.holds writer.new) (spec.sheet_text sheet.now)) }
-    ensures stands { IsSheetText (spec.sheet_text sheet.now) sheet.now }
     ensures unfailed { OnOk result (W.failed writer.new ≡ W.failed writer.old) }
 
     // Without memory nothing was asked of the writer; when it fails, what it took is the beginning of the text.

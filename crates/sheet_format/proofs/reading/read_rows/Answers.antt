@@ -3,6 +3,9 @@ use Rattle.csv.specs.Reading.{default_config, records_from, strip_bom}
 use Rattle.csv.specs.Records.{fields_of}
 use Rattle.csv.proofs.ReadFacts.{rows-end}
 use Rattle.sheet_format.specs.Rows.{records_of}
+use Rattle.std.proofs.Common.{ap, [], length-append}
+use Rattle.sheet_format.specs.Drafts.{rows_of_draft}
+use Rattle.sheet_format.proofs.DraftRows.{row-taken}
 use Rattle.sheet_format.proofs.FirstFaults.{HasRead, read-begin, read-end, read-fault, read-more, read-whole}
 use Rattle.sheet_format.proofs.RecordFacts.{records-end, records-step, row-read}
 use Rattle.sheet_format.proofs.reading.read_rows.Goals as goal
@@ -65,3 +68,15 @@ returns-in-Some-clause-sheet c =
     let end = rows-end (λ (b : Bor (List ℕ)). Some b.now) c.rows.reader c.read_byte_record.new.self (fields_of c.read_byte_record.new.row) default_config y config source got in
     let here = subst (HasRead (records_of c.args.bytes.now) c.rows.draft) (records-end n c.rows.reader.state y end) read in
     read-whole c.args.bytes.now c.rows.draft c.in-Some.sheet c.requires here c.in-Some.ensures.some c.in-Some.ensures.valid
+
+pub rows-smaller : goal.rows-smaller
+rows-smaller c =
+    let (trim, ready, config, well, y, source, n, room, read) = c.rows.invariant in
+    let got = rw c.if-not-found.false at (c.in-Ok.ensures.reads trim ready) in
+    let row = fields_of c.read_byte_record.new.row in
+    let (z, at_z, next) = row-read (λ (b : Bor (List ℕ)). Some b.now) c.rows.reader c.read_byte_record.new.self row y config source got in
+    let (m, more, room2, well2) = records-step n c.rows.reader.state y (row, c.read_byte_record.new.self.state, z) next well room in
+    let rest = records_from default_config m c.read_byte_record.new.self.state z in
+    let here = subst (HasRead (records_of c.args.bytes.now) c.rows.draft) {y = row ∷ rest} more read in
+    let taken = row-taken c.rows.draft row here.draft c.in-Ok-take_row.ensures.faultless in
+    rw (c.in-Ok-take_row.ensures.taken, taken.rows) (omega (arith, ap (λ (all : List (List (List ℕ))). length all) here.rows, length-append (rows_of_draft c.rows.draft) (row ∷ rest), length-append (rows_of_draft c.rows.draft) (row ∷ [])))
