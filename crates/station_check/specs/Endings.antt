@@ -18,7 +18,8 @@ pub record IsCutShort {W : Type 0} (text : List ℕ) (failed : W → Bool)
   pub call_failed : failed new ≡ true
 
 -- This text was written whole, or cut short by a failed call.
-abbrev pub WritesOrFails : {W : Type 0} → List ℕ → (W → Bool) → (W → Option (List ℕ)) → W → W → Type 0
+abbrev pub WritesOrFails : {W : Type 0} → List ℕ
+    → (W → Bool) → (W → Option (List ℕ)) → W → W → Type 0
 WritesOrFails text failed holds old new =
     IsWritten text failed holds old new ⊎ IsCutShort text failed holds old new
 
@@ -29,12 +30,13 @@ status_of (Err fault) = 1
 
 -- What `err` got of an answer: the line of a refusal; and where there is none, nothing was asked of
 -- it.
-abbrev pub Reports : {A E : Type 0} → Result A Fault → (E → Bool) → (E → Option (List ℕ)) → E → E → Type 0
+abbrev pub Reports : {A E : Type 0} → Result A Fault
+    → (E → Bool) → (E → Option (List ℕ)) → E → E → Type 0
 Reports (Ok x) failed holds old new = new ≡ old
 Reports (Err fault) failed holds old new = WritesOrFails (refusal_line fault) failed holds old new
 
--- A run ended with an answer of which this is so: its status is that of the answer, and the line of a
--- refusal went to `err`.
+-- A run ended with an answer of which this is so: its status is that of the answer, and the line
+-- of a refusal went to `err`.
 pub record EndsWith {A E : Type 0} (So : Result A Fault → Type 0) (status : ℕ) (failed : E → Bool)
     (holds : E → Option (List ℕ)) (err err' : E) : Type 0 where
   pub answer : Result A Fault

@@ -26,20 +26,22 @@ pub record HasStation (limits : FaceLimits) (answers : FileAnswers) (name : List
   pub named : station_named name stations ≡ Some its
 
 -- The file ended without a fault, and has no station of this name.
-pub record HasNoStation (limits : FaceLimits) (answers : FileAnswers) (name : List ℕ) : Type 0 where
+pub record HasNoStation (limits : FaceLimits) (answers : FileAnswers) (name : List ℕ)
+    : Type 0 where
   pub stations : List SurveyedStation
   pub survey : IsSurvey limits answers stations
   pub none : station_named name stations ≡ None
 
 -- Some target of the station was not observed in some set.
-pub record HasIncomplete (limits : FaceLimits) (answers : FileAnswers) (name : List ℕ) : Type 0 where
+pub record HasIncomplete (limits : FaceLimits) (answers : FileAnswers) (name : List ℕ)
+    : Type 0 where
   pub its : SurveyedStation
   pub has : HasStation limits answers name its
   pub gap : IsComplete its.station → ⊥
 
--- This is the text of the sheet of means of the station of this name, of which each set is complete;
--- and the whole verdict on the same file with that text is that it is accepted, where no residual
--- limit is stated.
+-- This is the text of the sheet of means of the station of this name, all of whose sets are
+-- complete; and the whole verdict on the same file with that text is that it is accepted, where no
+-- residual limit is stated.
 pub record IsMeansText (limits : FaceLimits) (gsi : Told) (name : List ℕ) (text : List ℕ) :
     Type 0 where
   pub its : SurveyedStation
