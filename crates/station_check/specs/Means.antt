@@ -42,8 +42,8 @@ pub record HasIncomplete (limits : FaceLimits) (answers : FileAnswers) (name : L
 -- This is the text of the sheet of means of the station of this name, all of whose sets are
 -- complete; and the whole verdict on the same file with that text is that it is accepted, where no
 -- residual limit is stated.
-pub record IsMeansText (limits : FaceLimits) (gsi : Told) (name : List ℕ) (text : List ℕ) :
-    Type 0 where
+pub record IsMeansText (limits : FaceLimits) (gsi : Told) (name : List ℕ) (text : List ℕ)
+    : Type 0 where
   pub its : SurveyedStation
   pub has : HasStation limits (file_answers gsi) name its
   pub complete : IsComplete its.station
