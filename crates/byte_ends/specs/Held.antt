@@ -22,9 +22,9 @@ held_flush_fails h = h.flush_fails
 abbrev pub has_failed : Held → Bool
 has_failed h = h.has_failed
 
--- It takes `takes` bytes more, at most `at_once` of them for each write, and its flushes fail or
--- not.
-pub record IsSetTo (h : Held) (takes at_once : ℕ) (fails : Bool) : Type 0 where
-  pub room : held_room h ≡ takes
-  pub step : held_step h ≡ at_once
-  pub flush_fails : held_flush_fails h ≡ fails
+-- It takes `room` bytes more, at most `step` of them for each write, and where `flush_fails` each
+-- flush fails.
+pub record IsSetTo (h : Held) (room step : ℕ) (flush_fails : Bool) : Type 0 where
+  pub room_left : held_room h ≡ room
+  pub step_kept : held_step h ≡ step
+  pub fails_kept : held_flush_fails h ≡ flush_fails

@@ -21,6 +21,13 @@ impl<R: Read + Drop> OfRead<R> {
     {
         OfRead { reader }
     }
+
+    /// The reader, as its reads have left it.
+    pub fn into_inner(self) -> R
+        ensures { result ≡ reader_of self }
+    {
+        self.reader
+    }
 }
 
 impl<R: Read + Drop> Source for OfRead<R> {

@@ -26,6 +26,13 @@ impl<W: Write + Drop> OfWrite<W> {
             has_failed: false,
         }
     }
+
+    /// The writer, with what was written.
+    pub fn into_inner(self) -> W
+        ensures { result ≡ writer_of self }
+    {
+        self.writer
+    }
 }
 
 impl<W: Write + Drop> Sink for OfWrite<W> {

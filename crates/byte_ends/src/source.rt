@@ -15,3 +15,11 @@ pub trait Source: Drop {
         ensures bound { IfOk result (λ n. n ≤ length buf.new) }
         ensures reads { Reads (told self.old) (told self.new) result buf.new };
 }
+
+impl<S: Source> Source for &mut S {
+    ghost told = { λ s. S.told s.now };
+
+    fn read(&mut self, buf: &mut [u8]) -> Result<usize, Failed> {
+        Source::read(&mut **self, buf)
+    }
+}

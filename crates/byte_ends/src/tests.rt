@@ -41,12 +41,17 @@ impl Write for Stuck {
     }
 }
 
-/// Reads a source to its end, by reads into ten bytes.
-fn read_to_end<S: Source>(alloc: Global, source: &mut S) -> Result<(Vec<u8>, bool), AllocError> {
+/// Reads a source to its end, by reads into so many bytes.
+fn read_to_end<S: Source>(
+    alloc: Global,
+    source: &mut S,
+    room: usize,
+) -> Result<(Vec<u8>, bool), AllocError> {
     let mut bytes = Vec::new(alloc);
     let mut buffer = [0u8; 10];
+    let room = room.min(buffer.len());
     for _ in 0..100 {
-        match source.read(&mut buffer) {
+        match source.read(&mut buffer[..room]) {
             Ok(0) => return Ok((bytes, false)),
             Ok(n) => bytes.extend_from_slice(&buffer[..n])?,
             Err(Failed) => return Ok((bytes, true)),
@@ -55,12 +60,85 @@ fn read_to_end<S: Source>(alloc: Global, source: &mut S) -> Result<(Vec<u8>, boo
     Ok((bytes, false))
 }
 
+/// A reader or writer that fails at one call and counts its calls.
+#[derive(Drop)]
+struct FailsAt {
+    call: u32,
+    calls: u32,
+}
+
+impl FailsAt {
+    fn answer(&mut self, bytes: usize) -> io::Result<usize> {
+        self.calls = self.calls.saturating_add(1);
+        if self.calls == self.call {
+            return Err(Error::from(ErrorKind::Interrupted));
+        }
+        Ok(bytes.min(1))
+    }
+}
+
+impl Read for FailsAt {
+    fn read(&mut self, buf: &mut [u8]) -> io::Result<usize> {
+        let given = self.answer(buf.len())?.min(buf.len());
+        buf[..given].fill(b'A');
+        Ok(given)
+    }
+}
+
+impl Write for FailsAt {
+    fn write(&mut self, buf: &[u8]) -> io::Result<usize> {
+        Ok(self.answer(buf.len())?.min(buf.len()))
+    }
+
+    fn flush(&mut self) -> io::Result<()> {
+        self.answer(0).map(|_| ())
+    }
+}
+
+#[test]
+fn one_read_is_one_call_of_the_reader_and_has_its_answer(rt: HostRuntime) {
+    for failing in 1..5u32 {
+        let mut reader = FailsAt {
+            call: failing,
+            calls: 0,
+        };
+        let mut buffer = [0u8; 4];
+        for call in 1..8u32 {
+            let want = if call == failing { Err(Failed) } else { Ok(1) };
+            let answer = OfRead::new(&mut reader).read(&mut buffer);
+            assert_eq!(rt; answer, want, "call {call}");
+            assert_eq!(rt; reader.calls, call);
+        }
+    }
+}
+
+#[test]
+fn one_write_is_one_call_of_the_writer_and_has_its_answer(rt: HostRuntime) {
+    for failing in 1..5u32 {
+        let mut writer = FailsAt {
+            call: failing,
+            calls: 0,
+        };
+        for call in 1..8u32 {
+            let mut sink = OfWrite::new(&mut writer);
+            if call == 3 {
+                let want = if call == failing { Err(Failed) } else { Ok(()) };
+                assert_eq!(rt; sink.flush(), want, "call {call}");
+            } else {
+                let want = if call == failing { Err(Failed) } else { Ok(1) };
+                assert_eq!(rt; sink.write(TEXT), want, "call {call}");
+            }
+            assert_eq!(rt; writer.calls, call);
+        }
+    }
+}
+
 #[test]
 fn a_script_gives_its_bytes_and_then_ends_or_fails(rt: HostRuntime) -> Result<(), Fail> {
     for step in [1, 2, 3, 7, 10, 100] {
         for fails in [false, true] {
             let mut script = Script::new(TEXT, step, fails);
-            let (bytes, failed) = read_to_end(rt.alloc(), &mut script)?;
+            let (bytes, failed) = read_to_end(rt.alloc(), &mut script, 10)?;
             assert_eq!(rt; &bytes[..], TEXT, "{step} bytes a read");
             assert_eq!(rt; failed, fails, "{step} bytes a read");
         }
@@ -70,10 +148,13 @@ fn a_script_gives_its_bytes_and_then_ends_or_fails(rt: HostRuntime) -> Result<()
 
 #[test]
 fn a_reader_of_std_is_read_as_it_stands(rt: HostRuntime) -> Result<(), Fail> {
-    let mut source = OfRead::new(TEXT);
-    let (read, failed) = read_to_end(rt.alloc(), &mut source)?;
-    assert_eq!(rt; &read[..], TEXT);
-    assert!(rt; !failed);
+    for room in 1..=10usize {
+        let mut source = OfRead::new(TEXT);
+        let (read, failed) = read_to_end(rt.alloc(), &mut source, room)?;
+        assert_eq!(rt; &read[..], TEXT, "room {room}");
+        assert!(rt; !failed, "room {room}");
+        assert!(rt; source.into_inner().is_empty());
+    }
     let mut buffer = [0u8; 4];
     assert_eq!(rt; OfRead::new(Broken).read(&mut buffer), Err(Failed));
     Ok(())
@@ -81,11 +162,14 @@ fn a_reader_of_std_is_read_as_it_stands(rt: HostRuntime) -> Result<(), Fail> {
 
 #[test]
 fn a_writer_of_std_gets_the_bytes(rt: HostRuntime) -> Result<(), Fail> {
-    let mut written = Vec::new(rt.alloc());
-    let mut sink = OfWrite::new(&mut written);
-    assert_eq!(rt; sink.write_all(TEXT), Ok(()));
-    assert_eq!(rt; sink.flush(), Ok(()));
-    assert_eq!(rt; &written[..], TEXT);
+    for step in 1..=10usize {
+        let mut sink = OfWrite::new(Vec::new(rt.alloc()));
+        for piece in TEXT.chunks(step) {
+            assert_eq!(rt; sink.write_all(piece), Ok(()), "{step} bytes a write");
+        }
+        assert_eq!(rt; sink.flush(), Ok(()));
+        assert_eq!(rt; &sink.into_inner()[..], TEXT);
+    }
     Ok(())
 }
 

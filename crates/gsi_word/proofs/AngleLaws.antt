@@ -52,7 +52,7 @@ digits_cases bytes n false test e = absurd (none_some n e)
 
 angle_found : (w : GsiWord) (units : ℕ) → angle_of w ≡ Ok units → IsAngle w units
 angle_found w units e =
-    let p = passed (is_gon w) (is_input_mode (slice_index w.info 2)) w.negative (angle_within_turn (decimal_number w.content)) units e in
+    let p = passed (is_gon (slice_index w.info 3)) (is_input_mode (slice_index w.info 2)) w.negative (angle_within_turn (decimal_number w.content)) units e in
     let q = within (decimal_number w.content) units p.number_is in
     let r = digits_cases w.content units (list_all is_ascii_digit w.content) refl q.0 in
     record { gon = p.gon_passed; input_mode = p.mode_passed; sign = p.sign_passed; digits = r.0; value = r.1; within_turn = q.1 }

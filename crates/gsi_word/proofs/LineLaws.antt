@@ -1,8 +1,8 @@
 -- A line is one block at most or has one fault at most, and never both.
 use Rattle.std.proofs.Common.{◌≡◌, ◌≢◌, ℕ, zero, suc, ◌+◌, ◌-◌, ◌/◌, ◌<◌, Bool, true, false, eqb, List, [], ◌∷◌, ◌++◌, length, get_or, take, drop, map, replicate, All, Any, ◌⊎◌, inl, inr, refl, sym, ap, subst, ◌∙◌, append_assoc, arith}
-use Rattle.std.specs.Prelude.{if◌then◌else◌}
-use Rattle.std.proofs.lemmas.Bool.{eqb-true}
-use Rattle.std.specs.List.{flat_map, join_with_byte}
+use Rattle.std.specs.Prelude.{if◌then◌else◌, nat_eq, codes}
+use Rattle.std.proofs.lemmas.Bool.{eqb-true, and_parts}
+use Rattle.std.specs.List.{flat_map, join_with_byte, starts_with}
 use Rattle.std.proofs.lemmas.List.{drop-replicate, drop_more, get_or_default, get_or_at, get_or-take, length-append, length-take, take-append-drop}
 use Rattle.std.proofs.lemmas.List.Elements.{All-head, All-tail, All-append, All-cons, All-from_get_or, All-replicate}
 use Rattle.gsi_word.specs.Words.{GsiWord, IsPrintable, IsWord, spelled}
@@ -129,14 +129,14 @@ are_words_printable : (width : ℕ) (bytes : List ℕ) (ws : List GsiWord) → A
 are_words_printable width bytes ws h =
     subst (λ (r : List ℕ). All IsPrintable r) (sym h.text) (words_printable width ws (replicate h.blanks 32) h.each (All-replicate IsPrintable h.blanks 32 (omega arith, omega arith)))
 
-star_printable : (b : ℕ) (bs : List ℕ) (t : Bool) → eqb b 42 ≡ t → All IsPrintable (if t then bs else b ∷ bs) → All IsPrintable (b ∷ bs)
-star_printable b bs true e h = let star : b ≡ 42 = eqb-true _ _ e in All-cons IsPrintable b bs (omega arith, omega arith) h
+star_printable : (b : ℕ) (bs : List ℕ) (t : Bool) → starts_with nat_eq (b ∷ bs) (codes "*") ≡ t → All IsPrintable (if t then bs else b ∷ bs) → All IsPrintable (b ∷ bs)
+star_printable b bs true e h = let star : 42 ≡ b = eqb-true _ _ (and_parts _ _ e).0 in All-cons IsPrintable b bs (omega arith, omega arith) h
 star_printable b bs false e h = h
 
 -- The `*` is printable, so that the line is where its words are.
 line_printable : (line : List ℕ) → All IsPrintable (word_bytes line) → All IsPrintable line
 line_printable [] h = h
-line_printable (b ∷ bs) h = star_printable b bs (eqb b 42) refl h
+line_printable (b ∷ bs) h = star_printable b bs (starts_with nat_eq (b ∷ bs) (codes "*")) refl h
 
 words_line_printable : (line : List ℕ) (ws : List GsiWord) → AreWords (width_of line) (word_bytes line) ws → All IsPrintable line
 words_line_printable line ws h = line_printable line (are_words_printable (width_of line) (word_bytes line) ws h)

@@ -1,9 +1,10 @@
 -- Bytes that may stand in a line: the fact and its test.
-use Rattle.std.proofs.Common.{◌≡◌, ◌∙◌, sym, subst, ℕ, ◌≤◌, true, false, List, take, drop, take-take, All}
-use Rattle.std.specs.List.{list_all}
-use Rattle.std.proofs.lemmas.Bool.{false≢true, leb-true, le-leb, and_parts, and_from}
+use Rattle.std.proofs.Common.{◌≡◌, ◌∙◌, sym, subst, refl, ℕ, suc, ◌+◌, ◌≤◌, Bool, true, false, cond, not, List, [], ◌∷◌, length, take, drop, take-take, All, Option, Some, None, arith}
+use Rattle.std.specs.Prelude.{nat_lt, position}
+use Rattle.std.specs.List.{list_all, position_or_len}
+use Rattle.std.proofs.lemmas.Bool.{false≢true, leb-true, le-leb, ltb-false, and_parts, and_from}
 use Rattle.std.proofs.lemmas.List.{take-append-drop}
-use Rattle.std.proofs.lemmas.List.Elements.{All-append, All-take, All-weaker}
+use Rattle.std.proofs.lemmas.List.Elements.{All-nil, All-cons, All-append, All-take, All-weaker}
 use Rattle.std.proofs.lemmas.List.Sums.{AllPass-from_list_all, list_all-from_AllPass}
 use Rattle.gsi_word.specs.Words.{IsPrintable}
 use Rattle.gsi_word.specs.Layout.{is_printable}
@@ -28,3 +29,30 @@ pub all_of_both : (bytes : List ℕ) (n from : ℕ) → from ≤ n → All IsPri
 all_of_both bytes n from le front rest =
     let before = subst (All IsPrintable) (take-take from n bytes le) (All-take IsPrintable from (take n bytes) front) in
     subst (All IsPrintable) (take-append-drop from bytes) (All-append IsPrintable (take from bytes) (drop from bytes) before rest)
+
+-- whether a byte may not stand in a line
+abbrev pub is_stray : ℕ → Bool
+is_stray b = not (is_printable b)
+
+none_past : (bytes : List ℕ) → length bytes ≤ position_or_len is_stray bytes → All IsPrintable bytes
+none_past [] le = All-nil IsPrintable
+none_past (b ∷ bytes) le = by (is_printable b) refl le (none_past bytes)
+  where
+    by : (t : Bool) → is_printable b ≡ t → suc (length bytes) ≤ cond (not (not t)) (1 + position_or_len is_stray bytes) 0
+        → (length bytes ≤ position_or_len is_stray bytes → All IsPrintable bytes) → All IsPrintable (b ∷ bytes)
+    by true e past later = All-cons IsPrintable b bytes (printable b e) (later (omega (arith, past)))
+    by false e past later = absurd (omega (arith, past))
+
+not_within : (n m : ℕ) → cond (nat_lt n m) (Some n) None ≡ None → m ≤ n
+not_within n m e = by (nat_lt n m) refl e
+  where
+    by : (t : Bool) → nat_lt n m ≡ t → cond t (Some n) None ≡ None → m ≤ n
+    by true within none = absurd (some_none n none)
+      where
+        some_none : (k : ℕ) → ◌≡◌ {A = Option ℕ} (Some k) None → ⊥
+        some_none k e = cc
+    by false past none = ltb-false _ _ past
+
+-- without a first byte that may not stand in a line, all may
+pub no_stray : (bytes : List ℕ) → position is_stray bytes ≡ None → All IsPrintable bytes
+no_stray bytes e = none_past bytes (not_within (position_or_len is_stray bytes) (length bytes) e)

@@ -1,7 +1,7 @@
--- A line that is a block of words (GSI manual; that a line may end with its last word, or with any number of blanks, is
--- profile).
-use Rattle.std.specs.Prelude.{◌≡◌, ◌==◌, ℕ, ◌<◌, Bool, false, List, [], ◌∷◌, ◌++◌, length, drop, map, All, replicate, if◌then◌else◌, ◌⊎◌}
-use Rattle.std.specs.List.{join_with_byte}
+-- A line that is a block of words (GSI manual; that a line may end with its last word, or with any
+-- number of blanks, is profile).
+use Rattle.std.specs.Prelude.{◌≡◌, ℕ, ◌<◌, Bool, nat_eq, codes, List, [], ◌∷◌, ◌++◌, length, drop, map, All, replicate, if◌then◌else◌, ◌⊎◌}
+use Rattle.std.specs.List.{join_with_byte, starts_with}
 use Rattle.gsi_word.specs.Words.{GsiWord, IsWord, spelled}
 
 -- What a block says: how many bytes the content of each word has, and its words in order.
@@ -11,8 +11,7 @@ pub record GsiBlock : Type 0 where
 
 -- A GSI-16 line begins with `*`.
 abbrev pub is_starred : List ℕ → Bool
-is_starred [] = false
-is_starred (b ∷ bs) = b == 42
+is_starred line = starts_with nat_eq line (codes "*")
 
 -- how many bytes the content of each word of a line has
 abbrev pub width_of : List ℕ → ℕ

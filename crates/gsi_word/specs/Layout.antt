@@ -1,5 +1,5 @@
--- Where the words of a line and the parts of a word lie in their bytes: how the code finds and keeps them. What they mean
--- is said in Words and Blocks.
+-- Where the words of a line and the parts of a word lie in their bytes: how the code finds and
+-- keeps them. What they mean is said in Words and Blocks.
 use Rattle.std.specs.Prelude.{◌≡◌, ℕ, zero, suc, ◌+◌, ◌-◌, ◌*◌, ◌<◌, ◌≤◌, Bool, ◌&&◌, ◌||◌, not, nat_le, ◌==◌, IsTrue, List, [], ◌∷◌, length, take, drop, slice_index}
 use Rattle.std.specs.Char.{is_ascii_digit}
 use Rattle.std.specs.Int.{is_in_range}
@@ -22,14 +22,17 @@ is_printable b = is_in_range 32 126 b
 -- whether printable bytes begin with a word of this width that ends them or has a blank after it
 unfoldable pub begins_word : ℕ → List ℕ → Bool
 begins_word width bytes =
-    nat_le (7 + width) (length bytes) && (is_ascii_digit (slice_index bytes 0) && (is_ascii_digit (slice_index bytes 1)
-    && (not (list_any (λ b. b == 32) (take 4 (drop 2 bytes))) && ((slice_index bytes 6 == 43 || slice_index bytes 6 == 45)
+    nat_le (7 + width) (length bytes)
+    && (is_ascii_digit (slice_index bytes 0) && (is_ascii_digit (slice_index bytes 1)
+    && (not (list_any (λ b. b == 32) (take 4 (drop 2 bytes)))
+    && ((slice_index bytes 6 == 43 || slice_index bytes 6 == 45)
     && (length bytes == 7 + width || slice_index bytes (7 + width) == 32)))))
 
 -- the first words of some bytes, each with its blank
 abbrev pub words_from : ℕ → ℕ → List ℕ → List GsiWord
 words_from width zero bytes = []
-words_from width (suc n) bytes = word_of (take (7 + width) bytes) ∷ words_from width n (drop (8 + width) bytes)
+words_from width (suc n) bytes =
+    word_of (take (7 + width) bytes) ∷ words_from width n (drop (8 + width) bytes)
 
 -- GSI-8 or GSI-16
 abbrev pub is_width : ℕ → Bool
@@ -58,4 +61,5 @@ pub record KeepsWords (width : ℕ) (bytes : List ℕ) (count : ℕ) : Type 0 wh
   pub width_known : IsTrue (is_width width)
   pub some_word : 0 < count
   pub room : (8 + width) * count ≤ length bytes + 1
-  pub each : (i : ℕ) → i < count → IsWordBytes width (take (7 + width) (drop ((8 + width) * i) bytes))
+  pub each : (i : ℕ) → i < count
+      → IsWordBytes width (take (7 + width) (drop ((8 + width) * i) bytes))

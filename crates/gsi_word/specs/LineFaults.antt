@@ -1,5 +1,5 @@
--- The first fault of a line that is no block, as a fact about the whole line. That bytes come before words, and all words
--- before the first one's index, is profile.
+-- The first fault of a line that is no block, as a fact about the whole line. That bytes come
+-- before words, and all words before the first one's index, is profile.
 use Rattle.std.specs.Prelude.{◌≡◌, ◌≢◌, ℕ, ◌+◌, List, [], ◌∷◌, ◌++◌, length, All, Any, ◌⊎◌}
 use Rattle.std.specs.List.{flat_map}
 use Rattle.gsi_word.specs.declared.line_fault.LineFault.{LineFault}
@@ -34,8 +34,8 @@ pub record BeginsWord (width : ℕ) (bytes : List ℕ) : Type 0 where
 abbrev pub followed : GsiWord → List ℕ
 followed w = spelled w ++ 32 ∷ []
 
--- The words before the nth, from 1, are each followed by a blank. No word begins after them, and where there is at
--- least one of them not all that is left is blank.
+-- The words before the nth, from 1, are each followed by a blank. No word begins after them, and
+-- where there is at least one of them not all that is left is blank.
 pub record IsWordFault (width : ℕ) (bytes : List ℕ) (nth : ℕ) : Type 0 where
   pub words : List GsiWord
   pub rest : List ℕ
@@ -54,5 +54,6 @@ pub record IsFirstWordFault (line : List ℕ) : Type 0 where
 -- The first fault of a line: a byte, else a word, else the first word.
 abbrev pub IsLineFault : List ℕ → LineFault → Type 0
 IsLineFault line (Byte at) = IsByteFault line at
-IsLineFault line (Word nth) = All IsPrintable line × IsWordFault (width_of line) (word_bytes line) nth
+IsLineFault line (Word nth) =
+    All IsPrintable line × IsWordFault (width_of line) (word_bytes line) nth
 IsLineFault line FirstWord = IsFirstWordFault line

@@ -1,4 +1,5 @@
--- The name or code that a content holds (GSI manual: the instrument fills the content with zeros from the left).
+-- The name or code that a content holds (GSI manual: the instrument fills the content with zeros
+-- from the left).
 use Rattle.std.specs.Prelude.{◌≡◌, ◌≢◌, ◌==◌, ℕ, ◌<◌, List, [], ◌∷◌, ◌++◌, length, replicate, if◌then◌else◌, Some, slice_get, ◌⊎◌}
 
 -- the content without the zeros before it, at least one byte kept
@@ -7,7 +8,8 @@ name_of [] = []
 name_of (b ∷ []) = b ∷ []
 name_of (b ∷ c ∷ bytes) = if b == 48 then name_of (c ∷ bytes) else b ∷ c ∷ bytes
 
--- The content is some zeros and then this name, which is not empty, and is `0` or does not begin with `0`.
+-- The content is some zeros and then this name, which is not empty, and is `0` or does not begin
+-- with `0`.
 pub record IsName (content name : List ℕ) : Type 0 where
   pub zeros : ℕ
   pub text : content ≡ replicate zeros 48 ++ name

@@ -16,7 +16,8 @@ IsPrintable b = (32 ≤ b) × (b ≤ 126)
 abbrev pub IsGraphic : ℕ → Type 0
 IsGraphic b = (33 ≤ b) × (b ≤ 126)
 
--- A word of this width has an index of two digits, four bytes of information and `width` bytes of content.
+-- A word of this width has an index of two digits, four bytes of information and `width` bytes of
+-- content.
 pub record IsWord (width : ℕ) (w : GsiWord) : Type 0 where
   pub index : w.index < 100
   pub info_length : length w.info ≡ 4

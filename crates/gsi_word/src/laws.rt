@@ -16,12 +16,14 @@ pub fn one_block()
 
 /// A line has one first fault at most.
 pub fn one_fault()
-    ensures { (line : List ℕ) (a b : LineFault) → IsLineFault line a → IsLineFault line b → a ≡ b }
+    ensures { (line : List ℕ) (a b : LineFault)
+        → IsLineFault line a → IsLineFault line b → a ≡ b }
 {}
 
 /// A line that is a block has no fault.
 pub fn no_fault_in_a_block()
-    ensures { (line : List ℕ) (block : GsiBlock) (fault : LineFault) → IsBlock line block → ¬ IsLineFault line fault }
+    ensures { (line : List ℕ) (block : GsiBlock) (fault : LineFault)
+        → IsBlock line block → ¬ IsLineFault line fault }
 {}
 
 /// Each line is a block or has a fault.
@@ -32,7 +34,8 @@ pub fn block_or_fault()
 
 /// A content that is not empty has one name, the content without its leading zeros.
 pub fn one_name()
-    ensures { (content name : List ℕ) → 0 < length content → IsName content name ↔ (name ≡ name_of content) }
+    ensures { (content name : List ℕ) → 0 < length content
+        → IsName content name ↔ (name ≡ name_of content) }
 {}
 
 /// The angle of a word is the number that all tests let pass.

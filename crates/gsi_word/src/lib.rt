@@ -1,9 +1,10 @@
 //! The words of a GSI line: from bytes to blocks, words, names and angles.
 //!
-//! A field file of a total station is lines of words. A word is two digits that say what it is (11 a point number,
-//! 21 a horizontal direction, 41 a code), four bytes of information, a sign and a content of 8 or 16 bytes.
-//! [`read_block`] reads one line without its end; [`Block`] and [`Word`] give what stands in it. All of it is parts of the
-//! line: nothing is copied, and no call takes memory.
+//! A field file of a total station is lines of words. A word is two digits that say what it is (11
+//! a point number, 21 a horizontal direction, 41 a code), four bytes of information, a sign and a
+//! content of 8 or 16 bytes. [`read_block`] reads one line without its end; [`Block`] and [`Word`]
+//! give what stands in it. All of it is parts of the line: nothing is copied, and no call takes
+//! memory.
 #![tactic(auto)]
 
 mod angle;

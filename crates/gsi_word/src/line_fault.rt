@@ -1,13 +1,14 @@
 //! Why a line is no block.
 
-/// The first fault of a line that is no block: bytes are looked at before words, and all words before the first one's index.
+/// The first fault of a line that is no block: bytes are looked at before words, and all words
+/// before the first one's index.
 #[derive(Clone, Copy, Debug, PartialEq, Eq)]
 pub enum LineFault {
     /// The byte at this place, from 1, is no blank and no visible character of ASCII.
     Byte(usize),
-    /// What stands at the place of this word, from 1, is none: it is too short, begins with other than two digits, has a
-    /// blank in its information, lacks its sign, or a byte other than a blank stands behind it. A line without any word
-    /// has this fault at word 1.
+    /// What stands at the place of this word, from 1, is none: it is too short, begins with other
+    /// than two digits, has a blank in its information, lacks its sign, or a byte other than a
+    /// blank stands behind it. A line without any word has this fault at word 1.
     Word(usize),
     /// The first word is neither a point number (11) nor a code number (41).
     FirstWord,

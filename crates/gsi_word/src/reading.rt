@@ -3,12 +3,12 @@
 //! A line is looked at twice, from left to right. First all its bytes: whether each may stand in a
 //! line. This loop has no early end, so that the compiler can test many bytes at once. It goes over
 //! a number of bytes that fills its chunks, and then over the last chunk of the line, so that no
-//! bytes are left to be tested one by one; some are tested twice. Only a line that fails is searched
-//! for its first bad byte. Then the words: of printable bytes only the two digits, the information,
-//! the sign and the byte behind the word are left to be tested, and the content is not looked at
-//! again.
+//! bytes are left to be tested one by one; some are tested twice. Only a line that fails is
+//! searched for its first bad byte. Then the words: of printable bytes only the two digits, the
+//! information, the sign and the byte behind the word are left to be tested, and the content is not
+//! looked at again.
 
-ghost use Rattle.std.specs.Prelude.{◌≡◌, ◌≢◌, ◌↔◌, ◌⊎◌, ◌≤◌, ◌+◌, length, drop, replicate, All, Any, IsTrue, IfOk, IfErr, OnOk};
+ghost use Rattle.std.specs.Prelude.{◌≡◌, ◌≢◌, ◌↔◌, ◌⊎◌, ◌≤◌, ◌+◌, length, drop, replicate, not, position, All, Any, IsTrue, IfOk, IfErr, OnOk};
 ghost use Rattle.std.specs.Bool.{OnTrue, OnFalse};
 ghost use Rattle.gsi_word.specs.Words.{IsPrintable};
 ghost use Rattle.gsi_word.specs.Blocks.{is_starred, width_of, word_bytes, AreWords, IsBlock};
@@ -26,8 +26,8 @@ use crate::word::{CONTENT, INFO, SIGN, index_of};
 /// How many bytes are tested together.
 const CHUNK: usize = 16;
 
-/// The first byte of a GSI-16 line.
-const STAR: u8 = b'*';
+/// What a GSI-16 line begins with.
+const STAR: &[u8] = b"*";
 
 /// How many bytes the content of a word has in a GSI-8 line.
 const GSI_8: u8 = 8;
@@ -115,19 +115,24 @@ fn check_bytes(line: &[u8]) -> Result<(), usize>
     if are_printable(line) {
         return Ok(());
     }
-    for (place, byte) in line.iter().enumerate() {
-        if !is_printable(*byte) {
-            return Err(place + 1);
-        }
+    match first_stray(line) {
+        Some(place) => Err(place + 1),
+        None => Ok(()),
     }
-    Ok(())
+}
+
+/// The place of the first byte, from 0, that may not stand in a line.
+fn first_stray(line: &[u8]) -> Option<usize>
+    ensures { result ≡ position (λ b. not (is_printable b)) line.now }
+{
+    line.iter().position(|byte| !is_printable(*byte))
 }
 
 /// Whether the line is GSI-16.
 fn is_starred(line: &[u8]) -> bool
     ensures { result ≡ is_starred line.now }
 {
-    !line.is_empty() && line[0] == STAR
+    line.starts_with(STAR)
 }
 
 /// How many bytes the content of each word of the line has.
@@ -142,7 +147,7 @@ fn width_of(line: &[u8]) -> u8
 fn word_bytes(line: &[u8]) -> &[u8]
     ensures { result.now ≡ word_bytes line.now }
 {
-    if is_starred(line) { &line[1..] } else { line }
+    line.strip_prefix(STAR).unwrap_or(line)
 }
 
 /// How many words the bytes are, or the place of the first, from 1, that is none.

@@ -40,7 +40,8 @@ impl<'a> Word<'a> {
     ghost use Rattle.gsi_word.specs.Names.{name_of};
     ghost use Rattle.gsi_word.specs.Angles.{angle_of};
 
-    /// What the word is: 11 a point number, 21 a horizontal direction, 22 a vertical angle, 41 a code, 42 its first information.
+    /// What the word is: 11 a point number, 21 a horizontal direction, 22 a vertical angle, 41 a
+    /// code, 42 its first information.
     pub fn index(&self) -> u8
         ensures value { result ≡ self.now.index }
         ensures two_digits { result < 100 }
@@ -48,7 +49,8 @@ impl<'a> Word<'a> {
         index_of(self.bytes)
     }
 
-    /// The four bytes of information. In the first word of a block they are the number that the instrument counts.
+    /// The four bytes of information. In the first word of a block they are the number that the
+    /// instrument counts.
     pub fn info(&self) -> &'a [u8]
         ensures value { result.now ≡ self.now.info }
         ensures four_bytes { length result.now ≡ 4 }
@@ -73,7 +75,8 @@ impl<'a> Word<'a> {
         &self.bytes[CONTENT..]
     }
 
-    /// The name or code that the content holds: without the zeros before it, at least one byte kept.
+    /// The name or code that the content holds: without the zeros before it, at least one byte
+    /// kept.
     pub fn name(&self) -> &'a [u8]
         ensures value { result.now ≡ name_of self.now.content }
         ensures some_byte { 0 < length result.now }

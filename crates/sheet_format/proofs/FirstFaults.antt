@@ -142,7 +142,7 @@ whole-or-not d ok = elim (none-or-some d.rows) [
 pub read-end : (all : List (List (List ℕ))) (d : DraftValue) → HasRead all d [] → ((s : SheetValue) → IsOfDraft d s → IsSheet s → ⊥) → IsFirstFault all (length (rows_of_draft d)) Unfinished
 unfolding fault_between
 read-end all d read no_sheet =
-    let unfinished : may_end (last_kind None (rows_of_draft d)) ≡ false = rw (ap (λ (b : Before). b.last) (said d read.draft.bare)) (by (may_end (last_of_draft d)) refl) in
+    let unfinished : may_end (last_kind (rows_of_draft d)) ≡ false = rw (ap (λ (b : Before). b.last) (said d read.draft.bare)) (by (may_end (last_of_draft d)) refl) in
     record {
       here = ap (λ (rows : List (List (List ℕ))). fault_at rows (length (rows_of_draft d))) read.rows ∙ fault_at-seam (rows_of_draft d) [] ∙ rw unfinished refl;
       before = read.faultless;

@@ -35,10 +35,10 @@ sheet-read v s whole within =
     obs-read all h s.directions s.orientations [] s.rows (ne_eqb _ _ (λ e. absurd (omega (arith, e, whole.orientations.some)))) sets whole.rows.each (omega (arith, whole.rows.few))
 
 -- no place of the rows of a sheet has a fault
-clean-end : (v : Version) (s : SheetValue) → IsSheet s → may_end (last_kind None (rows_of v s)) ≡ true
+clean-end : (v : Version) (s : SheetValue) → IsSheet s → may_end (last_kind (rows_of v s)) ≡ true
 clean-end v s whole =
     let d = draft (header_for v s) s.directions s.orientations s.rows in
-    let last : last_kind None (rows_of v s) ≡ last_of_draft d = ap (λ (b : Before). b.last) (said d (λ e. cc e)) in
+    let last : last_kind (rows_of v s) ≡ last_of_draft d = ap (λ (b : Before). b.last) (said d (λ e. cc e)) in
     let some : (length s.rows == 0) ≡ false = ne_eqb _ _ (λ e. absurd (omega (arith, e, whole.rows.some))) in
     rw (last, some) refl
 
@@ -105,21 +105,16 @@ pub one-sheet : (bytes : List ℕ) (s t : SheetValue) → IsSheetText bytes s �
 one-sheet bytes s t a b = sym (made-of bytes s a) ∙ made-of bytes t b
 
 -- An answer that is right whenever it is a sheet or a fault is the one that the bytes have, or want of memory.
-fault-or-memory : (bytes : List ℕ) (f : SheetFault) → IsFaultOrMemory bytes f → IsSheetFault bytes f ⊎ (f ≡ Memory)
-fault-or-memory bytes TooLong h = inl h
-fault-or-memory bytes (Row n k) h = inl h
-fault-or-memory bytes Memory h = inr refl
-
 pub answers-sheet : (bytes : List ℕ) (r : Result SheetValue SheetFault) → IfOk r (IsSheetText bytes) → IfErr r (IsFaultOrMemory bytes) → (s : SheetValue) → IsSheetText bytes s → (r ≡ Ok s) ⊎ (r ≡ Err Memory)
 answers-sheet bytes (Ok t) ok err s text = inl (ap (λ (x : SheetValue). Ok x) (one-sheet bytes t s ok text))
-answers-sheet bytes (Err f) ok err s text = elim (fault-or-memory bytes f err) [
+answers-sheet bytes (Err f) ok err s text = elim err [
   | inl fault ↦ absurd (never-both bytes s f text fault)
   | inr memory ↦ inr (ap (λ (x : SheetFault). Err x) memory)
 ]
 
 pub answers-fault : (bytes : List ℕ) (r : Result SheetValue SheetFault) → IfOk r (IsSheetText bytes) → IfErr r (IsFaultOrMemory bytes) → (f : SheetFault) → IsSheetFault bytes f → (r ≡ Err f) ⊎ (r ≡ Err Memory)
 answers-fault bytes (Ok t) ok err f fault = absurd (never-both bytes t f ok fault)
-answers-fault bytes (Err g) ok err f fault = elim (fault-or-memory bytes g err) [
+answers-fault bytes (Err g) ok err f fault = elim err [
   | inl same ↦ inl (ap (λ (x : SheetFault). Err x) (one-fault bytes g f same fault))
   | inr memory ↦ inr (ap (λ (x : SheetFault). Err x) memory)
 ]

@@ -1,5 +1,6 @@
 -- What the rows of a draft say of the next row: the lists of the draft tell it as the rows do.
-use Rattle.std.specs.Prelude.{if◌then◌else◌, unwrap_or}
+use Rattle.std.specs.Prelude.{if◌then◌else◌, unwrap_or, option_and_then}
+use Rattle.std.specs.List.{last_or}
 use Rattle.std.proofs.Common.{◌≡◌, ℕ, ◌+◌, Bool, true, false, List, [], ◌∷◌, ◌++◌, map, length, Option, Some, None, refl, ap, sym, ◌∙◌, arith, ◌==◌, codes}
 use Rattle.std.proofs.lemmas.List.Sums.{sum_by-append, sum_by-cons}
 use Rattle.std.proofs.Math.Dec.{eqb-suc-zero}
@@ -17,20 +18,30 @@ use Rattle.sheet_format.specs.declared.kind.Kind.TheVariants as kind
 use Rattle.sheet_format.specs.declared.version.Version.{Version}
 use Rattle.sheet_format.specs.declared.version.Version.TheVariants as version
 
+-- the kind of the last of these rows, or where there is none, this kind
+abbrev kind_from : Option Kind → List (List (List ℕ)) → Option Kind
+kind_from kind [] = kind
+kind_from kind (row ∷ others) = kind_from (kind_of (first_field row)) others
+
+kind_from-last : (last : Option (List (List ℕ))) (rows : List (List (List ℕ)))
+    → kind_from (option_and_then (λ row. kind_of (first_field row)) last) rows ≡ option_and_then (λ row. kind_of (first_field row)) (last_or last rows)
+kind_from-last last [] = refl
+kind_from-last last (row ∷ rows) = kind_from-last (Some row) rows
+
 -- the last kind of joined rows
-last_kind-append : (k : Option Kind) (xs ys : List (List (List ℕ))) → last_kind k (xs ++ ys) ≡ last_kind (last_kind k xs) ys
-last_kind-append k [] ys = refl
-last_kind-append k (x ∷ xs) ys = last_kind-append (kind_of (first_field x)) xs ys
+kind_from-append : (k : Option Kind) (xs ys : List (List (List ℕ))) → kind_from k (xs ++ ys) ≡ kind_from (kind_from k xs) ys
+kind_from-append k [] ys = refl
+kind_from-append k (x ∷ xs) ys = kind_from-append (kind_of (first_field x)) xs ys
 
 either-way : (b : Bool) (x : Option Kind) → (if b then x else x) ≡ x
 either-way true x = refl
 either-way false x = refl
 
-last_kind-map : {X : Type 0} (f : X → List (List ℕ)) (k : Kind) → ((x : X) → kind_of (first_field (f x)) ≡ Some k) → (before : Option Kind) (xs : List X)
-    → last_kind before (map f xs) ≡ (if length xs == 0 then before else Some k)
-last_kind-map f k named before [] = refl
-last_kind-map f k named before (x ∷ xs) =
-    last_kind-map f k named (kind_of (first_field (f x))) xs ∙ ap (λ (o : Option Kind). if length xs == 0 then o else Some k) (named x) ∙ either-way (length xs == 0) (Some k)
+kind_from-map : {X : Type 0} (f : X → List (List ℕ)) (k : Kind) → ((x : X) → kind_of (first_field (f x)) ≡ Some k) → (before : Option Kind) (xs : List X)
+    → kind_from before (map f xs) ≡ (if length xs == 0 then before else Some k)
+kind_from-map f k named before [] = refl
+kind_from-map f k named before (x ∷ xs) =
+    kind_from-map f k named (kind_of (first_field (f x))) xs ∙ ap (λ (o : Option Kind). if length xs == 0 then o else Some k) (named x) ∙ either-way (length xs == 0) (Some k)
     ∙ sym (rw (eqb-suc-zero (length xs)) refl)
 
 -- how many of joined rows are of a kind
@@ -75,21 +86,22 @@ obs-counted h ds os rs =
     ∙ omega arith
 
 -- the last kind of a draft's rows
-header-last : (h : Option Header) → last_kind None (header_rows h) ≡ last_of_header h
+header-last : (h : Option Header) → kind_from None (header_rows h) ≡ last_of_header h
 header-last None = refl
 header-last (Some h) = refl
 
 last-said : (h : Option Header) (ds : List Direction) (os : List Orientation) (rs : List Row)
-    → last_kind None (header_rows h ++ body_rows ds os rs) ≡ last_of_draft (record { header = h; directions = ds; orientations = os; rows = rs })
+    → last_kind (header_rows h ++ body_rows ds os rs) ≡ last_of_draft (record { header = h; directions = ds; orientations = os; rows = rs })
 last-said h ds os rs =
+    sym (kind_from-last None (header_rows h ++ body_rows ds os rs)) ∙
     rw (
-      last_kind-append None (header_rows h) (body_rows ds os rs),
+      kind_from-append None (header_rows h) (body_rows ds os rs),
       header-last h,
-      last_kind-append (last_of_header h) (map target_fields ds) (map set_fields os ++ map obs_fields rs),
-      last_kind-map target_fields kind.Target (λ x. refl) (last_of_header h) ds,
-      last_kind-append (if length ds == 0 then last_of_header h else Some kind.Target) (map set_fields os) (map obs_fields rs),
-      last_kind-map set_fields kind.Set (λ x. refl) (if length ds == 0 then last_of_header h else Some kind.Target) os,
-      last_kind-map obs_fields kind.Obs (λ x. refl) (if length os == 0 then (if length ds == 0 then last_of_header h else Some kind.Target) else Some kind.Set) rs,
+      kind_from-append (last_of_header h) (map target_fields ds) (map set_fields os ++ map obs_fields rs),
+      kind_from-map target_fields kind.Target (λ x. refl) (last_of_header h) ds,
+      kind_from-append (if length ds == 0 then last_of_header h else Some kind.Target) (map set_fields os) (map obs_fields rs),
+      kind_from-map set_fields kind.Set (λ x. refl) (if length ds == 0 then last_of_header h else Some kind.Target) os,
+      kind_from-map obs_fields kind.Obs (λ x. refl) (if length os == 0 then (if length ds == 0 then last_of_header h else Some kind.Target) else Some kind.Set) rs,
     )
     refl
 

@@ -12,9 +12,11 @@ pub record Fields : Type 0 where
 
 -- the columns of a record, where it has five fields
 abbrev pub columns_of : List (List ℕ) → Option Fields
-columns_of (a ∷ b ∷ c ∷ d ∷ e ∷ []) = Some (record { kind = a; number = b; name = c; value = d; turn = e })
+columns_of (a ∷ b ∷ c ∷ d ∷ e ∷ []) =
+    Some (record { kind = a; number = b; name = c; value = d; turn = e })
 columns_of _ = None
 
 -- the same, of the columns in memory
 abbrev pub columns_view : Columns → Fields
-columns_view c = record { kind = c.kind.now; number = c.number.now; name = c.name.now; value = c.value.now; turn = c.turn.now }
+columns_view c = record { kind = c.kind.now; number = c.number.now; name = c.name.now;
+    value = c.value.now; turn = c.turn.now }

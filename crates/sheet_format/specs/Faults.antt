@@ -1,7 +1,7 @@
 -- The faults of a sheet: of a row by the rows before it, and the first of all.
-use Rattle.std.specs.Prelude.{◌≡◌, ℕ, ◌+◌, ◌<◌, ◌≤◌, Bool, ◌&&◌, ◌==◌, if◌then◌else◌, nat_lt, nat_le, List, [], ◌∷◌, length, take, drop, ℤ, pos, Option, Some, None, unwrap_or, ◌-◌, ◌⊎◌}
+use Rattle.std.specs.Prelude.{◌≡◌, ℕ, ◌+◌, ◌<◌, ◌≤◌, Bool, ◌&&◌, ◌==◌, if◌then◌else◌, nat_lt, nat_le, List, [], ◌∷◌, length, take, drop, ℤ, pos, Option, Some, None, unwrap_or, option_and_then, ◌-◌, ◌⊎◌}
 use Rattle.std.specs.Int.{is_in_range}
-use Rattle.std.specs.List.{count_by, list_all}
+use Rattle.std.specs.List.{count_by, last_or, list_all}
 use Rattle.std.specs.Option.{option_or}
 use Rattle.adjust_kernel.specs.declared.limits.TheConstants.{LARGEST_SET_NUMBER, LARGEST_TURN, LONGEST_NAME, MOST_ROWS, MOST_SETS, MOST_TARGETS, TURN}
 use Rattle.adjust_kernel.specs.declared.name.TheConstants.{FIRST_PRINTABLE, LAST_PRINTABLE}
@@ -34,7 +34,8 @@ is_empty field = length field == 0
 
 -- whether a field is a name: 1 to 16 bytes, each from the blank to the tilde
 abbrev pub is_name : List ℕ → Bool
-is_name field = (nat_le 1 (length field) && nat_le (length field) LONGEST_NAME) && list_all (λ b. is_in_range FIRST_PRINTABLE LAST_PRINTABLE b) field
+is_name field = (nat_le 1 (length field) && nat_le (length field) LONGEST_NAME)
+    && list_all (λ b. is_in_range FIRST_PRINTABLE LAST_PRINTABLE b) field
 
 -- whether a number may be that of a set
 abbrev pub is_set_number : ℤ → Bool
@@ -44,8 +45,8 @@ is_set_number number = is_within (pos 1) (pos LARGEST_SET_NUMBER) number
 abbrev pub is_circle_value : ℤ → Bool
 is_circle_value number = is_within (pos 0) (pos (TURN - 1)) number
 
--- The tests of a row's columns, in order: the columns that are to be empty, the name, the form of all its numbers,
--- and then their ranges.
+-- The tests of a row's columns, in order: the columns that are to be empty, the name, the form of
+-- all its numbers, and then their ranges.
 
 -- the first row, whose version was read
 abbrev pub versioned_fault : Version → Fields → Option RowKind
@@ -78,7 +79,8 @@ abbrev pub set_fault : Version → Fields → Option RowKind
 set_fault v c = first_fault (
     unless (is_empty c.name && is_empty c.turn) fault.NotEmpty
     ∷ unless (is_canonical c.number && is_canonical c.value) fault.Number
-    ∷ unless (is_set_number (value_of c.number) && is_at_most (largest_angle v) (value_of c.value)) fault.Range
+    ∷ unless (is_set_number (value_of c.number) && is_at_most (largest_angle v) (value_of c.value))
+        fault.Range
     ∷ [])
 
 -- the row of an observation
@@ -86,11 +88,12 @@ abbrev pub obs_fault : Fields → Option RowKind
 obs_fault c = first_fault (
     unless (is_name c.name) fault.Name
     ∷ unless (is_canonical c.number && is_canonical c.value && is_canonical c.turn) fault.Number
-    ∷ unless (is_set_number (value_of c.number) && is_circle_value (value_of c.value) && is_at_most LARGEST_TURN (value_of c.turn)) fault.Range
+    ∷ unless (is_set_number (value_of c.number) && is_circle_value (value_of c.value)
+        && is_at_most LARGEST_TURN (value_of c.turn)) fault.Range
     ∷ [])
 
--- what the rows before a row say of it: the kind of the last of them, the version of the sheet, and how many of each
--- kind they are
+-- what the rows before a row say of it: the kind of the last of them, the version of the sheet, and
+-- how many of each kind they are
 pub record Before : Type 0 where
   pub last : Option Kind
   pub version : Version
@@ -103,12 +106,12 @@ abbrev pub first_field : List (List ℕ) → List ℕ
 first_field [] = []
 first_field (field ∷ others) = field
 
--- the kind of the last of these rows, or where there is none, this kind
-abbrev pub last_kind : Option Kind → List (List (List ℕ)) → Option Kind
-last_kind kind [] = kind
-last_kind kind (row ∷ others) = last_kind (kind_of (first_field row)) others
+-- the kind of the last of these rows, if there is one and it names one
+abbrev pub last_kind : List (List (List ℕ)) → Option Kind
+last_kind rows = option_and_then (λ row. kind_of (first_field row)) (last_or None rows)
 
--- the version that the first of these rows names
+-- the version that the first of these rows names; where it names none, that row has a fault, which
+-- comes before any that the version given here could matter to
 abbrev pub version_of_row : Option Fields → Version
 version_of_row None = version.One
 version_of_row (Some c) = unwrap_or (version_of c.number) version.One
@@ -122,13 +125,17 @@ abbrev pub count_of : Kind → List (List (List ℕ)) → ℕ
 count_of k rows = count_by (λ row. names_kind k (first_field row)) rows
 
 abbrev pub said_by : List (List (List ℕ)) → Before
-said_by rows = record { last = last_kind None rows; version = version_of_rows rows; targets = count_of kind.Target rows; sets = count_of kind.Set rows; obs = count_of kind.Obs rows }
+said_by rows = record { last = last_kind rows; version = version_of_rows rows;
+    targets = count_of kind.Target rows; sets = count_of kind.Set rows;
+    obs = count_of kind.Obs rows }
 
 -- the fault of the columns of a row of this kind, and then too many of its kind
 abbrev pub columns_fault : Before → Kind → Fields → Option RowKind
 columns_fault b kind.Sheet c = sheet_row_fault c
-columns_fault b kind.Target c = option_or (target_fault b.version c) (unless (nat_lt b.targets MOST_TARGETS) fault.TooMany)
-columns_fault b kind.Set c = option_or (set_fault b.version c) (unless (nat_lt b.sets MOST_SETS) fault.TooMany)
+columns_fault b kind.Target c =
+    option_or (target_fault b.version c) (unless (nat_lt b.targets MOST_TARGETS) fault.TooMany)
+columns_fault b kind.Set c =
+    option_or (set_fault b.version c) (unless (nat_lt b.sets MOST_SETS) fault.TooMany)
 columns_fault b kind.Obs c = option_or (obs_fault c) (unless (nat_lt b.obs MOST_ROWS) fault.TooMany)
 
 abbrev pub kind_fault : Before → Option Kind → Fields → Option RowKind
@@ -139,14 +146,15 @@ abbrev pub fields_fault : Before → Option Fields → Option RowKind
 fields_fault b None = Some fault.Fields
 fields_fault b (Some c) = kind_fault b (kind_of c.kind) c
 
--- the fault of a row, if it has one, by what the rows before it say: the number of its columns, its kind, and then its
--- columns
+-- the fault of a row, if it has one, by what the rows before it say: the number of its columns, its
+-- kind, and then its columns
 unfoldable pub row_fault : Before → List (List ℕ) → Option RowKind
 row_fault b row = fields_fault b (columns_of row)
 
--- the fault at a place, by the rows before it and those from there on: of the row there, or of the end
+-- the fault at a place, by the rows before it and those from there on: of the row there, or of the
+-- end
 unfoldable pub fault_between : List (List (List ℕ)) → List (List (List ℕ)) → Option RowKind
-fault_between before [] = unless (may_end (last_kind None before)) fault.Unfinished
+fault_between before [] = unless (may_end (last_kind before)) fault.Unfinished
 fault_between before (row ∷ others) = row_fault (said_by before) row
 
 -- the fault at a place of the rows, counted from 0
@@ -162,15 +170,16 @@ pub record IsFirstFault (rows : List (List (List ℕ))) (place : ℕ) (kind : Ro
   pub here : fault_at rows place ≡ Some kind
   pub before : NoFaultBefore rows place
 
--- The fault of a sheet's bytes: too many of them; else the first row with a fault, counted from 1, where the row after
--- the last is `Unfinished` if no observation was the last. Want of memory is no fault of the bytes.
+-- The fault of a sheet's bytes: too many of them; else the first row with a fault, counted from 1,
+-- where the row after the last is `Unfinished` if no observation was the last. Want of memory is no
+-- fault of the bytes.
 abbrev pub IsSheetFault : List ℕ → SheetFault → Type 0
 IsSheetFault bytes TooLong = LONGEST_SHEET < length bytes
-IsSheetFault bytes (Row number kind) = (length bytes ≤ LONGEST_SHEET) × (place : ℕ) × (number ≡ place + 1) × IsFirstFault (records_of bytes) place kind
+IsSheetFault bytes (Row number kind) =
+    (length bytes ≤ LONGEST_SHEET) × (place : ℕ) × (number ≡ place + 1)
+    × IsFirstFault (records_of bytes) place kind
 IsSheetFault bytes Memory = ⊥
 
--- a refusal is the fault of the bytes, or want of memory
+-- A refusal is the fault of the bytes, or want of memory.
 abbrev pub IsFaultOrMemory : List ℕ → SheetFault → Type 0
-IsFaultOrMemory bytes TooLong = IsSheetFault bytes TooLong
-IsFaultOrMemory bytes (Row number kind) = IsSheetFault bytes (Row number kind)
-IsFaultOrMemory bytes Memory = Unit {0}
+IsFaultOrMemory bytes fault = IsSheetFault bytes fault ⊎ (fault ≡ Memory)

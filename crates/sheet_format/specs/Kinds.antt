@@ -1,5 +1,5 @@
--- The four kinds of rows, and the order in which they stand (profile): the sheet's row, its targets, its sets and its
--- observations.
+-- The four kinds of rows, and the order in which they stand (profile): the sheet's row, its
+-- targets, its sets and its observations.
 use Rattle.std.specs.Prelude.{ℕ, Bool, true, false, if◌then◌else◌, List, Option, Some, None, codes}
 use Rattle.std.specs.Str.{bytes_eq}
 use Rattle.sheet_format.specs.declared.kind.Kind.{Kind}
@@ -28,30 +28,15 @@ kind_of field =
 -- whether a row of a kind may stand after a last row of a kind, or first
 abbrev pub may_follow : Option Kind → Kind → Bool
 may_follow None Sheet = true
-may_follow None Target = false
-may_follow None Set = false
-may_follow None Obs = false
-may_follow (Some Sheet) Sheet = false
 may_follow (Some Sheet) Target = true
-may_follow (Some Sheet) Set = false
-may_follow (Some Sheet) Obs = false
-may_follow (Some Target) Sheet = false
 may_follow (Some Target) Target = true
 may_follow (Some Target) Set = true
-may_follow (Some Target) Obs = false
-may_follow (Some Set) Sheet = false
-may_follow (Some Set) Target = false
 may_follow (Some Set) Set = true
 may_follow (Some Set) Obs = true
-may_follow (Some Obs) Sheet = false
-may_follow (Some Obs) Target = false
-may_follow (Some Obs) Set = false
 may_follow (Some Obs) Obs = true
+may_follow _ _ = false
 
 -- whether a sheet may end with a row of this kind
 abbrev pub may_end : Option Kind → Bool
-may_end None = false
-may_end (Some Sheet) = false
-may_end (Some Target) = false
-may_end (Some Set) = false
 may_end (Some Obs) = true
+may_end _ = false

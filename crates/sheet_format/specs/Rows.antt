@@ -13,7 +13,8 @@ use Rattle.sheet_format.specs.declared.version.Version.{Version}
 
 -- the first row: the version, the station and the denominator
 abbrev pub sheet_fields : Version → List ℕ → ℕ → List (List ℕ)
-sheet_fields version name denominator = codes "sheet" ∷ version_text version ∷ name ∷ decimal denominator ∷ [] ∷ []
+sheet_fields version name denominator =
+    codes "sheet" ∷ version_text version ∷ name ∷ decimal denominator ∷ [] ∷ []
 
 -- the row of a target: its name and direction
 abbrev pub target_fields : Direction → List (List ℕ)
@@ -29,11 +30,13 @@ obs_fields r = codes "obs" ∷ decimal r.set ∷ r.target ∷ decimal r.value �
 
 -- the rows after the first: the targets, the sets and the observations, each in the sheet's order
 abbrev pub body_rows : List Direction → List Orientation → List Row → List (List (List ℕ))
-body_rows directions orientations rows = map target_fields directions ++ (map set_fields orientations ++ map obs_fields rows)
+body_rows directions orientations rows =
+    map target_fields directions ++ (map set_fields orientations ++ map obs_fields rows)
 
 -- all rows of a sheet
 abbrev pub rows_of : Version → SheetValue → List (List (List ℕ))
-rows_of version s = sheet_fields version s.name s.denominator ∷ body_rows s.directions s.orientations s.rows
+rows_of version s = sheet_fields version s.name s.denominator
+    ∷ body_rows s.directions s.orientations s.rows
 
 -- a sheet whose denominator, directions and orientations are within the ranges of a version
 pub record IsOfVersion (version : Version) (s : SheetValue) : Type 0 where
@@ -41,14 +44,14 @@ pub record IsOfVersion (version : Version) (s : SheetValue) : Type 0 where
   pub directions : All (λ d. IsWithin (largest_angle version) d.value) s.directions
   pub orientations : All (λ o. IsWithin (largest_angle version) o.value) s.orientations
 
--- the records of a text, as `csv` reads them where no row is a header and rows may differ in their number of fields: it
--- drops a byte order mark at the start, and passes over lines without a byte
+-- the records of a text, as `csv` reads them where no row is a header and rows may differ in their
+-- number of fields: it drops a byte order mark at the start, and passes over lines without a byte
 abbrev pub records_of : List ℕ → List (List (List ℕ))
 records_of bytes = records default_config (strip_bom bytes)
 
--- Bytes stand for a sheet: they are not too many, and their records are the sheet's rows, of a version that the sheet
--- is within. So the text is fixed but for quotes, line ends and empty lines, which `csv` reads alike, and for the
--- version of a small sheet.
+-- Bytes stand for a sheet: they are not too many, and their records are the sheet's rows, of a
+-- version that the sheet is within. So the text is fixed but for quotes, line ends and empty lines,
+-- which `csv` reads alike, and for the version of a small sheet.
 pub record IsSheetText (bytes : List ℕ) (s : SheetValue) : Type 0 where
   pub short : length bytes ≤ LONGEST_SHEET
   pub rows : (version : Version) × (records_of bytes ≡ rows_of version s) × IsOfVersion version s

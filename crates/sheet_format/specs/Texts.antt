@@ -17,11 +17,13 @@ is_of_version v s =
     && list_all (λ d. is_at_most (largest_angle v) d.value) s.directions
     && list_all (λ o. is_at_most (largest_angle v) o.value) s.orientations
 
--- the version that a sheet is written in: 1 where all its numbers are within the ranges of 1, else 2
+-- the version that a sheet is written in: 1 where all its numbers are within the ranges of 1, else
+-- 2
 abbrev pub version_for : SheetValue → Version
 version_for s = if is_of_version One s then One else Two
 
--- rows as `csv` writes them: fields with a comma, a quote or a line end in quotes, a line feed after each row
+-- rows as `csv` writes them: fields with a comma, a quote or a line end in quotes, a line feed
+-- after each row
 abbrev pub rows_text : List (List (List ℕ)) → List ℕ
 rows_text rows = flat_map (row_text default_writer) rows
 
@@ -30,7 +32,8 @@ abbrev pub sheet_text : SheetValue → List ℕ
 sheet_text s = rows_text (rows_of (version_for s) s)
 
 -- a writer of rows with the default settings stands between two rows, and this text was written
-pub record HasWritten {W : Type 0} (contents : W → Option (List ℕ)) (writer : Writer W) (text : List ℕ) : Type 0 where
+pub record HasWritten {W : Type 0} (contents : W → Option (List ℕ)) (writer : Writer W)
+    (text : List ℕ) : Type 0 where
   pub setup : writer_setup writer ≡ default_writer
   pub fields : fields_written writer ≡ 0
   pub between : has_written writer ≡ false

@@ -13,7 +13,8 @@ version_text Two = codes "2"
 
 -- the version that a field names
 abbrev pub version_of : List ℕ → Option Version
-version_of field = if bytes_eq field (version_text One) then Some One else (if bytes_eq field (version_text Two) then Some Two else None)
+version_of field = if bytes_eq field (version_text One) then Some One
+    else (if bytes_eq field (version_text Two) then Some Two else None)
 
 -- the largest denominator; the smallest is 1
 abbrev pub largest_denominator : Version → ℕ

@@ -1,7 +1,7 @@
 //! The sheet as far as its rows were read.
 //!
-//! A draft takes the rows one by one and keeps the entry of each. What may come next follows from the entries that it
-//! has, so it keeps no other state.
+//! A draft takes the rows one by one and keeps the entry of each. What may come next follows from
+//! the entries that it has, so it keeps no other state.
 
 ghost use Rattle.std.specs.Prelude.{◌≡◌, ◌≤◌, if◌then◌else◌, length, None, Some, IfErr, IfNone, IfSome, OnOk};
 ghost use Rattle.adjust_kernel.specs.Sheets.{IsSheet, SheetValue};
@@ -44,9 +44,11 @@ impl Model for Draft {
 
     ghost Value = { spec.DraftValue };
 
-    ghost view = { λ d. record { header = d.header; directions = d.directions.items; orientations = d.orientations.items; rows = d.rows.items } };
+    ghost view = { λ d. record { header = d.header; directions = d.directions.items;
+        orientations = d.orientations.items; rows = d.rows.items } };
 
-    ghost invariant = { λ d. (length d.directions.items ≤ MOST_TARGETS) × (length d.orientations.items ≤ MOST_SETS) × (length d.rows.items ≤ MOST_ROWS) };
+    ghost invariant = { λ d. (length d.directions.items ≤ MOST_TARGETS)
+        × (length d.orientations.items ≤ MOST_SETS) × (length d.rows.items ≤ MOST_ROWS) };
 }
 
 impl Draft {
@@ -102,7 +104,8 @@ impl Draft {
     pub(crate) fn finish(self) -> Option<Sheet>
         ensures some { IfSome result (λ sheet. spec.IsOfDraft self sheet) }
         ensures valid { IfSome result IsSheet }
-        ensures none { IfNone result ((sheet : SheetValue) → spec.IsOfDraft self sheet → IsSheet sheet → ⊥) }
+        ensures none { IfNone result
+            ((sheet : SheetValue) → spec.IsOfDraft self sheet → IsSheet sheet → ⊥) }
     {
         let Draft {
             header,
@@ -125,9 +128,12 @@ impl Draft {
     /// Takes the next row.
     #[tactic(auto, unfolding(crate::specs::Faults::row_fault, crate::specs::Drafts::with_row))]
     pub(crate) fn take_row(&mut self, row: &ByteRecord) -> Result<(), Refusal>
-        ensures faultless { OnOk result (faults.row_fault (spec.said_by_draft self.old) (fields_of row.now) ≡ None) }
+        ensures faultless { OnOk result
+            (faults.row_fault (spec.said_by_draft self.old) (fields_of row.now) ≡ None) }
         ensures taken { OnOk result (self.new ≡ spec.with_row self.old (fields_of row.now)) }
-        ensures err { IfErr result (λ e. spec.ExplainsRow e (faults.row_fault (spec.said_by_draft self.old) (fields_of row.now))) }
+        ensures err { IfErr result
+            (λ e. spec.ExplainsRow e
+            (faults.row_fault (spec.said_by_draft self.old) (fields_of row.now))) }
     {
         let Some(columns) = Columns::of(row) else {
             return Err(Refusal::Fault(RowKind::Fields));
@@ -147,9 +153,15 @@ impl Draft {
     }
 
     fn take_header(&mut self, columns: &Columns<'_>) -> Result<(), Refusal>
-        ensures faultless { OnOk result (faults.columns_fault (spec.said_by_draft self.old) kind.Sheet (columns_view columns.now) ≡ None) }
-        ensures taken { OnOk result (self.new ≡ spec.with_columns kind.Sheet self.old (columns_view columns.now)) }
-        ensures err { IfErr result (λ e. spec.ExplainsRow e (faults.columns_fault (spec.said_by_draft self.old) kind.Sheet (columns_view columns.now))) }
+        ensures faultless { OnOk result
+            (faults.columns_fault (spec.said_by_draft self.old) kind.Sheet
+            (columns_view columns.now) ≡ None) }
+        ensures taken { OnOk result
+            (self.new ≡ spec.with_columns kind.Sheet self.old (columns_view columns.now)) }
+        ensures err { IfErr result
+            (λ e. spec.ExplainsRow e
+            (faults.columns_fault (spec.said_by_draft self.old) kind.Sheet
+            (columns_view columns.now))) }
     {
         match header_of(columns) {
             Ok(header) => {
@@ -161,9 +173,15 @@ impl Draft {
     }
 
     fn take_target(&mut self, columns: &Columns<'_>) -> Result<(), Refusal>
-        ensures faultless { OnOk result (faults.columns_fault (spec.said_by_draft self.old) kind.Target (columns_view columns.now) ≡ None) }
-        ensures taken { OnOk result (self.new ≡ spec.with_columns kind.Target self.old (columns_view columns.now)) }
-        ensures err { IfErr result (λ e. spec.ExplainsRow e (faults.columns_fault (spec.said_by_draft self.old) kind.Target (columns_view columns.now))) }
+        ensures faultless { OnOk result
+            (faults.columns_fault (spec.said_by_draft self.old) kind.Target
+            (columns_view columns.now) ≡ None) }
+        ensures taken { OnOk result
+            (self.new ≡ spec.with_columns kind.Target self.old (columns_view columns.now)) }
+        ensures err { IfErr result
+            (λ e. spec.ExplainsRow e
+            (faults.columns_fault (spec.said_by_draft self.old) kind.Target
+            (columns_view columns.now))) }
     {
         let direction = match direction_of(columns, self.version()) {
             Ok(direction) => direction,
@@ -176,9 +194,15 @@ impl Draft {
     }
 
     fn take_set(&mut self, columns: &Columns<'_>) -> Result<(), Refusal>
-        ensures faultless { OnOk result (faults.columns_fault (spec.said_by_draft self.old) kind.Set (columns_view columns.now) ≡ None) }
-        ensures taken { OnOk result (self.new ≡ spec.with_columns kind.Set self.old (columns_view columns.now)) }
-        ensures err { IfErr result (λ e. spec.ExplainsRow e (faults.columns_fault (spec.said_by_draft self.old) kind.Set (columns_view columns.now))) }
+        ensures faultless { OnOk result
+            (faults.columns_fault (spec.said_by_draft self.old) kind.Set (columns_view columns.now)
+            ≡ None) }
+        ensures taken { OnOk result
+            (self.new ≡ spec.with_columns kind.Set self.old (columns_view columns.now)) }
+        ensures err { IfErr result
+            (λ e. spec.ExplainsRow e
+            (faults.columns_fault (spec.said_by_draft self.old) kind.Set
+            (columns_view columns.now))) }
     {
         let orientation = match orientation_of(columns, self.version()) {
             Ok(orientation) => orientation,
@@ -193,9 +217,15 @@ impl Draft {
     }
 
     fn take_obs(&mut self, columns: &Columns<'_>) -> Result<(), Refusal>
-        ensures faultless { OnOk result (faults.columns_fault (spec.said_by_draft self.old) kind.Obs (columns_view columns.now) ≡ None) }
-        ensures taken { OnOk result (self.new ≡ spec.with_columns kind.Obs self.old (columns_view columns.now)) }
-        ensures err { IfErr result (λ e. spec.ExplainsRow e (faults.columns_fault (spec.said_by_draft self.old) kind.Obs (columns_view columns.now))) }
+        ensures faultless { OnOk result
+            (faults.columns_fault (spec.said_by_draft self.old) kind.Obs (columns_view columns.now)
+            ≡ None) }
+        ensures taken { OnOk result
+            (self.new ≡ spec.with_columns kind.Obs self.old (columns_view columns.now)) }
+        ensures err { IfErr result
+            (λ e. spec.ExplainsRow e
+            (faults.columns_fault (spec.said_by_draft self.old) kind.Obs
+            (columns_view columns.now))) }
     {
         let row = match obs_row_of(columns) {
             Ok(row) => row,

@@ -75,7 +75,8 @@ fn full_turns(field: &[u8]) -> Option<i8>
 pub(crate) fn header_of(columns: &Columns<'_>) -> Result<Header, RowKind>
     ensures faultless { OnOk result (faults.sheet_row_fault (columns_view columns.now) ≡ None) }
     ensures value { IfOk result (λ header. header ≡ spec.header_of (columns_view columns.now)) }
-    ensures err { IfErr result (λ kind. faults.sheet_row_fault (columns_view columns.now) ≡ Some kind) }
+    ensures err { IfErr result
+        (λ kind. faults.sheet_row_fault (columns_view columns.now) ≡ Some kind) }
 {
     let Some(version) = Version::of(columns.number) else {
         return Err(RowKind::Version);
@@ -101,9 +102,12 @@ pub(crate) fn header_of(columns: &Columns<'_>) -> Result<Header, RowKind>
 
 /// The direction that the columns of a target's row state, or their first fault.
 pub(crate) fn direction_of(columns: &Columns<'_>, version: Version) -> Result<Direction, RowKind>
-    ensures faultless { OnOk result (faults.target_fault version (columns_view columns.now) ≡ None) }
-    ensures value { IfOk result (λ direction. direction ≡ spec.direction_of (columns_view columns.now)) }
-    ensures err { IfErr result (λ kind. faults.target_fault version (columns_view columns.now) ≡ Some kind) }
+    ensures faultless { OnOk result
+        (faults.target_fault version (columns_view columns.now) ≡ None) }
+    ensures value { IfOk result
+        (λ direction. direction ≡ spec.direction_of (columns_view columns.now)) }
+    ensures err { IfErr result
+        (λ kind. faults.target_fault version (columns_view columns.now) ≡ Some kind) }
 {
     if !columns.number.is_empty() || !columns.turn.is_empty() {
         return Err(RowKind::NotEmpty);
@@ -126,8 +130,10 @@ pub(crate) fn orientation_of(
     version: Version,
 ) -> Result<Orientation, RowKind>
     ensures faultless { OnOk result (faults.set_fault version (columns_view columns.now) ≡ None) }
-    ensures value { IfOk result (λ orientation. orientation ≡ spec.orientation_of (columns_view columns.now)) }
-    ensures err { IfErr result (λ kind. faults.set_fault version (columns_view columns.now) ≡ Some kind) }
+    ensures value { IfOk result
+        (λ orientation. orientation ≡ spec.orientation_of (columns_view columns.now)) }
+    ensures err { IfErr result
+        (λ kind. faults.set_fault version (columns_view columns.now) ≡ Some kind) }
 {
     if !columns.name.is_empty() || !columns.turn.is_empty() {
         return Err(RowKind::NotEmpty);

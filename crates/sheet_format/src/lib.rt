@@ -9,8 +9,8 @@
 //! | set | `set,NUMBER,,O,` | 1 to 40 |
 //! | obs | `obs,NUMBER,NAME,p,k` | 1 to 4,000 |
 //!
-//! `read_sheet` answers the sheet that bytes stand for, or their first fault; `write_sheet` writes the text of a sheet,
-//! which is read as the same sheet.
+//! `read_sheet` answers the sheet that bytes stand for, or their first fault; `write_sheet` writes
+//! the text of a sheet, which is read as the same sheet.
 #![tactic(auto)]
 
 mod columns;

@@ -64,8 +64,10 @@ pub(crate) fn natural_within(bytes: &[u8], low: u64, high: u64) -> Option<u64>
     requires { spec.is_canonical bytes.now ≡ true }
     ensures value { IfSome result (λ number. number ≡ spec.natural_of (spec.value_of bytes.now)) }
     ensures high { IfSome result (λ number. number ≤ high) }
-    ensures within { OnSome result (spec.is_within (pos low) (pos high) (spec.value_of bytes.now) ≡ true) }
-    ensures outside { IfNone result (spec.is_within (pos low) (pos high) (spec.value_of bytes.now) ≡ false) }
+    ensures within { OnSome result
+        (spec.is_within (pos low) (pos high) (spec.value_of bytes.now) ≡ true) }
+    ensures outside { IfNone result
+        (spec.is_within (pos low) (pos high) (spec.value_of bytes.now) ≡ false) }
 {
     match number_within(bytes, i128::from(low), i128::from(high)) {
         Some(number) => Some(number as u64),

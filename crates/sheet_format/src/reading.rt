@@ -1,7 +1,7 @@
 //! Bytes as a sheet.
 //!
-//! The rows are read one by one into one record, which is used again, so that the memory grows with the sheet alone.
-//! The first row with a fault ends the reading.
+//! The rows are read one by one into one record, which is used again, so that the memory grows with
+//! the sheet alone. The first row with a fault ends the reading.
 
 ghost use Rattle.std.specs.Prelude.{◌≡◌, ◌≤◌, ◌⊎◌, length, Err, IfErr, IfOk, Ok};
 ghost use Rattle.adjust_kernel.specs.Sheets.{SheetValue};
@@ -26,8 +26,10 @@ pub fn read_sheet(alloc: Global, bytes: &[u8]) -> Result<Sheet, SheetFault>
     ensures fault { IfErr result (λ fault. IsFaultOrMemory bytes.now fault) }
 
     // Bytes that stand for a sheet, and bytes with a fault, get no other answer but want of memory.
-    ensures stands { (sheet : SheetValue) → IsSheetText bytes.now sheet → (result ≡ Ok sheet) ⊎ (result ≡ Err Memory) }
-    ensures refused { (fault : SheetFault) → IsSheetFault bytes.now fault → (result ≡ Err fault) ⊎ (result ≡ Err Memory) }
+    ensures stands { (sheet : SheetValue) → IsSheetText bytes.now sheet → (result ≡ Ok sheet)
+        ⊎ (result ≡ Err Memory) }
+    ensures refused { (fault : SheetFault) → IsSheetFault bytes.now fault → (result ≡ Err fault)
+        ⊎ (result ≡ Err Memory) }
 {
     if bytes.len() > LONGEST_SHEET {
         return Err(SheetFault::TooLong);

@@ -1,4 +1,5 @@
-//! What no clause says: that the definitions are those of the worked sheets, that calls succeed, and what the bytes are.
+//! What no clause says: that the definitions are those of the worked sheets, that calls succeed,
+//! and what the bytes are.
 
 use crate::{WriteFault, read_sheet, write_sheet};
 use adjust_kernel::{Direction, Name, Orientation, Row, Sheet};
@@ -22,7 +23,8 @@ const SHEET: [&str; 9] = [
 
 /// Its numbers, as `answer` shows them.
 const NUMBERS: &str =
-    "S1/4; A 0; B 40000024; 1 -20; 2 -80000020; 1 A 6 0; 1 B 10000010 0; 2 A 20000004 0; 2 B 30000012 0";
+    "S1/4; A 0; B 40000024; 1 -20; 2 -80000020; 1 A 6 0; \
+    1 B 10000010 0; 2 A 20000004 0; 2 B 30000012 0";
 
 /// Lines as a text, each with this end.
 fn text_of(alloc: Global, lines: &[&str], end: &str) -> Result<String, Fail> {
@@ -48,7 +50,8 @@ fn changed(alloc: Global, row: usize, line: &str) -> Result<String, Fail> {
 fn restated(alloc: Global, stated: [&str; 5]) -> Result<String, Fail> {
     let [version, denominator, direction, first, second] = stated;
     let mut text = format!(in alloc;
-        "sheet,{version},S1,{denominator},\ntarget,,A,0,\ntarget,,B,{direction},\nset,1,,{first},\nset,2,,{second},\n"
+        "sheet,{version},S1,{denominator},\ntarget,,A,0,\ntarget,,B,{direction},\n\
+        set,1,,{first},\nset,2,,{second},\n"
     )?;
     for line in &SHEET[5..] {
         text.push_str(line)?;
@@ -233,7 +236,8 @@ fn each_version_has_its_ranges(rt: HostRuntime) -> Result<(), Fail> {
         ("2", "1", "0", "-1000000000000000000001", "Row(3, Range)"),
     ] {
         let text = format!(in alloc;
-            "sheet,{version},S,{denominator},\ntarget,,A,{direction},\nset,1,,{orientation},\nobs,1,A,0,0\n"
+            "sheet,{version},S,{denominator},\ntarget,,A,{direction},\n\
+            set,1,,{orientation},\nobs,1,A,0,0\n"
         )?;
         let found = answer(alloc, text.as_bytes())?;
         assert!(rt; found.as_str().starts_with(expected), "of {text}");
@@ -291,7 +295,8 @@ fn the_worked_sheet_is_read_up_to_the_limits_of_its_version(rt: HostRuntime) -> 
         ),
         (
             OF_2,
-            "S1/1000000000000; A 0; B 10000006000000000000; 1 -5000000000000; 2 -20000005000000000000; 1 A 6 0;",
+            "S1/1000000000000; A 0; B 10000006000000000000; \
+            1 -5000000000000; 2 -20000005000000000000; 1 A 6 0;",
         ),
         (with(OF_2, 0, "1"), "Row(1, Range)"),
         (with(OF_2, 1, "1000000000001"), "Row(1, Range)"),
@@ -457,7 +462,8 @@ fn a_sheet_is_written_as_the_bytes_that_it_was_read_of(rt: HostRuntime) -> Resul
     }
     for text in [
         "sheet,1,S1,1,\ntarget,,\"A,\"\"1\",0,\nset,1,,-6,\nobs,1,\"A,\"\"1\",6,0\n",
-        "sheet,2,S1,1000000000000,\ntarget,,A,1000000000000000000000,\nset,1,,-1000000000000000000000,\nobs,9999,A,79999999,-9\n",
+        "sheet,2,S1,1000000000000,\ntarget,,A,1000000000000000000000,\n\
+        set,1,,-1000000000000000000000,\nobs,9999,A,79999999,-9\n",
     ] {
         expect_written_again(&rt, alloc, text)?;
     }

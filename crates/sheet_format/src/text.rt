@@ -49,7 +49,8 @@ fn push_sheet<W: Write + Drop>(writer: &mut Writer<W>, sheet: &Sheet) -> Result<
 // Writes one row after those that were written.
 fn push_row<W: Write + Drop>(writer: &mut Writer<W>, fields: &[&[u8]]) -> Result<(), WriteFault>
     ensures ok { OnOk result ((text : List ℕ) → spec.HasWritten W.contents writer.old text
-        → spec.HasWritten W.contents writer.new (text ++ row_text default_writer (map (λ f. f.now) fields.now))) }
+        → spec.HasWritten W.contents writer.new
+            (text ++ row_text default_writer (map (λ f. f.now) fields.now))) }
     ensures err { IfErr result (λ fault. fault ≡ Memory) }
 {
     writer.write_fields(fields).map_err(|_| WriteFault::Memory)
@@ -63,7 +64,8 @@ fn push_header<W: Write + Drop>(
     denominator: u64,
 ) -> Result<(), WriteFault>
     ensures ok { OnOk result ((text : List ℕ) → spec.HasWritten W.contents writer.old text
-        → spec.HasWritten W.contents writer.new (text ++ row_text default_writer (sheet_fields version name denominator))) }
+        → spec.HasWritten W.contents writer.new
+            (text ++ row_text default_writer (sheet_fields version name denominator))) }
     ensures err { IfErr result (λ fault. fault ≡ Memory) }
 {
     let mut number = Buffer::new();
@@ -85,7 +87,8 @@ fn push_target<W: Write + Drop>(
     direction: &Direction,
 ) -> Result<(), WriteFault>
     ensures ok { OnOk result ((text : List ℕ) → spec.HasWritten W.contents writer.old text
-        → spec.HasWritten W.contents writer.new (text ++ row_text default_writer (target_fields direction.now))) }
+        → spec.HasWritten W.contents writer.new
+            (text ++ row_text default_writer (target_fields direction.now))) }
     ensures err { IfErr result (λ fault. fault ≡ Memory) }
 {
     let mut value = Buffer::new();
@@ -107,7 +110,8 @@ fn push_set<W: Write + Drop>(
     orientation: &Orientation,
 ) -> Result<(), WriteFault>
     ensures ok { OnOk result ((text : List ℕ) → spec.HasWritten W.contents writer.old text
-        → spec.HasWritten W.contents writer.new (text ++ row_text default_writer (set_fields orientation.now))) }
+        → spec.HasWritten W.contents writer.new
+            (text ++ row_text default_writer (set_fields orientation.now))) }
     ensures err { IfErr result (λ fault. fault ≡ Memory) }
 {
     let mut number = Buffer::new();
@@ -127,7 +131,8 @@ fn push_set<W: Write + Drop>(
 // Writes the row of an observation.
 fn push_obs_row<W: Write + Drop>(writer: &mut Writer<W>, row: &Row) -> Result<(), WriteFault>
     ensures ok { OnOk result ((text : List ℕ) → spec.HasWritten W.contents writer.old text
-        → spec.HasWritten W.contents writer.new (text ++ row_text default_writer (obs_fields row.now))) }
+        → spec.HasWritten W.contents writer.new
+            (text ++ row_text default_writer (obs_fields row.now))) }
     ensures err { IfErr result (λ fault. fault ≡ Memory) }
 {
     let mut number = Buffer::new();
@@ -151,7 +156,8 @@ fn push_targets<W: Write + Drop>(
     directions: &[Direction],
 ) -> Result<(), WriteFault>
     ensures ok { OnOk result ((text : List ℕ) → spec.HasWritten W.contents writer.old text
-        → spec.HasWritten W.contents writer.new (text ++ spec.rows_text (map target_fields directions.now))) }
+        → spec.HasWritten W.contents writer.new
+            (text ++ spec.rows_text (map target_fields directions.now))) }
     ensures err { IfErr result (λ fault. fault ≡ Memory) }
 {
     for direction in directions {
@@ -166,7 +172,8 @@ fn push_sets<W: Write + Drop>(
     orientations: &[Orientation],
 ) -> Result<(), WriteFault>
     ensures ok { OnOk result ((text : List ℕ) → spec.HasWritten W.contents writer.old text
-        → spec.HasWritten W.contents writer.new (text ++ spec.rows_text (map set_fields orientations.now))) }
+        → spec.HasWritten W.contents writer.new
+            (text ++ spec.rows_text (map set_fields orientations.now))) }
     ensures err { IfErr result (λ fault. fault ≡ Memory) }
 {
     for orientation in orientations {
@@ -178,7 +185,8 @@ fn push_sets<W: Write + Drop>(
 // Writes the rows of the observations.
 fn push_obs<W: Write + Drop>(writer: &mut Writer<W>, rows: &[Row]) -> Result<(), WriteFault>
     ensures ok { OnOk result ((text : List ℕ) → spec.HasWritten W.contents writer.old text
-        → spec.HasWritten W.contents writer.new (text ++ spec.rows_text (map obs_fields rows.now))) }
+        → spec.HasWritten W.contents writer.new
+            (text ++ spec.rows_text (map obs_fields rows.now))) }
     ensures err { IfErr result (λ fault. fault ≡ Memory) }
 {
     for row in rows {

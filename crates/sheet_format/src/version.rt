@@ -1,4 +1,5 @@
-//! The two versions of a sheet. They differ in the ranges of the denominator, the directions and the orientations.
+//! The two versions of a sheet. They differ in the ranges of the denominator, the directions and
+//! the orientations.
 
 ghost use Rattle.std.specs.Prelude.{◌≡◌};
 ghost use Rattle.std.specs.List.{list_all};
@@ -11,7 +12,8 @@ use adjust_kernel::{Direction, LARGEST_ANGLE, LARGEST_DENOMINATOR, Orientation, 
 /// The largest denominator of a sheet of version 1; the smallest is 1.
 pub(crate) const LARGEST_DENOMINATOR_OF_ONE: u64 = 1_000_000_000;
 
-/// The largest size of a direction or orientation of a sheet of version 1, in half units times the denominator.
+/// The largest size of a direction or orientation of a sheet of version 1, in half units times the
+/// denominator.
 pub(crate) const LARGEST_ANGLE_OF_ONE: i128 = 1_000_000_000_000_000_000;
 
 /// The version of a sheet, as its first row names it.
@@ -86,14 +88,16 @@ impl Version {
     }
 
     fn takes_directions(self, directions: &[Direction]) -> bool
-        ensures { result ≡ list_all (λ d. is_at_most (spec.largest_angle self) d.value) directions.now }
+        ensures { result ≡ list_all
+            (λ d. is_at_most (spec.largest_angle self) d.value) directions.now }
     {
         let most = self.largest_angle();
         directions.iter().all(|direction| -most <= direction.value && direction.value <= most)
     }
 
     fn takes_orientations(self, orientations: &[Orientation]) -> bool
-        ensures { result ≡ list_all (λ o. is_at_most (spec.largest_angle self) o.value) orientations.now }
+        ensures { result ≡ list_all
+            (λ o. is_at_most (spec.largest_angle self) o.value) orientations.now }
     {
         let most = self.largest_angle();
         orientations.iter().all(|orientation| -most <= orientation.value

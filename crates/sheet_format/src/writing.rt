@@ -16,12 +16,15 @@ use std::alloc::Global;
 ///
 /// The text is made in memory first, so that a refusal of memory comes before anything is written.
 pub fn write_sheet<W: Sink>(alloc: Global, sheet: &Sheet, writer: &mut W) -> Result<(), WriteFault>
-    ensures written { OnOk result (Appends (W.holds writer.old) (W.holds writer.new) (spec.sheet_text sheet.now)) }
+    ensures written { OnOk result
+        (Appends (W.holds writer.old) (W.holds writer.new) (spec.sheet_text sheet.now)) }
     ensures unfailed { OnOk result (W.failed writer.new ≡ W.failed writer.old) }
 
-    // Without memory nothing was asked of the writer; when it fails, what it took is the beginning of the text.
+    // Without memory nothing was asked of the writer; when it fails, what it took is the beginning
+    // of the text.
     ensures untouched { result ≡ Err fault.Memory → writer.new ≡ writer.old }
-    ensures begun { result ≡ Err fault.Write → AppendsSome (W.holds writer.old) (W.holds writer.new) (spec.sheet_text sheet.now) }
+    ensures begun { result ≡ Err fault.Write
+        → AppendsSome (W.holds writer.old) (W.holds writer.new) (spec.sheet_text sheet.now) }
     ensures failed { result ≡ Err fault.Write → W.failed writer.new ≡ true }
 {
     let text = sheet_text(alloc, sheet)?;

@@ -1,13 +1,15 @@
 use Rattle.std.proofs.Common.{sym, ◌∙◌, arith}
-use Rattle.std.proofs.lemmas.List.Elements.{All-from_get_or}
-use Rattle.gsi_word.specs.Words.{IsPrintable}
+use Rattle.std.proofs.lemmas.Bool.{not-true, not-false}
+use Rattle.std.proofs.lemmas.List.Quantifiers.{position-Some}
 use Rattle.gsi_word.proofs.LineLaws.{byte_fault}
-use Rattle.gsi_word.proofs.PrintableLaws.{no_printable}
+use Rattle.gsi_word.proofs.PrintableLaws.{printable, no_printable, no_stray, is_stray}
 use Rattle.gsi_word.proofs.reading.check_bytes.Goals as goal
 
-pub returns-then-not-is_printable-clause-fault : goal.returns-then-not-is_printable-clause-fault
-returns-then-not-is_printable-clause-fault c =
-    byte_fault c.args.line.now c.loop-place.place (omega arith) c.loop-place.invariant (no_printable _ (sym c.is_printable.ensures ∙ c.if-not-is_printable.true))
+pub returns-in-Some-clause-fault : goal.returns-in-Some-clause-fault
+returns-in-Some-clause-fault c =
+    let line = c.args.line.now in
+    let found = position-Some is_stray line c.in-Some.place 0 (sym c.first_stray.ensures ∙ c.in-Some.is) in
+    byte_fault line c.in-Some.place found.0 (λ k lt. printable _ (not-false _ (found.2 k lt))) (no_printable _ (not-true _ found.1))
 
-pub returns-clause-printable : goal.returns-clause-printable
-returns-clause-printable c = All-from_get_or IsPrintable c.args.line.now 0 (λ i lt. c.loop-place.invariant i (omega arith))
+pub returns-in-None-clause-printable : goal.returns-in-None-clause-printable
+returns-in-None-clause-printable c = no_stray c.args.line.now (sym c.first_stray.ensures ∙ c.in-None.is)

@@ -50,7 +50,7 @@ returns-in-Err-Fault-clause-fault c =
     let here = subst (HasRead (records_of c.args.bytes.now) c.rows.draft) {y = row ∷ rest} more read in
     let refused = rw c.in-Err-Fault.is at c.take_row.ensures.err in
     let found = read-fault (records_of c.args.bytes.now) c.rows.draft row rest c.in-Err-Fault.kind here (rw c.in-Err-Fault.field-0-is at refused) in
-    rw (c.taken-number.ensures, c.in-Err-Fault.kind-is) (c.requires, _, refl, found)
+    rw (c.taken-number.ensures, c.in-Err-Fault.kind-is) (inl (c.requires, _, refl, found))
 
 pub returns-in-None-clause-fault : goal.returns-in-None-clause-fault
 returns-in-None-clause-fault c =
@@ -59,7 +59,7 @@ returns-in-None-clause-fault c =
     let end = rows-end (λ (b : Bor (List ℕ)). Some b.now) c.rows.reader c.read_byte_record.new.self (fields_of c.read_byte_record.new.row) default_config y config source got in
     let here = subst (HasRead (records_of c.args.bytes.now) c.rows.draft) (records-end n c.rows.reader.state y end) read in
     let found = read-end (records_of c.args.bytes.now) c.rows.draft here c.in-None.ensures.none in
-    rw c.taken-number.ensures (c.requires, _, refl, found)
+    rw c.taken-number.ensures (inl (c.requires, _, refl, found))
 
 pub returns-in-Some-clause-sheet : goal.returns-in-Some-clause-sheet
 returns-in-Some-clause-sheet c =
