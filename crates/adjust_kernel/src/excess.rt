@@ -10,14 +10,14 @@ use crate::obs::Obs;
 use crate::residual::row_residual;
 use crate::sheet::Sheet;
 
-// Whether a scaled residual is in size above a limit.
+/// Whether a scaled residual is in size above a limit.
 fn is_above(residual: i128, limit: u32, denominator: u64) -> bool
     ensures { IsTrue result ↔ (limit * denominator < unsigned_abs residual) }
 {
     residual.unsigned_abs() > u128::from(limit) * u128::from(denominator)
 }
 
-// Whether the residual of a row is in size above a limit.
+/// Whether the residual of a row is in size above a limit.
 fn is_row_above(sheet: &Sheet, obs: &[Obs], limit: u32, row: usize) -> bool
     requires paired { ArePaired sheet.now obs.now }
     requires row { row < length obs.now }

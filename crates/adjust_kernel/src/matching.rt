@@ -17,7 +17,7 @@ use crate::row::Row;
 use crate::sheet::Sheet;
 use crate::station::Station;
 
-// Whether sheet and station name one target at a place, or neither has one there.
+/// Whether sheet and station name one target at a place, or neither has one there.
 fn is_same_target_at(station: &Station, sheet: &Sheet, place: usize) -> bool
     ensures { IsTrue result ↔ (slice_get (names_of sheet.now) place ≡ slice_get station.now.targets place) }
 {
@@ -28,7 +28,7 @@ fn is_same_target_at(station: &Station, sheet: &Sheet, place: usize) -> bool
     }
 }
 
-// Whether sheet and station number one set at a place, or neither has one there.
+/// Whether sheet and station number one set at a place, or neither has one there.
 fn is_same_set_at(station: &Station, sheet: &Sheet, place: usize) -> bool
     ensures { IsTrue result ↔ (slice_get (numbers_of sheet.now) place ≡ slice_get station.now.sets place) }
 {
@@ -39,7 +39,7 @@ fn is_same_set_at(station: &Station, sheet: &Sheet, place: usize) -> bool
     }
 }
 
-// Whether a row of the sheet states this observation.
+/// Whether a row of the sheet states this observation.
 fn is_row_of(station: &Station, row: &Row, obs: &Obs) -> bool
     requires { IsObs (length station.now.sets) (length station.now.targets) obs.now }
     ensures { IsTrue result ↔ (key_of_row row.now ≡ key_of_obs station.now.sets station.now.targets obs.now) }
@@ -49,7 +49,7 @@ fn is_row_of(station: &Station, row: &Row, obs: &Obs) -> bool
         && row.value == obs.value
 }
 
-// Whether sheet and station have one observation at a place, or neither has one there.
+/// Whether sheet and station have one observation at a place, or neither has one there.
 fn is_same_row_at(station: &Station, sheet: &Sheet, place: usize) -> bool
     ensures { IsTrue result ↔ (slice_get (keys_of sheet.now) place ≡ slice_get (observed station.now) place) }
 {
@@ -60,7 +60,7 @@ fn is_same_row_at(station: &Station, sheet: &Sheet, place: usize) -> bool
     }
 }
 
-// The first place at which sheet and station have different targets, or one of them has ended.
+/// The first place at which sheet and station have different targets, or one of them has ended.
 fn first_other_target(station: &Station, sheet: &Sheet) -> Option<usize>
     ensures none { IfNone result (names_of sheet.now ≡ station.now.targets) }
     ensures some { IfSome result (λ place. IsFirstDifference (names_of sheet.now) station.now.targets place) }
@@ -74,7 +74,7 @@ fn first_other_target(station: &Station, sheet: &Sheet) -> Option<usize>
     None
 }
 
-// The first place at which sheet and station have different sets, or one of them has ended.
+/// The first place at which sheet and station have different sets, or one of them has ended.
 fn first_other_set(station: &Station, sheet: &Sheet) -> Option<usize>
     ensures none { IfNone result (numbers_of sheet.now ≡ station.now.sets) }
     ensures some { IfSome result (λ place. IsFirstDifference (numbers_of sheet.now) station.now.sets place) }
@@ -88,7 +88,7 @@ fn first_other_set(station: &Station, sheet: &Sheet) -> Option<usize>
     None
 }
 
-// The first place at which sheet and station have different observations, or one of them has ended.
+/// The first place at which sheet and station have different observations, or one of them has ended.
 fn first_other_row(station: &Station, sheet: &Sheet) -> Option<usize>
     ensures none { IfNone result (keys_of sheet.now ≡ observed station.now) }
     ensures some { IfSome result (λ place. IsFirstDifference (keys_of sheet.now) (observed station.now) place) }
@@ -102,7 +102,7 @@ fn first_other_row(station: &Station, sheet: &Sheet) -> Option<usize>
     None
 }
 
-// Whether the direction of the first target is 0.
+/// Whether the direction of the first target is 0.
 fn has_datum(sheet: &Sheet) -> bool
     ensures { IsTrue result ↔ ((choice_stated_by sheet.now).direction 0 ≡ pos 0) }
 {

@@ -8,6 +8,7 @@ ghost use Rattle.std.specs.Str.{bytes_eq};
 ghost use Rattle.adjust_kernel.specs.Names.{IsName};
 
 use crate::limits::LONGEST_NAME;
+use std::fmt;
 use std::marker::Model;
 
 /// The first byte that a name may hold, a blank.
@@ -78,7 +79,14 @@ impl Name {
     }
 }
 
-// Whether these are the bytes of a name.
+impl fmt::Display for Name {
+    /// Its bytes, which are ASCII, as text.
+    fn fmt<W: fmt::Write>(&self, f: &mut fmt::Formatter<W>) -> fmt::Result {
+        f.write_str(std::str::from_utf8(self.bytes()).map_err(|_| fmt::Error)?)
+    }
+}
+
+/// Whether these are the bytes of a name.
 fn is_name(bytes: &[u8]) -> bool
     ensures { IsTrue result ↔ IsName bytes.now }
 {

@@ -71,7 +71,7 @@ impl Tally for Running {
     }
 }
 
-// Adds to the sum at a place. The sum is one of fewer than the most rows.
+/// Adds to the sum at a place. The sum is one of fewer than the most rows.
 fn add_at(sums: &mut [i128], place: usize, residual: i128)
     requires place { place < length sums.old }
     requires sum { IsWithin (LARGEST_RESIDUAL *ℤ pos MOST_ROWS) (slice_index_or sums.old place (pos 0)) }

@@ -7,9 +7,11 @@ ghost use Rattle.adjust_kernel.specs.Tallies.{added_for_target, added_for_set};
 /// A scaled residual, with the places of its target and set.
 #[derive(Clone, Copy, Debug, PartialEq, Eq)]
 pub struct Added {
+    /// The place of the target in the station's list, from 0.
     pub target: u32,
+    /// The place of the set in the station's list, from 0.
     pub set: u32,
-    /// In half units times the denominator.
+    /// The residual, in half units (0.005 mgon each) times the denominator.
     pub residual: i128,
 }
 
