@@ -39,7 +39,8 @@ fn carry(marks: &mut [bool; MOST_NODES], sets: usize, targets: usize, obs: &Obs)
     requires obs { IsObs sets targets obs.now }
     ensures carried {
         OnTrue result
-            ((n : ℕ) × IsOpenEnd marks.old sets obs.now n × (marks.new ≡ slice_set marks.old n true))
+            ((n : ℕ) × IsOpenEnd marks.old sets obs.now n
+            × (marks.new ≡ slice_set marks.old n true))
     }
     ensures alike { OnFalse result ((marks.new ≡ marks.old) × AreAlike marks.old sets obs.now) }
 {

@@ -54,8 +54,8 @@ fn are_ordered(obs: &[Obs]) -> bool
     true
 }
 
-/// Whether each of this many sets and targets has an observation: each observation marks its set and
-/// its target.
+/// Whether each of this many sets and targets has an observation: each observation marks its set
+/// and its target.
 fn has_each(obs: &[Obs], sets: usize, targets: usize) -> bool
     requires sets { sets ≤ MOST_SETS }
     requires targets { targets ≤ MOST_TARGETS }

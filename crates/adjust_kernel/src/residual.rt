@@ -72,8 +72,8 @@ pub fn residual_of(station: &Station, sheet: &Sheet, row: usize) -> i128
     requires row { row < length station.now.obs }
     ensures value {
         (d : Reading)
-        → result
-        ≡ residual (choice_stated_by sheet.now) (slice_index_or (readings station.now sheet.now) row d)
+        → result ≡ residual (choice_stated_by sheet.now)
+            (slice_index_or (readings station.now sheet.now) row d)
     }
     ensures bound { IsWithin LARGEST_RESIDUAL result }
 {

@@ -30,9 +30,14 @@ impl Model for Sheet {
 
     ghost Value = { SheetValue };
 
-    ghost view = { λ s. sheet_of s.name s.denominator s.directions.items s.orientations.items s.rows.items };
+    ghost view = {
+        λ s. sheet_of s.name s.denominator s.directions.items s.orientations.items s.rows.items
+    };
 
-    ghost invariant = { λ s. IsSheet (sheet_of s.name s.denominator s.directions.items s.orientations.items s.rows.items) };
+    ghost invariant = {
+        λ s. IsSheet
+            (sheet_of s.name s.denominator s.directions.items s.orientations.items s.rows.items)
+    };
 }
 
 impl Sheet {
@@ -45,9 +50,15 @@ impl Sheet {
         orientations: Vec<Orientation>,
         rows: Vec<Row>,
     ) -> Option<Sheet>
-        ensures some { IfSome result (λ sheet. sheet ≡ sheet_of name denominator directions.items orientations.items rows.items) }
+        ensures some {
+            IfSome result (λ sheet.
+                sheet ≡ sheet_of name denominator directions.items orientations.items rows.items)
+        }
         ensures valid { IfSome result IsSheet }
-        ensures none { IfNone result (IsSheet (sheet_of name denominator directions.items orientations.items rows.items) → ⊥) }
+        ensures none {
+            IfNone result
+                (IsSheet (sheet_of name denominator directions.items orientations.items rows.items) → ⊥)
+        }
     {
         let _bytes = name.bytes();
         if is_denominator(denominator)
@@ -98,12 +109,13 @@ impl Sheet {
         }
         ensures valid { IsSheet self }
     {
+        let sheet = self;
         (
-            self.name,
-            self.denominator,
-            self.directions,
-            self.orientations,
-            self.rows,
+            sheet.name,
+            sheet.denominator,
+            sheet.directions,
+            sheet.orientations,
+            sheet.rows,
         )
     }
 
