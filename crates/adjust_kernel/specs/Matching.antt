@@ -6,8 +6,8 @@ use Rattle.adjust_kernel.specs.Pairs.{choice_stated_by}
 use Rattle.adjust_kernel.specs.Sheets.{SheetValue}
 use Rattle.adjust_kernel.specs.Stations.{StationValue}
 
--- what a row of a sheet and an observation of a station have to agree in: the number of the set, the name of the target,
--- and the direction
+-- what a row of a sheet and an observation of a station have to agree in: the number of the set, the
+-- name of the target, and the direction
 pub record Key : Type 0 where
   pub set : ℕ
   pub target : List ℕ
@@ -19,7 +19,11 @@ key_of_row r = record { set = r.set; target = r.target; value = r.value }
 
 -- the key of an observation, by the station's numbers of sets and names of targets
 abbrev pub key_of_obs : List ℕ → List (List ℕ) → Obs → Key
-key_of_obs sets targets o = record { set = slice_index_or sets o.set 0; target = slice_index_or targets o.target []; value = o.value }
+key_of_obs sets targets o = record {
+  set = slice_index_or sets o.set 0;
+  target = slice_index_or targets o.target [];
+  value = o.value;
+}
 
 -- the names of the targets, as the sheet has them
 abbrev pub names_of : SheetValue → List (List ℕ)
@@ -37,8 +41,9 @@ keys_of sheet = map key_of_row sheet.rows
 abbrev pub observed : StationValue → List Key
 observed station = map (key_of_obs station.sets station.targets) station.obs
 
--- The sheet is of this station (profile): it has the station's name, and its lists of targets, of sets and of
--- observations equal the station's, so that nothing is missing, added, moved or altered; and the first direction is 0.
+-- The sheet is of this station (profile): it has the station's name, and its lists of targets, of
+-- sets and of observations equal the station's, so that nothing is missing, added, moved or altered;
+-- and the first direction is 0.
 pub record Matches (station : StationValue) (sheet : SheetValue) : Type 0 where
   pub name : sheet.name ≡ station.name
   pub targets : names_of sheet ≡ station.targets

@@ -7,8 +7,8 @@ use Rattle.adjust_kernel.specs.declared.name.TheConstants.{FIRST_PRINTABLE, LAST
 abbrev pub IsPrintable : ℕ → Type 0
 IsPrintable byte = (FIRST_PRINTABLE ≤ byte) × (byte ≤ LAST_PRINTABLE)
 
--- the bytes of a name: at least one, not too many, each printable (profile: the content of a word, without its
--- leading zeros, is such a name)
+-- the bytes of a name: at least one, not too many, each printable (profile: the content of a word,
+-- without its leading zeros, is such a name)
 pub record IsName (bytes : List ℕ) : Type 0 where
   pub some : 1 ≤ length bytes
   pub short : length bytes ≤ LONGEST_NAME

@@ -1,4 +1,5 @@
--- Sheets: what an adjustment answered for a station, as contracts see it, and the limits that it keeps.
+-- Sheets: what an adjustment answered for a station, as contracts see it, and the limits that it
+-- keeps.
 use Rattle.std.specs.Prelude.{ℕ, List, ◌≤◌, ◌<◌, length, All}
 use Rattle.adjust_kernel.specs.declared.limits.TheConstants.{LARGEST_ANGLE, LARGEST_DENOMINATOR, LARGEST_SET_NUMBER, LARGEST_TURN, MOST_ROWS, MOST_SETS, MOST_TARGETS, TURN}
 use Rattle.adjust_kernel.specs.declared.row.Direction.{Direction}
@@ -39,7 +40,8 @@ pub record IsOrientation (o : Orientation) : Type 0 where
   pub set : IsSetNumber o.set
   pub value : IsWithin LARGEST_ANGLE o.value
 
--- a row within the limits: of a set with a number and a named target, on the circle, and with few full turns
+-- a row within the limits: of a set with a number and a named target, on the circle, and with few
+-- full turns
 pub record IsRow (r : Row) : Type 0 where
   pub set : IsSetNumber r.set
   pub target : IsName r.target

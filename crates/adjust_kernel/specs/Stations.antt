@@ -5,7 +5,8 @@ use Rattle.adjust_kernel.specs.declared.obs.Obs.{Obs}
 use Rattle.adjust_kernel.specs.Names.{IsName}
 use Rattle.adjust_kernel.specs.Sheets.{IsSetNumber}
 
--- a station as contracts see it: its name, the names of its targets, the numbers of its sets, and its observations
+-- a station as contracts see it: its name, the names of its targets, the numbers of its sets, and
+-- its observations
 pub record StationValue : Type 0 where
   pub name : List ℕ
   pub targets : List (List ℕ)
@@ -16,7 +17,8 @@ pub record StationValue : Type 0 where
 abbrev pub station_of : List ℕ → List (List ℕ) → List ℕ → List Obs → StationValue
 station_of name targets sets obs = record { name = name; targets = targets; sets = sets; obs = obs }
 
--- an observation of one of this many sets and one of this many targets, with a direction on the circle
+-- an observation of one of this many sets and one of this many targets, with a direction on the
+-- circle
 pub record IsObs (sets targets : ℕ) (o : Obs) : Type 0 where
   pub set : o.set < sets
   pub target : o.target < targets
@@ -48,8 +50,8 @@ pub record AreSets (sets : List ℕ) : Type 0 where
   pub numbers : All IsSetNumber sets
   pub different : AllPairs (λ a b. a ≢ b) sets
 
--- the observations of this many sets and targets (profile): in order, by set and within a set by target, so that none
--- stands twice; and no set and no target is without one
+-- the observations of this many sets and targets (profile): in order, by set and within a set by
+-- target, so that none stands twice; and no set and no target is without one
 pub record AreObs (sets targets : ℕ) (obs : List Obs) : Type 0 where
   pub within : All (IsObs sets targets) obs
   pub ordered : AllPairs IsBefore obs

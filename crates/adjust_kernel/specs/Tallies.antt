@@ -1,4 +1,5 @@
--- What a tally stands for: the residuals that were added to it, each with the places of its target and set.
+-- What a tally stands for: the residuals that were added to it, each with the places of its target
+-- and set.
 use Rattle.std.specs.Prelude.{◌≡◌, ℕ, List, ℤ, pos, ◌<◌, ◌==◌, length, map, slice_index_or}
 use Rattle.adjust_kernel.specs.declared.limits.TheConstants.{MOST_TARGETS, MOST_SETS}
 use Rattle.adjust_kernel.specs.declared.tally.Added.{Added}
@@ -17,8 +18,10 @@ added_for_set l set = int_sum_where (λ a. a.set == set) (λ a. a.residual) l
 -- these are the sums of every target and of every set, and the number of what was added
 pub record AreSumsOf (l : List Added) (targets sets : List ℤ) (taken : ℕ) : Type 0 where
   pub number : length l ≡ taken
-  pub of_targets : (t : ℕ) → t < MOST_TARGETS → slice_index_or targets t (pos 0) ≡ added_for_target l t
-  pub of_sets : (s : ℕ) → s < MOST_SETS → slice_index_or sets s (pos 0) ≡ added_for_set l s
+  pub of_targets : (t : ℕ) → t < MOST_TARGETS
+      → slice_index_or targets t (pos 0) ≡ added_for_target l t
+  pub of_sets : (s : ℕ) → s < MOST_SETS
+      → slice_index_or sets s (pos 0) ≡ added_for_set l s
 
 -- a reading's residual, with the places of its target and set
 abbrev pub added_of : Choice → Reading → Added

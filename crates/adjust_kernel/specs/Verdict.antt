@@ -61,11 +61,13 @@ Stands station sheet limit (ObsRow n) =
     AtNth (IsFirstDifference (keys_of sheet) (observed station)) n
 Stands station sheet limit Datum = (choice_stated_by sheet).direction 0 ≢ pos 0
 Stands station sheet limit (TargetSum n) =
-    AtNth (IsFirstWhere (λ t. target_sum (choice_stated_by sheet) (readings station sheet) t ≢ pos 0)
-      (length station.targets)) n
+    AtNth
+      (IsFirstWhere (λ t. target_sum (choice_stated_by sheet) (readings station sheet) t ≢ pos 0)
+        (length station.targets)) n
 Stands station sheet limit (SetSum n) =
-    AtNth (IsFirstWhere (λ s. set_sum (choice_stated_by sheet) (readings station sheet) s ≢ pos 0)
-      (length station.sets)) n
+    AtNth
+      (IsFirstWhere (λ s. set_sum (choice_stated_by sheet) (readings station sheet) s ≢ pos 0)
+        (length station.sets)) n
 Stands station sheet limit NotConnected =
     IsDivided (length station.sets) (length station.targets) (readings station sheet)
 Stands station sheet limit (Residual n) =
@@ -101,7 +103,8 @@ pub record IsAcceptance (station : StationValue) (sheet : SheetValue) (accepted 
 abbrev pub IsVerdict : StationValue → SheetValue → Option ℕ → Result Accepted KernelFault → Type 0
 IsVerdict station sheet limit (Err fault) =
     Stands station sheet limit fault
-    × ((other : KernelFault) → order_of other < order_of fault → Stands station sheet limit other → ⊥)
+    × ((other : KernelFault) → order_of other < order_of fault
+      → Stands station sheet limit other → ⊥)
 IsVerdict station sheet limit (Ok accepted) =
     ((fault : KernelFault) → Stands station sheet limit fault → ⊥)
     × IsAcceptance station sheet accepted

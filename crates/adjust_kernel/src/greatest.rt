@@ -10,7 +10,7 @@ use crate::obs::Obs;
 use crate::residual::row_residual;
 use crate::sheet::Sheet;
 
-// The larger of a size and the size of a residual.
+/// The larger of a size and the size of a residual.
 fn larger_size(size: i128, residual: i128) -> i128
     requires { IsWithin LARGEST_RESIDUAL residual }
     ensures { (known : ℕ) → size ≡ pos known → result ≡ pos (max known (unsigned_abs residual)) }

@@ -13,6 +13,7 @@ mod greatest;
 mod kernel_fault;
 pub mod laws;
 mod limits;
+mod marks;
 mod matching;
 mod name;
 mod obs;
@@ -37,6 +38,7 @@ pub use limits::{
 pub use name::Name;
 pub use obs::Obs;
 pub use out_of_memory::OutOfMemory;
+pub use residual::residual_of;
 pub use residual_limit::ResidualLimit;
 pub use row::{Direction, Orientation, Row};
 pub use running::Running;

@@ -8,6 +8,7 @@ ghost use Rattle.std.specs.Str.{bytes_eq};
 ghost use Rattle.adjust_kernel.specs.Names.{IsName};
 
 use crate::limits::LONGEST_NAME;
+use std::fmt;
 use std::marker::Model;
 
 /// The first byte that a name may hold, a blank.
@@ -31,7 +32,10 @@ impl Model for Name {
 
     ghost view = { λ n. take n.len n.bytes };
 
-    ghost invariant = { λ n. (n.bytes ≡ padded (take n.len n.bytes)) × (n.len ≡ length (take n.len n.bytes)) × IsName (take n.len n.bytes) };
+    ghost invariant = {
+        λ n. (n.bytes ≡ padded (take n.len n.bytes)) × (n.len ≡ length (take n.len n.bytes))
+            × IsName (take n.len n.bytes)
+    };
 
     ghost inverse = { λ xs. record { bytes = padded xs; len = length xs } };
 }
@@ -78,7 +82,14 @@ impl Name {
     }
 }
 
-// Whether these are the bytes of a name.
+impl fmt::Display for Name {
+    /// Its bytes, which are ASCII, as text.
+    fn fmt<W: fmt::Write>(&self, f: &mut fmt::Formatter<W>) -> fmt::Result {
+        f.write_str(std::str::from_utf8(self.bytes()).map_err(|_| fmt::Error)?)
+    }
+}
+
+/// Whether these are the bytes of a name.
 fn is_name(bytes: &[u8]) -> bool
     ensures { IsTrue result ↔ IsName bytes.now }
 {
@@ -108,6 +119,7 @@ pub fn same(a: Name, b: Name) -> bool
 #[cfg(test)]
 mod tests {
     use super::*;
+    use std::test::Fail;
 
     #[test]
     fn a_name_has_1_to_16_printable_bytes(rt: HostRuntime) {
@@ -117,5 +129,15 @@ mod tests {
         assert!(rt; Name::new(b"A\x1f").is_none());
         let name = Name::new(b"1234567890 ~AB,\"").expect(&rt, "a name");
         assert_eq!(rt; name.bytes(), b"1234567890 ~AB,\"".as_slice());
+    }
+
+    #[test]
+    fn a_name_shows_its_bytes_as_text(rt: HostRuntime) -> Result<(), Fail> {
+        let name = Name::new(b"S1 ~").expect(&rt, "a name");
+        assert_eq!(rt; name.to_string(rt.alloc())?.as_str(), "S1 ~");
+        assert_eq!(rt; Name::of_valid(b"S1 ~"), name);
+        assert!(rt; name.is(b"S1 ~"));
+        assert!(rt; !name.is(b"S1"));
+        Ok(())
     }
 }

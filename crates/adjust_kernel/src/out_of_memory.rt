@@ -1,3 +1,8 @@
+//! Want of memory.
+
+use thiserror::Error;
+
 /// Memory ran out.
-#[derive(Clone, Copy, Debug, PartialEq, Eq)]
+#[derive(Clone, Copy, Debug, PartialEq, Eq, Drop, Error)]
+#[error("out of memory")]
 pub struct OutOfMemory;

@@ -3,32 +3,24 @@
 //! Everything is in half units times the sheet's denominator, so that all numbers are whole. Each
 //! step has its own bound, and no step is near the end of 128 bits.
 ghost use Rattle.std.specs.Prelude.{◌≡◌, ◌≤◌, ◌<◌, pos, ◌*ℤ◌, length, slice_index_or};
+ghost use Rattle.adjust_kernel.specs.Matching.{Matches};
 ghost use Rattle.adjust_kernel.specs.Readings.{Reading};
 ghost use Rattle.adjust_kernel.specs.Within.{IsWithin};
 ghost use Rattle.adjust_kernel.specs.Stations.{IsObs};
 ghost use Rattle.adjust_kernel.specs.Pairs.{ArePaired, reading_of, readings_of, choice_stated_by};
 ghost use Rattle.adjust_kernel.specs.Residuals.{residual};
-ghost use Rattle.adjust_kernel.specs.Residuals as Residuals;
+ghost use Rattle.adjust_kernel.specs.Verdict.{readings};
 
 use crate::limits::{LARGEST_ANGLE, LARGEST_DENOMINATOR, LARGEST_RESIDUAL, LARGEST_TURN, TURN};
 use crate::obs::Obs;
-use crate::row::Row;
+use crate::row::{Row, unrolled};
 use crate::sheet::Sheet;
+use crate::station::Station;
 
-// No reading with its full turns is larger than this, in half units.
+/// No reading with its full turns is larger than this, in half units.
 const LARGEST_READING: i128 = (LARGEST_TURN as i128 + 1) * TURN as i128;
 
-// A reading with its full turns.
-fn unrolled(obs: &Obs, row: &Row) -> i128
-    requires value { obs.now.value < TURN }
-    requires turn { IsWithin LARGEST_TURN row.now.turn }
-    ensures value { result ≡ Residuals.unrolled (reading_of obs.now row.now.turn) }
-    ensures bound { IsWithin LARGEST_READING result }
-{
-    i128::from(obs.value) + i128::from(TURN) * i128::from(row.turn)
-}
-
-// A reading with its full turns, times the denominator.
+/// A reading with its full turns, times the denominator.
 fn scaled(denominator: u64, reading: i128) -> i128
     requires denominator { denominator ≤ LARGEST_DENOMINATOR }
     requires reading { IsWithin LARGEST_READING reading }
@@ -38,7 +30,7 @@ fn scaled(denominator: u64, reading: i128) -> i128
     i128::from(denominator) * reading
 }
 
-// The direction of a target.
+/// The direction of a target.
 fn direction_of(sheet: &Sheet, target: u32) -> i128
     requires { target < length sheet.now.directions }
     ensures value { result ≡ (choice_stated_by sheet.now).direction target }
@@ -47,7 +39,7 @@ fn direction_of(sheet: &Sheet, target: u32) -> i128
     sheet.directions()[target as usize].value
 }
 
-// The orientation of a set.
+/// The orientation of a set.
 fn orientation_of(sheet: &Sheet, set: u32) -> i128
     requires { set < length sheet.now.orientations }
     ensures value { result ≡ (choice_stated_by sheet.now).orientation set }
@@ -56,24 +48,47 @@ fn orientation_of(sheet: &Sheet, set: u32) -> i128
     sheet.orientations()[set as usize].value
 }
 
-// The scaled residual of an observation and the sheet's row for it.
+/// The scaled residual of an observation and the sheet's row for it.
 fn residual_at(sheet: &Sheet, obs: &Obs, row: &Row) -> i128
-    requires obs { IsObs (length sheet.now.orientations) (length sheet.now.directions) obs.now }
+    requires obs {
+        IsObs (length sheet.now.orientations) (length sheet.now.directions) obs.now
+    }
     requires turn { IsWithin LARGEST_TURN row.now.turn }
-    ensures value { result ≡ residual (choice_stated_by sheet.now) (reading_of obs.now row.now.turn) }
+    ensures value {
+        result ≡ residual (choice_stated_by sheet.now) (reading_of obs.now row.now.turn)
+    }
     ensures bound { IsWithin LARGEST_RESIDUAL result }
 {
     let direction = direction_of(sheet, obs.target);
     let orientation = orientation_of(sheet, obs.set);
-    let reading = scaled(sheet.denominator(), unrolled(obs, row));
+    let reading = scaled(sheet.denominator(), unrolled(obs.value, row.turn));
     direction - orientation - reading
 }
 
+//// The scaled residual of a row, by its place from 0, in half units (0.005 mgon each) times the
+/// sheet's denominator: of a sheet of this station.
+pub fn residual_of(station: &Station, sheet: &Sheet, row: usize) -> i128
+    requires matches { Matches station.now sheet.now }
+    requires row { row < length station.now.obs }
+    ensures value {
+        (d : Reading)
+        → result ≡ residual (choice_stated_by sheet.now)
+            (slice_index_or (readings station.now sheet.now) row d)
+    }
+    ensures bound { IsWithin LARGEST_RESIDUAL result }
+{
+    row_residual(sheet, station.obs(), row)
+}
+
 /// The scaled residual of the sheet's row at a place from 0.
-pub fn row_residual(sheet: &Sheet, obs: &[Obs], row: usize) -> i128
+pub(crate) fn row_residual(sheet: &Sheet, obs: &[Obs], row: usize) -> i128
     requires paired { ArePaired sheet.now obs.now }
     requires row { row < length obs.now }
-    ensures value { (d : Reading) → result ≡ residual (choice_stated_by sheet.now) (slice_index_or (readings_of obs.now sheet.now.rows) row d) }
+    ensures value {
+        (d : Reading)
+        → result ≡ residual (choice_stated_by sheet.now)
+            (slice_index_or (readings_of obs.now sheet.now.rows) row d)
+    }
     ensures bound { IsWithin LARGEST_RESIDUAL result }
 {
     residual_at(sheet, &obs[row], &sheet.rows()[row])

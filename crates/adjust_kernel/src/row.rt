@@ -1,10 +1,10 @@
 //! What a sheet says: a direction for each target, an orientation for each set, and the
 //! observations with their full turns.
 
-ghost use Rattle.std.specs.Prelude.{◌↔◌, IsTrue};
+ghost use Rattle.std.specs.Prelude.{◌≡◌, ◌↔◌, pos, ◌+ℤ◌, ◌*ℤ◌, IsTrue};
 ghost use Rattle.adjust_kernel.specs.Sheets.{IsSetNumber};
 
-use crate::limits::LARGEST_SET_NUMBER;
+use crate::limits::{LARGEST_SET_NUMBER, TURN};
 use crate::name::Name;
 
 /// The adjusted direction of a target.
@@ -38,8 +38,24 @@ pub struct Row {
     pub turn: i8,
 }
 
+/// A direction with full turns, in half units.
+pub(crate) fn unrolled(value: u32, turn: i8) -> i128
+    ensures { result ≡ (pos value +ℤ pos TURN *ℤ turn) }
+{
+    i128::from(value) + i128::from(TURN) * i128::from(turn)
+}
+
+impl Row {
+    /// The direction with its full turns, in half units.
+    pub fn unrolled(&self) -> i128
+        ensures { result ≡ (pos self.now.value +ℤ pos TURN *ℤ self.now.turn) }
+    {
+        unrolled(self.value, self.turn)
+    }
+}
+
 /// Whether a number is one that a set may have.
-pub fn is_set_number(number: &u16) -> bool
+pub(crate) fn is_set_number(number: &u16) -> bool
     ensures { IsTrue result ↔ IsSetNumber number.now }
 {
     (1..=LARGEST_SET_NUMBER).contains(number)

@@ -2,8 +2,7 @@
 //!
 //! A sum of n residuals is at most n times the largest residual in size, which the type keeps: with
 //! all rows of a sheet it is far within 128 bits, so no sum is ever tested for overflow.
-ghost use Rattle.std.specs.Prelude.{◌≡◌, ◌≤◌, ◌<◌, ◌-◌, ◌+◌, [], pos, List, length, All, slice_index_or, slice_set, ◌+ℤ◌};
-ghost use lib.IntN.{◌*ℤ◌};
+ghost use Rattle.std.specs.Prelude.{◌≡◌, ◌≤◌, ◌<◌, ◌-◌, ◌+◌, [], pos, List, length, All, slice_index_or, slice_set, ◌+ℤ◌, ◌*ℤ◌};
 ghost use Rattle.adjust_kernel.specs.declared.limits.TheConstants.{MOST_ROWS, MOST_TARGETS, MOST_SETS, LARGEST_RESIDUAL};
 ghost use Rattle.adjust_kernel.specs.declared.tally.Added.{Added};
 ghost use Rattle.adjust_kernel.specs.Within.{IsWithin};
@@ -40,7 +39,10 @@ impl Running {
 }
 
 impl Default for Running {
-    ghost is_default = { λ running. ⟦<Running as Tally>⟧.StandsFor running [] × (⟦<Running as Tally>⟧.room running ≡ MOST_ROWS) };
+    ghost is_default = {
+        λ running. ⟦<Running as Tally>⟧.StandsFor running []
+            × (⟦<Running as Tally>⟧.room running ≡ MOST_ROWS)
+    };
 
     fn default() -> Running {
         Running::new()
@@ -71,12 +73,17 @@ impl Tally for Running {
     }
 }
 
-// Adds to the sum at a place. The sum is one of fewer than the most rows.
+/// Adds to the sum at a place. The sum is one of fewer than the most rows.
 fn add_at(sums: &mut [i128], place: usize, residual: i128)
     requires place { place < length sums.old }
-    requires sum { IsWithin (LARGEST_RESIDUAL *ℤ pos MOST_ROWS) (slice_index_or sums.old place (pos 0)) }
+    requires sum {
+        IsWithin (LARGEST_RESIDUAL *ℤ pos MOST_ROWS) (slice_index_or sums.old place (pos 0))
+    }
     requires residual { IsWithin LARGEST_RESIDUAL residual }
-    ensures { sums.new ≡ slice_set sums.old place (slice_index_or sums.old place (pos 0) +ℤ residual) }
+    ensures {
+        sums.new
+        ≡ slice_set sums.old place (slice_index_or sums.old place (pos 0) +ℤ residual)
+    }
 {
     sums[place] += residual;
 }

@@ -57,7 +57,7 @@ impl Tally for Scan {
     }
 }
 
-// Adds up what was added for a target.
+/// Adds up what was added for a target.
 fn target_sum_of(added: &[Added], target: u32) -> i128
     requires few { length added.now ≤ MOST_ROWS }
     requires within { All (λ a. IsWithin LARGEST_RESIDUAL a.residual) added.now }
@@ -72,7 +72,7 @@ fn target_sum_of(added: &[Added], target: u32) -> i128
     sum
 }
 
-// Adds up what was added for a set.
+/// Adds up what was added for a set.
 fn set_sum_of(added: &[Added], set: u32) -> i128
     requires few { length added.now ≤ MOST_ROWS }
     requires within { All (λ a. IsWithin LARGEST_RESIDUAL a.residual) added.now }

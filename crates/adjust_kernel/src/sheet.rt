@@ -30,9 +30,14 @@ impl Model for Sheet {
 
     ghost Value = { SheetValue };
 
-    ghost view = { λ s. sheet_of s.name s.denominator s.directions.items s.orientations.items s.rows.items };
+    ghost view = {
+        λ s. sheet_of s.name s.denominator s.directions.items s.orientations.items s.rows.items
+    };
 
-    ghost invariant = { λ s. IsSheet (sheet_of s.name s.denominator s.directions.items s.orientations.items s.rows.items) };
+    ghost invariant = {
+        λ s. IsSheet
+            (sheet_of s.name s.denominator s.directions.items s.orientations.items s.rows.items)
+    };
 }
 
 impl Sheet {
@@ -45,12 +50,18 @@ impl Sheet {
         orientations: Vec<Orientation>,
         rows: Vec<Row>,
     ) -> Option<Sheet>
-        ensures some { IfSome result (λ sheet. sheet ≡ sheet_of name denominator directions.items orientations.items rows.items) }
+        ensures some {
+            IfSome result (λ sheet.
+                sheet ≡ sheet_of name denominator directions.items orientations.items rows.items)
+        }
         ensures valid { IfSome result IsSheet }
-        ensures none { IfNone result (IsSheet (sheet_of name denominator directions.items orientations.items rows.items) → ⊥) }
+        ensures none {
+            IfNone result
+                (IsSheet (sheet_of name denominator directions.items orientations.items rows.items) → ⊥)
+        }
     {
-        if is_valid(&name)
-            && is_denominator(denominator)
+        let _bytes = name.bytes();
+        if is_denominator(denominator)
             && are_directions(&directions)
             && are_orientations(&orientations)
             && are_rows(&rows)
@@ -89,6 +100,23 @@ impl Sheet {
             orientations,
             rows,
         }
+    }
+
+    /// The station's name, the denominator, the directions, the orientations and the rows.
+    pub fn into_parts(self) -> (Name, u64, Vec<Direction>, Vec<Orientation>, Vec<Row>)
+        ensures parts {
+            sheet_of result.0 result.1 result.2.items result.3.items result.4.items ≡ self
+        }
+        ensures valid { IsSheet self }
+    {
+        let sheet = self;
+        (
+            sheet.name,
+            sheet.denominator,
+            sheet.directions,
+            sheet.orientations,
+            sheet.rows,
+        )
     }
 
     /// The station's name.
@@ -132,35 +160,35 @@ impl Sheet {
     }
 }
 
-// Whether a denominator is within its limits.
+/// Whether a denominator is within its limits.
 fn is_denominator(denominator: u64) -> bool
     ensures { IsTrue result ↔ IsDenominator denominator }
 {
     (1..=LARGEST_DENOMINATOR).contains(&denominator)
 }
 
-// Whether the size of a direction or orientation is within its limit.
+/// Whether the size of a direction or orientation is within its limit.
 fn is_angle(value: i128) -> bool
     ensures { IsTrue result ↔ IsWithin LARGEST_ANGLE value }
 {
     (-LARGEST_ANGLE..=LARGEST_ANGLE).contains(&value)
 }
 
-// Whether a direction is one of a sheet.
+/// Whether a direction is one of a sheet.
 fn is_direction(direction: &Direction) -> bool
     ensures { IsTrue result ↔ IsDirection direction.now }
 {
     is_valid(&direction.name) && is_angle(direction.value)
 }
 
-// Whether an orientation is one of a sheet.
+/// Whether an orientation is one of a sheet.
 fn is_orientation(orientation: &Orientation) -> bool
     ensures { IsTrue result ↔ IsOrientation orientation.now }
 {
     is_set_number(&orientation.set) && is_angle(orientation.value)
 }
 
-// Whether a row is one of a sheet.
+/// Whether a row is one of a sheet.
 fn is_row(row: &Row) -> bool
     ensures { IsTrue result ↔ IsRow row.now }
 {
@@ -170,7 +198,7 @@ fn is_row(row: &Row) -> bool
         && (-LARGEST_TURN..=LARGEST_TURN).contains(&row.turn)
 }
 
-// Whether these are the directions of a sheet.
+/// Whether these are the directions of a sheet.
 fn are_directions(directions: &[Direction]) -> bool
     ensures { IsTrue result ↔ AreDirections directions.now }
 {
@@ -179,7 +207,7 @@ fn are_directions(directions: &[Direction]) -> bool
         && directions.iter().all(is_direction)
 }
 
-// Whether these are the orientations of a sheet.
+/// Whether these are the orientations of a sheet.
 fn are_orientations(orientations: &[Orientation]) -> bool
     ensures { IsTrue result ↔ AreOrientations orientations.now }
 {
@@ -188,7 +216,7 @@ fn are_orientations(orientations: &[Orientation]) -> bool
         && orientations.iter().all(is_orientation)
 }
 
-// Whether these are the rows of a sheet.
+/// Whether these are the rows of a sheet.
 fn are_rows(rows: &[Row]) -> bool
     ensures { IsTrue result ↔ AreRows rows.now }
 {

@@ -30,19 +30,25 @@ impl Model for Station {
 
     ghost view = { λ s. station_of s.name s.targets.items s.sets.items s.obs.items };
 
-    ghost invariant = { λ s. IsStation (station_of s.name s.targets.items s.sets.items s.obs.items) };
+    ghost invariant = {
+        λ s. IsStation (station_of s.name s.targets.items s.sets.items s.obs.items)
+    };
 }
 
 impl Station {
     /// The station with these parts, if they keep the rules of a station; otherwise the lists are
     /// dropped.
     pub fn new(name: Name, targets: Vec<Name>, sets: Vec<u16>, obs: Vec<Obs>) -> Option<Station>
-        ensures some { IfSome result (λ station. station ≡ station_of name targets.items sets.items obs.items) }
+        ensures some {
+            IfSome result (λ station. station ≡ station_of name targets.items sets.items obs.items)
+        }
         ensures valid { IfSome result IsStation }
-        ensures none { IfNone result (IsStation (station_of name targets.items sets.items obs.items) → ⊥) }
+        ensures none {
+            IfNone result (IsStation (station_of name targets.items sets.items obs.items) → ⊥)
+        }
     {
-        if is_valid(&name)
-            && are_targets(&targets)
+        let _bytes = name.bytes();
+        if are_targets(&targets)
             && are_sets(&sets)
             && are_obs(&obs, sets.len(), targets.len())
         {
@@ -63,6 +69,16 @@ impl Station {
             sets,
             obs,
         }
+    }
+
+    /// Its name, the names of its targets, the numbers of its sets and its observations.
+    pub fn into_parts(self) -> (Name, Vec<Name>, Vec<u16>, Vec<Obs>)
+        ensures parts {
+            station_of result.0 result.1.items result.2.items result.3.items ≡ self
+        }
+        ensures valid { IsStation self }
+    {
+        (self.name, self.targets, self.sets, self.obs)
     }
 
     /// Its name.
@@ -99,7 +115,7 @@ impl Station {
     }
 }
 
-// Whether these are the targets of a station.
+/// Whether these are the targets of a station.
 fn are_targets(targets: &[Name]) -> bool
     ensures { IsTrue result ↔ AreTargets targets.now }
 {
@@ -109,7 +125,7 @@ fn are_targets(targets: &[Name]) -> bool
         && are_different_names(targets)
 }
 
-// Whether no name stands twice.
+/// Whether no name stands twice.
 fn are_different_names(names: &[Name]) -> bool
     ensures { IsTrue result ↔ AllPairs (λ a b. a ≢ b) names.now }
 {
@@ -122,7 +138,7 @@ fn are_different_names(names: &[Name]) -> bool
     true
 }
 
-// Whether these are the numbers of a station's sets.
+/// Whether these are the numbers of a station's sets.
 fn are_sets(sets: &[u16]) -> bool
     ensures { IsTrue result ↔ AreSets sets.now }
 {
@@ -132,7 +148,7 @@ fn are_sets(sets: &[u16]) -> bool
         && are_different_numbers(sets)
 }
 
-// Whether no number stands twice.
+/// Whether no number stands twice.
 fn are_different_numbers(numbers: &[u16]) -> bool
     ensures { IsTrue result ↔ AllPairs (λ a b. a ≢ b) numbers.now }
 {

@@ -7,9 +7,11 @@ ghost use Rattle.adjust_kernel.specs.Tallies.{added_for_target, added_for_set};
 /// A scaled residual, with the places of its target and set.
 #[derive(Clone, Copy, Debug, PartialEq, Eq)]
 pub struct Added {
+    /// The place of the target in the station's list, from 0.
     pub target: u32,
+    /// The place of the set in the station's list, from 0.
     pub set: u32,
-    /// In half units times the denominator.
+    /// The residual, in half units (0.005 mgon each) times the denominator.
     pub residual: i128,
 }
 
@@ -37,7 +39,11 @@ pub trait Tally: Drop {
         requires set { set < MOST_SETS }
         requires residual { IsWithin LARGEST_RESIDUAL residual }
         ensures room { room self.new + 1 ≡ room self.old }
-        ensures added { (l : List Added) → StandsFor self.old l → StandsFor self.new (l ++ record { target = target; set = set; residual = residual } ∷ []) };
+        ensures added {
+            (l : List Added) → StandsFor self.old l
+            → StandsFor self.new
+                (l ++ record { target = target; set = set; residual = residual } ∷ [])
+        };
 
     /// The sum of the residuals that were added for a target.
     fn target_sum(&self, target: u32) -> i128

@@ -95,7 +95,8 @@ fn verdict_of<T: Tally>(
     Ok(acceptance(station, sheet))
 }
 
-/// Nothing where the residuals of each target and of each set add to 0; if not, the first that don't.
+/// Nothing where the residuals of each target and of each set add to 0; if not, the first that
+/// don't.
 fn check_sums<T: Tally>(tally: T, station: &Station, sheet: &Sheet) -> Result<(), KernelFault>
     requires nothing { T.StandsFor tally [] }
     requires room { T.room tally ≡ MOST_ROWS }

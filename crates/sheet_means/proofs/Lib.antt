@@ -1,4 +1,3 @@
-pub mod Bounds
 pub mod CompleteLaws
 pub mod GridLaws
 pub mod BalanceOfMeans

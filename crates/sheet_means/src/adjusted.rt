@@ -1,6 +1,5 @@
 //! The adjusted directions and orientations: means of the readings, times sets times targets.
-ghost use Rattle.std.specs.Prelude.{◌≡◌, ◌<◌, ◌≤◌, pos, length, IfOk};
-ghost use lib.IntN.{◌*ℤ◌, ◌-ℤ◌};
+ghost use Rattle.std.specs.Prelude.{◌≡◌, ◌<◌, ◌≤◌, pos, ◌*ℤ◌, ◌-ℤ◌, length, IfOk};
 ghost use Rattle.adjust_kernel.specs.Pairs.{readings_of};
 ghost use Rattle.adjust_kernel.specs.Within.{IsWithin};
 ghost use Rattle.sheet_means.specs.Complete.{IsComplete};
@@ -15,7 +14,7 @@ use std::alloc::{AllocError, Global};
 /// times sets times targets.
 pub const LARGEST_MEAN: i128 = 4 * LARGEST_READING * MOST_ROWS as i128;
 
-// A sum over the sets, or a difference of two, times the number of targets.
+/// A sum over the sets, or a difference of two, times the number of targets.
 fn times_targets(targets: usize, sum: i128) -> i128
     requires targets { targets ≤ MOST_TARGETS }
     requires sum { IsWithin (LARGEST_READING *ℤ pos 2 *ℤ pos MOST_SETS) sum }
@@ -25,7 +24,7 @@ fn times_targets(targets: usize, sum: i128) -> i128
     targets as i128 * sum
 }
 
-// A sum over the targets times the number of sets.
+/// A sum over the targets times the number of sets.
 fn times_sets(sets: usize, sum: i128) -> i128
     requires sets { sets ≤ MOST_SETS }
     requires sum { IsWithin (LARGEST_READING *ℤ pos MOST_TARGETS) sum }
@@ -35,7 +34,7 @@ fn times_sets(sets: usize, sum: i128) -> i128
     sets as i128 * sum
 }
 
-// The direction of a target: its mean over the sets, less the first target's.
+/// The direction of a target: its mean over the sets, less the first target's.
 fn direction_of(station: &Station, rows: &[Row], first: i128, target: usize) -> Direction
     requires complete { IsComplete station.now }
     requires rows { AreMeansRows station.now rows.now }
@@ -60,7 +59,11 @@ pub fn directions_of(
 ) -> Result<Vec<Direction>, AllocError>
     requires complete { IsComplete station.now }
     requires rows { AreMeansRows station.now rows.now }
-    ensures { IfOk result (λ directions. AreEach (IsMeansDirection station.now (readings_of station.now.obs rows.now)) (length station.now.targets) directions.items) }
+    ensures {
+        IfOk result (λ directions.
+            AreEach (IsMeansDirection station.now (readings_of station.now.obs rows.now))
+                (length station.now.targets) directions.items)
+    }
 {
     let targets = station.targets().len();
     let first = target_total(station, rows, 0);
@@ -71,11 +74,15 @@ pub fn directions_of(
     Ok(directions)
 }
 
-// What all sets have in common in their orientations: the directions, added over the targets.
+/// What all sets have in common in their orientations: the directions, added over the targets.
 fn rest_of(station: &Station, rows: &[Row]) -> i128
     requires complete { IsComplete station.now }
     requires rows { AreMeansRows station.now rows.now }
-    ensures value { result ≡ Totals.whole_total (readings_of station.now.obs rows.now) -ℤ pos (length station.now.targets) *ℤ Totals.target_total (readings_of station.now.obs rows.now) 0 }
+    ensures value {
+        result ≡ Totals.whole_total (readings_of station.now.obs rows.now)
+            -ℤ pos (length station.now.targets)
+            *ℤ Totals.target_total (readings_of station.now.obs rows.now) 0
+    }
     ensures bound { IsWithin (LARGEST_READING *ℤ pos 3 *ℤ pos MOST_ROWS) result }
 {
     let targets = station.targets().len();
@@ -83,11 +90,15 @@ fn rest_of(station: &Station, rows: &[Row]) -> i128
     whole_total(station, rows) - share
 }
 
-// The orientation of a set: the mean over the targets of direction less reading.
+/// The orientation of a set: the mean over the targets of direction less reading.
 fn orientation_of(station: &Station, rows: &[Row], rest: i128, set: usize) -> Orientation
     requires complete { IsComplete station.now }
     requires rows { AreMeansRows station.now rows.now }
-    requires rest { rest ≡ Totals.whole_total (readings_of station.now.obs rows.now) -ℤ pos (length station.now.targets) *ℤ Totals.target_total (readings_of station.now.obs rows.now) 0 }
+    requires rest {
+        rest ≡ Totals.whole_total (readings_of station.now.obs rows.now)
+            -ℤ pos (length station.now.targets)
+            *ℤ Totals.target_total (readings_of station.now.obs rows.now) 0
+    }
     requires bound { IsWithin (LARGEST_READING *ℤ pos 3 *ℤ pos MOST_ROWS) rest }
     requires set { set < length station.now.sets }
     ensures { IsMeansOrientation station.now (readings_of station.now.obs rows.now) set result }
@@ -108,7 +119,11 @@ pub fn orientations_of(
 ) -> Result<Vec<Orientation>, AllocError>
     requires complete { IsComplete station.now }
     requires rows { AreMeansRows station.now rows.now }
-    ensures { IfOk result (λ orientations. AreEach (IsMeansOrientation station.now (readings_of station.now.obs rows.now)) (length station.now.sets) orientations.items) }
+    ensures {
+        IfOk result (λ orientations.
+            AreEach (IsMeansOrientation station.now (readings_of station.now.obs rows.now))
+                (length station.now.sets) orientations.items)
+    }
 {
     let sets = station.sets().len();
     let rest = rest_of(station, rows);

@@ -3,14 +3,17 @@ ghost use Rattle.std.specs.Prelude.{◌≡◌};
 ghost use Rattle.sheet_means.specs.declared.fault.MeansFault.TheVariants.{Memory};
 
 use std::alloc::AllocError;
+use thiserror::Error;
 
 /// Why there is no sheet of means of a station.
-#[derive(Clone, Copy, Debug, PartialEq, Eq, Drop)]
+#[derive(Clone, Copy, Debug, PartialEq, Eq, Drop, Error)]
 pub enum MeansFault {
     /// Some target was not observed in some set: observe it, or adjust the station by a program
     /// that takes incomplete sets.
+    #[error("some target was not observed in some set")]
     Incomplete,
     /// Memory ran out.
+    #[error("out of memory")]
     Memory,
 }
 

@@ -5,6 +5,7 @@ mod adjusted;
 mod angle;
 mod complete;
 mod fault;
+pub mod laws;
 mod rows;
 mod sheet;
 mod totals;

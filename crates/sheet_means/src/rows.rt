@@ -12,7 +12,7 @@ use crate::turn::turn_of;
 use adjust_kernel::{Obs, Row, Station};
 use std::alloc::{AllocError, Global};
 
-// The row of an observation.
+/// The row of an observation.
 fn row_of(station: &Station, obs: &Obs) -> Row
     requires complete { IsComplete station.now }
     requires obs { IsObs (length station.now.sets) (length station.now.targets) obs.now }

@@ -1,10 +1,9 @@
 //! Sums of readings with their full turns.
-ghost use Rattle.std.specs.Prelude.{◌≡◌, ◌<◌, pos, ◌+ℤ◌, length};
-ghost use lib.IntN.{◌*ℤ◌};
+ghost use Rattle.std.specs.Prelude.{◌≡◌, ◌<◌, pos, ◌*ℤ◌, length};
 ghost use Rattle.adjust_kernel.specs.Within.{IsWithin};
 ghost use Rattle.adjust_kernel.specs.Pairs.{readings_of};
 ghost use Rattle.sheet_means.specs.Complete.{IsComplete};
-ghost use Rattle.sheet_means.specs.Parts.{IsMeansRow, AreMeansRows};
+ghost use Rattle.sheet_means.specs.Parts.{AreMeansRows};
 ghost use Rattle.sheet_means.specs.Totals as Totals;
 ghost use Rattle.adjust_kernel.specs.Residuals as Residuals;
 
@@ -15,25 +14,19 @@ use adjust_kernel::{MOST_ROWS, MOST_SETS, MOST_TARGETS, Row, Station, TURN};
 /// mgon each).
 pub const LARGEST_READING: i128 = (MOST_TURNS as i128 + 1) * TURN as i128;
 
-// A reading with its full turns.
-fn unrolled(row: &Row) -> i128
-    requires { IsMeansRow row.now }
-    ensures value { result ≡ (pos row.now.value +ℤ pos TURN *ℤ row.now.turn) }
-    ensures bound { IsWithin LARGEST_READING result }
-{
-    i128::from(row.value) + i128::from(TURN) * i128::from(row.turn)
-}
-
-// The reading of a set and a target with its full turns, by their places.
+/// The reading of a set and a target with its full turns, by their places.
 fn reading_at(station: &Station, rows: &[Row], set: usize, target: usize) -> i128
     requires complete { IsComplete station.now }
     requires rows { AreMeansRows station.now rows.now }
     requires set { set < length station.now.sets }
     requires target { target < length station.now.targets }
-    ensures value { result ≡ Residuals.unrolled (Totals.reading_at (readings_of station.now.obs rows.now) (length station.now.targets) set target) }
+    ensures value {
+        result ≡ Residuals.unrolled (Totals.reading_at (readings_of station.now.obs rows.now)
+            (length station.now.targets) set target)
+    }
     ensures bound { IsWithin LARGEST_READING result }
 {
-    unrolled(&rows[set * station.targets().len() + target])
+    rows[set * station.targets().len() + target].unrolled()
 }
 
 /// The readings of a target, added over all sets.

@@ -1,6 +1,5 @@
 //! The full turns of a reading.
-ghost use Rattle.std.specs.Prelude.{◌≡◌, pos, ◌+ℤ◌};
-ghost use lib.IntN.{◌*ℤ◌};
+ghost use Rattle.std.specs.Prelude.{◌≡◌, pos, ◌+ℤ◌, ◌*ℤ◌};
 ghost use Rattle.adjust_kernel.specs.Within.{IsWithin};
 ghost use Rattle.sheet_means.specs.Turning.{IsInHalfCircle};
 

@@ -3,7 +3,8 @@ use std::alloc::Global;
 use std::process::Abort;
 use std::test::Fail;
 
-// The station with targets of one letter each, and observations by set, target and value, if it is one.
+// The station with targets of one letter each, and observations by set, target and value, if it is
+// one.
 fn station_of(
     rt: &impl Abort,
     alloc: Global,

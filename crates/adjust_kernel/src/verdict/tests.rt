@@ -5,8 +5,11 @@ ghost use Rattle.std.specs.Prelude.{◌<◌};
 use super::{check, check_with};
 use crate::accepted::Accepted;
 use crate::kernel_fault::KernelFault;
+use crate::laws;
 use crate::name::Name;
 use crate::obs::Obs;
+use crate::out_of_memory::OutOfMemory;
+use crate::residual::residual_of;
 use crate::residual_limit::ResidualLimit;
 use crate::row::{Direction, Orientation, Row};
 use crate::running::Running;
@@ -17,8 +20,8 @@ use std::alloc::Global;
 use std::process::Abort;
 use std::test::Fail;
 
-// A station and a sheet in numbers: names of one letter with their directions, numbers of sets with their orientations,
-// and the observations by places, with their full turns.
+// A station and a sheet in numbers: names of one letter with their directions, numbers of sets with
+// their orientations, and the observations by places, with their full turns.
 #[derive(Clone, Copy)]
 struct Worked<'a> {
     denominator: u64,
@@ -471,6 +474,86 @@ fn an_accepted_sheet_is_told_by_its_name_and_numbers(rt: HostRuntime) -> Result<
         Ok(accepted)
     );
     Ok(())
+}
+
+#[test]
+fn the_residual_of_each_row_is_told(rt: HostRuntime) -> Result<(), Fail> {
+    let pair = Worked {
+        denominator: 4,
+        targets: &[(b'A', 0), (b'B', 40_000_024)],
+        sets: &[(1, -20), (2, -80_000_020)],
+        rows: &pair_rows([0, 0, 0, 0]),
+    };
+    let station = station_of(&rt, rt.alloc(), &pair)?;
+    let sheet = sheet_of(&rt, rt.alloc(), b"S1", &pair)?;
+    let wanted = [-4, 4, 4, -4];
+    assert!(rt; check(&station, &sheet, None).is_ok());
+    if let Ok(_) = check(&station, &sheet, None) {
+        for row in 0..station.obs().len() {
+            let want = wanted.get(row).expect(&rt, "a residual");
+            assert_eq!(rt; residual_of(&station, &sheet, row), *want);
+        }
+    }
+    let (name, targets, sets, obs) = station.into_parts();
+    assert!(rt; name.is(b"S1"));
+    assert_eq!(rt; (targets.len(), sets.len(), obs.len()), (2, 2, 4));
+    let (name, denominator, directions, orientations, rows) = sheet.into_parts();
+    assert!(rt; name.is(b"S1"));
+    assert_eq!(rt; (denominator, directions.len()), (4, 2));
+    assert_eq!(rt; (orientations.len(), rows.len()), (2, 4));
+    Ok(())
+}
+
+#[test]
+fn faults_are_told_in_words(rt: HostRuntime) -> Result<(), Fail> {
+    let faults = [
+        (KernelFault::Name, "the sheet is of another station"),
+        (
+            KernelFault::TargetRow(2),
+            "at place 2 the sheet's targets are not the station's",
+        ),
+        (
+            KernelFault::SetRow(3),
+            "at place 3 the sheet's sets are not the station's",
+        ),
+        (
+            KernelFault::ObsRow(4),
+            "at row 4 the sheet's observations are not the station's",
+        ),
+        (
+            KernelFault::Datum,
+            "the direction of the first target is not 0",
+        ),
+        (
+            KernelFault::TargetSum(5),
+            "the residuals of target 5 do not add to 0",
+        ),
+        (
+            KernelFault::SetSum(6),
+            "the residuals of set 6 do not add to 0",
+        ),
+        (
+            KernelFault::NotConnected,
+            "no observations tie all sets and targets together",
+        ),
+        (
+            KernelFault::Residual(7),
+            "the residual of row 7 is above the residual limit",
+        ),
+    ];
+    for (fault, text) in faults {
+        assert_eq!(rt; fault.to_string(rt.alloc())?.as_str(), text);
+    }
+    assert_eq!(rt; OutOfMemory.to_string(rt.alloc())?.as_str(), "out of memory");
+    Ok(())
+}
+
+#[test]
+fn the_laws_are_calls(_rt: HostRuntime) {
+    laws::one_verdict();
+    laws::acceptance();
+    laws::refusal();
+    laws::limits();
 }
 
 #[test]

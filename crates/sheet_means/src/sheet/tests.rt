@@ -55,6 +55,9 @@ fn station_of(
 fn assert_sheet(rt: &impl Abort, station: &Station, sheet: &Sheet, want: &Worked<'_>) {
     let rows = want.values.len();
     assert_eq!(rt; sheet.denominator(), rows as u64);
+    assert_eq!(rt; sheet.directions().len(), want.directions.len());
+    assert_eq!(rt; sheet.orientations().len(), want.orientations.len());
+    assert_eq!(rt; sheet.rows().len(), want.turns.len());
     for (direction, value) in sheet.directions().iter().zip(want.directions) {
         assert_eq!(rt; direction.value, *value);
     }
