@@ -38,8 +38,8 @@ pub clean_station : (limits : FaceLimits) (past : History) (b : GsiBlock) → op
 unfolding fault_after
 clean_station limits past b e clean =
     let whole : faults limits past b ≡ end_faults past ++ station_faults b =
-        ap (λ v. cond v (end_faults past ++ station_faults b) (cond (opens_set b) (end_faults past ++ set_faults past b)
-        (cond (closes_set b) (end_faults past) (cond (is_sight b && is_open past) (reading_faults limits past b) [])))) e in
+    ap (λ v. cond v (end_faults past ++ station_faults b) (cond (opens_set b) (end_faults past ++ set_faults past b)
+    (cond (closes_set b) (end_faults past) (cond (is_sight b && is_open past) (reading_faults limits past b) [])))) e in
     let none = (none_stands (end_faults past ++ station_faults b) (sym (ap first_of whole) ∙ clean)).1.1 in
     record {
       one_name = none_when (has_two 42 b) (kinds.WordTwice 42) none.0;
@@ -57,8 +57,8 @@ pub clean_set : (limits : FaceLimits) (past : History) (b : GsiBlock) → opens_
 unfolding fault_after
 clean_set limits past b e clean =
     let whole : faults limits past b ≡ end_faults past ++ set_faults past b =
-        second (opens_station b) (opens_set b) (faults limits past b) _ _ _ refl
-        (no_station_at_set b e) e in
+    second (opens_station b) (opens_set b) (faults limits past b) _ _ _ refl
+    (no_station_at_set b e) e in
     let none = (none_stands (end_faults past ++ set_faults past b) (sym (ap first_of whole) ∙ clean)).1.1.1 in
     record {
       of_station = none_when (is_empty (station past)) kinds.SetOutside none.0;
@@ -87,9 +87,9 @@ pub clean_reading : (limits : FaceLimits) (past : History) (b : GsiBlock) → is
 unfolding fault_after
 clean_reading limits past b e clean =
     let whole : faults limits past b ≡ reading_faults limits past b =
-        fourth (opens_station b) (opens_set b) (closes_set b) (is_sight b && is_open past) (faults limits past b)
-        _ _ _ (reading_faults limits past b) [] refl
-        (sight_opens_nothing b (and_parts (is_sight b) (is_open past) e).0) e in
+    fourth (opens_station b) (opens_set b) (closes_set b) (is_sight b && is_open past) (faults limits past b)
+    _ _ _ (reading_faults limits past b) [] refl
+    (sight_opens_nothing b (and_parts (is_sight b) (is_open past) e).0) e in
     let none = none_stands (reading_faults limits past b) (sym (ap first_of whole) ∙ clean) in
     record {
       one_direction = none_when (has_two 21 b) (kinds.WordTwice 21) none.0;

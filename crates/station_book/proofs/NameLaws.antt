@@ -82,8 +82,8 @@ apart limits (b ∷ past) clean =
     split older (inl s) (inl n) =
         let c = clean_set limits past b s clean.0 in
         let others =
-            each_false (λ s. same_name (name_at (station (before s))) (name_at (station past))) (first_sets past)
-            (sym (had_sets_by_names past (empty_list (open_sets past) n)) ∙ c.first_time) in
+        each_false (λ s. same_name (name_at (station (before s))) (name_at (station past))) (first_sets past)
+        (sym (had_sets_by_names past (empty_list (open_sets past) n)) ∙ c.first_time) in
         subst (Pairwise AreApart) (sym (more_stations true b past (and_from (opens_set b) _ s n)))
         (pairwise_snoc AreApart (stations_of past) (station past) older
         (all_map (λ st. AreApart st (station past)) (λ s. station (before s)) (reverse (first_sets past))
