@@ -1,5 +1,5 @@
 -- What is listed at a station is what the file recorded there: none is missing, none is added.
-use Rattle.std.proofs.Common.{◌≡◌, ◌↔◌, ℕ, Bool, true, false, ◌&&◌, List, [], ◌∷◌, length, map, reverse, get_or, Some, None, sym, ap, ◌∙◌, inl, inr, subst}
+use Rattle.std.proofs.Common.{◌≡◌, ◌↔◌, ℕ, Bool, true, false, ◌&&◌, List, [], ◌∷◌, length, map, reverse, get_or, Some, None, refl, sym, ap, ◌∙◌, inl, inr, subst}
 use Rattle.std.specs.List.{Contains, AllZip}
 use Rattle.std.proofs.lemmas.Bool.{and_from, eq-eqb}
 use Rattle.adjust_kernel.specs.declared.obs.Obs.{Obs}
@@ -31,18 +31,27 @@ reading_of h st set station target name f r named same read = record {
   of_face = read.is.of_face;
 }
 
--- the two readings of a couple
+-- what two readings of a couple recorded
+record IsRecordedBy (limits : FaceLimits) (h : History) (name : List ℕ) (k : Key) (a b : Place) : Type 0 where
+  pub recorded : IsRecorded limits h name k
+  pub first_is : recorded.first ≡ a
+  pub second_is : recorded.second ≡ b
+
 recorded_couple : (limits : FaceLimits) (h : History) (st : Place) (s : SurveyedStation) (c : Couple) (o : Obs) (p : IsPairOf h st c) → IsSurveyed limits h st s
-    → IsObserved limits c o → IsRecorded limits h s.station.name (key_of_obs s.station.sets s.station.targets o)
+    → IsObserved limits c o → IsRecordedBy limits h s.station.name (key_of_obs s.station.sets s.station.targets o) p.first p.second
 recorded_couple limits h st s c o p surveyed is = record {
-  set = p.set;
-  numbered = matched (λ set. at number None set) (reverse (sets_of st h)) s.station.sets surveyed.sets o.set p.set set_place 0;
-  first = p.first;
-  second = p.second;
-  face_one = reading_of h st p.set s.station.name (get_or s.station.targets o.target []) p.name false p.first surveyed.name same p.one;
-  face_two = reading_of h st p.set s.station.name (get_or s.station.targets o.target []) p.name true p.second surveyed.name same p.two;
-  direction = subst (λ (a : Sight). IsTwoFace limits.two_c a (sight_at p.second) o.value) p.first_is
-      (subst (λ (b : Sight). IsTwoFace limits.two_c c.first b o.value) p.second_is is.direction);
+  recorded = record {
+    set = p.set;
+    numbered = matched (λ set. at number None set) (reverse (sets_of st h)) s.station.sets surveyed.sets o.set p.set set_place 0;
+    first = p.first;
+    second = p.second;
+    face_one = reading_of h st p.set s.station.name (get_or s.station.targets o.target []) p.name false p.first surveyed.name same p.one;
+    face_two = reading_of h st p.set s.station.name (get_or s.station.targets o.target []) p.name true p.second surveyed.name same p.two;
+    direction = subst (λ (a : Sight). IsTwoFace limits.two_c a (sight_at p.second) o.value) p.first_is
+        (subst (λ (b : Sight). IsTwoFace limits.two_c c.first b o.value) p.second_is is.direction);
+  };
+  first_is = refl;
+  second_is = refl;
 } where
   set_place : IsAt (reverse (sets_of st h)) o.set p.set
   set_place = subst (λ (k : ℕ). IsAt (reverse (sets_of st h)) k p.set) (sym is.set) p.set_place
@@ -58,7 +67,7 @@ recorded_obs : (limits : FaceLimits) (h : History) (st : Place) (s : SurveyedSta
     → IsRecorded limits h s.station.name (key_of_obs s.station.sets s.station.targets o)
 recorded_obs limits h st s o listed surveyed own =
     let c = zip_left (IsObserved limits) (couples_of st h) s.station.obs surveyed.directions o own in
-    recorded_couple limits h st s c.0 o (pair_of_couple h st c.0 (station_placed h st listed) c.1) surveyed c.2
+    (recorded_couple limits h st s c.0 o (pair_of_couple h st c.0 (station_placed h st listed) c.1) surveyed c.2).recorded
 
 same_key : (a b : Key) → a.set ≡ b.set → a.target ≡ b.target → a.value ≡ b.value → a ≡ b
 same_key a b s t v = λ i. record { set = s i; target = t i; value = v i }
@@ -183,13 +192,17 @@ with_faces limits h st s placed surveyed (c ∷ cs) (o ∷ os) (f ∷ fs) inside
     (head (pair_of_couple h st c placed (inside c (inl refl))), with_faces limits h st s placed surveyed cs os fs (λ d k. inside d (inr k)) one.1 two.1)
   where
     head : IsPairOf h st c → IsRecordedWith limits h s.station.name (key_of_obs s.station.sets s.station.targets o) f
-    head p = record {
-      recorded = recorded_couple limits h st s c o p surveyed one.0;
-      two_c = subst (λ (a : Sight). IsTwoC limits.two_c a (sight_at p.second) f.two_c) p.first_is
-          (subst (λ (b : Sight). IsTwoC limits.two_c c.first b f.two_c) p.second_is two.0.two_c);
-      two_i = subst (λ (a : Sight). IsTwoI limits.two_i a (sight_at p.second) f.two_i) p.first_is
-          (subst (λ (b : Sight). IsTwoI limits.two_i c.first b f.two_i) p.second_is two.0.two_i);
-    }
+    head p =
+        let r = recorded_couple limits h st s c o p surveyed one.0 in
+        let first : c.first ≡ sight_at r.recorded.first = p.first_is ∙ sym (ap sight_at r.first_is) in
+        let second : c.second ≡ sight_at r.recorded.second = p.second_is ∙ sym (ap sight_at r.second_is) in
+        record {
+          recorded = r.recorded;
+          two_c = subst (λ (a : Sight). IsTwoC limits.two_c a (sight_at r.recorded.second) f.two_c) first
+              (subst (λ (b : Sight). IsTwoC limits.two_c c.first b f.two_c) second two.0.two_c);
+          two_i = subst (λ (a : Sight). IsTwoI limits.two_i a (sight_at r.recorded.second) f.two_i) first
+              (subst (λ (b : Sight). IsTwoI limits.two_i c.first b f.two_i) second two.0.two_i);
+        }
 
 -- Beside each direction stand the face differences of its two readings.
 pub recorded_faces : (limits : FaceLimits) (h : History) (stations : List SurveyedStation) (s : SurveyedStation) → AreStations limits h stations → Contains stations s

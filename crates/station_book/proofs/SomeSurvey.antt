@@ -1,33 +1,30 @@
 -- A file without fault has its stations: each has a name, each set a number, and each two readings of a set and target in
 -- both faces have a two-face direction, a 2c and a 2i within the limits.
-use Rattle.std.proofs.Common.{◌≡◌, ℕ, ◌<◌, ◌≤◌, Bool, true, false, cond, ◌&&◌, not, List, [], ◌∷◌, length, map, reverse, find, Option, Some, None, is_none, Result, Ok, Err, refl, sym, ap, ◌∙◌, inl, inr, ◌⊎◌, subst, arith}
+use Rattle.std.proofs.Common.{◌≡◌, ℕ, ◌<◌, ◌≤◌, Bool, true, false, cond, ◌&&◌, not, List, [], ◌∷◌, length, map, reverse, Option, Some, None, is_none, Result, Ok, Err, refl, sym, ap, ◌∙◌, inl, inr, ◌⊎◌, subst, arith}
 use Rattle.std.specs.Prelude.{ℤ}
 use Rattle.std.specs.Str.{bytes_eq}
 use Rattle.std.proofs.lemmas.Bool.{and_parts, and_from, cases_Bool, eq-eqb, eqb-true, false≢true}
 use Rattle.std.proofs.lemmas.Slice.Eq.{bytes_eq-Decides}
-use Rattle.adjust_kernel.specs.declared.obs.Obs.{Obs}
 use Rattle.gsi_word.specs.Blocks.{GsiBlock}
-use Rattle.gsi_word.specs.Words.{GsiWord}
 use Rattle.gsi_word.specs.Angles.{angle_of}
 use Rattle.gsi_word.specs.declared.angle.AngleFault.{AngleFault}
 use Rattle.gsi_word.specs.declared.found.Found.{Found}
 use Rattle.gsi_word.specs.declared.found.Found.TheVariants.{Absent, One, Twice}
 use Rattle.gsi_word.proofs.AngleLaws.{angle_known}
-use Rattle.station_book.specs.declared.faces.Faces.{Faces}
 use Rattle.station_book.specs.Limits.{FaceLimits, AreLimits}
 use Rattle.station_book.specs.Sights.{Sight, AreOnCircle, IsTwoC, IsTwoI, IsTwoFace}
-use Rattle.station_book.specs.Blocks.{opens_station, opens_set, is_opening, target, is_of_face, sight, number, named, has_two, lacks, found, is_absent, is_twice, name_found, angle_found, angle_or_zero}
+use Rattle.station_book.specs.Blocks.{opens_station, is_opening, target, is_of_face, sight, number, named, has_two, lacks, found, is_absent, is_twice, name_found, angle_found, angle_or_zero}
 use Rattle.station_book.specs.Places.{History, Place, places, at, last, before, opening, station, is_same, is_set, is_reading, is_empty, target_at, stands, reading_in, sets_of, targets_of}
-use Rattle.station_book.specs.Faults.{face, name_at, sight_at, open_readings, by_faces, is_beyond, has_no_two_c, has_no_two_i, fault_after, IsWithoutFault}
+use Rattle.station_book.specs.Faults.{face, name_at, sight_at, open_readings, by_faces, is_beyond, has_no_two_c, has_no_two_i, IsWithoutFault}
 use Rattle.station_book.specs.Stations.{Couple, SurveyedStation, IsObserved, HasFaces, IsSurveyed, AreStations, stations_of, couples_of}
 use Rattle.station_book.proofs.Membership.{In, find_some, find_found}
 use Rattle.station_book.proofs.Elements.{in_filter, of_filter, of_reverse, zip_of}
 use Rattle.station_book.proofs.PairTests.{a_two_c, a_two_i, a_two_face}
-use Rattle.station_book.proofs.CleanLaws.{IsCleanReading, clean_station, clean_set, clean_reading}
+use Rattle.station_book.proofs.CleanLaws.{clean_station, clean_set, clean_reading}
 use Rattle.station_book.proofs.FirstFault.{clean_at, in_order}
 use Rattle.station_book.proofs.OneReading.{IsOf, face_of, one_place}
 use Rattle.station_book.proofs.FilePlaces.{OfFile, same_of_file, owner_placed, listed_station, station_placed}
-use Rattle.station_book.proofs.CoupleReadings.{IsRead, IsPairOf, pair_of_couple}
+use Rattle.station_book.proofs.CoupleReadings.{pair_of_couple}
 
 -- what is read in a block is on the circle
 small_angle : (r : Result ℕ AngleFault) → ((a : ℕ) → r ≡ Ok a → a ≤ 39_999_999) → angle_or_zero (Some r) < 40_000_000
