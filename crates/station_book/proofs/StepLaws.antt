@@ -1,0 +1,75 @@
+-- What a block does to the open set, its readings, the station, its sets and targets.
+use Rattle.std.proofs.Common.{◌≡◌, ℕ, Bool, true, false, cond, eqb, ◌&&◌, ◌||◌, not, List, [], ◌∷◌, map, refl, ap}
+use Rattle.std.proofs.lemmas.Bool.{and_parts, eqb-true}
+use Rattle.std.specs.Str.{bytes_eq}
+use Rattle.std.specs.Prelude.{codes}
+use Rattle.gsi_word.specs.Blocks.{GsiBlock}
+use Rattle.station_book.specs.Blocks.{opens_station, opens_set, closes_set, is_opening, is_sight, target, found, is_absent}
+use Rattle.station_book.specs.declared.role.Role.{Role}
+use Rattle.station_book.specs.declared.role.Role.TheVariants as roles
+use Rattle.station_book.specs.Roles.{role_of, is_station, is_set_code, is_close, is_measurement}
+use Rattle.station_book.specs.Places.{History, Place, last, stands, is_open, is_set, is_reading, station, targets_of, distinct, with_new, target_at}
+use Rattle.station_book.specs.Faults.{open_readings, open_sets}
+use Rattle.station_book.proofs.PlaceLaws.{belonging-fresh, belonging-more, belonging-same}
+
+-- a set is open after a block
+pub is_open-opening : (b : GsiBlock) (past : History) → is_opening b ≡ true → is_open (b ∷ past) ≡ opens_set b
+is_open-opening b past e = ap (λ v. stands opens_set (cond v (b ∷ past) (last is_opening past))) e
+
+pub is_open-other : (b : GsiBlock) (past : History) → is_opening b ≡ false → is_open (b ∷ past) ≡ is_open past
+is_open-other b past e = ap (λ v. stands opens_set (cond v (b ∷ past) (last is_opening past))) e
+
+-- the readings of the open set after a block
+pub readings-opening : (b : GsiBlock) (past : History) → is_opening b ≡ true → open_readings (b ∷ past) ≡ []
+readings-opening b past e = belonging-fresh is_opening is_reading b past e
+
+pub readings-more : (b : GsiBlock) (past : History) → is_opening b ≡ false → is_reading (b ∷ past) ≡ true → open_readings (b ∷ past) ≡ (b ∷ past) ∷ open_readings past
+readings-more b past e r = belonging-more is_opening is_reading b past e r
+
+pub readings-other : (b : GsiBlock) (past : History) → is_opening b ≡ false → is_reading (b ∷ past) ≡ false → open_readings (b ∷ past) ≡ open_readings past
+readings-other b past e r = belonging-same is_opening is_reading b past e r
+
+-- the sets of the station after a block
+pub sets-station : (b : GsiBlock) (past : History) → opens_station b ≡ true → open_sets (b ∷ past) ≡ []
+sets-station b past e = belonging-fresh opens_station is_set b past e
+
+pub sets-more : (b : GsiBlock) (past : History) → opens_station b ≡ false → opens_set b ≡ true → open_sets (b ∷ past) ≡ (b ∷ past) ∷ open_sets past
+sets-more b past e s = belonging-more opens_station is_set b past e s
+
+pub sets-other : (b : GsiBlock) (past : History) → opens_station b ≡ false → opens_set b ≡ false → open_sets (b ∷ past) ≡ open_sets past
+sets-other b past e s = belonging-same opens_station is_set b past e s
+
+-- the targets of the station after a block
+abbrev pub open_targets : History → List (List ℕ)
+open_targets past = targets_of (station past) past
+
+names_at : List Place → List (List ℕ)
+names_at rs = map (λ r. target_at r) rs
+
+pub targets-station : (b : GsiBlock) (past : History) → opens_station b ≡ true → open_targets (b ∷ past) ≡ []
+targets-station b past e = ap (λ rs. distinct (map (λ r. target_at r) rs)) (belonging-fresh opens_station is_reading b past e)
+
+pub targets-more : (b : GsiBlock) (past : History) → opens_station b ≡ false → is_reading (b ∷ past) ≡ true → open_targets (b ∷ past) ≡ with_new (open_targets past) (target b)
+targets-more b past e r = ap (λ rs. distinct (map (λ r. target_at r) rs)) (belonging-more opens_station is_reading b past e r)
+
+pub targets-other : (b : GsiBlock) (past : History) → opens_station b ≡ false → is_reading (b ∷ past) ≡ false → open_targets (b ∷ past) ≡ open_targets past
+targets-other b past e r = ap (λ rs. distinct (map (λ r. target_at r) rs)) (belonging-same opens_station is_reading b past e r)
+
+-- a block has one role
+measures_alone : (r : Role) → is_measurement r ≡ true → (is_station r || (is_set_code r || is_close r)) ≡ false
+measures_alone roles.Station e = cc
+measures_alone roles.Set e = cc
+measures_alone roles.Close e = cc
+measures_alone roles.Measurement e = refl
+measures_alone roles.Other e = cc
+
+pub sight_opens_nothing : (b : GsiBlock) → is_sight b ≡ true → is_opening b ≡ false
+unfolding is_sight opens_station opens_set closes_set
+sight_opens_nothing b e = measures_alone (role_of b) (and_parts (is_measurement (role_of b)) (not (is_absent (found 21 b))) e).0
+
+or_false_left : (a b : Bool) → (a || b) ≡ false → a ≡ false
+or_false_left true b e = cc
+or_false_left false b e = refl
+
+pub sight_opens_no_station : (b : GsiBlock) → is_opening b ≡ false → opens_station b ≡ false
+sight_opens_no_station b e = or_false_left (opens_station b) _ e
