@@ -2,6 +2,7 @@
 use Rattle.std.specs.Prelude.{◌≡◌, ℕ, ◌+◌, ◌-◌, ◌≤◌, Bool, nat_le, List, [], ◌∷◌, ◌++◌, length, Option, Some, None, All, AllPairs, ◌≢◌, position, replicate, slice_set}
 use Rattle.std.specs.Str.{bytes_eq}
 use Rattle.adjust_kernel.specs.declared.obs.Obs.{Obs}
+use Rattle.adjust_kernel.specs.declared.limits.TheConstants.{MOST_SETS, MOST_TARGETS}
 use Rattle.station_book.specs.declared.fault.BookKind.{BookKind}
 use Rattle.station_book.specs.declared.fault.BookKind.TheVariants as kinds
 use Rattle.station_book.specs.Limits.{FaceLimits}
@@ -44,7 +45,7 @@ abbrev pub place_of : List ℕ → List (List ℕ) → Option ℕ
 place_of name targets = position (λ t. bytes_eq t name) targets
 
 abbrev pub reading_faults_at : FaceLimits → EntryValue → Sighting → Option ℕ → List (Option BookKind)
-reading_faults_at limits e s None = when (nat_le 100 (length e.targets)) kinds.TooManyTargets ∷ []
+reading_faults_at limits e s None = when (nat_le MOST_TARGETS (length e.targets)) kinds.TooManyTargets ∷ []
 reading_faults_at limits e s (Some i) = slot_faults limits (slot_at e.slots i) s
 
 -- the faults of a reading in the last set
@@ -63,9 +64,9 @@ with_reading s e = with_reading_at s e (place_of s.target e.targets)
 pub record IsEntry (e : EntryValue) : Type 0 where
   pub same_length : length e.slots ≡ length e.targets
   pub paired : length e.faces ≡ length e.obs
-  pub few_targets : length e.targets ≤ 100
+  pub few_targets : length e.targets ≤ MOST_TARGETS
   pub some_set : 1 ≤ length e.sets
-  pub few_sets : length e.sets ≤ 40
+  pub few_sets : length e.sets ≤ MOST_SETS
   pub angles : All IsKeptSlot e.slots
   pub names : All IsName e.targets
   pub different : AllPairs (λ a b. a ≢ b) e.targets

@@ -5,6 +5,7 @@ use Rattle.gsi_word.specs.Words.{GsiWord}
 use Rattle.gsi_word.specs.Blocks.{GsiBlock}
 use Rattle.gsi_word.specs.Names.{name_of}
 use Rattle.gsi_word.specs.declared.angle.AngleFault.{AngleFault}
+use Rattle.station_book.specs.declared.bounds.TheConstants.{CIRCLE, HALF_CIRCLE}
 use Rattle.station_book.specs.declared.fault.BookKind.{BookKind}
 use Rattle.station_book.specs.declared.fault.BookKind.TheVariants as kinds
 use Rattle.station_book.specs.declared.sight.Sighting.{Sighting}
@@ -45,8 +46,8 @@ angle_fault index b = fault_of_angle (angle_found (found index b))
 -- face I is `false`, face II `true`
 abbrev pub face_of : ℕ → Option Bool
 face_of zenith =
-    if nat_lt 0 zenith && nat_lt zenith 20000000 then Some false else
-    (if nat_lt 20000000 zenith && nat_lt zenith 40000000 then Some true else None)
+    if nat_lt 0 zenith && nat_lt zenith HALF_CIRCLE then Some false else
+    (if nat_lt HALF_CIRCLE zenith && nat_lt zenith CIRCLE then Some true else None)
 
 -- the faults of a measurement with a direction, in themselves
 abbrev pub sighting_faults : GsiBlock → List (Option BookKind)

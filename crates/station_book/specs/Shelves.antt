@@ -2,6 +2,8 @@
 use Rattle.std.specs.Prelude.{ℕ, ◌==◌, nat_le, Bool, List, [], ◌∷◌, ◌++◌, length, Option, Some, None}
 use Rattle.std.specs.List.{list_any, AllByRecursion}
 use Rattle.std.specs.Str.{bytes_eq}
+use Rattle.adjust_kernel.specs.declared.limits.TheConstants.{MOST_SETS}
+use Rattle.station_book.specs.declared.bounds.TheConstants.{MOST_STATIONS}
 use Rattle.station_book.specs.declared.fault.BookKind.{BookKind}
 use Rattle.station_book.specs.declared.fault.BookKind.TheVariants as kinds
 use Rattle.station_book.specs.Faults.{when}
@@ -38,14 +40,14 @@ is_known name es = list_any (λ e. bytes_eq name e.0) es
 abbrev pub first_set_faults : List ℕ → Entries → List (Option BookKind)
 first_set_faults name es =
     when (is_known name es) kinds.StationTwice
-    ∷ when (nat_le 1000 (length es)) kinds.TooManyStations
+    ∷ when (nat_le MOST_STATIONS (length es)) kinds.TooManyStations
     ∷ []
 
 -- the faults of a further set of a station
 abbrev pub more_set_faults : EntryValue → ℕ → List (Option BookKind)
 more_set_faults e n =
     when (list_any (λ m. m == n) e.sets) kinds.SetTwice
-    ∷ when (nat_le 40 (length e.sets)) kinds.TooManySets
+    ∷ when (nat_le MOST_SETS (length e.sets)) kinds.TooManySets
     ∷ []
 
 -- The last set of each may end here.

@@ -2,6 +2,7 @@
 use Rattle.std.specs.Prelude.{ℕ, ◌<◌, Bool, true, false, ◌&&◌, ◌||◌, not, is_some, is_none, List, [], ◌∷◌, Option, Some, None, IfSome, if◌then◌else◌, filter_map, slice_index_or}
 use Rattle.std.specs.List.{list_any, list_all, enumerate_from}
 use Rattle.adjust_kernel.specs.declared.obs.Obs.{Obs}
+use Rattle.station_book.specs.declared.bounds.TheConstants.{CIRCLE}
 use Rattle.station_book.specs.declared.fault.BookKind.{BookKind}
 use Rattle.station_book.specs.declared.fault.BookKind.TheVariants as kinds
 use Rattle.station_book.specs.Limits.{FaceLimits}
@@ -57,8 +58,8 @@ end_faults slots =
 
 -- both angles are below a circle
 pub record IsBelowCircle (v : Sight) : Type 0 where
-  pub hz : v.hz < 40000000
-  pub zenith : v.zenith < 40000000
+  pub hz : v.hz < CIRCLE
+  pub zenith : v.zenith < CIRCLE
 
 abbrev pub IsKeptSlot : Slot → Type 0
 IsKeptSlot s = (IfSome s.first IsBelowCircle) × (IfSome s.second IsBelowCircle)

@@ -1,21 +1,25 @@
 //! What the two readings of a target give.
 
 ghost use Rattle.std.specs.Prelude.{◌≡◌, ◌<◌, ◌≤◌};
+ghost use Rattle.station_book.specs.declared.bounds.TheConstants.{CIRCLE};
+ghost use Rattle.station_book.specs.declared.limits.TheConstants.{LARGEST_LIMIT};
 ghost use Rattle.station_book.specs.Faults.{has_no_two_c, has_no_two_i};
 ghost use Rattle.station_book.specs.Pairs.{half_turned, two_c, two_i, direction};
 ghost use Rattle.station_book.specs.Slots.{IsBelowCircle};
 
+use crate::bounds::{CIRCLE, HALF_CIRCLE};
 use crate::faces::Faces;
 use crate::sight::Sight;
+use adjust_kernel::TURN;
 
 /// 2c and half a circle, from 0 up to a circle.
 fn half_turned(first: Sight, second: Sight) -> u32
     requires first_in { IsBelowCircle first }
     requires second_in { IsBelowCircle second }
     ensures value { result ≡ half_turned first second }
-    ensures below { result < 40000000 }
+    ensures below { result < CIRCLE }
 {
-    (second.hz + 40_000_000 - first.hz) % 40_000_000
+    (second.hz + CIRCLE - first.hz) % CIRCLE
 }
 
 /// The face differences.
@@ -25,8 +29,8 @@ pub(crate) fn faces_of(first: Sight, second: Sight) -> Faces
     ensures two_c { result.two_c ≡ two_c first second }
     ensures two_i { result.two_i ≡ two_i first second }
 {
-    let two_c = half_turned(first, second) as i32 - 20_000_000;
-    let two_i = (first.zenith + second.zenith) as i32 - 40_000_000;
+    let two_c = half_turned(first, second) as i32 - HALF_CIRCLE as i32;
+    let two_i = (first.zenith + second.zenith) as i32 - CIRCLE as i32;
     Faces { two_c, two_i }
 }
 
@@ -36,29 +40,29 @@ pub(crate) fn direction_of(first: Sight, second: Sight) -> u32
     requires second_in { IsBelowCircle second }
     ensures { result ≡ direction first second }
 {
-    (2 * first.hz + half_turned(first, second) + 60_000_000) % 80_000_000
+    (2 * first.hz + half_turned(first, second) + CIRCLE + HALF_CIRCLE) % TURN
 }
 
 /// Whether no 2c is within this limit.
 #[tactic(auto, unfolding(crate::specs::Faults::has_no_two_c))]
 pub(crate) fn has_no_two_c(limit: u32, first: Sight, second: Sight) -> bool
-    requires limit { limit ≤ 1000000 }
+    requires limit { limit ≤ LARGEST_LIMIT }
     requires first_in { IsBelowCircle first }
     requires second_in { IsBelowCircle second }
     ensures { result ≡ has_no_two_c limit first second }
 {
-    let excess = (second.hz + 60_000_000 - first.hz) % 40_000_000;
-    limit < excess && excess < 40_000_000 - limit
+    let apart = (second.hz + CIRCLE + HALF_CIRCLE - first.hz) % CIRCLE;
+    limit < apart && apart < CIRCLE - limit
 }
 
 /// Whether no 2i is within this limit.
 #[tactic(auto, unfolding(crate::specs::Faults::has_no_two_i))]
 pub(crate) fn has_no_two_i(limit: u32, first: Sight, second: Sight) -> bool
-    requires limit { limit ≤ 1000000 }
+    requires limit { limit ≤ LARGEST_LIMIT }
     requires first_in { IsBelowCircle first }
     requires second_in { IsBelowCircle second }
     ensures { result ≡ has_no_two_i limit first second }
 {
     let sum = first.zenith + second.zenith;
-    40_000_000 + limit < sum || sum + limit < 40_000_000
+    CIRCLE + limit < sum || sum + limit < CIRCLE
 }

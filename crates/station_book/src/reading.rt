@@ -9,16 +9,11 @@ ghost use Rattle.station_book.specs.Blocks.{found, is_twice, number_of_name};
 ghost use Rattle.station_book.specs.Readings.{named, number, target, face_of, station_faults, read};
 ghost use Rattle.station_book.specs.Slots.{IsBelowCircle};
 
+use crate::bounds::{CIRCLE, HALF_CIRCLE};
 use crate::fault::BookKind;
 use crate::sight::{Sight, Sighting};
-use adjust_kernel::Name;
+use adjust_kernel::{LARGEST_SET_NUMBER, Name};
 use gsi_word::{Block, Found, Word, decimal_number};
-
-/// Units in half a circle.
-const HALF: u32 = 20_000_000;
-
-/// Units in a circle.
-const CIRCLE: u32 = 40_000_000;
 
 /// The index of a horizontal direction.
 const DIRECTION: u8 = 21;
@@ -59,7 +54,7 @@ fn number_of(name: &[u8]) -> Option<u16>
     ensures valid { IfSome result IsSetNumber }
 {
     match decimal_number(name) {
-        Some(n) if 1 <= n && n <= 9999 => Some(n as u16),
+        Some(n) if 1 <= n && n <= LARGEST_SET_NUMBER as u64 => Some(n as u16),
         _ => None,
     }
 }
@@ -97,10 +92,10 @@ pub(crate) fn set_block(block: &Block<'_>) -> SetBlock
 fn face_of(zenith: u32) -> Option<bool>
     ensures { result ≡ face_of zenith }
 {
-    if 0 < zenith && zenith < HALF {
+    if 0 < zenith && zenith < HALF_CIRCLE {
         return Some(false);
     }
-    if HALF < zenith && zenith < CIRCLE {
+    if HALF_CIRCLE < zenith && zenith < CIRCLE {
         return Some(true);
     }
     None

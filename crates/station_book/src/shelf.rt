@@ -9,6 +9,7 @@ ghost use Rattle.station_book.specs.Slots.{end_faults, IsBelowCircle};
 ghost use Rattle.station_book.specs.Entries.{MayEnd, first_entry, with_set, reading_faults, with_reading};
 ghost use Rattle.station_book.specs.Refusals.{ExplainsRefusal};
 
+use crate::bounds::MOST_STATIONS;
 use crate::entry::Entry;
 use crate::fault::{BookKind, Refusal};
 use crate::limits::Limits;
@@ -18,9 +19,6 @@ use adjust_kernel::Name;
 use indexmap::IndexMap;
 use std::alloc::{AllocError, Global};
 use std::marker::Model;
-
-/// The most stations that have sets.
-const MOST_STATIONS: usize = 1_000;
 
 /// The stations that have sets, in the order of their first sets.
 #[derive(Drop)]
