@@ -17,7 +17,7 @@ use Rattle.station_book.specs.Sights.{Sight}
 use Rattle.station_book.specs.declared.sight.Sighting.{Sighting}
 use Rattle.station_book.specs.declared.slot.Slot.{Slot}
 use Rattle.station_book.specs.Faults.{when, first_of}
-use Rattle.station_book.specs.Slots.{slot_at, empty_slot, with_side, is_unread, is_single, end_faults, obs_of, IsKeptSlot}
+use Rattle.station_book.specs.Slots.{slot_at, empty_slot, with_side, is_unread, is_single, end_faults, obs_of, faces_of, IsBelowCircle, IsKeptSlot}
 use Rattle.station_book.specs.Sound.{AreSoFar}
 use Rattle.station_book.specs.Entries.{EntryValue, first_entry, closed, with_set, place_of, reading_faults_at, reading_faults, with_reading_at, IsEntry, MayEnd}
 use Rattle.std.specs.Prelude.{IfErr, IfNone}
@@ -26,6 +26,7 @@ use Rattle.station_book.specs.declared.faces.Faces.{Faces}
 use Rattle.station_book.specs.declared.fault.Refusal.{Refusal}
 use Rattle.station_book.specs.Refusals.{ExplainsRefusal}
 use Rattle.station_book.proofs.SoundLaws.{closes}
+use Rattle.station_book.proofs.SlotLaws.{pairs_match}
 
 none_when : (a b : Bool) → first_of (when a kinds.EmptySet ∷ when b kinds.OneFace ∷ []) ≡ None → (a ≡ false) × (b ≡ false)
 none_when true b e = cc
@@ -42,6 +43,13 @@ closed_obs e h may =
     let n : length e.sets - 1 + 1 ≡ length e.sets = let s = h.some_set in omega (arith, s) in
     subst (λ (t : ℕ). AreObs (length e.sets) t (closed e).obs) h.same_length
     (subst (λ (k : ℕ). AreObs k (length e.slots) (closed e).obs) n (closes (length e.sets - 1) e.slots e.obs h.sound tests.0 tests.1))
+
+paired_more : (fs gs : List Faces) (os ps : List Obs) → length fs ≡ length os → length gs ≡ length ps → length (fs ++ gs) ≡ length (os ++ ps)
+paired_more fs gs os ps e f = length-append fs gs ∙ (λ i. e i + f i) ∙ sym (length-append os ps)
+
+-- each observation of the closed station has its face differences
+pub closed_paired : (e : EntryValue) → IsEntry e → length (closed e).faces ≡ length (closed e).obs
+closed_paired e h = paired_more e.faces (faces_of e.slots) e.obs (obs_of (length e.sets - 1) e.slots) h.paired (pairs_match (length e.sets - 1) e.slots)
 
 some_target : (slots : List Slot) → list_all is_unread slots ≡ false → 1 ≤ length slots
 some_target [] e = cc
@@ -82,6 +90,7 @@ length_replicate (suc n) x = ap suc (length_replicate n x)
 pub set_is_entry : (n : ℕ) (e : EntryValue) → IsEntry e → MayEnd e → list_any (λ m. eqb m n) e.sets ≡ false → length e.sets < 40 → IsSetNumber n → IsEntry (with_set n e)
 set_is_entry n e h may new few number = record {
   same_length = length_replicate (length e.slots) empty_slot ∙ h.same_length;
+  paired = paired_more e.faces (faces_of e.slots) e.obs (obs_of (length e.sets - 1) e.slots) h.paired (pairs_match (length e.sets - 1) e.slots);
   few_targets = h.few_targets;
   some_set = (let l = length_one e.sets n in omega (arith, l));
   few_sets = (let l = length_one e.sets n in omega (arith, l));
@@ -113,6 +122,7 @@ set_is_entry n e h may new few number = record {
 pub first_is_entry : (n : ℕ) → IsSetNumber n → IsEntry (first_entry n)
 first_is_entry n number = record {
   same_length = refl;
+  paired = refl;
   few_targets = omega arith;
   some_set = omega arith;
   few_sets = omega arith;
@@ -136,14 +146,15 @@ read_now true v s = second (is_none s.first) where
   second true = refl
   second false = refl
 
-kept_side : (f : Bool) (v : Sight) (s : Slot) → v.zenith < 40_000_000 → IsKeptSlot s → IsKeptSlot (with_side f v s)
+kept_side : (f : Bool) (v : Sight) (s : Slot) → IsBelowCircle v → IsKeptSlot s → IsKeptSlot (with_side f v s)
 kept_side false v s lt h = (lt, h.1)
 kept_side true v s lt h = (h.0, lt)
 
 -- after a further reading of a target
-pub reading_is_entry : (s : Sighting) (e : EntryValue) (i : ℕ) → IsEntry e → i < length e.slots → s.sight.zenith < 40_000_000 → IsEntry (with_reading_at s e (Some i))
+pub reading_is_entry : (s : Sighting) (e : EntryValue) (i : ℕ) → IsEntry e → i < length e.slots → IsBelowCircle s.sight → IsEntry (with_reading_at s e (Some i))
 reading_is_entry s e i h inside low = record {
   same_length = length-set e.slots i new ∙ h.same_length;
+  paired = h.paired;
   few_targets = h.few_targets;
   some_set = h.some_set;
   few_sets = h.few_sets;
@@ -179,9 +190,10 @@ absent_name name (t ∷ targets) e (suc k) d lt = absent_name name targets (righ
   right false b e = e
 
 -- after the first reading of a target
-pub target_is_entry : (s : Sighting) (e : EntryValue) → IsEntry e → list_any (λ t. bytes_eq t s.target) e.targets ≡ false → length e.targets < 100 → IsName s.target → s.sight.zenith < 40_000_000 → IsEntry (with_reading_at s e None)
+pub target_is_entry : (s : Sighting) (e : EntryValue) → IsEntry e → list_any (λ t. bytes_eq t s.target) e.targets ≡ false → length e.targets < 100 → IsName s.target → IsBelowCircle s.sight → IsEntry (with_reading_at s e None)
 target_is_entry s e h new few named low = record {
   same_length = (let l = length_one e.slots slot in let m = length_one e.targets s.target in let n = h.same_length in omega (arith, l, m, n));
+  paired = h.paired;
   few_targets = (let m = length_one e.targets s.target in omega (arith, m));
   some_set = h.some_set;
   few_sets = h.few_sets;
@@ -217,21 +229,22 @@ target_is_entry s e h new few named low = record {
 
 -- the same, with the lists as the code has them
 pub target_kept : (s : Sighting) (e : EntryValue) (targets : List (List ℕ)) (slots : List Slot) → targets ≡ e.targets ++ s.target ∷ [] → slots ≡ e.slots ++ with_side s.is_second s.sight empty_slot ∷ []
-    → IsEntry e → list_any (λ t. bytes_eq t s.target) e.targets ≡ false → length e.targets < 100 → IsName s.target → s.sight.zenith < 40_000_000
+    → IsEntry e → list_any (λ t. bytes_eq t s.target) e.targets ≡ false → length e.targets < 100 → IsName s.target → IsBelowCircle s.sight
     → IsEntry (record { targets = targets; slots = slots; sets = e.sets; obs = e.obs; faces = e.faces })
 target_kept s e targets slots et es h new few named low =
     subst (λ (ts : List (List ℕ)). IsEntry (record { targets = ts; slots = slots; sets = e.sets; obs = e.obs; faces = e.faces })) (sym et)
     (subst (λ (ss : List Slot). IsEntry (record { targets = e.targets ++ s.target ∷ []; slots = ss; sets = e.sets; obs = e.obs; faces = e.faces })) (sym es) (target_is_entry s e h new few named low))
 
-pub reading_kept : (s : Sighting) (e : EntryValue) (i : ℕ) (new : Slot) → new ≡ with_side s.is_second s.sight (slot_at e.slots i) → IsEntry e → i < length e.slots → s.sight.zenith < 40_000_000 → IsEntry (record e { slots = set e.slots i new })
+pub reading_kept : (s : Sighting) (e : EntryValue) (i : ℕ) (new : Slot) → new ≡ with_side s.is_second s.sight (slot_at e.slots i) → IsEntry e → i < length e.slots → IsBelowCircle s.sight → IsEntry (record e { slots = set e.slots i new })
 reading_kept s e i new same h inside low = subst (λ (n : Slot). IsEntry (record e { slots = set e.slots i n })) (sym same) (reading_is_entry s e i h inside low)
 
-pub set_kept : (n : ℕ) (e : EntryValue) (slots : List Slot) (sets : List ℕ) (obs : List Obs) (faces : List Faces) → slots ≡ replicate (length e.slots) empty_slot → sets ≡ e.sets ++ n ∷ [] → obs ≡ (closed e).obs
+pub set_kept : (n : ℕ) (e : EntryValue) (slots : List Slot) (sets : List ℕ) (obs : List Obs) (faces : List Faces) → slots ≡ replicate (length e.slots) empty_slot → sets ≡ e.sets ++ n ∷ [] → obs ≡ (closed e).obs → faces ≡ (closed e).faces
     → IsEntry e → MayEnd e → list_any (λ m. eqb m n) e.sets ≡ false → length e.sets < 40 → IsSetNumber n → IsEntry (record { targets = e.targets; slots = slots; sets = sets; obs = obs; faces = faces })
-set_kept n e slots sets obs faces el es eo h may new few number =
+set_kept n e slots sets obs faces el es eo ef h may new few number =
     let k = set_is_entry n e h may new few number in
-    let whole : IsEntry (record { targets = e.targets; slots = replicate (length e.slots) empty_slot; sets = e.sets ++ n ∷ []; obs = (closed e).obs; faces = faces }) = record {
+    let whole : IsEntry (record { targets = e.targets; slots = replicate (length e.slots) empty_slot; sets = e.sets ++ n ∷ []; obs = (closed e).obs; faces = (closed e).faces }) = record {
       same_length = k.same_length;
+      paired = k.paired;
       few_targets = k.few_targets;
       some_set = k.some_set;
       few_sets = k.few_sets;
@@ -244,7 +257,8 @@ set_kept n e slots sets obs faces el es eo h may new few number =
     } in
     subst (λ (ss : List Slot). IsEntry (record { targets = e.targets; slots = ss; sets = sets; obs = obs; faces = faces })) (sym el)
     (subst (λ (ns : List ℕ). IsEntry (record { targets = e.targets; slots = replicate (length e.slots) empty_slot; sets = ns; obs = obs; faces = faces })) (sym es)
-    (subst (λ (os : List Obs). IsEntry (record { targets = e.targets; slots = replicate (length e.slots) empty_slot; sets = e.sets ++ n ∷ []; obs = os; faces = faces })) (sym eo) whole))
+    (subst (λ (os : List Obs). IsEntry (record { targets = e.targets; slots = replicate (length e.slots) empty_slot; sets = e.sets ++ n ∷ []; obs = os; faces = faces })) (sym eo)
+    (subst (λ (fs : List Faces). IsEntry (record { targets = e.targets; slots = replicate (length e.slots) empty_slot; sets = e.sets ++ n ∷ []; obs = (closed e).obs; faces = fs })) (sym ef) whole)))
 
 -- the fault of a new target, as that of a reading
 pub fault_moved : {X : Type 0} (limits : FaceLimits) (e now : EntryValue) (s : Sighting) (r : Result X Refusal) → e ≡ now → None ≡ place_of s.target e.targets

@@ -7,7 +7,8 @@ use Rattle.std.proofs.lemmas.List.Elements.{filter_map-append}
 use Rattle.station_book.specs.declared.slot.Slot.{Slot}
 use Rattle.adjust_kernel.specs.declared.obs.Obs.{Obs}
 use Rattle.station_book.specs.declared.faces.Faces.{Faces}
-use Rattle.station_book.specs.Slots.{obs_at, obs_of, faces_at, faces_of}
+use Rattle.station_book.specs.Sights.{Sight}
+use Rattle.station_book.specs.Slots.{joined, compared, obs_at, obs_of, faces_at, faces_of}
 
 pub enumerate-append : {X : Type 0} (n : ℕ) (xs ys : List X) → enumerate_from n (xs ++ ys) ≡ enumerate_from n xs ++ enumerate_from (n + length xs) ys
 enumerate-append n [] ys = let e : n ≡ n + 0 = omega arith in ap (λ (k : ℕ). enumerate_from k ys) e
@@ -41,3 +42,16 @@ pub pushed_faces : (slots : List Slot) (i : ℕ) (d : Slot) (old so_far new : Li
 pushed_faces slots i d old so_far new lt e f =
     f ∙ ap (λ xs. xs ++ option_to_list (faces_at (get_or slots i d))) e ∙ append_assoc old (faces_of (take i slots)) (option_to_list (faces_at (get_or slots i d)))
     ∙ ap (λ xs. old ++ xs) (sym (faces_more slots i d lt))
+
+one_more : (set n : ℕ) (a b : Option Sight) (os : List Obs) (fs : List Faces) → length fs ≡ length os → length (cons_option (compared a b) fs) ≡ length (cons_option (joined set n a b) os)
+one_more set n (Some a) (Some b) os fs e = ap suc e
+one_more set n (Some a) None os fs e = e
+one_more set n None b os fs e = e
+
+from_place : (set n : ℕ) (slots : List Slot) → length (faces_of slots) ≡ length (filter_map (obs_at set) (enumerate_from n slots))
+from_place set n [] = refl
+from_place set n (s ∷ slots) = one_more set n s.first s.second (filter_map (obs_at set) (enumerate_from (n + 1) slots)) (faces_of slots) (from_place set (n + 1) slots)
+
+-- each observation has its face differences
+pub pairs_match : (set : ℕ) (slots : List Slot) → length (faces_of slots) ≡ length (obs_of set slots)
+pairs_match set slots = from_place set 0 slots
