@@ -14,16 +14,16 @@ use Rattle.station_book.specs.declared.fault.BookKind.TheVariants as kinds
 use Rattle.station_book.specs.declared.stage.Stage.{Stage}
 use Rattle.station_book.specs.declared.stage.Stage.TheVariants.{Outside, Station, BetweenSets, InSet}
 use Rattle.station_book.specs.declared.slot.Slot.{Slot}
-use Rattle.station_book.specs.Faults.{when, first_of, face, open_sets, open_readings, has_one_face, fault_at_end, IsWithoutFault, face_at}
+use Rattle.station_book.specs.Faults.{when, first_of, face, open_sets, open_readings, has_one_face, fault_at_end, IsWithoutFault, face_at, name_at}
 use Rattle.station_book.specs.Slots.{is_unread, is_single, obs_of, faces_of}
 use Rattle.station_book.specs.Entries.{EntryValue, closed}
 use Rattle.station_book.specs.Shelves.{Entries, last_of, survey_of}
 use Rattle.station_book.specs.Stations.{SurveyedStation, in_set}
-use Rattle.station_book.specs.Answers.{IsSurvey, Answer, AreStations}
 use Rattle.station_book.specs.Kept.{Kept, ending}
 use Rattle.station_book.specs.Blocks.{target, is_of_face, opens_station, number}
 use Rattle.station_book.specs.Places.{History, Place, station, opening, is_empty, is_open, is_among, reading_in, sets_of, station_readings, target_at, stands}
-use Rattle.station_book.specs.Standing.{sighted, slot_of, slots_of, targets_in, obs_in, faces_in, numbers_in, IsEntryOf, IsEntryWith, StandsAt, Stand, stations_in, StandsFor, IsStage, number_at}
+use Rattle.station_book.specs.Keeps.{sighted, slot_of, slots_of, targets_in, obs_in, faces_in, numbers_in, IsEntryOf, IsEntryWith, StandsAt, Stand, stations_in, IsStage, number_at}
+use Rattle.station_book.specs.Standing.{StandsFor}
 use Rattle.station_book.proofs.Membership.{In, any_to}
 use Rattle.station_book.proofs.StepLaws.{open_targets}
 use Rattle.station_book.proofs.FaceLaws as faces
@@ -32,7 +32,7 @@ use Rattle.station_book.proofs.KeptLaws.{open_kept}
 use Rattle.station_book.proofs.CoupleLaws.{open_in_set}
 use Rattle.station_book.proofs.StandLaws.{Parted, parted, HasOpenLast, HasOpenSet, open_set, open_has_set, last_newest}
 
-some_sighted : (o : Option Place) → is_some (sighted o) ≡ is_some o
+pub some_sighted : (o : Option Place) → is_some (sighted o) ≡ is_some o
 some_sighted None = refl
 some_sighted (Some p) = refl
 
@@ -79,7 +79,7 @@ empty_by_slots targets (r ∷ rs) kept =
     sym (not_all (r ∷ rs) name targets listed (seen (face_at r) (r ∷ rs) name (some_there (face_at r) name r (r ∷ rs) (inl refl) equal kept.0.has_face)))
 
 -- the slots of the set that is open
-slots_kept : (es : Entries) (past : History) → is_open past ≡ true → Stand past (stations_in past) (reverse es) → (last_of es).slots ≡ slots_of (open_targets past) (open_readings past)
+pub slots_kept : (es : Entries) (past : History) → is_open past ≡ true → Stand past (stations_in past) (reverse es) → (last_of es).slots ≡ slots_of (open_targets past) (open_readings past)
 slots_kept es past now h = by (parted past) where
   set : HasOpenSet past
   set = open_set past now
@@ -98,10 +98,12 @@ slots_kept es past now h = by (parted past) where
   by (inr p) = with_head p.rest (reverse es) (subst (λ (sts : List Place). Stand past sts (reverse es)) p.stations h) refl
 
 closed_end : (past : History) → is_open past ≡ false → fault_at_end past ≡ None
+unfolding fault_at_end
 closed_end past e = λ i. first_of (when (e i && is_empty (open_readings past)) kinds.EmptySet ∷ when (e i && has_one_face (open_readings past)) kinds.OneFace ∷ [])
 
 -- THE LAW of the end: the fault by what is kept is the fault by the blocks
-pub same_end : (k : Kept) (past : History) → StandsFor k past → ending k.stage k.entries ≡ fault_at_end past
+pub same_end : (k : Kept) (past : History) → StandsFor k.limits k past → ending k.stage k.entries ≡ fault_at_end past
+unfolding fault_at_end
 same_end k past h = by k.stage h.stage where
   by : (stage : Stage) → IsStage stage past → ending stage k.entries ≡ fault_at_end past
   by Outside g = sym (closed_end past g.1)
@@ -109,7 +111,7 @@ same_end k past h = by k.stage h.stage where
   by BetweenSets g = sym (closed_end past g.1)
   by InSet g =
       let slots = slots_kept k.entries past g h.entries in
-      let kept = open_kept k.limits past h.no_fault in
+      let kept = open_kept k.limits past h.clean in
       let none = empty_by_slots (open_targets past) (open_readings past) kept in
       let one = faces.one_face_by_slots (open_targets past) (open_readings past) kept ∙ sym (singles_same (open_targets past) (open_readings past)) in
       (λ i. first_of (when (list_all is_unread (slots i)) kinds.EmptySet ∷ when (list_any is_single (slots i)) kinds.OneFace ∷ []))
@@ -124,10 +126,25 @@ length_numbers : (sets : List Place) → length (numbers_in sets) ≡ length set
 length_numbers [] = refl
 length_numbers (s ∷ older) = let l = length-append (numbers_in older) (number_at s ∷ []) in let m = length_numbers older in omega (arith, l, m)
 
+-- what is answered of the station that this block with code 10 opens, as it is computed
+pub record IsComputed (h : History) (st : Place) (s : SurveyedStation) : Type 0 where
+  pub named_so : name_at st ≡ Some s.station.name
+  pub targets : s.station.targets ≡ targets_in (station_readings st h)
+  pub numbers : map (λ n. Some n) s.station.sets ≡ numbers_in (sets_of st h)
+  pub obs : s.station.obs ≡ obs_in (targets_in (station_readings st h)) (station_readings st h) (sets_of st h)
+  pub faces : s.faces ≡ faces_in (targets_in (station_readings st h)) (station_readings st h) (sets_of st h)
+
+-- both lists come the newest first
+abbrev pub AreComputed : History → List Place → List SurveyedStation → Type 0
+AreComputed h [] [] = Unit {0}
+AreComputed h [] (s ∷ ss) = ⊥
+AreComputed h (st ∷ sts) [] = ⊥
+AreComputed h (st ∷ sts) (s ∷ ss) = IsComputed h st s × AreComputed h sts ss
+
 -- what a station gives in the end
-survey_is : (h : History) (st : Place) (e : List ℕ × EntryValue) → StandsAt h st e → IsSurvey h st (survey_of e)
+survey_is : (h : History) (st : Place) (e : List ℕ × EntryValue) → StandsAt h st e → IsComputed h st (survey_of e)
 survey_is h st e k = by (sets_of st h) refl k where
-  by : (sets : List Place) → sets_of st h ≡ sets → IsEntryWith st sets (station_readings st h) e → IsSurvey h st (survey_of e)
+  by : (sets : List Place) → sets_of st h ≡ sets → IsEntryWith st sets (station_readings st h) e → IsComputed h st (survey_of e)
   by [] s k = absurd k
   by (newest ∷ older) s k =
       let count : length e.1.sets ≡ suc (length older) = sym (length_map (λ n. Some n) e.1.sets) ∙ ap length k.numbers ∙ length_numbers (newest ∷ older) in
@@ -140,7 +157,7 @@ survey_is h st e k = by (sets_of st h) refl k where
         faces = (λ i. k.faces i ++ faces_of (k.slots i)) ∙ ap (faces_in (targets_in (station_readings st h)) (station_readings st h)) (sym s);
       }
 
-answers : (h : History) (sts : List Place) (es : Entries) → Stand h sts es → Answer h sts (map survey_of es)
+answers : (h : History) (sts : List Place) (es : Entries) → Stand h sts es → AreComputed h sts (map survey_of es)
 answers h [] [] k = tt
 answers h [] (e ∷ es) k = k
 answers h (st ∷ sts) [] k = k
@@ -155,20 +172,6 @@ map_reverse f [] = refl
 map_reverse f (x ∷ xs) = ap (map f) (reverse-append (x ∷ []) xs) ∙ map_snoc f (reverse xs) x ∙ ap (λ ys. ys ++ f x ∷ []) (map_reverse f xs) ∙ sym (reverse-append (f x ∷ []) (map f xs))
 
 -- THE LAW of the answer: what the entries give are the stations of the blocks
-pub same_stations : (k : Kept) (past : History) → StandsFor k past → AreStations past (map survey_of k.entries)
-same_stations k past h = subst (λ (ss : List SurveyedStation). Answer past (stations_in past) ss) (map_reverse survey_of k.entries) (answers past (stations_in past) (reverse k.entries) h.entries)
+pub same_stations : (k : Kept) (past : History) → StandsFor k.limits k past → AreComputed past (stations_in past) (reverse (map survey_of k.entries))
+same_stations k past h = subst (λ (ss : List SurveyedStation). AreComputed past (stations_in past) ss) (map_reverse survey_of k.entries) (answers past (stations_in past) (reverse k.entries) h.entries)
 
--- an empty book stands for no block
-pub stands_empty : (limits : FaceLimits) → StandsFor (record { limits = limits; taken = 0; stage = Outside; entries = [] }) []
-stands_empty limits = record { no_fault = tt; taken = refl; stage = (refl, refl); entries = tt }
-
--- the clauses of the end, by the blocks
-pub end_answer : {E : Type 0} (k : Kept) (r : Result (List SurveyedStation) E) → OnOk r (ending k.stage k.entries ≡ None) → IfOk r (λ s. s ≡ map survey_of k.entries) → IfOk r (λ s. (h : History) → StandsFor k h → (fault_at_end h ≡ None) × AreStations h s)
-end_answer k (Ok s) clean same = λ h stands. (sym (same_end k h stands) ∙ clean, subst (AreStations h) (sym same) (same_stations k h stands))
-end_answer k (Err e) clean same = same
-
-pub end_explains : {X : Type 0} (k : Kept) (r : Result X BookFault) → IfErr r (ExplainsFault (k.taken + 1) (ending k.stage k.entries)) → IfErr r (λ f. (h : History) → StandsFor k h → ExplainsFault (length h + 1) (fault_at_end h) f)
-end_explains k (Ok x) why = why
-end_explains k (Err f) why = λ h stands.
-    let n : k.taken + 1 ≡ length h + 1 = ap (λ (m : ℕ). m + 1) stands.taken in
-    subst (λ (m : ℕ). ExplainsFault m (fault_at_end h) f) n (subst (λ (o : Option BookKind). ExplainsFault (k.taken + 1) o f) (same_end k h stands) why)

@@ -43,6 +43,10 @@ pub one_face : (b : GsiBlock) → is_of_face false b ≡ true → is_of_face tru
 unfolding is_of_face sight
 one_face b e = below_half (sight b).zenith e
 
+one_face_at : (a : Place) → stands (is_of_face false) a ≡ true → face_at a ≡ false
+one_face_at [] e = refl
+one_face_at (b ∷ past) e = one_face b e
+
 none_or_some : {X : Type 0} (o : Option X) → (o ≡ None) ⊎ ((x : X) × (o ≡ Some x))
 none_or_some None = inl refl
 none_or_some (Some x) = inr (x, refl)

@@ -9,7 +9,7 @@ use Rattle.station_book.specs.declared.fault.BookKind.TheVariants as kinds
 use Rattle.gsi_word.specs.Blocks.{GsiBlock}
 use Rattle.station_book.specs.Blocks.{target, is_of_face, opens_station, opens_set, closes_set, is_opening, is_sight}
 use Rattle.station_book.specs.Places.{History, Place, is_among, with_new, is_open, stands}
-use Rattle.station_book.specs.Faults.{face, faults, reading_faults, IsWithoutFault, open_readings, when, first_of}
+use Rattle.station_book.specs.Faults.{fault_after, face, faults, reading_faults, IsWithoutFault, open_readings, when, first_of}
 use Rattle.station_book.specs.Limits.{FaceLimits}
 use Rattle.station_book.proofs.Membership.{In, any_from, any_to}
 use Rattle.station_book.proofs.FaceLaws.{IsKept}
@@ -82,6 +82,7 @@ faults_of_reading limits past b o r = fourth (opens_station b) (opens_set b) (cl
 
 -- each reading of the open set is kept
 pub open_kept : (limits : FaceLimits) (past : History) → IsWithoutFault limits past → AllByRecursion (IsKept (open_targets past)) (open_readings past)
+unfolding fault_after
 open_kept limits [] h = tt
 open_kept limits (b ∷ past) h = split (cases_Bool (is_opening b)) (cases_Bool (is_sight b && is_open past)) (open_kept limits past h.1) where
   split : (is_opening b ≡ true) ⊎ (is_opening b ≡ false) → ((is_sight b && is_open past) ≡ true) ⊎ ((is_sight b && is_open past) ≡ false) → AllByRecursion (IsKept (open_targets past)) (open_readings past)

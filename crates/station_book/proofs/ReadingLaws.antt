@@ -18,7 +18,7 @@ use Rattle.station_book.specs.Entries.{EntryValue, place_of, with_reading, with_
 use Rattle.station_book.specs.Blocks.{target, sight, is_of_face}
 use Rattle.station_book.specs.Places.{Place, opening, before, is_same, is_among, with_new, distinct, reading_in, target_at, stands}
 use Rattle.station_book.specs.Stations.{in_set}
-use Rattle.station_book.specs.Standing.{sighted, slot_of, slots_of, targets_in, obs_in, faces_in, numbers_in, IsEntryOf}
+use Rattle.station_book.specs.Keeps.{sighted, slot_of, slots_of, targets_in, obs_in, faces_in, numbers_in, IsEntryOf}
 use Rattle.station_book.proofs.CoupleLaws.{found_other, found_here, found_not}
 use Rattle.station_book.proofs.SlotLaws.{enumerate-append}
 use Rattle.station_book.proofs.EntryLaws.{absent_name}
@@ -136,7 +136,7 @@ faces_new targets name readings (s ∷ older) all =
     (λ i. faces_new targets name readings older all i ++ faces_of (slots_new targets name (in_set s readings) rs i))
     ∙ ap (λ os. faces_in targets readings older ++ os) (faces_empty (slots_of targets (in_set s readings)))
 
-slot_get : (targets : List (List ℕ)) (rs : List Place) (k : ℕ) (d : List ℕ) → k < length targets → slot_at (slots_of targets rs) k ≡ slot_of rs (get_or targets k d)
+pub slot_get : (targets : List (List ℕ)) (rs : List Place) (k : ℕ) (d : List ℕ) → k < length targets → slot_at (slots_of targets rs) k ≡ slot_of rs (get_or targets k d)
 slot_get [] rs k d lt = absurd (omega arith)
 slot_get (t ∷ ts) rs zero d lt = refl
 slot_get (t ∷ ts) rs (suc k) d lt = slot_get ts rs k d (omega arith)

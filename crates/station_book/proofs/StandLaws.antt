@@ -17,7 +17,7 @@ use Rattle.station_book.specs.Blocks.{named, number, opens_station, opens_set, c
 use Rattle.station_book.specs.Places.{History, Place, places, last, before, station, opening, is_empty, is_open, is_set, is_reading, is_same, sets_of, station_readings, first_sets, stands}
 use Rattle.station_book.specs.Stations.{in_set}
 use Rattle.station_book.specs.Faults.{open_sets, name_at}
-use Rattle.station_book.specs.Standing.{slot_of, slots_of, targets_in, obs_in, faces_in, numbers_in, IsEntryOf, IsEntryWith, StandsAt, stations_in, Stand, number_at}
+use Rattle.station_book.specs.Keeps.{slot_of, slots_of, targets_in, obs_in, faces_in, numbers_in, IsEntryOf, IsEntryWith, StandsAt, stations_in, Stand, number_at}
 use Rattle.station_book.proofs.PlaceLaws.{length-last, belonging-more, belonging-same, belonging-fresh}
 use Rattle.station_book.proofs.OlderLaws.{belonging-older, owners_in_order}
 use Rattle.station_book.proofs.StateLaws.{station_is_no_set}

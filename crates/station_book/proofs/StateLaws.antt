@@ -15,10 +15,11 @@ use Rattle.station_book.specs.Roles.{role_of, is_station, is_set_code}
 use Rattle.station_book.specs.Places.{History, Place, places, last, before, is_same, is_set, is_open, station, first_sets, is_empty}
 use Rattle.station_book.specs.Faults.{open_sets, had_sets, same_name, same_number, has_set_number, faults, fault_after, set_faults, end_faults, IsWithoutFault, when, first_of, name_at}
 use Rattle.station_book.specs.Limits.{FaceLimits}
+use Rattle.station_book.proofs.RoleLaws.{station_is, set_is}
 use Rattle.station_book.proofs.StepLaws.{is_open-opening, is_open-other, sets-station, sets-more, sets-other}
 use Rattle.station_book.proofs.StationLaws.{had_sets_by_names, number_by_kept}
 use Rattle.station_book.proofs.KeptLaws.{none_stands, none_when}
-use Rattle.station_book.specs.Standing.{number_at}
+use Rattle.station_book.specs.Keeps.{number_at}
 
 -- the codes alone: whether a station and a set are open, the station's name, the numbers of its sets and the names of
 -- all stations with sets, the newest first
@@ -49,7 +50,6 @@ abbrev pub after_close : Codes → Codes
 after_close s = record s { has_open = false }
 
 pub stands_start : StandsFor start []
-unfolding named
 stands_start = record { has_station = refl; has_open = refl; name = refl; numbers = refl; names = refl }
 
 -- a block has one role
@@ -61,8 +61,7 @@ station_alone roles.Measurement e = refl
 station_alone roles.Other e = refl
 
 pub station_is_no_set : (b : GsiBlock) → opens_station b ≡ true → opens_set b ≡ false
-unfolding opens_station opens_set
-station_is_no_set b e = station_alone (role_of b) e
+station_is_no_set b e = set_is b ∙ station_alone (role_of b) (sym (station_is b) ∙ e)
 
 or_first : (a b : Bool) → a ≡ true → (a || b) ≡ true
 or_first true b e = refl
@@ -158,6 +157,7 @@ any_names name (p ∷ ps) = ap (λ v. same_name (name_at (station (before p))) n
 
 -- what the tests of a block of code 20 found
 set_is_clean : (limits : FaceLimits) (past : History) (b : GsiBlock) → opens_station b ≡ false → opens_set b ≡ true → fault_after limits past b ≡ None → had_sets past ≡ false
+unfolding fault_after
 set_is_clean limits past b n e h =
     let k : first_of (set_faults past b) ≡ None = second (end_faults past) (set_faults past b) (sym (ap first_of (picked (opens_station b) (opens_set b) (faults limits past b) _ (end_faults past ++ set_faults past b) _ refl n e)) ∙ h) in
     none_when (had_sets past) kinds.StationTwice (none_stands (set_faults past b) k).1.1.1.0

@@ -8,7 +8,7 @@ use Rattle.station_book.specs.Places.{History, Place, places, last, before, belo
 use Rattle.station_book.specs.Faults.{open_sets, had_sets, same_name, same_number, has_set_number, name_at}
 use Rattle.station_book.proofs.PlaceLaws.{belonging-fresh, belonging-same}
 use Rattle.station_book.proofs.Membership.{In, any_from, any_to, same_test}
-use Rattle.station_book.specs.Standing.{number_at}
+use Rattle.station_book.specs.Keeps.{number_at}
 
 -- the numbers that a book keeps of the station's sets answer whether one has this number
 pub number_by_kept : (n : Option ℕ) (past : History) → has_set_number n past ≡ list_any (λ m. same_number m n) (map (λ s. number_at s) (open_sets past))

@@ -1,5 +1,5 @@
 -- What a block does to the open set, its readings, the station, its sets and targets.
-use Rattle.std.proofs.Common.{◌≡◌, ℕ, Bool, true, false, cond, eqb, ◌&&◌, ◌||◌, not, List, [], ◌∷◌, map, refl, ap}
+use Rattle.std.proofs.Common.{◌≡◌, ℕ, Bool, true, false, cond, eqb, ◌&&◌, ◌||◌, not, List, [], ◌∷◌, map, refl, sym, ap, ◌∙◌}
 use Rattle.std.proofs.lemmas.Bool.{and_parts, eqb-true}
 use Rattle.std.specs.Str.{bytes_eq}
 use Rattle.std.specs.Prelude.{codes}
@@ -10,6 +10,7 @@ use Rattle.station_book.specs.declared.role.Role.TheVariants as roles
 use Rattle.station_book.specs.Roles.{role_of, is_station, is_set_code, is_close, is_measurement}
 use Rattle.station_book.specs.Places.{History, Place, last, stands, is_open, is_set, is_reading, station, targets_of, distinct, with_new, target_at}
 use Rattle.station_book.specs.Faults.{open_readings, open_sets}
+use Rattle.station_book.proofs.RoleLaws.{station_is, set_is, close_is, sight_is}
 use Rattle.station_book.proofs.PlaceLaws.{belonging-fresh, belonging-more, belonging-same}
 
 -- a set is open after a block
@@ -64,8 +65,9 @@ measures_alone roles.Measurement e = refl
 measures_alone roles.Other e = cc
 
 pub sight_opens_nothing : (b : GsiBlock) → is_sight b ≡ true → is_opening b ≡ false
-unfolding is_sight opens_station opens_set closes_set
-sight_opens_nothing b e = measures_alone (role_of b) (and_parts (is_measurement (role_of b)) (not (is_absent (found 21 b))) e).0
+sight_opens_nothing b e =
+    (λ i. station_is b i || (set_is b i || close_is b i))
+    ∙ measures_alone (role_of b) (and_parts (is_measurement (role_of b)) (not (is_absent (found 21 b))) (sym (sight_is b) ∙ e)).0
 
 or_false_left : (a b : Bool) → (a || b) ≡ false → a ≡ false
 or_false_left true b e = cc

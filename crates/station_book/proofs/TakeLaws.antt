@@ -2,7 +2,8 @@
 use Rattle.std.proofs.Common.{◌≡◌, ℕ, suc, ◌+◌, ◌<◌, Bool, true, false, cond, not, ltb, ◌&&◌, ◌||◌, List, [], ◌∷◌, ◌++◌, length, reverse, Option, Some, None, is_none, Result, Ok, Err, refl, sym, ap, ◌∙◌, inl, inr, ◌⊎◌, subst, arith}
 use Rattle.std.proofs.lemmas.Bool.{cases_Bool, false≢true, and_parts}
 use Rattle.std.proofs.lemmas.List.{reverse-append}
-use Rattle.std.specs.Prelude.{OnOk}
+use Rattle.std.specs.Prelude.{OnOk, slice_get}
+use Rattle.gsi_word.specs.Words.{GsiWord}
 use Rattle.gsi_word.specs.Words.{GsiWord}
 use Rattle.gsi_word.specs.Names.{name_of}
 use Rattle.gsi_word.specs.declared.found.Found.{Found}
@@ -22,9 +23,11 @@ use Rattle.station_book.specs.Entries.{EntryValue, first_entry, with_set, with_r
 use Rattle.station_book.specs.Shelves.{Entries, change_last}
 use Rattle.station_book.specs.Kept as kept
 use Rattle.gsi_word.specs.Blocks.{GsiBlock}
-use Rattle.station_book.specs.Blocks.{opens_station, opens_set, closes_set, is_opening, is_sight, named, number, target, sight, is_of_face, found, is_absent, is_twice, name_found}
+use Rattle.station_book.specs.Blocks.{name_of_first, opens_station, opens_set, closes_set, is_opening, is_sight, named, number, target, sight, is_of_face, found, is_absent, is_twice, name_found}
 use Rattle.station_book.specs.Places.{History, Place, last, station, is_empty, is_open, is_reading, stands}
-use Rattle.station_book.specs.Standing.{StandsFor, IsStage, Stand, stations_in}
+use Rattle.station_book.specs.Keeps.{IsStage, Stand, stations_in}
+use Rattle.station_book.specs.Standing.{StandsFor}
+use Rattle.station_book.proofs.RoleLaws.{station_is, set_is, close_is, sight_is}
 use Rattle.station_book.proofs.StepLaws.{is_open-opening, is_open-other, sets-station, sets-other}
 use Rattle.station_book.specs.Limits.{FaceLimits}
 use Rattle.station_book.proofs.FaceLaws.{one_face}
@@ -34,27 +37,23 @@ use Rattle.station_book.proofs.StandLaws.{stand_idle, stand_first, stand_further
 
 -- what a role says of the tests
 pub station_as : (b : GsiBlock) (r : Role) → role_of b ≡ r → opens_station b ≡ is_station r
-unfolding opens_station
-station_as b r e = ap is_station e
+station_as b r e = station_is b ∙ ap is_station e
 
 pub set_as : (b : GsiBlock) (r : Role) → role_of b ≡ r → opens_set b ≡ is_set_code r
-unfolding opens_set
-set_as b r e = ap is_set_code e
+set_as b r e = set_is b ∙ ap is_set_code e
 
 pub close_as : (b : GsiBlock) (r : Role) → role_of b ≡ r → closes_set b ≡ is_close r
-unfolding closes_set
-close_as b r e = ap is_close e
+close_as b r e = close_is b ∙ ap is_close e
 
 pub sight_as : (b : GsiBlock) (r : Role) → role_of b ≡ r → is_sight b ≡ (is_measurement r && not (is_absent (found 21 b)))
-unfolding is_sight
-sight_as b r e = ap (λ q. is_measurement q && not (is_absent (found 21 b))) e
+sight_as b r e = sight_is b ∙ ap (λ q. is_measurement q && not (is_absent (found 21 b))) e
 
 pub named_as : (b : GsiBlock) → named b ≡ blocks.named b
 unfolding named
 named_as b = refl
 
 pub number_as : (b : GsiBlock) → number b ≡ blocks.number b
-unfolding number
+unfolding number named
 number_as b = refl
 
 opening_as : (b : GsiBlock) (r : Role) → role_of b ≡ r → is_opening b ≡ (is_station r || (is_set_code r || is_close r))
@@ -80,7 +79,7 @@ stage_closes (Station name) b past s n o h = (ap is_empty (same_station b past s
 stage_closes BetweenSets b past s n o h = (ap is_empty (sets-other b past s n) ∙ h.0, is_open-opening b past o ∙ n)
 stage_closes InSet b past s n o h = (ap is_empty (sets-other b past s n) ∙ open_has_set past h, is_open-opening b past o ∙ n)
 
-then_second : {X : Type 0} (o p : Option X) → then_fault o p ≡ None → p ≡ None
+pub then_second : {X : Type 0} (o p : Option X) → then_fault o p ≡ None → p ≡ None
 then_second None p e = e
 then_second (Some x) p e = cc
 
@@ -127,7 +126,7 @@ set_taken es b past InSet (Some n) r e f g h =
     (stand_further x ys b past n k.0 k.1 some (number_as b ∙ e) (subst (λ (zs : Entries). Stand past (stations_in past) zs) newest h))
 
 -- what a measurement that was read says
-record WasRead (b : GsiBlock) (s : Sighting) : Type 0 where
+pub record WasRead (b : GsiBlock) (s : Sighting) : Type 0 where
   pub has_direction : is_absent (found 21 b) ≡ false
   pub clean : first_of (blocks.sighting_faults b) ≡ None
   pub is : blocks.sighting b ≡ s
@@ -137,7 +136,7 @@ read_cases true fault s t e = absurd cc
 read_cases false None s t e = (refl, refl, cc)
 read_cases false (Some k) s t e = absurd cc
 
-was_read : (b : GsiBlock) (s : Sighting) → blocks.read b ≡ Ok (Some s) → WasRead b s
+pub was_read : (b : GsiBlock) (s : Sighting) → blocks.read b ≡ Ok (Some s) → WasRead b s
 was_read b s e = let p = read_cases (is_absent (found 21 b)) (first_of (blocks.sighting_faults b)) (blocks.sighting b) s e in record { has_direction = p.0; clean = p.1; is = p.2 }
 
 none_cases : (absent : Bool) (fault : Option BookKind) (s : Sighting) → ◌≡◌ {A = Result (Option Sighting) BookKind} (cond absent (Ok None) (blocks.unless_fault fault s)) (Ok None) → absent ≡ true
@@ -145,19 +144,22 @@ none_cases true fault s e = refl
 none_cases false None s e = absurd cc
 none_cases false (Some k) s e = absurd cc
 
-first_face : (b : GsiBlock) → is_of_face false b ≡ (ltb 0 (blocks.angle 22 b) && ltb (blocks.angle 22 b) 20_000_000)
-unfolding is_of_face
+pub first_face : (b : GsiBlock) → is_of_face false b ≡ (ltb 0 (blocks.angle 22 b) && ltb (blocks.angle 22 b) 20_000_000)
+unfolding is_of_face sight
 first_face b = refl
 
-second_face : (b : GsiBlock) → is_of_face true b ≡ (ltb 20_000_000 (blocks.angle 22 b) && ltb (blocks.angle 22 b) 40_000_000)
-unfolding is_of_face
+pub second_face : (b : GsiBlock) → is_of_face true b ≡ (ltb 20_000_000 (blocks.angle 22 b) && ltb (blocks.angle 22 b) 40_000_000)
+unfolding is_of_face sight
 second_face b = refl
 
-target_as : (b : GsiBlock) → target b ≡ blocks.target b
+pub target_as : (b : GsiBlock) → target b ≡ blocks.target b
 unfolding target
-target_as b = refl
+target_as b = by b.words where
+  by : (ws : List GsiWord) → name_of_first ws ≡ blocks.name_at (slice_get ws 0)
+  by [] = refl
+  by (w ∷ ws) = refl
 
-sight_is_as : (b : GsiBlock) → sight b ≡ blocks.sight b
+pub sight_is_as : (b : GsiBlock) → sight b ≡ blocks.sight b
 unfolding sight
 sight_is_as b = refl
 
@@ -221,49 +223,51 @@ measurement_taken limits es InSet b past r f g h = in_set_taken es b past (block
 -- THE LAW: after a block without fault, what is kept stands for the blocks with it
 pub taken_stands : (limits : FaceLimits) (taken : ℕ) (stage : Stage) (es : Entries) (b : GsiBlock) (past : History) (r : Role) → role_of b ≡ r
     → kept.fault_as r (record { limits = limits; taken = taken; stage = stage; entries = es }) b ≡ None → fault_after limits past b ≡ None
-    → StandsFor (record { limits = limits; taken = taken; stage = stage; entries = es }) past → StandsFor (kept.after_as r b (record { limits = limits; taken = taken + 1; stage = stage; entries = es })) (b ∷ past)
+    → StandsFor limits (record { limits = limits; taken = taken; stage = stage; entries = es }) past → StandsFor limits (kept.after_as r b (record { limits = limits; taken = taken + 1; stage = stage; entries = es })) (b ∷ past)
 taken_stands limits taken stage es b past roles.Station r f clean h =
     let (name, is) = name_of_station (found 42 b) (then_second (kept.ending stage es) (first_of (blocks.station_faults b)) f) in
     let s = station_as b roles.Station r in
     let here : station (b ∷ past) ≡ b ∷ past = ap (λ v. cond v (b ∷ past) (last opens_station past)) s in
     record {
-      no_fault = (clean, h.no_fault);
-      taken = (let t = h.taken in omega (arith, t));
+      limited = refl;
+      clean = (clean, h.clean);
+      counted = (let t = h.counted in omega (arith, t));
       stage = subst (λ (o : Option (List ℕ)). IsStage (kept.at_station o stage) (b ∷ past)) (sym is)
           (ap is_empty here, ap (λ p. name_at p) here ∙ named_as b ∙ is, sets-station b past s, is_open-opening b past (opening_as b roles.Station r) ∙ set_as b roles.Station r);
       entries = stand_idle (reverse es) b past (set_as b roles.Station r) (no_reading b past (sight_as b roles.Station r)) h.entries;
     }
 taken_stands limits taken stage es b past roles.Set r f clean h = record {
-  no_fault = (clean, h.no_fault);
-  taken = (let t = h.taken in omega (arith, t));
+  limited = refl;
+  clean = (clean, h.clean);
+  counted = (let t = h.counted in omega (arith, t));
   stage = is_open-opening b past (opening_as b roles.Set r) ∙ set_as b roles.Set r;
   entries = set_taken es b past stage (blocks.number b) r refl
       (then_second (when (is_twice (found 42 b)) (kinds.WordTwice 42)) (kept.opening stage es (blocks.number b)) (then_second (kept.ending stage es) _ f)) h.stage h.entries;
 }
 taken_stands limits taken stage es b past roles.Close r f clean h = record {
-  no_fault = (clean, h.no_fault);
-  taken = (let t = h.taken in omega (arith, t));
+  limited = refl;
+  clean = (clean, h.clean);
+  counted = (let t = h.counted in omega (arith, t));
   stage = stage_closes stage b past (station_as b roles.Close r) (set_as b roles.Close r) (opening_as b roles.Close r) h.stage;
   entries = stand_idle (reverse es) b past (set_as b roles.Close r) (no_reading b past (sight_as b roles.Close r)) h.entries;
 }
 taken_stands limits taken stage es b past roles.Measurement r f clean h =
     let m = measures_nothing b r in
     record {
-      no_fault = (clean, h.no_fault);
-      taken = (let t = h.taken in omega (arith, t));
+      limited = refl;
+      clean = (clean, h.clean);
+      counted = (let t = h.counted in omega (arith, t));
       stage = stage_stays stage b past m.0 m.1 m.2 h.stage;
       entries = measurement_taken limits es stage b past r f h.stage h.entries;
     }
 taken_stands limits taken stage es b past roles.Other r f clean h = record {
-  no_fault = (clean, h.no_fault);
-  taken = (let t = h.taken in omega (arith, t));
+  limited = refl;
+  clean = (clean, h.clean);
+  counted = (let t = h.counted in omega (arith, t));
   stage = stage_stays stage b past (station_as b roles.Other r) (set_as b roles.Other r) (opening_as b roles.Other r) h.stage;
   entries = stand_idle (reverse es) b past (set_as b roles.Other r) (no_reading b past (sight_as b roles.Other r)) h.entries;
 }
 
--- the clause of `take`, by the blocks
-pub take_stands : {X E : Type 0} (k new : kept.Kept) (b : GsiBlock) (r : Result X E) → OnOk r (kept.fault_of k b ≡ None) → OnOk r (new ≡ kept.after b k)
-    → OnOk r ((h : History) → StandsFor k h → fault_after k.limits h b ≡ None → StandsFor new (b ∷ h))
-take_stands k new b (Ok x) clean same = λ h stands fine.
-    subst (λ (w : kept.Kept). StandsFor w (b ∷ h)) (sym same) (taken_stands k.limits k.taken k.stage k.entries b h (role_of b) refl clean fine stands)
-take_stands k new b (Err e) clean same = same
+-- the same book under its own limits
+pub at_own : (limits : FaceLimits) (k : kept.Kept) (h : History) → StandsFor limits k h → StandsFor k.limits k h
+at_own limits k h s = subst (λ (l : FaceLimits). StandsFor l k h) (sym s.limited) s
