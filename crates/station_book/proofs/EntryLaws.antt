@@ -13,11 +13,11 @@ use Rattle.adjust_kernel.specs.Sheets.{IsSetNumber}
 use Rattle.adjust_kernel.specs.Stations.{IsObs, AreObs, IsStation, station_of}
 use Rattle.adjust_kernel.specs.declared.obs.Obs.{Obs}
 use Rattle.station_book.specs.declared.fault.BookKind.TheVariants as kinds
-use Rattle.station_book.specs.Sights.{Sight}
+use Rattle.station_book.specs.Sights.{Sight, AreOnCircle}
 use Rattle.station_book.specs.declared.sight.Sighting.{Sighting}
 use Rattle.station_book.specs.declared.slot.Slot.{Slot}
 use Rattle.station_book.specs.Faults.{when, first_of}
-use Rattle.station_book.specs.Slots.{slot_at, empty_slot, with_side, is_unread, is_single, end_faults, obs_of, faces_of, IsBelowCircle, IsKeptSlot}
+use Rattle.station_book.specs.Slots.{slot_at, empty_slot, with_side, is_unread, is_single, end_faults, obs_of, faces_of, IsKeptSlot}
 use Rattle.station_book.specs.Sound.{AreSoFar}
 use Rattle.station_book.specs.Entries.{EntryValue, first_entry, closed, with_set, place_of, reading_faults_at, reading_faults, with_reading_at, IsEntry, MayEnd}
 use Rattle.std.specs.Prelude.{IfErr, IfNone}
@@ -146,12 +146,12 @@ read_now true v s = second (is_none s.first) where
   second true = refl
   second false = refl
 
-kept_side : (f : Bool) (v : Sight) (s : Slot) → IsBelowCircle v → IsKeptSlot s → IsKeptSlot (with_side f v s)
+kept_side : (f : Bool) (v : Sight) (s : Slot) → AreOnCircle v → IsKeptSlot s → IsKeptSlot (with_side f v s)
 kept_side false v s lt h = (lt, h.1)
 kept_side true v s lt h = (h.0, lt)
 
 -- after a further reading of a target
-pub reading_is_entry : (s : Sighting) (e : EntryValue) (i : ℕ) → IsEntry e → i < length e.slots → IsBelowCircle s.sight → IsEntry (with_reading_at s e (Some i))
+pub reading_is_entry : (s : Sighting) (e : EntryValue) (i : ℕ) → IsEntry e → i < length e.slots → AreOnCircle s.sight → IsEntry (with_reading_at s e (Some i))
 reading_is_entry s e i h inside low = record {
   same_length = length-set e.slots i new ∙ h.same_length;
   paired = h.paired;
@@ -190,7 +190,7 @@ absent_name name (t ∷ targets) e (suc k) d lt = absent_name name targets (righ
   right false b e = e
 
 -- after the first reading of a target
-pub target_is_entry : (s : Sighting) (e : EntryValue) → IsEntry e → list_any (λ t. bytes_eq t s.target) e.targets ≡ false → length e.targets < 100 → IsName s.target → IsBelowCircle s.sight → IsEntry (with_reading_at s e None)
+pub target_is_entry : (s : Sighting) (e : EntryValue) → IsEntry e → list_any (λ t. bytes_eq t s.target) e.targets ≡ false → length e.targets < 100 → IsName s.target → AreOnCircle s.sight → IsEntry (with_reading_at s e None)
 target_is_entry s e h new few named low = record {
   same_length = (let l = length_one e.slots slot in let m = length_one e.targets s.target in let n = h.same_length in omega (arith, l, m, n));
   paired = h.paired;
@@ -229,13 +229,13 @@ target_is_entry s e h new few named low = record {
 
 -- the same, with the lists as the code has them
 pub target_kept : (s : Sighting) (e : EntryValue) (targets : List (List ℕ)) (slots : List Slot) → targets ≡ e.targets ++ s.target ∷ [] → slots ≡ e.slots ++ with_side s.is_second s.sight empty_slot ∷ []
-    → IsEntry e → list_any (λ t. bytes_eq t s.target) e.targets ≡ false → length e.targets < 100 → IsName s.target → IsBelowCircle s.sight
+    → IsEntry e → list_any (λ t. bytes_eq t s.target) e.targets ≡ false → length e.targets < 100 → IsName s.target → AreOnCircle s.sight
     → IsEntry (record { targets = targets; slots = slots; sets = e.sets; obs = e.obs; faces = e.faces })
 target_kept s e targets slots et es h new few named low =
     subst (λ (ts : List (List ℕ)). IsEntry (record { targets = ts; slots = slots; sets = e.sets; obs = e.obs; faces = e.faces })) (sym et)
     (subst (λ (ss : List Slot). IsEntry (record { targets = e.targets ++ s.target ∷ []; slots = ss; sets = e.sets; obs = e.obs; faces = e.faces })) (sym es) (target_is_entry s e h new few named low))
 
-pub reading_kept : (s : Sighting) (e : EntryValue) (i : ℕ) (new : Slot) → new ≡ with_side s.is_second s.sight (slot_at e.slots i) → IsEntry e → i < length e.slots → IsBelowCircle s.sight → IsEntry (record e { slots = set e.slots i new })
+pub reading_kept : (s : Sighting) (e : EntryValue) (i : ℕ) (new : Slot) → new ≡ with_side s.is_second s.sight (slot_at e.slots i) → IsEntry e → i < length e.slots → AreOnCircle s.sight → IsEntry (record e { slots = set e.slots i new })
 reading_kept s e i new same h inside low = subst (λ (n : Slot). IsEntry (record e { slots = set e.slots i n })) (sym same) (reading_is_entry s e i h inside low)
 
 pub set_kept : (n : ℕ) (e : EntryValue) (slots : List Slot) (sets : List ℕ) (obs : List Obs) (faces : List Faces) → slots ≡ replicate (length e.slots) empty_slot → sets ≡ e.sets ++ n ∷ [] → obs ≡ (closed e).obs → faces ≡ (closed e).faces

@@ -5,9 +5,9 @@ use Rattle.std.specs.Str.{bytes_eq}
 use Rattle.std.proofs.lemmas.Bool.{and_parts, and_from, cases_Bool, false≢true, or_cases, ltb-true}
 use Rattle.std.proofs.lemmas.Slice.Eq.{bytes_eq-Decides}
 use Rattle.gsi_word.specs.Blocks.{GsiBlock}
-use Rattle.station_book.specs.Blocks.{target, is_of_face, sight}
+use Rattle.station_book.specs.Blocks.{is_of_face, sight}
 use Rattle.station_book.specs.Places.{Place, reading_in, is_among, target_at, stands}
-use Rattle.station_book.specs.Faults.{face, has_one_face, face_at}
+use Rattle.station_book.specs.Faults.{has_one_face, face_at}
 use Rattle.station_book.proofs.Membership.{In, any_from, any_to, find_some, find_found, all_in, same_test}
 
 -- what a book keeps of the open set: the readings of each target of the station, in face I and in face II
@@ -42,10 +42,6 @@ below_half z e = split (cases_Bool (ltb 20_000_000 z)) (ltb-true z 20_000_000 (a
 pub one_face : (b : GsiBlock) → is_of_face false b ≡ true → is_of_face true b ≡ false
 unfolding is_of_face sight
 one_face b e = below_half (sight b).zenith e
-
-one_face_at : (a : Place) → stands (is_of_face false) a ≡ true → face_at a ≡ false
-one_face_at [] e = refl
-one_face_at (b ∷ past) e = one_face b e
 
 none_or_some : {X : Type 0} (o : Option X) → (o ≡ None) ⊎ ((x : X) × (o ≡ Some x))
 none_or_some None = inl refl
@@ -90,6 +86,10 @@ alone rs r h g n = split (face_at r) refl where
   split false e = single_first (slot rs (target_at r))
       (some_there false (target_at r) r rs h refl (sym (ap (λ v. stands (is_of_face v) r) e) ∙ g))
       (sym (ap (λ v. is_none (reading_in (not v) (target_at r) rs)) e) ∙ n)
+
+one_face_at : (a : Place) → stands (is_of_face false) a ≡ true → face_at a ≡ false
+one_face_at [] e = refl
+one_face_at (b ∷ past) e = one_face b e
 
 -- a single slot is that of a reading alone
 lonely : (rs : List Place) (name : List ℕ) → is_single (slot rs name) ≡ true → has_one_face rs ≡ true

@@ -8,8 +8,8 @@ use Rattle.station_book.specs.declared.fault.BookKind.{BookKind}
 use Rattle.station_book.specs.declared.fault.BookKind.TheVariants as kinds
 use Rattle.gsi_word.specs.Blocks.{GsiBlock}
 use Rattle.station_book.specs.Blocks.{target, is_of_face, opens_station, opens_set, closes_set, is_opening, is_sight}
-use Rattle.station_book.specs.Places.{History, Place, is_among, with_new, is_open, stands}
-use Rattle.station_book.specs.Faults.{fault_after, face, faults, reading_faults, IsWithoutFault, open_readings, when, first_of}
+use Rattle.station_book.specs.Places.{History, Place, is_among, with_new, is_open}
+use Rattle.station_book.specs.Faults.{face, faults, reading_faults, fault_after, IsWithoutFault, open_readings, when, first_of}
 use Rattle.station_book.specs.Limits.{FaceLimits}
 use Rattle.station_book.proofs.Membership.{In, any_from, any_to}
 use Rattle.station_book.proofs.FaceLaws.{IsKept}

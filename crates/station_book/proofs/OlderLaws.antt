@@ -1,9 +1,9 @@
 -- Owners stand in order, and what belongs to an owner before the last one stays.
-use Rattle.std.proofs.Common.{◌≡◌, ℕ, suc, ◌<◌, ◌≤◌, Bool, true, false, cond, List, [], ◌∷◌, length, arith}
+use Rattle.std.proofs.Common.{◌≡◌, ℕ, ◌<◌, ◌≤◌, Bool, true, false, cond, List, [], ◌∷◌, length, arith}
 use Rattle.std.specs.List.{AllByRecursion}
 use Rattle.std.proofs.lemmas.Bool.{ne_eqb}
 use Rattle.gsi_word.specs.Blocks.{GsiBlock}
-use Rattle.station_book.specs.Places.{History, Place, places, last, before, belonging, is_same}
+use Rattle.station_book.specs.Places.{History, Place, places, last, before, belonging}
 use Rattle.station_book.proofs.PlaceLaws.{length-last, belonging-other}
 
 grown : (v : Bool) (b : GsiBlock) (past owner : Place) → length owner ≤ length past → length owner ≤ length (cond v (b ∷ past) owner)

@@ -20,7 +20,7 @@ use Rattle.station_book.specs.Faults.{open_sets, name_at}
 use Rattle.station_book.specs.Keeps.{slot_of, slots_of, targets_in, obs_in, faces_in, numbers_in, IsEntryOf, IsEntryWith, StandsAt, stations_in, Stand, number_at}
 use Rattle.station_book.proofs.PlaceLaws.{length-last, belonging-more, belonging-same, belonging-fresh}
 use Rattle.station_book.proofs.OlderLaws.{belonging-older, owners_in_order}
-use Rattle.station_book.proofs.StateLaws.{station_is_no_set}
+use Rattle.station_book.proofs.CodeLaws.{no_set_at_station}
 use Rattle.station_book.proofs.StepLaws.{sight_opens_nothing, sight_opens_no_station, is_open-opening, is_open-other, sets-station, sets-more, sets-other}
 
 -- no reading: all slots are empty
@@ -103,7 +103,7 @@ open_has_set (b ∷ past) e = split (cases_Bool (opens_station b)) (cases_Bool (
   split (inr s) (inl n) o ih = ap is_empty (sets-more b past s n)
   split (inr s) (inr n) (inr o) ih = ap is_empty (sets-other b past s n) ∙ ih (sym (is_open-other b past o) ∙ e)
   split s (inr n) (inl o) ih = absurd (false≢true (sym n ∙ sym (is_open-opening b past o) ∙ e))
-  split (inl s) (inl n) o ih = absurd (false≢true (sym (station_is_no_set b s) ∙ n))
+  split (inl s) (inl n) o ih = absurd (false≢true (sym (no_set_at_station b s) ∙ n))
   split (inl s) (inr n) (inr o) ih = absurd (false≢true (sym (or_left (opens_station b) _ o) ∙ s)) where
     or_left : (x y : Bool) → (x || y) ≡ false → x ≡ false
     or_left true y h = cc
@@ -188,7 +188,7 @@ parted (b ∷ past) = split (cases_Bool (opens_station b)) (cases_Bool (opens_se
       let all = below_new (length past) past (first_sets past) (length-last opens_station past) (all_filter _ (λ place. is_set place && is_empty (sets_of (station (before place)) (before place))) (places past) (owners_in_order opens_station past)) in
       inl (
         sets-station b past s,
-        subst (λ (sts : List Place). AllByRecursion (λ st. length st < length (station (b ∷ past))) sts) (sym (same_stations b past (station_is_no_set b s)))
+        subst (λ (sts : List Place). AllByRecursion (λ st. length st < length (station (b ∷ past))) sts) (sym (same_stations b past (no_set_at_station b s)))
             (subst (λ (o : Place). AllByRecursion (λ st. length st < length o) (stations_in past)) (sym here) all),
       )
   split (inr s) (inl n) (inl h) =
@@ -323,7 +323,7 @@ open_set (b ∷ past) e = split (cases_Bool (opens_station b)) (cases_Bool (open
         before_it = subst (λ (p : Place). AllByRecursion (λ s. length s < length p) k.older) (sym same) k.before_it;
       }
   split s (inr n) (inl o) ih = absurd (false≢true (sym n ∙ sym (is_open-opening b past o) ∙ e))
-  split (inl s) (inl n) o ih = absurd (false≢true (sym (station_is_no_set b s) ∙ n))
+  split (inl s) (inl n) o ih = absurd (false≢true (sym (no_set_at_station b s) ∙ n))
   split (inl s) (inr n) (inr o) ih = absurd (false≢true (sym (or_left (opens_station b) (opens_set b || closes_set b) o) ∙ s)) where
     or_left : (x y : Bool) → (x || y) ≡ false → x ≡ false
     or_left true y h = cc

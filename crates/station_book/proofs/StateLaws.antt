@@ -15,7 +15,7 @@ use Rattle.station_book.specs.Roles.{role_of, is_station, is_set_code}
 use Rattle.station_book.specs.Places.{History, Place, places, last, before, is_same, is_set, is_open, station, first_sets, is_empty}
 use Rattle.station_book.specs.Faults.{open_sets, had_sets, same_name, same_number, has_set_number, faults, fault_after, set_faults, end_faults, IsWithoutFault, when, first_of, name_at}
 use Rattle.station_book.specs.Limits.{FaceLimits}
-use Rattle.station_book.proofs.RoleLaws.{station_is, set_is}
+use Rattle.station_book.proofs.CodeLaws.{no_set_at_station}
 use Rattle.station_book.proofs.StepLaws.{is_open-opening, is_open-other, sets-station, sets-more, sets-other}
 use Rattle.station_book.proofs.StationLaws.{had_sets_by_names, number_by_kept}
 use Rattle.station_book.proofs.KeptLaws.{none_stands, none_when}
@@ -52,17 +52,6 @@ after_close s = record s { has_open = false }
 pub stands_start : StandsFor start []
 stands_start = record { has_station = refl; has_open = refl; name = refl; numbers = refl; names = refl }
 
--- a block has one role
-station_alone : (r : Role) → is_station r ≡ true → is_set_code r ≡ false
-station_alone roles.Station e = refl
-station_alone roles.Set e = cc
-station_alone roles.Close e = refl
-station_alone roles.Measurement e = refl
-station_alone roles.Other e = refl
-
-pub station_is_no_set : (b : GsiBlock) → opens_station b ≡ true → opens_set b ≡ false
-station_is_no_set b e = set_is b ∙ station_alone (role_of b) (sym (station_is b) ∙ e)
-
 or_first : (a b : Bool) → a ≡ true → (a || b) ≡ true
 or_first true b e = refl
 or_first false b e = cc
@@ -87,7 +76,7 @@ numbers_in ps = map (λ p. number_at p) ps
 
 pub stands_station : (b : GsiBlock) (past : History) (s : Codes) → opens_station b ≡ true → StandsFor s past → StandsFor (after_station b s) (b ∷ past)
 stands_station b past s e h =
-    let no : opens_set b ≡ false = station_is_no_set b e in
+    let no : opens_set b ≡ false = no_set_at_station b e in
     let here : station (b ∷ past) ≡ b ∷ past = ap (λ v. cond v (b ∷ past) (last opens_station past)) e in
     record {
       has_station = sym (ap is_empty here);

@@ -1,21 +1,20 @@
 -- The stations that have sets, and a station's sets.
-use Rattle.std.proofs.Common.{◌≡◌, ℕ, Bool, true, false, cond, ◌&&◌, ◌||◌, not, List, [], ◌∷◌, map, filter, Option, refl, sym, ap, ◌∙◌, inl, inr, ◌⊎◌, subst}
+use Rattle.std.proofs.Common.{◌≡◌, ℕ, Bool, true, false, cond, ◌&&◌, ◌||◌, not, List, [], ◌∷◌, map, filter, Option, None, refl, sym, ap, ◌∙◌, inl, inr, ◌⊎◌, subst}
 use Rattle.std.specs.List.{list_any}
 use Rattle.std.proofs.lemmas.Bool.{and_parts, and_from, cases_Bool, false≢true}
 use Rattle.gsi_word.specs.Blocks.{GsiBlock}
-use Rattle.station_book.specs.Blocks.{opens_station, opens_set, named, number, found}
-use Rattle.station_book.specs.Places.{History, Place, places, last, before, belonging, is_same, is_set, station, first_sets, is_empty}
+use Rattle.station_book.specs.Blocks.{opens_station, opens_set, number}
+use Rattle.station_book.specs.Places.{at, History, Place, places, last, before, belonging, is_same, is_set, station, first_sets, is_empty}
 use Rattle.station_book.specs.Faults.{open_sets, had_sets, same_name, same_number, has_set_number, name_at}
 use Rattle.station_book.proofs.PlaceLaws.{belonging-fresh, belonging-same}
 use Rattle.station_book.proofs.Membership.{In, any_from, any_to, same_test}
-use Rattle.station_book.specs.Keeps.{number_at}
 
 -- the numbers that a book keeps of the station's sets answer whether one has this number
-pub number_by_kept : (n : Option ℕ) (past : History) → has_set_number n past ≡ list_any (λ m. same_number m n) (map (λ s. number_at s) (open_sets past))
+pub number_by_kept : (n : Option ℕ) (past : History) → has_set_number n past ≡ list_any (λ m. same_number m n) (map (λ s. at number None s) (open_sets past))
 number_by_kept n past = any_map (open_sets past) where
-  any_map : (xs : List Place) → list_any (λ s. same_number (number_at s) n) xs ≡ list_any (λ m. same_number m n) (map (λ s. number_at s) xs)
+  any_map : (xs : List Place) → list_any (λ s. same_number (at number None s) n) xs ≡ list_any (λ m. same_number m n) (map (λ s. at number None s) xs)
   any_map [] = refl
-  any_map (x ∷ xs) = ap (λ v. same_number (number_at x) n || v) (any_map xs)
+  any_map (x ∷ xs) = ap (λ v. same_number (at number None x) n || v) (any_map xs)
 
 head_true : (a b : Bool) → a ≡ true → (a || b) ≡ true
 head_true true b e = refl

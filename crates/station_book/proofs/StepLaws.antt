@@ -1,16 +1,15 @@
 -- What a block does to the open set, its readings, the station, its sets and targets.
-use Rattle.std.proofs.Common.{◌≡◌, ℕ, Bool, true, false, cond, eqb, ◌&&◌, ◌||◌, not, List, [], ◌∷◌, map, refl, sym, ap, ◌∙◌}
-use Rattle.std.proofs.lemmas.Bool.{and_parts, eqb-true}
+use Rattle.std.proofs.Common.{◌≡◌, ℕ, Bool, true, false, cond, eqb, ◌&&◌, ◌||◌, not, List, [], ◌∷◌, map, refl, ap}
+use Rattle.std.specs.Prelude.{◌==◌}
+use Rattle.std.proofs.lemmas.Bool.{and_parts, or_from, eqb-true}
 use Rattle.std.specs.Str.{bytes_eq}
 use Rattle.std.specs.Prelude.{codes}
 use Rattle.gsi_word.specs.Blocks.{GsiBlock}
-use Rattle.station_book.specs.Blocks.{opens_station, opens_set, closes_set, is_opening, is_sight, target, found, is_absent}
-use Rattle.station_book.specs.declared.role.Role.{Role}
-use Rattle.station_book.specs.declared.role.Role.TheVariants as roles
-use Rattle.station_book.specs.Roles.{role_of, is_station, is_set_code, is_close, is_measurement}
+use Rattle.gsi_word.specs.Words.{GsiWord}
+use Rattle.gsi_word.specs.Names.{name_of}
+use Rattle.station_book.specs.Blocks.{opens_station, opens_set, closes_set, is_opening, is_sight, target, found, is_absent, begins}
 use Rattle.station_book.specs.Places.{History, Place, last, stands, is_open, is_set, is_reading, station, targets_of, distinct, with_new, target_at}
 use Rattle.station_book.specs.Faults.{open_readings, open_sets}
-use Rattle.station_book.proofs.RoleLaws.{station_is, set_is, close_is, sight_is}
 use Rattle.station_book.proofs.PlaceLaws.{belonging-fresh, belonging-more, belonging-same}
 
 -- a set is open after a block
@@ -56,18 +55,20 @@ targets-more b past e r = ap (λ rs. distinct (map (λ r. target_at r) rs)) (bel
 pub targets-other : (b : GsiBlock) (past : History) → opens_station b ≡ false → is_reading (b ∷ past) ≡ false → open_targets (b ∷ past) ≡ open_targets past
 targets-other b past e r = ap (λ rs. distinct (map (λ r. target_at r) rs)) (belonging-same opens_station is_reading b past e r)
 
--- a block has one role
-measures_alone : (r : Role) → is_measurement r ≡ true → (is_station r || (is_set_code r || is_close r)) ≡ false
-measures_alone roles.Station e = cc
-measures_alone roles.Set e = cc
-measures_alone roles.Close e = cc
-measures_alone roles.Measurement e = refl
-measures_alone roles.Other e = cc
+-- a block that begins with word 11 has no code
+measures_alone : (ws : List GsiWord) (code : List ℕ) → begins (λ w. w.index == 11) ws ≡ true
+    → begins (λ w. w.index == 41 && bytes_eq (name_of w.content) code) ws ≡ false
+measures_alone [] code e = refl
+measures_alone (w ∷ ws) code e =
+    let n : w.index ≡ 11 = eqb-true w.index 11 e in
+    ap (λ (k : ℕ). eqb k 41 && bytes_eq (name_of w.content) code) n
 
 pub sight_opens_nothing : (b : GsiBlock) → is_sight b ≡ true → is_opening b ≡ false
+unfolding is_sight opens_station opens_set closes_set
 sight_opens_nothing b e =
-    (λ i. station_is b i || (set_is b i || close_is b i))
-    ∙ measures_alone (role_of b) (and_parts (is_measurement (role_of b)) (not (is_absent (found 21 b))) (sym (sight_is b) ∙ e)).0
+    let m = (and_parts (begins (λ w. w.index == 11) b.words) (not (is_absent (found 21 b))) e).0 in
+    or_from _ _ (measures_alone b.words (codes "10") m)
+    (or_from _ _ (measures_alone b.words (codes "20") m) (measures_alone b.words (codes "30") m))
 
 or_false_left : (a b : Bool) → (a || b) ≡ false → a ≡ false
 or_false_left true b e = cc

@@ -1,13 +1,12 @@
 -- The readings of a set by target, as a book keeps them.
-use Rattle.std.specs.Prelude.{ℕ, ◌<◌, Bool, true, false, ◌&&◌, ◌||◌, not, is_some, is_none, List, [], ◌∷◌, Option, Some, None, IfSome, if◌then◌else◌, filter_map, slice_index_or}
+use Rattle.std.specs.Prelude.{ℕ, Bool, true, false, ◌&&◌, ◌||◌, not, is_some, is_none, List, [], ◌∷◌, Option, Some, None, IfSome, if◌then◌else◌, filter_map, slice_index_or}
 use Rattle.std.specs.List.{list_any, list_all, enumerate_from}
 use Rattle.adjust_kernel.specs.declared.obs.Obs.{Obs}
-use Rattle.station_book.specs.declared.bounds.TheConstants.{CIRCLE}
 use Rattle.station_book.specs.declared.fault.BookKind.{BookKind}
 use Rattle.station_book.specs.declared.fault.BookKind.TheVariants as kinds
 use Rattle.station_book.specs.Limits.{FaceLimits}
 use Rattle.station_book.specs.declared.faces.Faces.{Faces}
-use Rattle.station_book.specs.Sights.{Sight}
+use Rattle.station_book.specs.Sights.{Sight, AreOnCircle}
 use Rattle.station_book.specs.declared.sight.Sighting.{Sighting}
 use Rattle.station_book.specs.declared.slot.Slot.{Slot}
 use Rattle.station_book.specs.Faults.{when, first_of, has_no_two_c, has_no_two_i}
@@ -56,13 +55,9 @@ end_faults slots =
     ∷ when (list_any is_single slots) kinds.OneFace
     ∷ []
 
--- both angles are below a circle
-pub record IsBelowCircle (v : Sight) : Type 0 where
-  pub hz : v.hz < CIRCLE
-  pub zenith : v.zenith < CIRCLE
-
+-- its readings are on the circle
 abbrev pub IsKeptSlot : Slot → Type 0
-IsKeptSlot s = (IfSome s.first IsBelowCircle) × (IfSome s.second IsBelowCircle)
+IsKeptSlot s = (IfSome s.first AreOnCircle) × (IfSome s.second AreOnCircle)
 
 -- the observation of two readings
 abbrev pub joined : ℕ → ℕ → Option Sight → Option Sight → Option Obs

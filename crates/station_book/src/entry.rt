@@ -6,7 +6,8 @@ ghost use Rattle.adjust_kernel.specs.Sheets.{IsSetNumber};
 ghost use Rattle.station_book.specs.Shelves.{survey_of, more_set_faults};
 ghost use Rattle.std.specs.Str.{bytes_eq};
 ghost use Rattle.station_book.specs.Faults.{first_of, when};
-ghost use Rattle.station_book.specs.Slots.{end_faults, IsBelowCircle};
+ghost use Rattle.station_book.specs.Slots.{end_faults};
+ghost use Rattle.station_book.specs.Sights.{AreOnCircle};
 ghost use Rattle.station_book.specs.Entries.{MayEnd, first_entry, with_set, place_of, reading_faults, with_reading, with_reading_at};
 ghost use Rattle.station_book.specs.declared.fault.BookKind.TheVariants as kinds;
 ghost use Rattle.station_book.specs.Refusals.{ExplainsRefusal};
@@ -132,7 +133,7 @@ impl Entry {
 
     /// Takes a reading of the last set.
     pub(crate) fn take_reading(&mut self, limits: Limits, reading: Sighting) -> Result<(), Refusal>
-        requires { IsBelowCircle reading.sight }
+        requires { AreOnCircle reading.sight }
         ensures clean { OnOk result (first_of (reading_faults limits self.old reading) ≡ None) }
         ensures ok { OnOk result (self.new ≡ with_reading reading self.old) }
         ensures fault { IfErr result (ExplainsRefusal (first_of (reading_faults limits self.old reading))) }
@@ -156,7 +157,7 @@ impl Entry {
     // Takes the first reading of a target.
     fn add_target(&mut self, reading: Sighting) -> Result<(), Refusal>
         requires new { list_any (λ t. bytes_eq t reading.target) self.old.targets ≡ false }
-        requires angle { IsBelowCircle reading.sight }
+        requires angle { AreOnCircle reading.sight }
         ensures clean { OnOk result (length self.old.targets < 100) }
         ensures ok { OnOk result (self.new ≡ with_reading_at reading self.old None) }
         ensures fault { IfErr result (ExplainsRefusal (first_of (when (nat_le 100 (length self.old.targets)) kinds.TooManyTargets ∷ []))) }

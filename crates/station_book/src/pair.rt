@@ -5,7 +5,7 @@ ghost use Rattle.station_book.specs.declared.bounds.TheConstants.{CIRCLE};
 ghost use Rattle.station_book.specs.declared.limits.TheConstants.{LARGEST_LIMIT};
 ghost use Rattle.station_book.specs.Faults.{has_no_two_c, has_no_two_i};
 ghost use Rattle.station_book.specs.Pairs.{half_turned, two_c, two_i, direction};
-ghost use Rattle.station_book.specs.Slots.{IsBelowCircle};
+ghost use Rattle.station_book.specs.Sights.{AreOnCircle};
 
 use crate::bounds::{CIRCLE, HALF_CIRCLE};
 use crate::faces::Faces;
@@ -14,8 +14,8 @@ use adjust_kernel::TURN;
 
 /// 2c and half a circle, from 0 up to a circle.
 fn half_turned(first: Sight, second: Sight) -> u32
-    requires first_in { IsBelowCircle first }
-    requires second_in { IsBelowCircle second }
+    requires first_in { AreOnCircle first }
+    requires second_in { AreOnCircle second }
     ensures value { result ≡ half_turned first second }
     ensures below { result < CIRCLE }
 {
@@ -24,8 +24,8 @@ fn half_turned(first: Sight, second: Sight) -> u32
 
 /// The face differences.
 pub(crate) fn faces_of(first: Sight, second: Sight) -> Faces
-    requires first_in { IsBelowCircle first }
-    requires second_in { IsBelowCircle second }
+    requires first_in { AreOnCircle first }
+    requires second_in { AreOnCircle second }
     ensures two_c { result.two_c ≡ two_c first second }
     ensures two_i { result.two_i ≡ two_i first second }
 {
@@ -36,8 +36,8 @@ pub(crate) fn faces_of(first: Sight, second: Sight) -> Faces
 
 /// The two-face direction, in half units.
 pub(crate) fn direction_of(first: Sight, second: Sight) -> u32
-    requires first_in { IsBelowCircle first }
-    requires second_in { IsBelowCircle second }
+    requires first_in { AreOnCircle first }
+    requires second_in { AreOnCircle second }
     ensures { result ≡ direction first second }
 {
     (2 * first.hz + half_turned(first, second) + CIRCLE + HALF_CIRCLE) % TURN
@@ -47,8 +47,8 @@ pub(crate) fn direction_of(first: Sight, second: Sight) -> u32
 #[tactic(auto, unfolding(crate::specs::Faults::has_no_two_c))]
 pub(crate) fn has_no_two_c(limit: u32, first: Sight, second: Sight) -> bool
     requires limit { limit ≤ LARGEST_LIMIT }
-    requires first_in { IsBelowCircle first }
-    requires second_in { IsBelowCircle second }
+    requires first_in { AreOnCircle first }
+    requires second_in { AreOnCircle second }
     ensures { result ≡ has_no_two_c limit first second }
 {
     let apart = (second.hz + CIRCLE + HALF_CIRCLE - first.hz) % CIRCLE;
@@ -59,8 +59,8 @@ pub(crate) fn has_no_two_c(limit: u32, first: Sight, second: Sight) -> bool
 #[tactic(auto, unfolding(crate::specs::Faults::has_no_two_i))]
 pub(crate) fn has_no_two_i(limit: u32, first: Sight, second: Sight) -> bool
     requires limit { limit ≤ LARGEST_LIMIT }
-    requires first_in { IsBelowCircle first }
-    requires second_in { IsBelowCircle second }
+    requires first_in { AreOnCircle first }
+    requires second_in { AreOnCircle second }
     ensures { result ≡ has_no_two_i limit first second }
 {
     let sum = first.zenith + second.zenith;

@@ -7,7 +7,7 @@ ghost use Rattle.gsi_word.specs.Names.{name_of};
 ghost use Rattle.station_book.specs.Faults.{first_of};
 ghost use Rattle.station_book.specs.Blocks.{found, is_twice, number_of_name};
 ghost use Rattle.station_book.specs.Readings.{named, number, target, face_of, station_faults, read};
-ghost use Rattle.station_book.specs.Slots.{IsBelowCircle};
+ghost use Rattle.station_book.specs.Sights.{AreOnCircle};
 
 use crate::bounds::{CIRCLE, HALF_CIRCLE};
 use crate::fault::BookKind;
@@ -115,7 +115,7 @@ fn target(block: &Block<'_>) -> Name
 /// What a measurement block says: nothing where it has no direction.
 pub(crate) fn read(block: &Block<'_>) -> Result<Option<Sighting>, BookKind>
     ensures value { result ≡ read (block_of block.now) }
-    ensures angles { IfOk result (λ o. IfSome o (λ s. IsBelowCircle s.sight)) }
+    ensures angles { IfOk result (λ o. IfSome o (λ s. AreOnCircle s.sight)) }
 {
     let direction = block.find(DIRECTION);
     let direction = match direction {

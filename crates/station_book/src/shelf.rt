@@ -5,7 +5,8 @@ ghost use Rattle.std.specs.List.{list_any};
 ghost use Rattle.adjust_kernel.specs.Sheets.{IsSetNumber};
 ghost use Rattle.station_book.specs.Shelves.{survey_of, AllMayEnd, first_set_faults, last_of, change_last, is_known, more_set_faults};
 ghost use Rattle.station_book.specs.Faults.{first_of};
-ghost use Rattle.station_book.specs.Slots.{end_faults, IsBelowCircle};
+ghost use Rattle.station_book.specs.Slots.{end_faults};
+ghost use Rattle.station_book.specs.Sights.{AreOnCircle};
 ghost use Rattle.station_book.specs.Entries.{MayEnd, first_entry, with_set, reading_faults, with_reading};
 ghost use Rattle.station_book.specs.Refusals.{ExplainsRefusal};
 
@@ -157,7 +158,7 @@ impl Shelf {
     /// A reading in the last set of the last station.
     pub(crate) fn take_reading(&mut self, limits: Limits, reading: Sighting) -> Result<(), Refusal>
         requires some { 0 < length self.old }
-        requires angle { IsBelowCircle reading.sight }
+        requires angle { AreOnCircle reading.sight }
         ensures clean { OnOk result (first_of (reading_faults limits (last_of self.old) reading) ≡ None) }
         ensures ok { OnOk result (self.new ≡ change_last (with_reading reading) self.old) }
         ensures fault { IfErr result (ExplainsRefusal (first_of (reading_faults limits (last_of self.old) reading))) }

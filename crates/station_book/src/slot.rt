@@ -5,7 +5,8 @@ ghost use Rattle.std.specs.Vec.{vec_capacity};
 ghost use Rattle.std.specs.List.{list_any, list_all};
 ghost use Rattle.std.specs.Option.{option_to_list};
 ghost use Rattle.station_book.specs.Faults.{first_of};
-ghost use Rattle.station_book.specs.Slots.{side, with_side, empty_slot, slot_faults, pair_fault, end_faults, is_unread, is_single, IsBelowCircle, IsKeptSlot, obs_at, obs_of, faces_at, faces_of};
+ghost use Rattle.station_book.specs.Slots.{side, with_side, empty_slot, slot_faults, pair_fault, end_faults, is_unread, is_single, IsKeptSlot, obs_at, obs_of, faces_at, faces_of};
+ghost use Rattle.station_book.specs.Sights.{AreOnCircle};
 
 use crate::fault::BookKind;
 use crate::limits::Limits;
@@ -59,7 +60,7 @@ pub(crate) fn with_side(slot: Slot, is_second: bool, sight: Sight) -> Slot
 /// The fault of a reading of the slot's target, if it has one.
 pub(crate) fn slot_fault(limits: Limits, slot: Slot, reading: Sighting) -> Option<BookKind>
     requires angles { IsKeptSlot slot }
-    requires sight { IsBelowCircle reading.sight }
+    requires sight { AreOnCircle reading.sight }
     ensures { result ≡ first_of (slot_faults limits slot reading) }
 {
     if side(slot, reading.is_second).is_some() {
@@ -76,8 +77,8 @@ pub(crate) fn slot_fault(limits: Limits, slot: Slot, reading: Sighting) -> Optio
 }
 
 fn pair_fault(limits: Limits, first: Sight, second: Sight) -> Option<BookKind>
-    requires first_in { IsBelowCircle first }
-    requires second_in { IsBelowCircle second }
+    requires first_in { AreOnCircle first }
+    requires second_in { AreOnCircle second }
     ensures { result ≡ pair_fault limits first second }
 {
     if has_no_two_c(limits.two_c(), first, second) {

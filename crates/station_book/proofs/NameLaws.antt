@@ -1,0 +1,207 @@
+-- No two stations of a file without fault have one name.
+use Rattle.std.proofs.Common.{◌≡◌, ◌≢◌, ◌↔◌, ℕ, zero, suc, arith, Bool, true, false, cond, ◌&&◌, List, [], ◌∷◌, ◌++◌, map, reverse, Some, None, is_none, refl, sym, ap, ◌∙◌, inl, inr, ◌⊎◌, subst}
+use Rattle.std.specs.Str.{bytes_eq}
+use Rattle.std.specs.List.{list_any, AllByRecursion, AllZip, AllPairs, Contains}
+use Rattle.std.proofs.lemmas.List.Elements.{All-from_recursion}
+use Rattle.std.proofs.lemmas.List.Kept.{AllPairs-cons}
+use Rattle.std.proofs.lemmas.Bool.{cases_Bool, and_from, and_left, and_right, or_parts, false≢true}
+use Rattle.std.proofs.lemmas.List.{map-append, reverse-append}
+use Rattle.std.proofs.lemmas.Slice.Eq.{bytes_eq-Decides}
+use Rattle.gsi_word.specs.Blocks.{GsiBlock}
+use Rattle.station_book.specs.declared.fault.BookKind.TheVariants as kinds
+use Rattle.station_book.specs.Limits.{FaceLimits}
+use Rattle.station_book.specs.Blocks.{opens_station, opens_set, number}
+use Rattle.station_book.specs.Places.{History, Place, before, station, is_empty, first_sets}
+use Rattle.station_book.specs.Faults.{open_sets, had_sets, same_name, name_at, end_faults, set_faults, faults, fault_after, first_of, IsWithoutFault}
+use Rattle.station_book.specs.Stations.{SurveyedStation, IsSurveyed, AreStations, stations_of, station_named}
+use Rattle.station_book.proofs.CodeLaws.{no_station_at_set}
+use Rattle.station_book.proofs.Membership.{In, all_in, find_some}
+use Rattle.station_book.proofs.KeptLaws.{none_stands, none_when}
+use Rattle.station_book.proofs.StationLaws.{had_sets_by_names}
+
+second : {X : Type 0} (x y : Bool) (whole a b c : X) → whole ≡ cond x a (cond y b c)
+    → x ≡ false → y ≡ true → whole ≡ b
+second true y whole a b c w f g = cc
+second false true whole a b c w f g = w
+second false false whole a b c w f g = cc
+
+-- What the tests of a set without fault say.
+pub record IsCleanSet (past : History) (b : GsiBlock) : Type 0 where
+  pub of_station : is_empty (station past) ≡ false
+  pub numbered : is_none (number b) ≡ false
+  pub first_time : had_sets past ≡ false
+
+pub clean_set : (limits : FaceLimits) (past : History) (b : GsiBlock) → opens_set b ≡ true
+    → fault_after limits past b ≡ None → IsCleanSet past b
+unfolding fault_after
+clean_set limits past b e clean =
+    let whole : faults limits past b ≡ end_faults past ++ set_faults past b =
+        second (opens_station b) (opens_set b) (faults limits past b) _ _ _ refl
+        (no_station_at_set b e) e in
+    let none = (none_stands (end_faults past ++ set_faults past b) (sym (ap first_of whole) ∙ clean)).1.1.1 in
+    record {
+      of_station = none_when (is_empty (station past)) kinds.SetOutside none.0;
+      numbered = none_when (is_none (number b)) kinds.SetNumber none.1.0;
+      first_time = none_when (had_sets past) kinds.StationTwice none.1.1.0;
+    }
+
+module _ {X : Type 0} where
+  -- R holds of each element and each later one
+  abbrev pub Pairwise : (X → X → Type 0) → List X → Type 0
+  Pairwise R [] = Unit {0}
+  Pairwise R (x ∷ xs) = AllByRecursion (R x) xs × Pairwise R xs
+
+  pub all_snoc : (P : X → Type 0) (xs : List X) (z : X) → AllByRecursion P xs → P z
+      → AllByRecursion P (xs ++ z ∷ [])
+  all_snoc P [] z all h = (h, tt)
+  all_snoc P (x ∷ xs) z all h = (all.0, all_snoc P xs z all.1 h)
+
+  pub all_reverse : (P : X → Type 0) (xs : List X) → AllByRecursion P xs
+      → AllByRecursion P (reverse xs)
+  all_reverse P [] all = tt
+  all_reverse P (x ∷ xs) all =
+      subst (AllByRecursion P) (sym (reverse-append (x ∷ []) xs))
+      (all_snoc P (reverse xs) x (all_reverse P xs all.1) all.0)
+
+  pairwise_snoc : (R : X → X → Type 0) (xs : List X) (z : X) → Pairwise R xs
+      → AllByRecursion (λ x. R x z) xs → Pairwise R (xs ++ z ∷ [])
+  pairwise_snoc R [] z pairs all = (tt, tt)
+  pairwise_snoc R (x ∷ xs) z pairs all =
+      (all_snoc (R x) xs z pairs.0 all.0, pairwise_snoc R xs z pairs.1 all.1)
+
+  pub each_false : (p : X → Bool) (xs : List X) → list_any p xs ≡ false
+      → AllByRecursion (λ x. p x ≡ false) xs
+  each_false p [] e = tt
+  each_false p (x ∷ xs) e =
+      let parts = or_parts (p x) (list_any p xs) e in (parts.0, each_false p xs parts.1)
+
+pub all_map : {X Y : Type 0} (P : Y → Type 0) (f : X → Y) (xs : List X)
+    → AllByRecursion (λ x. P (f x)) xs → AllByRecursion P (map f xs)
+all_map P f [] all = tt
+all_map P f (x ∷ xs) all = (all.0, all_map P f xs all.1)
+
+-- The stations have different names, so each is the first of its name.
+abbrev pub AreApart : Place → Place → Type 0
+AreApart older newer = same_name (name_at older) (name_at newer) ≡ false
+
+more_stations : (v : Bool) (b : GsiBlock) (past : History)
+    → (opens_set b && is_empty (open_sets past)) ≡ v
+    → stations_of (b ∷ past) ≡ cond v (stations_of past ++ station past ∷ []) (stations_of past)
+more_stations true b past e =
+    ap (λ v. map (λ s. station (before s)) (reverse (cond v ((b ∷ past) ∷ first_sets past) (first_sets past)))) e
+    ∙ ap (map (λ s. station (before s))) (reverse-append ((b ∷ past) ∷ []) (first_sets past))
+    ∙ map-append (λ s. station (before s)) (reverse (first_sets past)) ((b ∷ past) ∷ [])
+more_stations false b past e =
+    ap (λ v. map (λ s. station (before s)) (reverse (cond v ((b ∷ past) ∷ first_sets past) (first_sets past)))) e
+
+empty_list : {X : Type 0} (xs : List X) → is_empty xs ≡ true → xs ≡ []
+empty_list [] e = refl
+empty_list (x ∷ xs) e = cc
+
+pub apart : (limits : FaceLimits) (h : History) → IsWithoutFault limits h → Pairwise AreApart (stations_of h)
+apart limits [] clean = tt
+apart limits (b ∷ past) clean =
+    split (apart limits past clean.1) (cases_Bool (opens_set b)) (cases_Bool (is_empty (open_sets past)))
+  where
+    split : Pairwise AreApart (stations_of past) → (opens_set b ≡ true) ⊎ (opens_set b ≡ false)
+        → (is_empty (open_sets past) ≡ true) ⊎ (is_empty (open_sets past) ≡ false)
+        → Pairwise AreApart (stations_of (b ∷ past))
+    split older (inl s) (inl n) =
+        let c = clean_set limits past b s clean.0 in
+        let others =
+            each_false (λ s. same_name (name_at (station (before s))) (name_at (station past))) (first_sets past)
+            (sym (had_sets_by_names past (empty_list (open_sets past) n)) ∙ c.first_time) in
+        subst (Pairwise AreApart) (sym (more_stations true b past (and_from (opens_set b) _ s n)))
+        (pairwise_snoc AreApart (stations_of past) (station past) older
+        (all_map (λ st. AreApart st (station past)) (λ s. station (before s)) (reverse (first_sets past))
+        (all_reverse (λ s. AreApart (station (before s)) (station past)) (first_sets past) others)))
+    split older (inl s) (inr n) =
+        subst (Pairwise AreApart)
+        (sym (more_stations false b past (and_right (opens_set b) (is_empty (open_sets past)) n))) older
+    split older (inr s) n =
+        subst (Pairwise AreApart)
+        (sym (more_stations false b past (and_left (opens_set b) (is_empty (open_sets past)) s))) older
+
+-- Stations that were surveyed at such places have different names.
+abbrev pub HaveTwoNames : SurveyedStation → SurveyedStation → Type 0
+HaveTwoNames a b = a.station.name ≢ b.station.name
+
+apart_from : (limits : FaceLimits) (h : History) (st : Place) (s : SurveyedStation) (sts : List Place) (ss : List SurveyedStation)
+    → IsSurveyed limits h st s → AllByRecursion (AreApart st) sts → AllZip (IsSurveyed limits h) sts ss
+    → AllByRecursion (HaveTwoNames s) ss
+apart_from limits h st s [] [] own all zip = tt
+apart_from limits h st s [] (y ∷ ys) own all zip = absurd zip
+apart_from limits h st s (x ∷ xs) [] own all zip = absurd zip
+apart_from limits h st s (x ∷ xs) (y ∷ ys) own all zip =
+    (λ e. different e, apart_from limits h st s xs ys own all.1 zip.1)
+  where
+    different : s.station.name ≡ y.station.name → ⊥
+    different e =
+        false≢true (sym all.0 ∙ (λ i. same_name (own.name i) (zip.0.name i))
+        ∙ (bytes_eq-Decides s.station.name y.station.name).1 e)
+
+two_names : (limits : FaceLimits) (h : History) (sts : List Place) (ss : List SurveyedStation)
+    → Pairwise AreApart sts → AllZip (IsSurveyed limits h) sts ss → Pairwise HaveTwoNames ss
+two_names limits h [] [] pairs zip = tt
+two_names limits h [] (y ∷ ys) pairs zip = absurd zip
+two_names limits h (x ∷ xs) [] pairs zip = absurd zip
+two_names limits h (x ∷ xs) (y ∷ ys) pairs zip =
+    (apart_from limits h x y xs ys zip.0 pairs.0 zip.1, two_names limits h xs ys pairs.1 zip.1)
+
+pairs_of : {X : Type 0} (R : X → X → Type 0) (xs : List X) → Pairwise R xs → AllPairs R xs
+pairs_of R [] pairs = λ i j d before inside. absurd (omega arith)
+pairs_of R (x ∷ xs) pairs = AllPairs-cons R x xs (All-from_recursion (R x) xs pairs.0) (pairs_of R xs pairs.1)
+
+pub different_stations : (limits : FaceLimits) (h : History) (stations : List SurveyedStation)
+    → IsWithoutFault limits h → AreStations limits h stations → Pairwise HaveTwoNames stations
+unfolding AreStations
+different_stations limits h stations clean are =
+    two_names limits h (stations_of h) stations (apart limits h clean) are
+
+pub different_names : (limits : FaceLimits) (h : History) (stations : List SurveyedStation)
+    → IsWithoutFault limits h → AreStations limits h stations → AllPairs HaveTwoNames stations
+different_names limits h stations clean are =
+    pairs_of HaveTwoNames stations (different_stations limits h stations clean are)
+
+-- Of stations with different names, the one that is found by its name is the one that has it.
+named_only : (name : List ℕ) (s : SurveyedStation) (ss : List SurveyedStation) → Pairwise HaveTwoNames ss
+    → In s ss → s.station.name ≡ name → station_named name ss ≡ Some s
+named_only name s [] pairs listed e = absurd listed
+named_only name s (x ∷ xs) pairs listed e =
+    split (named_only name s xs pairs.1) listed (cases_Bool (bytes_eq x.station.name name))
+  where
+    split : (In s xs → s.station.name ≡ name → station_named name xs ≡ Some s) → (s ≡ x) ⊎ In s xs
+        → (bytes_eq x.station.name name ≡ true) ⊎ (bytes_eq x.station.name name ≡ false)
+        → station_named name (x ∷ xs) ≡ Some s
+    split rest (inl here) (inl t) =
+        ap (λ v. cond v (Some x) (station_named name xs)) t ∙ ap (λ (y : SurveyedStation). Some y) (sym here)
+    split rest (inl here) (inr f) =
+        absurd (false≢true (sym f ∙ (bytes_eq-Decides x.station.name name).1
+        (ap (λ (y : SurveyedStation). y.station.name) (sym here) ∙ e)))
+    split rest (inr later) (inl t) =
+        absurd (all_in (HaveTwoNames x) s xs pairs.0 later
+        ((bytes_eq-Decides x.station.name name).0 t ∙ sym e))
+    split rest (inr later) (inr f) =
+        ap (λ v. cond v (Some x) (station_named name xs)) f ∙ rest later e
+
+pub in_contains : {X : Type 0} (x : X) (xs : List X) → Contains xs x → In x xs
+in_contains x [] c = absurd (let lt = c.1 in omega arith)
+in_contains x (y ∷ ys) (zero, lt, e) = inl (sym e)
+in_contains x (y ∷ ys) (suc k, lt, e) = inr (in_contains x ys (k, omega arith, e))
+
+pub contains_in : {X : Type 0} (x : X) (xs : List X) → In x xs → Contains xs x
+contains_in x [] listed = absurd listed
+contains_in x (y ∷ ys) (inl e) = (0, omega arith, sym e)
+contains_in x (y ∷ ys) (inr later) = let c = contains_in x ys later in (suc c.0, (let lt = c.1 in omega arith), c.2)
+
+pub its_station : (limits : FaceLimits) (h : History) (stations : List SurveyedStation) (name : List ℕ) (s : SurveyedStation)
+    → IsWithoutFault limits h → AreStations limits h stations
+    → (station_named name stations ≡ Some s) ↔ (Contains stations s × (s.station.name ≡ name))
+its_station limits h stations name s clean are = (there, back) where
+  there : station_named name stations ≡ Some s → Contains stations s × (s.station.name ≡ name)
+  there e =
+      let found = find_some (λ s. bytes_eq s.station.name name) s stations e in
+      (contains_in s stations found.0, (bytes_eq-Decides s.station.name name).0 found.1)
+
+  back : Contains stations s × (s.station.name ≡ name) → station_named name stations ≡ Some s
+  back c = named_only name s stations (different_stations limits h stations clean are) (in_contains s stations c.0) c.1

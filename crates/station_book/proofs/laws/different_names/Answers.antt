@@ -1,0 +1,5 @@
+use Rattle.station_book.proofs.NameLaws.{different_names}
+use Rattle.station_book.proofs.laws.different_names.Goals as goal
+
+pub returns : goal.returns
+returns c = different_names
