@@ -1,22 +1,21 @@
 -- At a station of a file without fault no set and target is listed twice.
-use Rattle.std.proofs.Common.{◌≡◌, ◌≢◌, ℕ, ◌+◌, ◌<◌, ◌≤◌, Bool, true, false, cond, ◌&&◌, eqb, List, [], ◌∷◌, ◌++◌, length, map, filter, reverse, get_or, Option, Some, None, refl, sym, ap, ◌∙◌, inl, inr, ◌⊎◌, subst, arith}
+use Rattle.std.proofs.Common.{◌≡◌, ◌≢◌, ℕ, ◌+◌, ◌<◌, ◌≤◌, true, false, cond, ◌&&◌, eqb, List, [], ◌∷◌, ◌++◌, length, map, filter, reverse, Option, Some, None, refl, sym, ap, ◌∙◌, inl, inr, ◌⊎◌, subst, arith}
 use Rattle.std.specs.List.{AllPairs, AllByRecursion, AllZip, Contains, enumerate_from, filter_map, flat_map, cons_option}
 use Rattle.std.proofs.lemmas.Bool.{cases_Bool, and_parts, eqb-true, eq-eqb, false≢true}
 use Rattle.std.proofs.lemmas.List.{reverse-append}
 use Rattle.adjust_kernel.specs.declared.obs.Obs.{Obs}
 use Rattle.adjust_kernel.specs.Matching.{Key, key_of_obs, observed}
-use Rattle.gsi_word.specs.Blocks.{GsiBlock}
 use Rattle.station_book.specs.Limits.{FaceLimits}
-use Rattle.station_book.specs.Blocks.{opens_station, opens_set, number}
-use Rattle.station_book.specs.Places.{History, Place, places, at, last, before, station, is_same, is_set, target_at, sets_of, station_readings, targets_of, reading_in}
+use Rattle.station_book.specs.Blocks.{opens_set, number}
+use Rattle.station_book.specs.Places.{History, Place, places, at, before, station, is_same, is_set, target_at, sets_of, station_readings, targets_of, reading_in}
 use Rattle.station_book.specs.Faults.{same_number, sight_at, open_sets, IsWithoutFault}
 use Rattle.station_book.specs.Stations.{Couple, SurveyedStation, joined, couples_in, IsObserved, IsSurveyed, AreStations, stations_of, couples_of}
 use Rattle.station_book.proofs.Membership.{In}
-use Rattle.station_book.proofs.Elements.{in_contains, IsAt, zip_left}
+use Rattle.station_book.proofs.Elements.{in_contains, zip_left}
 use Rattle.station_book.proofs.CleanLaws.{clean_set}
-use Rattle.station_book.proofs.NameLaws.{Pairwise, all_snoc, all_reverse, pairwise_snoc, each_false, pairs_of}
+use Rattle.station_book.proofs.NameLaws.{Pairwise, all_reverse, pairwise_snoc, each_false, pairs_of}
 use Rattle.station_book.proofs.FilePlaces.{OfFile, station_placed}
-use Rattle.station_book.proofs.CoupleReadings.{readings_in, IsPairOf, pair_of_couple}
+use Rattle.station_book.proofs.CoupleReadings.{readings_in, pair_of_couple}
 use Rattle.station_book.proofs.ReadingLaws.{distinct_different}
 
 module _ {X : Type 0} where
