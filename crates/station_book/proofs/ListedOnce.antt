@@ -59,9 +59,10 @@ by_target i n (t ∷ ts) rs = split (reading_in false t rs) (reading_in true t r
 
   split : (a b : Option Place) → Pairwise Before rest × AllByRecursion (InSet i (n + 1)) rest
       → Pairwise Before (cons_option (joined i n a b) rest) × AllByRecursion (InSet i n) (cons_option (joined i n a b) rest)
-  split (Some a) (Some b) ih =
-      ((all_weaker (InSet i (n + 1)) (Before (record { set = i; target = n; first = sight_at a; second = sight_at b })) (λ c h. inr (sym h.0, (let l = h.1 in omega arith))) rest ih.1, ih.0),
-      ((refl, omega arith), all_weaker (InSet i (n + 1)) (InSet i n) weaker rest ih.1))
+  split (Some a) (Some b) ih = (
+    (all_weaker (InSet i (n + 1)) (Before (record { set = i; target = n; first = sight_at a; second = sight_at b })) (λ c h. inr (sym h.0, (let l = h.1 in omega arith))) rest ih.1, ih.0),
+    ((refl, omega arith), all_weaker (InSet i (n + 1)) (InSet i n) weaker rest ih.1),
+  )
   split (Some a) None ih = (ih.0, all_weaker (InSet i (n + 1)) (InSet i n) weaker rest ih.1)
   split None b ih = (ih.0, all_weaker (InSet i (n + 1)) (InSet i n) weaker rest ih.1)
 
@@ -78,12 +79,13 @@ by_set h st n (s ∷ ss) = both (by_target n 0 (targets_of st h) (readings_in h 
 
   both : Pairwise Before own × AllByRecursion (InSet n 0) own → Pairwise Before rest × AllByRecursion (λ c. n + 1 ≤ c.set) rest
       → Pairwise Before (own ++ rest) × AllByRecursion (λ c. n ≤ c.set) (own ++ rest)
-  both one two =
-      (pairwise_append Before own rest one.0 two.0
-          (all_weaker (InSet n 0) (λ c. AllByRecursion (Before c) rest)
-          (λ c k. all_weaker (λ d. n + 1 ≤ d.set) (Before c) (λ d l. inl (let e = k.0 in omega (arith, l))) rest two.1) own one.1),
-      all_append (λ c. n ≤ c.set) own rest (all_weaker (InSet n 0) (λ c. n ≤ c.set) (λ c k. let e = k.0 in omega arith) own one.1)
-          (all_weaker (λ c. n + 1 ≤ c.set) (λ c. n ≤ c.set) (λ c l. omega (arith, l)) rest two.1))
+  both one two = (
+    pairwise_append Before own rest one.0 two.0
+        (all_weaker (InSet n 0) (λ c. AllByRecursion (Before c) rest)
+        (λ c k. all_weaker (λ d. n + 1 ≤ d.set) (Before c) (λ d l. inl (let e = k.0 in omega (arith, l))) rest two.1) own one.1),
+    all_append (λ c. n ≤ c.set) own rest (all_weaker (InSet n 0) (λ c. n ≤ c.set) (λ c k. let e = k.0 in omega arith) own one.1)
+        (all_weaker (λ c. n + 1 ≤ c.set) (λ c. n ≤ c.set) (λ c l. omega (arith, l)) rest two.1),
+  )
 
 -- No two sets of a station have one number.
 abbrev NumbersDiffer : Place → Place → Type 0
@@ -105,7 +107,7 @@ numbers_apart limits (b ∷ past) st clean =
         let c = clean_set limits past b parts.0 clean.0 in
         let long : length (station past) ≡ length st = eqb-true (length (station past)) (length st) parts.1 in
         let same : open_sets past ≡ older =
-            ap (λ (n : ℕ). filter (λ place. is_set place && eqb (length (station (before place))) n) (places past)) long in
+        ap (λ (n : ℕ). filter (λ place. is_set place && eqb (length (station (before place))) n) (places past)) long in
         let others = each_false (λ s. same_number (at number None s) (number b)) (open_sets past) c.new_number in
         subst (Pairwise NumbersDiffer) (sym (ap (λ v. cond v ((b ∷ past) ∷ older) older) t))
         (subst (AllByRecursion (NumbersDiffer (b ∷ past))) same others, ih)
