@@ -9,7 +9,7 @@ use Rattle.station_book.specs.declared.fault.BookKind.TheVariants as kinds
 use Rattle.station_book.specs.Limits.{FaceLimits}
 use Rattle.station_book.specs.Blocks.{opens_station, opens_set, closes_set, is_sight, has_two, lacks, number, angle_fault, is_of_face}
 use Rattle.station_book.specs.Places.{History, station, is_empty, is_open, is_reading}
-use Rattle.station_book.specs.Faults.{had_sets, is_face_taken, is_beyond, has_no_two_c, has_no_two_i, end_faults, station_faults, set_faults, reading_faults, faults, fault_after, first_of}
+use Rattle.station_book.specs.Faults.{had_sets, has_set_number, is_face_taken, is_beyond, has_no_two_c, has_no_two_i, end_faults, station_faults, set_faults, reading_faults, faults, fault_after, first_of}
 use Rattle.station_book.proofs.CodeLaws.{no_station_at_set}
 use Rattle.station_book.proofs.KeptLaws.{none_stands, none_when}
 use Rattle.station_book.proofs.StepLaws.{sight_opens_nothing}
@@ -38,8 +38,8 @@ pub clean_station : (limits : FaceLimits) (past : History) (b : GsiBlock) → op
 unfolding fault_after
 clean_station limits past b e clean =
     let whole : faults limits past b ≡ end_faults past ++ station_faults b =
-        ap (λ v. cond v (end_faults past ++ station_faults b) (cond (opens_set b) (end_faults past ++ set_faults past b)
-        (cond (closes_set b) (end_faults past) (cond (is_sight b && is_open past) (reading_faults limits past b) [])))) e in
+    ap (λ v. cond v (end_faults past ++ station_faults b) (cond (opens_set b) (end_faults past ++ set_faults past b)
+    (cond (closes_set b) (end_faults past) (cond (is_sight b && is_open past) (reading_faults limits past b) [])))) e in
     let none = (none_stands (end_faults past ++ station_faults b) (sym (ap first_of whole) ∙ clean)).1.1 in
     record {
       one_name = none_when (has_two 42 b) (kinds.WordTwice 42) none.0;
@@ -51,19 +51,21 @@ pub record IsCleanSet (past : History) (b : GsiBlock) : Type 0 where
   pub of_station : is_empty (station past) ≡ false
   pub numbered : is_none (number b) ≡ false
   pub first_time : had_sets past ≡ false
+  pub new_number : has_set_number (number b) past ≡ false
 
 pub clean_set : (limits : FaceLimits) (past : History) (b : GsiBlock) → opens_set b ≡ true
     → fault_after limits past b ≡ None → IsCleanSet past b
 unfolding fault_after
 clean_set limits past b e clean =
     let whole : faults limits past b ≡ end_faults past ++ set_faults past b =
-        second (opens_station b) (opens_set b) (faults limits past b) _ _ _ refl
-        (no_station_at_set b e) e in
+    second (opens_station b) (opens_set b) (faults limits past b) _ _ _ refl
+    (no_station_at_set b e) e in
     let none = (none_stands (end_faults past ++ set_faults past b) (sym (ap first_of whole) ∙ clean)).1.1.1 in
     record {
       of_station = none_when (is_empty (station past)) kinds.SetOutside none.0;
       numbered = none_when (is_none (number b)) kinds.SetNumber none.1.0;
       first_time = none_when (had_sets past) kinds.StationTwice none.1.1.0;
+      new_number = none_when (has_set_number (number b) past) kinds.SetTwice none.1.1.1.0;
     }
 
 -- a reading
@@ -87,9 +89,9 @@ pub clean_reading : (limits : FaceLimits) (past : History) (b : GsiBlock) → is
 unfolding fault_after
 clean_reading limits past b e clean =
     let whole : faults limits past b ≡ reading_faults limits past b =
-        fourth (opens_station b) (opens_set b) (closes_set b) (is_sight b && is_open past) (faults limits past b)
-        _ _ _ (reading_faults limits past b) [] refl
-        (sight_opens_nothing b (and_parts (is_sight b) (is_open past) e).0) e in
+    fourth (opens_station b) (opens_set b) (closes_set b) (is_sight b && is_open past) (faults limits past b)
+    _ _ _ (reading_faults limits past b) [] refl
+    (sight_opens_nothing b (and_parts (is_sight b) (is_open past) e).0) e in
     let none = none_stands (reading_faults limits past b) (sym (ap first_of whole) ∙ clean) in
     record {
       one_direction = none_when (has_two 21 b) (kinds.WordTwice 21) none.0;

@@ -1,5 +1,5 @@
 -- The couples of a station are its readings of one set and target, one of each face.
-use Rattle.std.proofs.Common.{◌≡◌, ℕ, Bool, true, false, ◌&&◌, List, [], ◌∷◌, length, reverse, Option, Some, None, refl, sym, ap, ◌∙◌, inl, inr, subst, arith}
+use Rattle.std.proofs.Common.{◌≡◌, ℕ, Bool, true, false, ◌&&◌, List, [], ◌∷◌, length, reverse, Option, Some, None, refl, sym, ap, ◌∙◌, inl, inr, subst}
 use Rattle.std.specs.Str.{bytes_eq}
 use Rattle.std.specs.List.{enumerate_from}
 use Rattle.std.proofs.lemmas.Bool.{and_parts, and_from, eq-eqb, eqb-true}
@@ -11,7 +11,7 @@ use Rattle.station_book.specs.Faults.{sight_at, IsWithoutFault}
 use Rattle.station_book.specs.Stations.{Couple, joined, couples_in, in_set, couples_of}
 use Rattle.station_book.proofs.Membership.{In, any_to, find_some, find_found}
 use Rattle.station_book.proofs.KeptLaws.{among_new, among_more}
-use Rattle.station_book.proofs.Elements.{IsAt, in_filter, of_filter, of_reverse, in_enumerate, of_enumerate, in_filter_map, of_filter_map, in_flat_map, of_flat_map}
+use Rattle.station_book.proofs.Elements.{IsAt, in_filter, of_filter, of_reverse, in_places, of_places, in_filter_map, of_filter_map, in_flat_map, of_flat_map}
 use Rattle.station_book.proofs.OneReading.{IsOf, one_place}
 use Rattle.station_book.proofs.FilePlaces.{OfFile, same_of_file, owner_placed}
 
@@ -21,7 +21,7 @@ pub record IsRead (h : History) (st set : Place) (name : List ℕ) (f : Bool) (r
   pub of_station : station (before r) ≡ st
   pub is : IsOf set name f r
 
-abbrev readings_in : History → Place → Place → List Place
+abbrev pub readings_in : History → Place → Place → List Place
 readings_in h st set = in_set set (station_readings st h)
 
 -- what is found among the readings of a set is such a reading
@@ -105,32 +105,53 @@ pub record IsPairOf (h : History) (st : Place) (c : Couple) : Type 0 where
   pub first_is : c.first ≡ sight_at first
   pub second_is : c.second ≡ sight_at second
 
+pair_at : (h : History) (st : Place) (c : Couple) (e : ℕ × Place) (t : ℕ × List ℕ) → OfFile h st
+    → In e (enumerate_from 0 (reverse (sets_of st h))) → In t (enumerate_from 0 (targets_of st h))
+    → IsJoined e.0 t.0 (reading_in false t.1 (readings_in h st e.1)) (reading_in true t.1 (readings_in h st e.1)) c
+    → IsPairOf h st c
+pair_at h st c e t st_placed e_in t_in j =
+    at (of_places (reverse (sets_of st h)) e e_in) (of_places (targets_of st h) t t_in)
+  where
+    set_is : (k : ℕ) → e.0 ≡ k → k ≡ c.set
+    set_is k same = sym same ∙ ap (λ (c : Couple). c.set) j.couple
+
+    target_is : (k : ℕ) → t.0 ≡ k → k ≡ c.target
+    target_is k same = sym same ∙ ap (λ (c : Couple). c.target) j.couple
+
+    at : (k : ℕ) × (e.0 ≡ k) × IsAt (reverse (sets_of st h)) k e.1 × In e.1 (reverse (sets_of st h))
+        → (k : ℕ) × (t.0 ≡ k) × IsAt (targets_of st h) k t.1 × In t.1 (targets_of st h) → IsPairOf h st c
+    at (i, i_is, i_at, set_in) (k, k_is, k_at, name_in) =
+        let set_placed : OfFile h e.1 =
+        inr (of_filter (λ place. is_set place && is_same (last opens_station (before place)) st) e.1 (places h) (of_reverse e.1 (sets_of st h) set_in)).0 in
+        record {
+          set = e.1;
+          set_place = subst (λ (m : ℕ). IsAt (reverse (sets_of st h)) m e.1) (set_is i i_is) i_at;
+          name = t.1;
+          name_place = subst (λ (m : ℕ). IsAt (targets_of st h) m t.1) (target_is k k_is) k_at;
+          first = j.first;
+          second = j.second;
+          one = reading_found h st e.1 t.1 false j.first st_placed set_placed j.one_is;
+          two = reading_found h st e.1 t.1 true j.second st_placed set_placed j.two_is;
+          first_is = sym (ap (λ (c : Couple). c.first) j.couple);
+          second_is = sym (ap (λ (c : Couple). c.second) j.couple);
+        }
+
 pub pair_of_couple : (h : History) (st : Place) (c : Couple) → OfFile h st → In c (couples_of st h) → IsPairOf h st c
 pair_of_couple h st c st_placed listed =
-    let s = of_flat_map (λ s. couples_in s.0 (targets_of st h) (readings_in h st s.1)) c (enumerate_from 0 (reverse (sets_of st h))) listed in
-    let sat = of_enumerate 0 (reverse (sets_of st h)) s.0 s.1 in
-    let set = s.0.1 in
-    let t = of_filter_map (λ t. joined s.0.0 t.0 (reading_in false t.1 (readings_in h st set)) (reading_in true t.1 (readings_in h st set))) c (enumerate_from 0 (targets_of st h)) s.2 in
-    let tat = of_enumerate 0 (targets_of st h) t.0 t.1 in
-    let j = join_parts s.0.0 t.0.0 (reading_in false t.0.1 (readings_in h st set)) (reading_in true t.0.1 (readings_in h st set)) c t.2 in
-    let set_placed : OfFile h set = inr (of_filter (λ place. is_set place && is_same (last opens_station (before place)) st) set (places h) (of_reverse set (sets_of st h) sat.3)).0 in
-    let set_is : sat.0 ≡ c.set = (omega (arith, sat.1)) ∙ ap (λ (c : Couple). c.set) j.couple in
-    let target_is : tat.0 ≡ c.target = (omega (arith, tat.1)) ∙ ap (λ (c : Couple). c.target) j.couple in
-    record {
-      set = set;
-      set_place = subst (λ (k : ℕ). IsAt (reverse (sets_of st h)) k set) set_is sat.2;
-      name = t.0.1;
-      name_place = subst (λ (k : ℕ). IsAt (targets_of st h) k t.0.1) target_is tat.2;
-      first = j.first;
-      second = j.second;
-      one = reading_found h st set t.0.1 false j.first st_placed set_placed j.one_is;
-      two = reading_found h st set t.0.1 true j.second st_placed set_placed j.two_is;
-      first_is = sym (ap (λ (c : Couple). c.first) j.couple);
-      second_is = sym (ap (λ (c : Couple). c.second) j.couple);
-    }
+    of_set (of_flat_map (λ s. couples_in s.0 (targets_of st h) (readings_in h st s.1)) c (enumerate_from 0 (reverse (sets_of st h))) listed)
+  where
+    of_target : (e : ℕ × Place) → In e (enumerate_from 0 (reverse (sets_of st h)))
+        → (t : ℕ × List ℕ) × In t (enumerate_from 0 (targets_of st h))
+        × (joined e.0 t.0 (reading_in false t.1 (readings_in h st e.1)) (reading_in true t.1 (readings_in h st e.1)) ≡ Some c)
+        → IsPairOf h st c
+    of_target e e_in (t, t_in, is) =
+        pair_at h st c e t st_placed e_in t_in
+        (join_parts e.0 t.0 (reading_in false t.1 (readings_in h st e.1)) (reading_in true t.1 (readings_in h st e.1)) c is)
 
-from_zero : {X : Type 0} (xs : List X) (k : ℕ) (x : X) → IsAt xs k x → In (k, x) (enumerate_from 0 xs)
-from_zero xs k x at = subst (λ (m : ℕ). In (m, x) (enumerate_from 0 xs)) (omega arith) (in_enumerate 0 xs k x at)
+    of_set : (e : ℕ × Place) × In e (enumerate_from 0 (reverse (sets_of st h)))
+        × In c (couples_in e.0 (targets_of st h) (readings_in h st e.1)) → IsPairOf h st c
+    of_set (e, e_in, own) =
+        of_target e e_in (of_filter_map (λ t. joined e.0 t.0 (reading_in false t.1 (readings_in h st e.1)) (reading_in true t.1 (readings_in h st e.1))) c (enumerate_from 0 (targets_of st h)) own)
 
 -- In a file without fault two such readings are a couple.
 pub couple_of_pair : (limits : FaceLimits) (h : History) (st set : Place) (name : List ℕ) (i j : ℕ) (first second : Place) → IsWithoutFault limits h
@@ -139,9 +160,9 @@ pub couple_of_pair : (limits : FaceLimits) (h : History) (st set : Place) (name 
     → In (record { set = i; target = j; first = sight_at first; second = sight_at second }) (couples_of st h)
 couple_of_pair limits h st set name i j first second clean st_placed set_placed iat jat one two =
     in_flat_map (λ s. couples_in s.0 (targets_of st h) (readings_in h st s.1)) (i, set) couple (enumerate_from 0 (reverse (sets_of st h)))
-    (from_zero (reverse (sets_of st h)) i set iat)
+    (in_places (reverse (sets_of st h)) i set iat)
     (in_filter_map (λ t. joined i t.0 (reading_in false t.1 (readings_in h st set)) (reading_in true t.1 (readings_in h st set))) (j, name) couple (enumerate_from 0 (targets_of st h))
-    (from_zero (targets_of st h) j name jat)
+    (in_places (targets_of st h) j name jat)
     (λ x. joined i j (reading_listed limits h st set name false first clean st_placed set_placed one x) (reading_listed limits h st set name true second clean st_placed set_placed two x)))
   where
     couple : Couple

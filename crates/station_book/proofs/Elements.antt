@@ -79,7 +79,7 @@ module _ {X : Type 0} where
       let r = place_in ys x h in
       (suc r.0, record { inside = (let lt = r.1.inside in omega arith); value = λ d. r.1.value d })
 
-  pub in_enumerate : (n : ℕ) (xs : List X) (k : ℕ) (x : X) → IsAt xs k x → In (n + k, x) (enumerate_from n xs)
+  in_enumerate : (n : ℕ) (xs : List X) (k : ℕ) (x : X) → IsAt xs k x → In (n + k, x) (enumerate_from n xs)
   in_enumerate n [] k x at = absurd (let lt = at.inside in omega arith)
   in_enumerate n (y ∷ ys) zero x at =
       let here : n + 0 ≡ n = omega arith in
@@ -90,7 +90,7 @@ module _ {X : Type 0} where
       let moved : (n + 1) + k ≡ n + suc k = omega arith in
       inr (subst (λ (m : ℕ). In (m, x) (enumerate_from (n + 1) ys)) moved rest)
 
-  pub of_enumerate : (n : ℕ) (xs : List X) (e : ℕ × X) → In e (enumerate_from n xs) → (k : ℕ) × (e.0 ≡ n + k) × IsAt xs k e.1 × In e.1 xs
+  of_enumerate : (n : ℕ) (xs : List X) (e : ℕ × X) → In e (enumerate_from n xs) → (k : ℕ) × (e.0 ≡ n + k) × IsAt xs k e.1 × In e.1 xs
   of_enumerate n [] e h = absurd h
   of_enumerate n (y ∷ ys) e (inl q) =
       let zeroth : e.0 ≡ n + 0 = ap (λ (p : ℕ × X). p.0) q ∙ (omega arith) in
@@ -171,3 +171,13 @@ module _ {X Y : Type 0} where
   matched f (z ∷ zs) (y ∷ ys) e (suc k) x at d =
       let tails : map f zs ≡ map (λ y. Some y) ys = cc in
       matched f zs ys tails k x (record { inside = (let lt = at.inside in omega arith); value = λ d. at.value d }) d
+
+-- each element with its place, from 0
+pub of_places : {X : Type 0} (xs : List X) (e : ℕ × X) → In e (enumerate_from 0 xs) → (k : ℕ) × (e.0 ≡ k) × IsAt xs k e.1 × In e.1 xs
+of_places xs e h =
+    let r = of_enumerate 0 xs e h in
+    let moved : e.0 ≡ r.0 = r.1 ∙ (omega arith) in
+    (r.0, moved, r.2, r.3)
+
+pub in_places : {X : Type 0} (xs : List X) (k : ℕ) (x : X) → IsAt xs k x → In (k, x) (enumerate_from 0 xs)
+in_places xs k x at = subst (λ (m : ℕ). In (m, x) (enumerate_from 0 xs)) (omega arith) (in_enumerate 0 xs k x at)

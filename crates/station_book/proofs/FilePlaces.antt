@@ -106,17 +106,17 @@ set_of_reading h r placed reading =
 pub set_station : (h : History) (s : Place) → In s (places h) → is_set s ≡ true → In (station (before s)) (stations_of h)
 set_station h s placed set =
     let found : list_any (λ q. is_set q && is_same (station (before q)) (station (before s))) (places h) ≡ true =
-        any_from (λ q. is_set q && is_same (station (before q)) (station (before s))) s (places h) placed
-        (and_from (is_set s) (is_same (station (before s)) (station (before s))) set
-        (eq-eqb (length (station (before s))) (length (station (before s))) refl)) in
+    any_from (λ q. is_set q && is_same (station (before q)) (station (before s))) s (places h) placed
+    (and_from (is_set s) (is_same (station (before s)) (station (before s))) set
+    (eq-eqb (length (station (before s))) (length (station (before s))) refl)) in
     let first = any_to (λ q. is_same (station (before q)) (station (before s))) (first_sets h)
-        (sym (any_station (λ st. is_same st (station (before s))) h) ∙ found) in
+    (sym (any_station (λ st. is_same st (station (before s))) h) ∙ found) in
     let q = first.0 in
     let q_placed : In q (places h) =
-        (of_filter (λ place. is_set place && is_empty (sets_of (station (before place)) (before place))) q (places h) first.1).0 in
+    (of_filter (λ place. is_set place && is_empty (sets_of (station (before place)) (before place))) q (places h) first.1).0 in
     let same : station (before q) ≡ station (before s) =
-        same_of_file h (station (before q)) (station (before s)) (owner_placed opens_station h q q_placed) (owner_placed opens_station h s placed)
-        (eqb-true (length (station (before q))) (length (station (before s))) first.2) in
+    same_of_file h (station (before q)) (station (before s)) (owner_placed opens_station h q q_placed) (owner_placed opens_station h s placed)
+    (eqb-true (length (station (before q))) (length (station (before s))) first.2) in
     subst (λ (st : Place). In st (stations_of h)) same
     (in_map (λ s. station (before s)) q (reverse (first_sets h)) (in_reverse q (first_sets h) first.1))
 

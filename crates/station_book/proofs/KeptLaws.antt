@@ -77,7 +77,7 @@ fourth false false false true whole a b c d e w f g = w
 fourth false false false false whole a b c d e w f g = cc
 
 -- a reading's faults are the block's
-faults_of_reading : (limits : FaceLimits) (past : History) (b : GsiBlock) → is_opening b ≡ false → (is_sight b && is_open past) ≡ true → faults limits past b ≡ reading_faults limits past b
+pub faults_of_reading : (limits : FaceLimits) (past : History) (b : GsiBlock) → is_opening b ≡ false → (is_sight b && is_open past) ≡ true → faults limits past b ≡ reading_faults limits past b
 faults_of_reading limits past b o r = fourth (opens_station b) (opens_set b) (closes_set b) (is_sight b && is_open past) (faults limits past b) _ _ _ (reading_faults limits past b) [] refl o r
 
 -- each reading of the open set is kept

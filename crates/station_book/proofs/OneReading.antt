@@ -42,9 +42,9 @@ first_time limits past b set name f q clean new placed old =
     let free = (clean_reading limits past b new.reading clean).free in
     let faced : face b ≡ f = face_of f b new.of_face in
     let own : In q (open_readings past) =
-        in_filter (λ place. is_reading place && is_same (last is_opening (before place)) (opening past)) q (places past) placed
-        (and_from (is_reading q) (is_same (opening (before q)) (opening past)) old.reading
-        (eq-eqb (length (opening (before q))) (length (opening past)) (ap length (old.of_set ∙ sym new.of_set)))) in
+    in_filter (λ place. is_reading place && is_same (last is_opening (before place)) (opening past)) q (places past) placed
+    (and_from (is_reading q) (is_same (opening (before q)) (opening past)) old.reading
+    (eq-eqb (length (opening (before q))) (length (opening past)) (ap length (old.of_set ∙ sym new.of_set)))) in
     find_found (λ r. bytes_eq (target_at r) (target b) && stands (is_of_face (face b)) r) q (open_readings past) own
     (and_from (bytes_eq (target_at q) (target b)) (stands (is_of_face (face b)) q)
     ((bytes_eq-Decides (target_at q) (target b)).1 (old.of_target ∙ sym new.of_target))

@@ -1,23 +1,24 @@
 -- What is listed at a station is what the file recorded there: none is missing, none is added.
-use Rattle.std.proofs.Common.{◌≡◌, ◌↔◌, ℕ, Bool, true, false, ◌&&◌, List, [], length, map, reverse, get_or, Some, None, sym, ap, ◌∙◌, inr, subst}
-use Rattle.std.specs.List.{Contains}
+use Rattle.std.proofs.Common.{◌≡◌, ◌↔◌, ℕ, Bool, true, false, ◌&&◌, List, [], ◌∷◌, length, map, reverse, get_or, Some, None, refl, sym, ap, ◌∙◌, inl, inr, subst}
+use Rattle.std.specs.List.{Contains, AllZip}
 use Rattle.std.proofs.lemmas.Bool.{and_from, eq-eqb}
 use Rattle.adjust_kernel.specs.declared.obs.Obs.{Obs}
 use Rattle.adjust_kernel.specs.Matching.{Key, key_of_obs, observed}
+use Rattle.station_book.specs.declared.faces.Faces.{Faces}
 use Rattle.station_book.specs.Limits.{FaceLimits, AreLimits}
-use Rattle.station_book.specs.Sights.{IsTwoFace}
+use Rattle.station_book.specs.Sights.{Sight, IsTwoC, IsTwoI, IsTwoFace}
 use Rattle.station_book.specs.Blocks.{opens_station, number}
 use Rattle.station_book.specs.Places.{History, Place, places, at, last, before, station, is_same, is_set, target_at, sets_of, station_readings, targets_of}
 use Rattle.station_book.specs.Faults.{name_at, sight_at, IsWithoutFault}
-use Rattle.station_book.specs.Stations.{Couple, SurveyedStation, IsObserved, IsSurveyed, AreStations, stations_of, couples_of}
-use Rattle.station_book.specs.Recorded.{IsReadingOf, IsRecorded, HasSetAt}
+use Rattle.station_book.specs.Stations.{Couple, SurveyedStation, IsObserved, HasFaces, IsSurveyed, AreStations, stations_of, couples_of}
+use Rattle.station_book.specs.Recorded.{IsReadingOf, IsRecorded, IsRecordedWith, HasSetAt}
 use Rattle.station_book.proofs.Membership.{In}
 use Rattle.station_book.proofs.Elements.{in_contains, contains_in, IsAt, place_in, in_map, of_map, in_filter, in_reverse, zip_left, zip_right, matched}
 use Rattle.station_book.proofs.PairLaws.{one_two_face}
 use Rattle.station_book.proofs.NameLaws.{apart}
 use Rattle.station_book.proofs.OneReading.{is_of}
 use Rattle.station_book.proofs.FilePlaces.{OfFile, station_placed, set_station, set_of_reading, listed_station, one_named}
-use Rattle.station_book.proofs.CoupleReadings.{IsRead, pair_of_couple, couple_of_pair, of_station_readings, in_distinct}
+use Rattle.station_book.proofs.CoupleReadings.{IsRead, IsPairOf, pair_of_couple, couple_of_pair, of_station_readings, in_distinct}
 
 reading_of : (h : History) (st set : Place) (station target name : List ℕ) (f : Bool) (r : Place) → name_at st ≡ Some station → name ≡ target
     → IsRead h st set name f r → IsReadingOf h station set target f r
@@ -30,25 +31,43 @@ reading_of h st set station target name f r named same read = record {
   of_face = read.is.of_face;
 }
 
+-- what two readings of a couple recorded
+record IsRecordedBy (limits : FaceLimits) (h : History) (name : List ℕ) (k : Key) (a b : Place) : Type 0 where
+  pub recorded : IsRecorded limits h name k
+  pub first_is : recorded.first ≡ a
+  pub second_is : recorded.second ≡ b
+
+recorded_couple : (limits : FaceLimits) (h : History) (st : Place) (s : SurveyedStation) (c : Couple) (o : Obs) (p : IsPairOf h st c) → IsSurveyed limits h st s
+    → IsObserved limits c o → IsRecordedBy limits h s.station.name (key_of_obs s.station.sets s.station.targets o) p.first p.second
+recorded_couple limits h st s c o p surveyed is = record {
+  recorded = record {
+    set = p.set;
+    numbered = matched (λ set. at number None set) (reverse (sets_of st h)) s.station.sets surveyed.sets o.set p.set set_place 0;
+    first = p.first;
+    second = p.second;
+    face_one = reading_of h st p.set s.station.name (get_or s.station.targets o.target []) p.name false p.first surveyed.name same p.one;
+    face_two = reading_of h st p.set s.station.name (get_or s.station.targets o.target []) p.name true p.second surveyed.name same p.two;
+    direction = subst (λ (a : Sight). IsTwoFace limits.two_c a (sight_at p.second) o.value) p.first_is
+        (subst (λ (b : Sight). IsTwoFace limits.two_c c.first b o.value) p.second_is is.direction);
+  };
+  first_is = refl;
+  second_is = refl;
+} where
+  set_place : IsAt (reverse (sets_of st h)) o.set p.set
+  set_place = subst (λ (k : ℕ). IsAt (reverse (sets_of st h)) k p.set) (sym is.set) p.set_place
+
+  name_place : IsAt (targets_of st h) o.target p.name
+  name_place = subst (λ (k : ℕ). IsAt (targets_of st h) k p.name) (sym is.target) p.name_place
+
+  same : p.name ≡ get_or s.station.targets o.target []
+  same = sym (name_place.value []) ∙ ap (λ (ts : List (List ℕ)). get_or ts o.target []) (sym surveyed.targets)
+
 -- what was observed at a station was recorded
 recorded_obs : (limits : FaceLimits) (h : History) (st : Place) (s : SurveyedStation) (o : Obs) → In st (stations_of h) → IsSurveyed limits h st s → In o s.station.obs
     → IsRecorded limits h s.station.name (key_of_obs s.station.sets s.station.targets o)
 recorded_obs limits h st s o listed surveyed own =
     let c = zip_left (IsObserved limits) (couples_of st h) s.station.obs surveyed.directions o own in
-    let p = pair_of_couple h st c.0 (station_placed h st listed) c.1 in
-    let set_place : IsAt (reverse (sets_of st h)) o.set p.set = subst (λ (k : ℕ). IsAt (reverse (sets_of st h)) k p.set) (sym c.2.set) p.set_place in
-    let name_place : IsAt (targets_of st h) o.target p.name = subst (λ (k : ℕ). IsAt (targets_of st h) k p.name) (sym c.2.target) p.name_place in
-    let same : p.name ≡ get_or s.station.targets o.target [] = sym (name_place.value []) ∙ ap (λ (ts : List (List ℕ)). get_or ts o.target []) (sym surveyed.targets) in
-    record {
-      set = p.set;
-      numbered = matched (λ set. at number None set) (reverse (sets_of st h)) s.station.sets surveyed.sets o.set p.set set_place 0;
-      first = p.first;
-      second = p.second;
-      face_one = reading_of h st p.set s.station.name (get_or s.station.targets o.target []) p.name false p.first surveyed.name same p.one;
-      face_two = reading_of h st p.set s.station.name (get_or s.station.targets o.target []) p.name true p.second surveyed.name same p.two;
-      direction = subst (λ (a : Rattle.station_book.specs.Sights.Sight). IsTwoFace limits.two_c a (sight_at p.second) o.value) p.first_is
-          (subst (λ (b : Rattle.station_book.specs.Sights.Sight). IsTwoFace limits.two_c c.0.first b o.value) p.second_is c.2.direction);
-    }
+    (recorded_couple limits h st s c.0 o (pair_of_couple h st c.0 (station_placed h st listed) c.1) surveyed c.2).recorded
 
 same_key : (a b : Key) → a.set ≡ b.set → a.target ≡ b.target → a.value ≡ b.value → a ≡ b
 same_key a b s t v = λ i. record { set = s i; target = t i; value = v i }
@@ -160,3 +179,35 @@ stations_with_sets limits h stations name are = (there, back) where
     where
       same_text : (a b : List ℕ) → Some a ≡ Some b → a ≡ b
       same_text a b e = cc
+
+with_faces : (limits : FaceLimits) (h : History) (st : Place) (s : SurveyedStation) → OfFile h st → IsSurveyed limits h st s
+    → (cs : List Couple) (os : List Obs) (fs : List Faces) → ((c : Couple) → In c cs → In c (couples_of st h)) → AllZip (IsObserved limits) cs os → AllZip (HasFaces limits) cs fs
+    → AllZip (IsRecordedWith limits h s.station.name) (map (key_of_obs s.station.sets s.station.targets) os) fs
+with_faces limits h st s placed surveyed [] [] [] inside one two = tt
+with_faces limits h st s placed surveyed [] [] (f ∷ fs) inside one two = absurd two
+with_faces limits h st s placed surveyed [] (o ∷ os) fs inside one two = absurd one
+with_faces limits h st s placed surveyed (c ∷ cs) [] fs inside one two = absurd one
+with_faces limits h st s placed surveyed (c ∷ cs) (o ∷ os) [] inside one two = absurd two
+with_faces limits h st s placed surveyed (c ∷ cs) (o ∷ os) (f ∷ fs) inside one two =
+    (head (pair_of_couple h st c placed (inside c (inl refl))), with_faces limits h st s placed surveyed cs os fs (λ d k. inside d (inr k)) one.1 two.1)
+  where
+    head : IsPairOf h st c → IsRecordedWith limits h s.station.name (key_of_obs s.station.sets s.station.targets o) f
+    head p =
+        let r = recorded_couple limits h st s c o p surveyed one.0 in
+        let first : c.first ≡ sight_at r.recorded.first = p.first_is ∙ sym (ap sight_at r.first_is) in
+        let second : c.second ≡ sight_at r.recorded.second = p.second_is ∙ sym (ap sight_at r.second_is) in
+        record {
+          recorded = r.recorded;
+          two_c = subst (λ (a : Sight). IsTwoC limits.two_c a (sight_at r.recorded.second) f.two_c) first
+              (subst (λ (b : Sight). IsTwoC limits.two_c c.first b f.two_c) second two.0.two_c);
+          two_i = subst (λ (a : Sight). IsTwoI limits.two_i a (sight_at r.recorded.second) f.two_i) first
+              (subst (λ (b : Sight). IsTwoI limits.two_i c.first b f.two_i) second two.0.two_i);
+        }
+
+-- Beside each direction stand the face differences of its two readings.
+pub recorded_faces : (limits : FaceLimits) (h : History) (stations : List SurveyedStation) (s : SurveyedStation) → AreStations limits h stations → Contains stations s
+    → AllZip (IsRecordedWith limits h s.station.name) (observed s.station) s.faces
+unfolding AreStations
+recorded_faces limits h stations s are listed =
+    let own = zip_left (IsSurveyed limits h) (stations_of h) stations are s (in_contains s stations listed) in
+    with_faces limits h own.0 s (station_placed h own.0 own.1) own.2 (couples_of own.0 h) s.station.obs s.faces (λ c k. k) own.2.directions own.2.differences

@@ -1,0 +1,370 @@
+-- What is kept of a station stands for it: after its first set, after a further set, and, where the station is closed,
+-- after any block.
+use Rattle.std.proofs.Common.{◌≡◌, ℕ, zero, suc, ◌+◌, ◌-◌, ◌<◌, ◌≤◌, Bool, true, false, cond, ◌&&◌, ◌||◌, List, [], ◌∷◌, ◌++◌, length, map, filter, reverse, replicate, Option, Some, None, refl, sym, ap, ◌∙◌, inl, inr, ◌⊎◌, subst, arith}
+use Rattle.std.specs.List.{AllByRecursion}
+use Rattle.std.proofs.lemmas.Bool.{cases_Bool, false≢true, and_parts, ne_eqb, eq-eqb}
+use Rattle.std.proofs.lemmas.List.{length-append, reverse-append, reverse-reverse}
+use Rattle.adjust_kernel.specs.declared.obs.Obs.{Obs}
+use Rattle.station_book.specs.declared.slot.Slot.{Slot}
+use Rattle.station_book.specs.Slots.{empty_slot, obs_of, faces_of}
+use Rattle.station_book.specs.Entries.{EntryValue, first_entry, with_set, with_reading}
+use Rattle.station_book.specs.declared.sight.Sighting.{Sighting}
+use Rattle.station_book.proofs.ReadingLaws.{Says, IsInNone, reading_stands}
+use Rattle.station_book.specs.Shelves.{Entries, last_of, change_last}
+use Rattle.station_book.proofs.CoupleLaws.{none_in_later}
+use Rattle.gsi_word.specs.Blocks.{GsiBlock}
+use Rattle.station_book.specs.Blocks.{named, number, opens_station, opens_set, closes_set, is_opening, is_sight}
+use Rattle.station_book.specs.Places.{History, Place, places, last, before, station, opening, is_empty, is_open, is_set, is_reading, is_same, sets_of, station_readings, first_sets, stands}
+use Rattle.station_book.specs.Stations.{in_set}
+use Rattle.station_book.specs.Faults.{open_sets, name_at}
+use Rattle.station_book.specs.Keeps.{slot_of, slots_of, targets_in, obs_in, faces_in, numbers_in, IsEntryOf, IsEntryWith, StandsAt, stations_in, Stand, number_at}
+use Rattle.station_book.proofs.PlaceLaws.{length-last, belonging-more, belonging-same, belonging-fresh}
+use Rattle.station_book.proofs.OlderLaws.{belonging-older, owners_in_order}
+use Rattle.station_book.proofs.CodeLaws.{no_set_at_station}
+use Rattle.station_book.proofs.StepLaws.{sight_opens_nothing, sight_opens_no_station, is_open-opening, is_open-other, sets-station, sets-more, sets-other}
+
+-- no reading: all slots are empty
+pub no_readings : (targets : List (List ℕ)) → slots_of targets [] ≡ replicate (length targets) empty_slot
+no_readings [] = refl
+no_readings (t ∷ ts) = ap (λ ss. empty_slot ∷ ss) (no_readings ts)
+
+length_map : {X Y : Type 0} (f : X → Y) (xs : List X) → length (map f xs) ≡ length xs
+length_map f [] = refl
+length_map f (x ∷ xs) = ap suc (length_map f xs)
+
+length_numbers : (sets : List Place) → length (numbers_in sets) ≡ length sets
+length_numbers [] = refl
+length_numbers (s ∷ older) = let l = length-append (numbers_in older) (number_at s ∷ []) in let m = length_numbers older in omega (arith, l, m)
+
+map_more : {X Y : Type 0} (f : X → Y) (xs : List X) (x : X) → map f (xs ++ x ∷ []) ≡ map f xs ++ f x ∷ []
+map_more f [] x = refl
+map_more f (y ∷ xs) x = ap (λ r. f y ∷ r) (map_more f xs x)
+
+-- after the first set
+pub first_stands : (st set : Place) (name : List ℕ) (n : ℕ) → name_at st ≡ Some name → number_at set ≡ Some n → IsEntryOf st set [] [] name (first_entry n)
+first_stands st set name n named_so numbered = record {
+  named_so = named_so;
+  targets = refl;
+  numbers = ap (λ o. o ∷ []) (sym numbered);
+  slots = refl;
+  obs = refl;
+  faces = refl;
+}
+
+-- after a further set
+pub set_stands : (st set newest : Place) (older readings : List Place) (name : List ℕ) (n : ℕ) (e : EntryValue) → number_at set ≡ Some n → in_set set readings ≡ []
+    → IsEntryOf st newest older readings name e → IsEntryOf st set (newest ∷ older) readings name (with_set n e)
+set_stands st set newest older readings name n e numbered none h = record {
+  named_so = h.named_so;
+  targets = h.targets;
+  numbers = map_more (λ m. Some m) e.sets n ∙ (λ i. h.numbers i ++ sym numbered i ∷ []);
+  slots = slots;
+  obs = (λ i. h.obs i ++ obs_of (last_place i) (h.slots i));
+  faces = (λ i. h.faces i ++ faces_of (h.slots i));
+} where
+  sets : length e.sets ≡ suc (length older)
+  sets = sym (length_map (λ m. Some m) e.sets) ∙ ap length h.numbers ∙ length_numbers (newest ∷ older)
+
+  last_place : length e.sets - 1 ≡ length older
+  last_place = omega (arith, sets)
+
+  slots : replicate (length e.slots) empty_slot ≡ slots_of (targets_in readings) (in_set set readings)
+  slots =
+      ap (λ (k : ℕ). replicate k empty_slot) (ap length h.slots ∙ length_map _ (targets_in readings))
+      ∙ sym (no_readings (targets_in readings)) ∙ ap (slots_of (targets_in readings)) (sym none)
+
+-- A closed station: whatever block comes, what is kept of it stays as it is.
+pub older_stands : (st : Place) (e : List ℕ × EntryValue) (b : GsiBlock) (past : History) → length st < length (station past) → StandsAt past st e → StandsAt (b ∷ past) st e
+older_stands st e b past lt h =
+    subst (λ (sets : List Place). IsEntryWith st sets (station_readings st (b ∷ past)) e) (sym (belonging-older opens_station is_set st b past lt))
+    (subst (λ (rs : List Place). IsEntryWith st (sets_of st past) rs e) (sym (belonging-older opens_station is_reading st b past lt)) h)
+
+-- the same, for a list of stations
+pub all_older_stand : (sts : List Place) (es : Entries) (b : GsiBlock) (past : History) → AllByRecursion (λ st. length st < length (station past)) sts → Stand past sts es → Stand (b ∷ past) sts es
+all_older_stand [] [] b past all h = tt
+all_older_stand [] (e ∷ es) b past all h = h
+all_older_stand (st ∷ sts) [] b past all h = h
+all_older_stand (st ∷ sts) (e ∷ es) b past all h = (older_stands st e b past all.0 h.0, all_older_stand sts es b past all.1 h.1)
+
+-- A block that opens nothing and is no reading changes nothing of the open station.
+pub open_stands_other : (e : List ℕ × EntryValue) (b : GsiBlock) (past : History) → opens_station b ≡ false → opens_set b ≡ false → is_reading (b ∷ past) ≡ false → StandsAt past (station past) e → StandsAt (b ∷ past) (station past) e
+open_stands_other e b past s n r h =
+    let here : station (b ∷ past) ≡ station past = ap (λ v. cond v (b ∷ past) (last opens_station past)) s in
+    let sets : sets_of (station past) (b ∷ past) ≡ sets_of (station past) past = ap (λ (st : Place). sets_of st (b ∷ past)) (sym here) ∙ sets-other b past s n in
+    let readings : station_readings (station past) (b ∷ past) ≡ station_readings (station past) past = ap (λ (st : Place). station_readings st (b ∷ past)) (sym here) ∙ belonging-same opens_station is_reading b past s r in
+    subst (λ (ss : List Place). IsEntryWith (station past) ss (station_readings (station past) (b ∷ past)) e) (sym sets)
+    (subst (λ (rs : List Place). IsEntryWith (station past) (sets_of (station past) past) rs e) (sym readings) h)
+
+-- Where a set is open, the open station has a set.
+pub open_has_set : (past : History) → is_open past ≡ true → is_empty (open_sets past) ≡ false
+open_has_set [] e = cc
+open_has_set (b ∷ past) e = split (cases_Bool (opens_station b)) (cases_Bool (opens_set b)) (cases_Bool (is_opening b)) (open_has_set past) where
+  split : (opens_station b ≡ true) ⊎ (opens_station b ≡ false) → (opens_set b ≡ true) ⊎ (opens_set b ≡ false) → (is_opening b ≡ true) ⊎ (is_opening b ≡ false) → (is_open past ≡ true → is_empty (open_sets past) ≡ false) → is_empty (open_sets (b ∷ past)) ≡ false
+  split (inr s) (inl n) o ih = ap is_empty (sets-more b past s n)
+  split (inr s) (inr n) (inr o) ih = ap is_empty (sets-other b past s n) ∙ ih (sym (is_open-other b past o) ∙ e)
+  split s (inr n) (inl o) ih = absurd (false≢true (sym n ∙ sym (is_open-opening b past o) ∙ e))
+  split (inl s) (inl n) o ih = absurd (false≢true (sym (no_set_at_station b s) ∙ n))
+  split (inl s) (inr n) (inr o) ih = absurd (false≢true (sym (or_left (opens_station b) _ o) ∙ s)) where
+    or_left : (x y : Bool) → (x || y) ≡ false → x ≡ false
+    or_left true y h = cc
+    or_left false y h = refl
+
+-- A station without a set has no reading.
+pub no_set_no_reading : (past : History) → open_sets past ≡ [] → station_readings (station past) past ≡ []
+no_set_no_reading [] e = refl
+no_set_no_reading (b ∷ past) e = split (cases_Bool (opens_station b)) (cases_Bool (opens_set b)) (cases_Bool (is_reading (b ∷ past))) (no_set_no_reading past) where
+  split : (opens_station b ≡ true) ⊎ (opens_station b ≡ false) → (opens_set b ≡ true) ⊎ (opens_set b ≡ false) → (is_reading (b ∷ past) ≡ true) ⊎ (is_reading (b ∷ past) ≡ false) → (open_sets past ≡ [] → station_readings (station past) past ≡ []) → station_readings (station (b ∷ past)) (b ∷ past) ≡ []
+  split (inl s) n r ih = belonging-fresh opens_station is_reading b past s
+  split (inr s) (inl n) r ih = let bad : is_empty ((b ∷ past) ∷ open_sets past) ≡ true = ap is_empty (sym (sets-more b past s n) ∙ e) in absurd (false≢true bad)
+  split (inr s) (inr n) (inr r) ih = belonging-same opens_station is_reading b past s r ∙ ih (sym (sets-other b past s n) ∙ e)
+  split (inr s) (inr n) (inl r) ih =
+      let now : is_open past ≡ true = (and_parts (is_sight b) (is_open past) r).1 in
+      let some : is_empty (open_sets past) ≡ true = ap is_empty (sym (sets-other b past s n) ∙ e) in
+      absurd (false≢true (sym (open_has_set past now) ∙ some))
+
+-- A block that opens no set and is no reading changes nothing of any station.
+idle : (p : GsiBlock → Bool) (kind : Place → Bool) (owner : Place) (b : GsiBlock) (past : History) → kind (b ∷ past) ≡ false
+    → filter (λ place. kind place && is_same (last p (before place)) owner) (places (b ∷ past)) ≡ filter (λ place. kind place && is_same (last p (before place)) owner) (places past)
+idle p kind owner b past e = ap (λ v. cond (v && is_same (last p past) owner) ((b ∷ past) ∷ rest) rest) e where
+  rest : List Place
+  rest = filter (λ place. kind place && is_same (last p (before place)) owner) (places past)
+
+idle_stands : (st : Place) (e : List ℕ × EntryValue) (b : GsiBlock) (past : History) → opens_set b ≡ false → is_reading (b ∷ past) ≡ false → StandsAt past st e → StandsAt (b ∷ past) st e
+idle_stands st e b past n r h =
+    subst (λ (sets : List Place). IsEntryWith st sets (station_readings st (b ∷ past)) e) (sym (idle opens_station is_set st b past n))
+    (subst (λ (rs : List Place). IsEntryWith st (sets_of st past) rs e) (sym (idle opens_station is_reading st b past r)) h)
+
+all_idle : (sts : List Place) (es : Entries) (b : GsiBlock) (past : History) → opens_set b ≡ false → is_reading (b ∷ past) ≡ false → Stand past sts es → Stand (b ∷ past) sts es
+all_idle [] [] b past n r h = tt
+all_idle [] (e ∷ es) b past n r h = h
+all_idle (st ∷ sts) [] b past n r h = h
+all_idle (st ∷ sts) (e ∷ es) b past n r h = (idle_stands st e b past n r h.0, all_idle sts es b past n r h.1)
+
+same_stations : (b : GsiBlock) (past : History) → opens_set b ≡ false → stations_in (b ∷ past) ≡ stations_in past
+same_stations b past n = ap (map (λ s. station (before s))) (ap (λ v. cond (v && is_empty (open_sets past)) ((b ∷ past) ∷ first_sets past) (first_sets past)) n)
+
+-- all stations after a block of code 10 or 30, another code, or a measurement that is no reading
+pub stand_idle : (es : Entries) (b : GsiBlock) (past : History) → opens_set b ≡ false → is_reading (b ∷ past) ≡ false → Stand past (stations_in past) es → Stand (b ∷ past) (stations_in (b ∷ past)) es
+stand_idle es b past n r h = subst (λ (sts : List Place). Stand (b ∷ past) sts es) (sym (same_stations b past n)) (all_idle (stations_in past) es b past n r h)
+
+-- the stations with sets: those before the open one, and the open one where it has a set
+pub record HasOpenLast (past : History) : Type 0 where
+  pub rest : List Place
+  pub some_set : is_empty (open_sets past) ≡ false
+  pub stations : stations_in past ≡ station past ∷ rest
+  pub older : AllByRecursion (λ st. length st < length (station past)) rest
+
+all_filter : {X : Type 0} (P : X → Type 0) (p : X → Bool) (xs : List X) → AllByRecursion P xs → AllByRecursion P (filter p xs)
+all_filter P p [] all = tt
+all_filter P p (x ∷ xs) all = split (p x) (all_filter P p xs all.1) where
+  split : (v : Bool) → AllByRecursion P (filter p xs) → AllByRecursion P (cond v (x ∷ filter p xs) (filter p xs))
+  split true r = (all.0, r)
+  split false r = r
+
+below_new : (n : ℕ) (past : History) (xs : List Place) → length (station past) ≤ n → AllByRecursion (λ s. length (last opens_station (before s)) ≤ length (station past)) xs → AllByRecursion (λ st. length st < suc n) (map (λ s. station (before s)) xs)
+below_new n past [] le all = tt
+below_new n past (x ∷ xs) le all = ((let a = all.0 in omega (arith, a, le)), below_new n past xs le all.1)
+
+same_station : (b : GsiBlock) (past : History) → opens_station b ≡ false → station (b ∷ past) ≡ station past
+same_station b past e = ap (λ v. cond v (b ∷ past) (last opens_station past)) e
+
+abbrev pub Parted : History → Type 0
+Parted past = ((open_sets past ≡ []) × AllByRecursion (λ st. length st < length (station past)) (stations_in past)) ⊎ HasOpenLast past
+
+none_or_some : (xs : List Place) → (xs ≡ []) ⊎ (is_empty xs ≡ false)
+none_or_some [] = inl refl
+none_or_some (x ∷ xs) = inr refl
+
+-- The stations stand in order.
+pub parted : (past : History) → Parted past
+parted [] = inl (refl, tt)
+parted (b ∷ past) = split (cases_Bool (opens_station b)) (cases_Bool (opens_set b)) (parted past) where
+  moved : (sts : List Place) → opens_station b ≡ false → AllByRecursion (λ st. length st < length (station past)) sts → AllByRecursion (λ st. length st < length (station (b ∷ past))) sts
+  moved sts s all = subst (λ (o : Place). AllByRecursion (λ st. length st < length o) sts) (sym (same_station b past s)) all
+
+  split : (opens_station b ≡ true) ⊎ (opens_station b ≡ false) → (opens_set b ≡ true) ⊎ (opens_set b ≡ false) → Parted past → Parted (b ∷ past)
+  split (inl s) n h =
+      let here : station (b ∷ past) ≡ b ∷ past = ap (λ v. cond v (b ∷ past) (last opens_station past)) s in
+      let all = below_new (length past) past (first_sets past) (length-last opens_station past) (all_filter _ (λ place. is_set place && is_empty (sets_of (station (before place)) (before place))) (places past) (owners_in_order opens_station past)) in
+      inl (
+        sets-station b past s,
+        subst (λ (sts : List Place). AllByRecursion (λ st. length st < length (station (b ∷ past))) sts) (sym (same_stations b past (no_set_at_station b s)))
+            (subst (λ (o : Place). AllByRecursion (λ st. length st < length o) (stations_in past)) (sym here) all),
+      )
+  split (inr s) (inl n) (inl h) =
+      let first : stations_in (b ∷ past) ≡ station past ∷ stations_in past = ap (λ v. map (λ t. station (before t)) (cond v ((b ∷ past) ∷ first_sets past) (first_sets past))) ((λ i. n i && is_empty (h.0 i))) in
+      inr (record { rest = stations_in past; some_set = ap is_empty (sets-more b past s n); stations = first ∙ ap (λ (o : Place). o ∷ stations_in past) (sym (same_station b past s)); older = moved (stations_in past) s h.1 })
+  split (inr s) (inl n) (inr h) =
+      let some = h.some_set in
+      let same : stations_in (b ∷ past) ≡ stations_in past = ap (λ v. map (λ t. station (before t)) (cond v ((b ∷ past) ∷ first_sets past) (first_sets past))) ((λ i. n i && some i)) in
+      inr (record { rest = h.rest; some_set = ap is_empty (sets-more b past s n); stations = same ∙ h.stations ∙ ap (λ (o : Place). o ∷ h.rest) (sym (same_station b past s)); older = moved h.rest s h.older })
+  split (inr s) (inr n) (inl h) = inl (sets-other b past s n ∙ h.0, subst (λ (sts : List Place). AllByRecursion (λ st. length st < length (station (b ∷ past))) sts) (sym (same_stations b past n)) (moved (stations_in past) s h.1))
+  split (inr s) (inr n) (inr h) = inr (record { rest = h.rest; some_set = ap is_empty (sets-other b past s n) ∙ h.some_set; stations = same_stations b past n ∙ h.stations ∙ ap (λ (o : Place). o ∷ h.rest) (sym (same_station b past s)); older = moved h.rest s h.older })
+
+pub set_is_no_reading : (b : GsiBlock) (past : History) → opens_set b ≡ true → is_reading (b ∷ past) ≡ false
+set_is_no_reading b past n = split (cases_Bool (is_sight b)) where
+  split : (is_sight b ≡ true) ⊎ (is_sight b ≡ false) → (is_sight b && is_open past) ≡ false
+  split (inr s) = ap (λ v. v && is_open past) s
+  split (inl s) = absurd (false≢true (sym (sight_opens_nothing b s) ∙ or_second (opens_station b) (opens_set b) (closes_set b) n)) where
+    or_second : (a x c : Bool) → x ≡ true → (a || (x || c)) ≡ true
+    or_second true x c e = refl
+    or_second false true c e = refl
+    or_second false false c e = cc
+
+-- all stations after the first set of the open one
+pub stand_first : (es : Entries) (b : GsiBlock) (past : History) (name : List ℕ) (n : ℕ) → opens_station b ≡ false → opens_set b ≡ true → open_sets past ≡ [] → name_at (station past) ≡ Some name → number b ≡ Some n
+    → Stand past (stations_in past) es → Stand (b ∷ past) (stations_in (b ∷ past)) ((name, first_entry n) ∷ es)
+stand_first es b past name n s set none named_so numbered h =
+    subst (λ (sts : List Place). Stand (b ∷ past) sts ((name, first_entry n) ∷ es)) (sym stations) (head, all_older_stand (stations_in past) es b past older h)
+  where
+    stations : stations_in (b ∷ past) ≡ station past ∷ stations_in past
+    stations = ap (λ v. map (λ t. station (before t)) (cond v ((b ∷ past) ∷ first_sets past) (first_sets past))) (λ i. set i && is_empty (none i))
+
+    older : AllByRecursion (λ st. length st < length (station past)) (stations_in past)
+    older = by (parted past) where
+      by : Parted past → AllByRecursion (λ st. length st < length (station past)) (stations_in past)
+      by (inl p) = p.1
+      by (inr p) = let bad : is_empty (open_sets past) ≡ true = ap is_empty none in absurd (false≢true (sym p.some_set ∙ bad))
+
+    sets : sets_of (station past) (b ∷ past) ≡ (b ∷ past) ∷ []
+    sets = ap (λ (st : Place). sets_of st (b ∷ past)) (sym (same_station b past s)) ∙ sets-more b past s set ∙ ap (λ ss. (b ∷ past) ∷ ss) none
+
+    readings : station_readings (station past) (b ∷ past) ≡ []
+    readings = idle opens_station is_reading (station past) b past (set_is_no_reading b past set) ∙ no_set_no_reading past none
+
+    head : StandsAt (b ∷ past) (station past) (name, first_entry n)
+    head =
+        subst (λ (ss : List Place). IsEntryWith (station past) ss (station_readings (station past) (b ∷ past)) (name, first_entry n)) (sym sets)
+        (subst (λ (rs : List Place). IsEntryWith (station past) ((b ∷ past) ∷ []) rs (name, first_entry n)) (sym readings) (first_stands (station past) (b ∷ past) name n named_so numbered))
+
+-- a set that is still to come has no readings among those of any station
+none_to_come : (b : GsiBlock) (past : History) (st : Place) → in_set (b ∷ past) (station_readings st past) ≡ []
+none_to_come b past st = none_in_later (λ place. is_reading place && is_same (station (before place)) st) (b ∷ past) past (omega arith)
+
+-- all stations after a further set of the open one
+pub stand_further : (x : List ℕ × EntryValue) (es : Entries) (b : GsiBlock) (past : History) (n : ℕ) → opens_station b ≡ false → opens_set b ≡ true → is_empty (open_sets past) ≡ false → number b ≡ Some n
+    → Stand past (stations_in past) (x ∷ es) → Stand (b ∷ past) (stations_in (b ∷ past)) ((x.0, with_set n x.1) ∷ es)
+stand_further x es b past n s set some numbered h = by (parted past) where
+  further : (sets : List Place) → IsEntryWith (station past) sets (station_readings (station past) past) x → IsEntryWith (station past) ((b ∷ past) ∷ sets) (station_readings (station past) past) (x.0, with_set n x.1)
+  further [] k = absurd k
+  further (newest ∷ older) k = set_stands (station past) (b ∷ past) newest older (station_readings (station past) past) x.0 n x.1 numbered (none_to_come b past (station past)) k
+
+  head : StandsAt past (station past) x → StandsAt (b ∷ past) (station past) (x.0, with_set n x.1)
+  head k =
+      let sets : sets_of (station past) (b ∷ past) ≡ (b ∷ past) ∷ open_sets past = ap (λ (st : Place). sets_of st (b ∷ past)) (sym (same_station b past s)) ∙ sets-more b past s set in
+      let readings = idle opens_station is_reading (station past) b past (set_is_no_reading b past set) in
+      subst (λ (ss : List Place). IsEntryWith (station past) ss (station_readings (station past) (b ∷ past)) (x.0, with_set n x.1)) (sym sets)
+      (subst (λ (rs : List Place). IsEntryWith (station past) ((b ∷ past) ∷ open_sets past) rs (x.0, with_set n x.1)) (sym readings) (further (open_sets past) k))
+
+  by : Parted past → Stand (b ∷ past) (stations_in (b ∷ past)) ((x.0, with_set n x.1) ∷ es)
+  by (inl p) = let bad : is_empty (open_sets past) ≡ true = ap is_empty p.0 in absurd (false≢true (sym some ∙ bad))
+  by (inr p) =
+      let same : stations_in (b ∷ past) ≡ stations_in past = ap (λ v. map (λ t. station (before t)) (cond v ((b ∷ past) ∷ first_sets past) (first_sets past))) (λ i. set i && some i) in
+      let k = subst (λ (sts : List Place). Stand past sts (x ∷ es)) p.stations h in
+      subst (λ (sts : List Place). Stand (b ∷ past) sts ((x.0, with_set n x.1) ∷ es)) (sym (same ∙ p.stations)) (head k.0, all_older_stand p.rest es b past p.older k.1)
+
+change_snoc : (f : EntryValue → EntryValue) (xs : Entries) (x : List ℕ × EntryValue) → change_last f (xs ++ x ∷ []) ≡ xs ++ (x.0, f x.1) ∷ []
+change_snoc f [] x = refl
+change_snoc f (y ∷ []) x = refl
+change_snoc f (y ∷ z ∷ xs) x = ap (λ r. y ∷ r) (change_snoc f (z ∷ xs) x)
+
+last_snoc : (xs : Entries) (x : List ℕ × EntryValue) → last_of (xs ++ x ∷ []) ≡ x.1
+last_snoc [] x = refl
+last_snoc (y ∷ []) x = refl
+last_snoc (y ∷ z ∷ xs) x = last_snoc (z ∷ xs) x
+
+snoc_of : (es : Entries) (x : List ℕ × EntryValue) (r : Entries) → reverse es ≡ x ∷ r → es ≡ reverse r ++ x ∷ []
+snoc_of es x r e = sym (reverse-reverse es) ∙ ap reverse e ∙ reverse-append (x ∷ []) r
+
+-- the last entry is the first of the newest first
+pub changed_newest : (f : EntryValue → EntryValue) (es : Entries) (x : List ℕ × EntryValue) (r : Entries) → reverse es ≡ x ∷ r → reverse (change_last f es) ≡ (x.0, f x.1) ∷ r
+changed_newest f es x r e =
+    ap (λ ys. reverse (change_last f ys)) (snoc_of es x r e) ∙ ap reverse (change_snoc f (reverse r) x)
+    ∙ reverse-append (reverse r) ((x.0, f x.1) ∷ []) ∙ ap (λ ys. (x.0, f x.1) ∷ ys) (reverse-reverse r)
+
+pub last_newest : (es : Entries) (x : List ℕ × EntryValue) (r : Entries) → reverse es ≡ x ∷ r → last_of es ≡ x.1
+last_newest es x r e = ap last_of (snoc_of es x r e) ∙ last_snoc (reverse r) x
+
+-- The sets of the open station, where a set is open: the open one and those before it.
+pub record HasOpenSet (past : History) : Type 0 where
+  pub older : List Place
+  pub sets : open_sets past ≡ opening past ∷ older
+  pub before_it : AllByRecursion (λ s. length s < length (opening past)) older
+
+places_below : (past : History) (n : ℕ) → length past ≤ n → AllByRecursion (λ s. length s < suc n) (places past)
+places_below [] n le = tt
+places_below (b ∷ past) n le = (omega arith, places_below past n (omega arith))
+
+all_kept : {X : Type 0} (P : X → Type 0) (xs ys : List X) → xs ≡ ys → AllByRecursion P xs → AllByRecursion P ys
+all_kept P xs ys e all = subst (AllByRecursion P) e all
+
+pub open_set : (past : History) → is_open past ≡ true → HasOpenSet past
+open_set [] e = cc
+open_set (b ∷ past) e = split (cases_Bool (opens_station b)) (cases_Bool (opens_set b)) (cases_Bool (is_opening b)) (open_set past) where
+  split : (opens_station b ≡ true) ⊎ (opens_station b ≡ false) → (opens_set b ≡ true) ⊎ (opens_set b ≡ false) → (is_opening b ≡ true) ⊎ (is_opening b ≡ false) → (is_open past ≡ true → HasOpenSet past) → HasOpenSet (b ∷ past)
+  split (inr s) (inl n) (inl o) ih =
+      let here : opening (b ∷ past) ≡ b ∷ past = ap (λ v. cond v (b ∷ past) (last is_opening past)) o in
+      record {
+        older = open_sets past;
+        sets = sets-more b past s n ∙ ap (λ (p : Place). p ∷ open_sets past) (sym here);
+        before_it = subst (λ (p : Place). AllByRecursion (λ s. length s < length p) (open_sets past)) (sym here) (all_filter _ (λ place. is_set place && is_same (last opens_station (before place)) (station past)) (places past) (places_below past (length past) (omega arith)));
+      }
+  split (inr s) (inl n) (inr o) ih = absurd (false≢true (sym o ∙ or_second (opens_station b) (opens_set b) (closes_set b) n)) where
+    or_second : (a x c : Bool) → x ≡ true → (a || (x || c)) ≡ true
+    or_second true x c e = refl
+    or_second false true c e = refl
+    or_second false false c e = cc
+  split (inr s) (inr n) (inr o) ih =
+      let k = ih (sym (is_open-other b past o) ∙ e) in
+      let same : opening (b ∷ past) ≡ opening past = ap (λ v. cond v (b ∷ past) (last is_opening past)) o in
+      record {
+        older = k.older;
+        sets = sets-other b past s n ∙ k.sets ∙ ap (λ (p : Place). p ∷ k.older) (sym same);
+        before_it = subst (λ (p : Place). AllByRecursion (λ s. length s < length p) k.older) (sym same) k.before_it;
+      }
+  split s (inr n) (inl o) ih = absurd (false≢true (sym n ∙ sym (is_open-opening b past o) ∙ e))
+  split (inl s) (inl n) o ih = absurd (false≢true (sym (no_set_at_station b s) ∙ n))
+  split (inl s) (inr n) (inr o) ih = absurd (false≢true (sym (or_left (opens_station b) (opens_set b || closes_set b) o) ∙ s)) where
+    or_left : (x y : Bool) → (x || y) ≡ false → x ≡ false
+    or_left true y h = cc
+    or_left false y h = refl
+
+in_none : (b : GsiBlock) (past : History) (readings older : List Place) → AllByRecursion (λ s. length s < length (opening past)) older → IsInNone (b ∷ past) readings older
+in_none b past readings [] all = tt
+in_none b past readings (s ∷ older) all =
+    (ap (λ v. cond v ((b ∷ past) ∷ in_set s readings) (in_set s readings)) (ne_eqb (length (opening past)) (length s) (λ e. let a = all.0 in absurd (omega (arith, a, e)))), in_none b past readings older all.1)
+
+-- all stations after a reading
+pub stand_reading : (x : List ℕ × EntryValue) (es : Entries) (b : GsiBlock) (past : History) (s : Sighting) → is_opening b ≡ false → is_reading (b ∷ past) ≡ true → is_open past ≡ true → Says s (b ∷ past)
+    → Stand past (stations_in past) (x ∷ es) → Stand (b ∷ past) (stations_in (b ∷ past)) ((x.0, with_reading s x.1) ∷ es)
+stand_reading x es b past s o reading now says h = by (parted past) where
+  no_station : opens_station b ≡ false
+  no_station = sight_opens_no_station b o
+
+  no_set : opens_set b ≡ false
+  no_set = second (opens_station b) (opens_set b) (closes_set b) o where
+    second : (a y c : Bool) → (a || (y || c)) ≡ false → y ≡ false
+    second true y c e = cc
+    second false true c e = cc
+    second false false c e = refl
+
+  set : HasOpenSet past
+  set = open_set past now
+
+  mine : (readings : List Place) → in_set (opening past) ((b ∷ past) ∷ readings) ≡ (b ∷ past) ∷ in_set (opening past) readings
+  mine readings = ap (λ v. cond v ((b ∷ past) ∷ in_set (opening past) readings) (in_set (opening past) readings)) (eq-eqb (length (opening past)) (length (opening past)) refl)
+
+  head : StandsAt past (station past) x → StandsAt (b ∷ past) (station past) (x.0, with_reading s x.1)
+  head k =
+      let sets : sets_of (station past) (b ∷ past) ≡ opening past ∷ set.older = ap (λ (st : Place). sets_of st (b ∷ past)) (sym (same_station b past no_station)) ∙ sets-other b past no_station no_set ∙ set.sets in
+      let readings : station_readings (station past) (b ∷ past) ≡ (b ∷ past) ∷ station_readings (station past) past = ap (λ (st : Place). station_readings st (b ∷ past)) (sym (same_station b past no_station)) ∙ belonging-more opens_station is_reading b past no_station reading in
+      let old : IsEntryWith (station past) (opening past ∷ set.older) (station_readings (station past) past) x = subst (λ (ss : List Place). IsEntryWith (station past) ss (station_readings (station past) past) x) set.sets k in
+      subst (λ (ss : List Place). IsEntryWith (station past) ss (station_readings (station past) (b ∷ past)) (x.0, with_reading s x.1)) (sym sets)
+      (subst (λ (rs : List Place). IsEntryWith (station past) (opening past ∷ set.older) rs (x.0, with_reading s x.1)) (sym readings)
+      (reading_stands (station past) (opening past) set.older (station_readings (station past) past) (b ∷ past) x.0 x.1 s says (mine (station_readings (station past) past)) (in_none b past (station_readings (station past) past) set.older set.before_it) old))
+
+  by : Parted past → Stand (b ∷ past) (stations_in (b ∷ past)) ((x.0, with_reading s x.1) ∷ es)
+  by (inl p) = let bad : is_empty (open_sets past) ≡ true = ap is_empty p.0 in absurd (false≢true (sym (open_has_set past now) ∙ bad))
+  by (inr p) =
+      let k = subst (λ (sts : List Place). Stand past sts (x ∷ es)) p.stations h in
+      subst (λ (sts : List Place). Stand (b ∷ past) sts ((x.0, with_reading s x.1) ∷ es)) (sym (same_stations b past no_set ∙ p.stations)) (head k.0, all_older_stand p.rest es b past p.older k.1)

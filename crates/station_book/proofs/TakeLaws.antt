@@ -1,0 +1,258 @@
+-- After a block without fault, what is kept stands for the blocks with it.
+use Rattle.std.proofs.Common.{◌≡◌, ℕ, suc, ◌+◌, ◌<◌, Bool, true, false, cond, not, ltb, ◌&&◌, ◌||◌, List, [], ◌∷◌, ◌++◌, length, reverse, Option, Some, None, is_none, Result, Ok, Err, refl, sym, ap, ◌∙◌, inl, inr, ◌⊎◌, subst, arith}
+use Rattle.std.proofs.lemmas.Bool.{cases_Bool, false≢true, and_parts}
+use Rattle.std.proofs.lemmas.List.{reverse-append}
+use Rattle.std.specs.Prelude.{OnOk, slice_get}
+use Rattle.gsi_word.specs.Words.{GsiWord}
+use Rattle.gsi_word.specs.Words.{GsiWord}
+use Rattle.gsi_word.specs.Names.{name_of}
+use Rattle.gsi_word.specs.declared.found.Found.{Found}
+use Rattle.gsi_word.specs.declared.found.Found.TheVariants.{Absent, One, Twice}
+use Rattle.station_book.specs.declared.fault.BookKind.{BookKind}
+use Rattle.station_book.specs.declared.fault.BookKind.TheVariants as kinds
+use Rattle.station_book.specs.declared.role.Role.{Role}
+use Rattle.station_book.specs.declared.role.Role.TheVariants as roles
+use Rattle.station_book.specs.declared.sight.Sighting.{Sighting}
+use Rattle.station_book.specs.declared.stage.Stage.{Stage}
+use Rattle.station_book.specs.declared.stage.Stage.TheVariants.{Outside, Station, BetweenSets, InSet}
+use Rattle.station_book.specs.Faults.{station_faults, when, first_of, open_sets, fault_after, name_at}
+use Rattle.station_book.specs.Kept.{then_fault}
+use Rattle.station_book.specs.Roles.{role_of, is_station, is_set_code, is_close, is_measurement}
+use Rattle.station_book.specs.Readings as said
+use Rattle.station_book.specs.Entries.{EntryValue, first_entry, with_set, with_reading}
+use Rattle.station_book.specs.Shelves.{Entries, change_last}
+use Rattle.station_book.specs.Kept as kept
+use Rattle.gsi_word.specs.Blocks.{GsiBlock}
+use Rattle.station_book.specs.Blocks.{opens_station, opens_set, closes_set, is_opening, is_sight, named, number, target, sight, is_of_face, found, is_absent, is_twice, name_found, has_two, lacks}
+use Rattle.station_book.specs.Places.{History, Place, last, station, is_empty, is_open, is_reading, stands}
+use Rattle.station_book.specs.Keeps.{IsStage, Stand, stations_in}
+use Rattle.station_book.specs.Standing.{StandsFor}
+use Rattle.station_book.proofs.RoleLaws.{station_is, set_is, close_is, sight_is}
+use Rattle.station_book.proofs.StepLaws.{is_open-opening, is_open-other, sets-station, sets-other}
+use Rattle.station_book.specs.Limits.{FaceLimits}
+use Rattle.station_book.proofs.FaceLaws.{one_face}
+use Rattle.station_book.proofs.KeptLaws.{none_stands, none_when}
+use Rattle.station_book.proofs.ReadingLaws.{Says}
+use Rattle.station_book.proofs.StandLaws.{stand_idle, stand_first, stand_further, stand_reading, open_has_set, set_is_no_reading, Parted, parted, HasOpenLast, changed_newest}
+
+-- what a role says of the tests
+pub station_as : (b : GsiBlock) (r : Role) → role_of b ≡ r → opens_station b ≡ is_station r
+station_as b r e = station_is b ∙ ap is_station e
+
+pub set_as : (b : GsiBlock) (r : Role) → role_of b ≡ r → opens_set b ≡ is_set_code r
+set_as b r e = set_is b ∙ ap is_set_code e
+
+pub close_as : (b : GsiBlock) (r : Role) → role_of b ≡ r → closes_set b ≡ is_close r
+close_as b r e = close_is b ∙ ap is_close e
+
+pub sight_as : (b : GsiBlock) (r : Role) → role_of b ≡ r → is_sight b ≡ (is_measurement r && not (lacks 21 b))
+sight_as b r e = sight_is b ∙ ap (λ q. is_measurement q && not (lacks 21 b)) e
+
+opening_as : (b : GsiBlock) (r : Role) → role_of b ≡ r → is_opening b ≡ (is_station r || (is_set_code r || is_close r))
+opening_as b r e = λ i. station_as b r e i || (set_as b r e i || close_as b r e i)
+
+same_station : (b : GsiBlock) (past : History) → opens_station b ≡ false → station (b ∷ past) ≡ station past
+same_station b past e = ap (λ v. cond v (b ∷ past) (last opens_station past)) e
+
+no_reading : (b : GsiBlock) (past : History) → is_sight b ≡ false → is_reading (b ∷ past) ≡ false
+no_reading b past e = ap (λ v. v && is_open past) e
+
+-- a block that opens and closes nothing leaves the stage
+stage_stays : (stage : Stage) (b : GsiBlock) (past : History) → opens_station b ≡ false → opens_set b ≡ false → is_opening b ≡ false → IsStage stage past → IsStage stage (b ∷ past)
+stage_stays Outside b past s n o h = (same_station b past s ∙ h.0, is_open-other b past o ∙ h.1)
+stage_stays (Station name) b past s n o h = (ap is_empty (same_station b past s) ∙ h.0, ap (λ p. name_at p) (same_station b past s) ∙ h.1, sets-other b past s n ∙ h.2, is_open-other b past o ∙ h.3)
+stage_stays BetweenSets b past s n o h = (ap is_empty (sets-other b past s n) ∙ h.0, is_open-other b past o ∙ h.1)
+stage_stays InSet b past s n o h = is_open-other b past o ∙ h
+
+-- a closing code
+stage_closes : (stage : Stage) (b : GsiBlock) (past : History) → opens_station b ≡ false → opens_set b ≡ false → is_opening b ≡ true → IsStage stage past → IsStage (kept.closed_stage stage) (b ∷ past)
+stage_closes Outside b past s n o h = (same_station b past s ∙ h.0, is_open-opening b past o ∙ n)
+stage_closes (Station name) b past s n o h = (ap is_empty (same_station b past s) ∙ h.0, ap (λ p. name_at p) (same_station b past s) ∙ h.1, sets-other b past s n ∙ h.2, is_open-opening b past o ∙ n)
+stage_closes BetweenSets b past s n o h = (ap is_empty (sets-other b past s n) ∙ h.0, is_open-opening b past o ∙ n)
+stage_closes InSet b past s n o h = (ap is_empty (sets-other b past s n) ∙ open_has_set past h, is_open-opening b past o ∙ n)
+
+pub then_second : {X : Type 0} (o p : Option X) → then_fault o p ≡ None → p ≡ None
+then_second None p e = e
+then_second (Some x) p e = cc
+
+-- where a block of code 10 has no fault it has a name
+name_found_in : (f : Found) → first_of (when (is_twice f) (kinds.WordTwice 42) ∷ when (is_absent f) kinds.StationName ∷ []) ≡ None → (name : List ℕ) × (name_found f ≡ Some name)
+name_found_in Absent e = absurd cc
+name_found_in (One w) e = (name_of w.content, refl)
+name_found_in Twice e = absurd cc
+
+name_of_station : (b : GsiBlock) → first_of (station_faults b) ≡ None → (name : List ℕ) × (named b ≡ Some name)
+unfolding has_two lacks named
+name_of_station b e = name_found_in (found 42 b) e
+
+-- the newest entry of an open station that has a set
+newest_of : (es : Entries) (past : History) → is_empty (open_sets past) ≡ false → Stand past (stations_in past) (reverse es) → (x : List ℕ × EntryValue) × (r : Entries) × (reverse es ≡ x ∷ r)
+newest_of es past some h = by (parted past) where
+  head : (st : Place) (sts : List Place) (ys : Entries) → Stand past (st ∷ sts) ys → reverse es ≡ ys → (x : List ℕ × EntryValue) × (r : Entries) × (reverse es ≡ x ∷ r)
+  head st sts [] k e = absurd k
+  head st sts (y ∷ ys) k e = (y, ys, e)
+
+  by : Parted past → (x : List ℕ × EntryValue) × (r : Entries) × (reverse es ≡ x ∷ r)
+  by (inl p) = let bad : is_empty (open_sets past) ≡ true = ap is_empty p.0 in absurd (false≢true (sym some ∙ bad))
+  by (inr p) = head (station past) p.rest (reverse es) (subst (λ (sts : List Place). Stand past sts (reverse es)) p.stations h) refl
+
+is_set_block : (b : GsiBlock) → role_of b ≡ roles.Set → (opens_station b ≡ false) × (opens_set b ≡ true)
+is_set_block b e = (station_as b roles.Set e, set_as b roles.Set e)
+
+-- a block of code 20
+pub set_taken : (es : Entries) (b : GsiBlock) (past : History) (stage : Stage) (n : Option ℕ) → role_of b ≡ roles.Set → number b ≡ n → kept.opening stage es n ≡ None → IsStage stage past
+    → Stand past (stations_in past) (reverse es) → Stand (b ∷ past) (stations_in (b ∷ past)) (reverse (kept.opened stage n es))
+set_taken es b past Outside n r e f g h = absurd cc
+set_taken es b past (Station name) None r e f g h = absurd cc
+set_taken es b past (Station name) (Some n) r e f g h =
+    let k = is_set_block b r in
+    subst (λ (ys : Entries). Stand (b ∷ past) (stations_in (b ∷ past)) ys) (sym (reverse-append es ((name, first_entry n) ∷ []))) (stand_first (reverse es) b past name n k.0 k.1 g.2 g.1 (e) h)
+set_taken es b past BetweenSets None r e f g h = absurd cc
+set_taken es b past BetweenSets (Some n) r e f g h =
+    let k = is_set_block b r in
+    let (x, ys, newest) = newest_of es past g.0 h in
+    subst (λ (zs : Entries). Stand (b ∷ past) (stations_in (b ∷ past)) zs) (sym (changed_newest (with_set n) es x ys newest))
+    (stand_further x ys b past n k.0 k.1 g.0 (e) (subst (λ (zs : Entries). Stand past (stations_in past) zs) newest h))
+set_taken es b past InSet None r e f g h = absurd cc
+set_taken es b past InSet (Some n) r e f g h =
+    let k = is_set_block b r in
+    let some = open_has_set past g in
+    let (x, ys, newest) = newest_of es past some h in
+    subst (λ (zs : Entries). Stand (b ∷ past) (stations_in (b ∷ past)) zs) (sym (changed_newest (with_set n) es x ys newest))
+    (stand_further x ys b past n k.0 k.1 some (e) (subst (λ (zs : Entries). Stand past (stations_in past) zs) newest h))
+
+-- what a measurement that was read says
+pub record WasRead (b : GsiBlock) (s : Sighting) : Type 0 where
+  pub has_direction : lacks 21 b ≡ false
+  pub clean : first_of (said.sighting_faults b) ≡ None
+  pub is : said.sighting b ≡ s
+
+read_cases : (absent : Bool) (fault : Option BookKind) (s t : Sighting) → cond absent (Ok None) (said.unless_fault fault s) ≡ Ok (Some t) → (absent ≡ false) × (fault ≡ None) × (s ≡ t)
+read_cases true fault s t e = absurd cc
+read_cases false None s t e = (refl, refl, cc)
+read_cases false (Some k) s t e = absurd cc
+
+pub was_read : (b : GsiBlock) (s : Sighting) → said.read b ≡ Ok (Some s) → WasRead b s
+was_read b s e = let p = read_cases (lacks 21 b) (first_of (said.sighting_faults b)) (said.sighting b) s e in record { has_direction = p.0; clean = p.1; is = p.2 }
+
+none_cases : (absent : Bool) (fault : Option BookKind) (s : Sighting) → ◌≡◌ {A = Result (Option Sighting) BookKind} (cond absent (Ok None) (said.unless_fault fault s)) (Ok None) → absent ≡ true
+none_cases true fault s e = refl
+none_cases false None s e = absurd cc
+none_cases false (Some k) s e = absurd cc
+
+pub first_face : (b : GsiBlock) → is_of_face false b ≡ (ltb 0 ((sight b).zenith) && ltb ((sight b).zenith) 20_000_000)
+unfolding is_of_face
+first_face b = refl
+
+pub second_face : (b : GsiBlock) → is_of_face true b ≡ (ltb 20_000_000 ((sight b).zenith) && ltb ((sight b).zenith) 40_000_000)
+unfolding is_of_face
+second_face b = refl
+
+abbrev HasFace : GsiBlock → Bool → Type 0
+HasFace b f = (is_of_face f b ≡ true) × (is_of_face (not f) b ≡ false)
+
+face_cases : (b : GsiBlock) (one two : Bool) → is_of_face false b ≡ one → is_of_face true b ≡ two → is_none (cond one (Some false) (cond two (Some true) None)) ≡ false → HasFace b (said.is_second (cond one (Some false) (cond two (Some true) None)))
+face_cases b true two e f g = (e, one_face b e)
+face_cases b false true e f g = (f, e)
+face_cases b false false e f g = absurd cc
+
+says : (b : GsiBlock) (past : History) (s : Sighting) → WasRead b s → Says s (b ∷ past)
+says b past s w =
+    let clear = none_when (is_none (said.face_of ((sight b).zenith))) kinds.FaceUnclear (none_stands (said.sighting_faults b) w.clean).1.1.1.1.1.0 in
+    let face : HasFace b (said.is_second (said.face_of ((sight b).zenith))) = face_cases b (ltb 0 ((sight b).zenith) && ltb ((sight b).zenith) 20_000_000) (ltb 20_000_000 ((sight b).zenith) && ltb ((sight b).zenith) 40_000_000) (first_face b) (second_face b) clear in
+    let here : HasFace b s.is_second = subst (λ (t : Sighting). HasFace b t.is_second) w.is face in
+    record {
+      target_is = sym (ap (λ (t : Sighting). t.target) w.is);
+      sight_is = sym (ap (λ (t : Sighting). t.sight) w.is);
+      face_is = here.0;
+      face_not = here.1;
+    }
+
+measures_nothing : (b : GsiBlock) → role_of b ≡ roles.Measurement → (opens_station b ≡ false) × (opens_set b ≡ false) × (is_opening b ≡ false)
+measures_nothing b r = (station_as b roles.Measurement r, set_as b roles.Measurement r, opening_as b roles.Measurement r)
+
+-- a measurement in an open set, by what it says
+in_set_taken : (es : Entries) (b : GsiBlock) (past : History) (o : Result (Option Sighting) BookKind) → role_of b ≡ roles.Measurement → said.read b ≡ o → is_open past ≡ true → (kind : (k : BookKind) → o ≡ Err k → ⊥)
+    → Stand past (stations_in past) (reverse es) → Stand (b ∷ past) (stations_in (b ∷ past)) (reverse (kept.with_measured o es))
+in_set_taken es b past (Err k) r e now kind h = absurd (kind k refl)
+in_set_taken es b past (Ok None) r e now kind h =
+    let absent : lacks 21 b ≡ true = none_cases (lacks 21 b) (first_of (said.sighting_faults b)) (said.sighting b) e in
+    let blind : is_sight b ≡ false = sight_as b roles.Measurement r ∙ ap not absent in
+    stand_idle (reverse es) b past (set_as b roles.Measurement r) (no_reading b past blind) h
+in_set_taken es b past (Ok (Some s)) r e now kind h =
+    let w = was_read b s e in
+    let seen : is_sight b ≡ true = sight_as b roles.Measurement r ∙ ap not w.has_direction in
+    let reading : is_reading (b ∷ past) ≡ true = (λ i. seen i && now i) in
+    let (x, ys, newest) = newest_of es past (open_has_set past now) h in
+    subst (λ (zs : Entries). Stand (b ∷ past) (stations_in (b ∷ past)) zs) (sym (changed_newest (with_reading s) es x ys newest))
+    (stand_reading x ys b past s (opening_as b roles.Measurement r) reading now (says b past s w) (subst (λ (zs : Entries). Stand past (stations_in past) zs) newest h))
+
+no_err : (limits : FaceLimits) (es : Entries) (o : Result (Option Sighting) BookKind) → kept.measured limits es o ≡ None → (k : BookKind) → o ≡ Err k → ⊥
+no_err limits es (Err j) f k e = absurd cc
+no_err limits es (Ok o) f k e = cc
+
+closed_no_reading : (b : GsiBlock) (past : History) → is_open past ≡ false → is_reading (b ∷ past) ≡ false
+closed_no_reading b past e = by (is_sight b) where
+  by : (v : Bool) → (v && is_open past) ≡ false
+  by true = e
+  by false = refl
+
+-- a measurement
+pub measurement_taken : (limits : FaceLimits) (es : Entries) (stage : Stage) (b : GsiBlock) (past : History) → role_of b ≡ roles.Measurement → cond (kept.is_open stage) (kept.measured limits es (said.read b)) None ≡ None → IsStage stage past
+    → Stand past (stations_in past) (reverse es) → Stand (b ∷ past) (stations_in (b ∷ past)) (reverse (cond (kept.is_open stage) (kept.with_measured (said.read b) es) es))
+measurement_taken limits es Outside b past r f g h = stand_idle (reverse es) b past (set_as b roles.Measurement r) (closed_no_reading b past g.1) h
+measurement_taken limits es (Station name) b past r f g h = stand_idle (reverse es) b past (set_as b roles.Measurement r) (closed_no_reading b past g.3) h
+measurement_taken limits es BetweenSets b past r f g h = stand_idle (reverse es) b past (set_as b roles.Measurement r) (closed_no_reading b past g.1) h
+measurement_taken limits es InSet b past r f g h = in_set_taken es b past (said.read b) r refl g (no_err limits es (said.read b) f) h
+
+-- THE LAW: after a block without fault, what is kept stands for the blocks with it
+pub taken_stands : (limits : FaceLimits) (taken : ℕ) (stage : Stage) (es : Entries) (b : GsiBlock) (past : History) (r : Role) → role_of b ≡ r
+    → kept.fault_as r (record { limits = limits; taken = taken; stage = stage; entries = es }) b ≡ None → fault_after limits past b ≡ None
+    → StandsFor limits (record { limits = limits; taken = taken; stage = stage; entries = es }) past → StandsFor limits (kept.after_as r b (record { limits = limits; taken = taken + 1; stage = stage; entries = es })) (b ∷ past)
+taken_stands limits taken stage es b past roles.Station r f clean h =
+    let (name, is) = name_of_station b (then_second (kept.ending stage es) (first_of (station_faults b)) f) in
+    let s = station_as b roles.Station r in
+    let here : station (b ∷ past) ≡ b ∷ past = ap (λ v. cond v (b ∷ past) (last opens_station past)) s in
+    record {
+      limited = refl;
+      clean = (clean, h.clean);
+      counted = (let t = h.counted in omega (arith, t));
+      stage = subst (λ (o : Option (List ℕ)). IsStage (kept.at_station o stage) (b ∷ past)) (sym is)
+          (ap is_empty here, ap (λ p. name_at p) here ∙ is, sets-station b past s, is_open-opening b past (opening_as b roles.Station r) ∙ set_as b roles.Station r);
+      entries = stand_idle (reverse es) b past (set_as b roles.Station r) (no_reading b past (sight_as b roles.Station r)) h.entries;
+    }
+taken_stands limits taken stage es b past roles.Set r f clean h = record {
+  limited = refl;
+  clean = (clean, h.clean);
+  counted = (let t = h.counted in omega (arith, t));
+  stage = is_open-opening b past (opening_as b roles.Set r) ∙ set_as b roles.Set r;
+  entries = set_taken es b past stage (number b) r refl
+      (then_second (when (has_two 42 b) (kinds.WordTwice 42)) (kept.opening stage es (number b)) (then_second (kept.ending stage es) _ f)) h.stage h.entries;
+}
+taken_stands limits taken stage es b past roles.Close r f clean h = record {
+  limited = refl;
+  clean = (clean, h.clean);
+  counted = (let t = h.counted in omega (arith, t));
+  stage = stage_closes stage b past (station_as b roles.Close r) (set_as b roles.Close r) (opening_as b roles.Close r) h.stage;
+  entries = stand_idle (reverse es) b past (set_as b roles.Close r) (no_reading b past (sight_as b roles.Close r)) h.entries;
+}
+taken_stands limits taken stage es b past roles.Measurement r f clean h =
+    let m = measures_nothing b r in
+    record {
+      limited = refl;
+      clean = (clean, h.clean);
+      counted = (let t = h.counted in omega (arith, t));
+      stage = stage_stays stage b past m.0 m.1 m.2 h.stage;
+      entries = measurement_taken limits es stage b past r f h.stage h.entries;
+    }
+taken_stands limits taken stage es b past roles.Other r f clean h = record {
+  limited = refl;
+  clean = (clean, h.clean);
+  counted = (let t = h.counted in omega (arith, t));
+  stage = stage_stays stage b past (station_as b roles.Other r) (set_as b roles.Other r) (opening_as b roles.Other r) h.stage;
+  entries = stand_idle (reverse es) b past (set_as b roles.Other r) (no_reading b past (sight_as b roles.Other r)) h.entries;
+}
+
+-- the same book under its own limits
+pub at_own : (limits : FaceLimits) (k : kept.Kept) (h : History) → StandsFor limits k h → StandsFor k.limits k h
+at_own limits k h s = subst (λ (l : FaceLimits). StandsFor l k h) (sym s.limited) s

@@ -1,0 +1,79 @@
+-- What a book keeps of a station that has sets.
+use Rattle.std.specs.Prelude.{◌≡◌, ℕ, ◌+◌, ◌-◌, ◌≤◌, Bool, nat_le, List, [], ◌∷◌, ◌++◌, length, Option, Some, None, All, AllPairs, ◌≢◌, position, replicate, slice_set}
+use Rattle.std.specs.Str.{bytes_eq}
+use Rattle.adjust_kernel.specs.declared.obs.Obs.{Obs}
+use Rattle.adjust_kernel.specs.declared.limits.TheConstants.{MOST_SETS, MOST_TARGETS}
+use Rattle.station_book.specs.declared.fault.BookKind.{BookKind}
+use Rattle.station_book.specs.declared.fault.BookKind.TheVariants as kinds
+use Rattle.station_book.specs.Limits.{FaceLimits}
+use Rattle.station_book.specs.declared.faces.Faces.{Faces}
+use Rattle.station_book.specs.declared.sight.Sighting.{Sighting}
+use Rattle.station_book.specs.declared.slot.Slot.{Slot}
+use Rattle.station_book.specs.Faults.{when, first_of}
+use Rattle.adjust_kernel.specs.Names.{IsName}
+use Rattle.adjust_kernel.specs.Sheets.{IsSetNumber}
+use Rattle.station_book.specs.Sound.{AreSoFar}
+use Rattle.station_book.specs.Slots.{slot_at, with_side, empty_slot, slot_faults, end_faults, IsKeptSlot, obs_of, faces_of}
+
+-- the names of its targets, their readings in its last set, the numbers of its sets, and what all sets before the last gave
+pub record EntryValue : Type 0 where
+  pub targets : List (List ℕ)
+  pub slots : List Slot
+  pub sets : List ℕ
+  pub obs : List Obs
+  pub faces : List Faces
+
+-- a station with its first set
+abbrev pub first_entry : ℕ → EntryValue
+first_entry n = record { targets = []; slots = []; sets = n ∷ []; obs = []; faces = [] }
+
+-- what all its sets gave
+abbrev pub closed : EntryValue → EntryValue
+closed e = record e { obs = e.obs ++ obs_of (length e.sets - 1) e.slots; faces = e.faces ++ faces_of e.slots }
+
+-- the station with one more set
+abbrev pub with_set : ℕ → EntryValue → EntryValue
+with_set n e = record {
+  targets = e.targets;
+  slots = replicate (length e.slots) empty_slot;
+  sets = e.sets ++ n ∷ [];
+  obs = e.obs ++ obs_of (length e.sets - 1) e.slots;
+  faces = e.faces ++ faces_of e.slots;
+}
+
+abbrev pub place_of : List ℕ → List (List ℕ) → Option ℕ
+place_of name targets = position (λ t. bytes_eq t name) targets
+
+abbrev pub reading_faults_at : FaceLimits → EntryValue → Sighting → Option ℕ → List (Option BookKind)
+reading_faults_at limits e s None = when (nat_le MOST_TARGETS (length e.targets)) kinds.TooManyTargets ∷ []
+reading_faults_at limits e s (Some i) = slot_faults limits (slot_at e.slots i) s
+
+-- the faults of a reading in the last set
+abbrev pub reading_faults : FaceLimits → EntryValue → Sighting → List (Option BookKind)
+reading_faults limits e s = reading_faults_at limits e s (place_of s.target e.targets)
+
+abbrev pub with_reading_at : Sighting → EntryValue → Option ℕ → EntryValue
+with_reading_at s e None = record e { targets = e.targets ++ s.target ∷ []; slots = e.slots ++ with_side s.is_second s.sight empty_slot ∷ [] }
+with_reading_at s e (Some i) = record e { slots = slice_set e.slots i (with_side s.is_second s.sight (slot_at e.slots i)) }
+
+-- the station with one more reading in the last set
+abbrev pub with_reading : Sighting → EntryValue → EntryValue
+with_reading s e = with_reading_at s e (place_of s.target e.targets)
+
+-- what always holds of the parts
+pub record IsEntry (e : EntryValue) : Type 0 where
+  pub same_length : length e.slots ≡ length e.targets
+  pub paired : length e.faces ≡ length e.obs
+  pub few_targets : length e.targets ≤ MOST_TARGETS
+  pub some_set : 1 ≤ length e.sets
+  pub few_sets : length e.sets ≤ MOST_SETS
+  pub angles : All IsKeptSlot e.slots
+  pub names : All IsName e.targets
+  pub different : AllPairs (λ a b. a ≢ b) e.targets
+  pub numbers : All IsSetNumber e.sets
+  pub different_sets : AllPairs (λ a b. a ≢ b) e.sets
+  pub sound : AreSoFar (length e.sets - 1) e.slots e.obs
+
+-- The last set may end here.
+abbrev pub MayEnd : EntryValue → Type 0
+MayEnd e = first_of (end_faults e.slots) ≡ None

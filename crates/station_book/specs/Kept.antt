@@ -1,0 +1,145 @@
+-- What a book keeps, and what each kind of block does to it.
+use Rattle.std.specs.Prelude.{ℕ, ◌+◌, ◌<◌, nat_le, Bool, true, false, ◌&&◌, not, if◌then◌else◌, Result, Ok, Err, List, [], ◌∷◌, ◌++◌, length, Option, Some, None}
+use Rattle.station_book.specs.declared.fault.BookKind.{BookKind}
+use Rattle.station_book.specs.declared.fault.BookKind.TheVariants as kinds
+use Rattle.station_book.specs.Limits.{FaceLimits}
+use Rattle.station_book.specs.declared.sight.Sighting.{Sighting}
+use Rattle.station_book.specs.declared.stage.Stage.{Stage}
+use Rattle.station_book.specs.declared.stage.Stage.TheVariants.{Outside, Station, BetweenSets, InSet}
+use Rattle.station_book.specs.Faults.{when, first_of, station_faults}
+use Rattle.gsi_word.specs.Blocks.{GsiBlock}
+use Rattle.station_book.specs.declared.role.Role.{Role}
+use Rattle.station_book.specs.declared.role.Role.TheVariants.{Station as AsStation, Set, Close, Measurement, Other}
+use Rattle.station_book.specs.Roles.{role_of}
+use Rattle.station_book.specs.Blocks.{has_two, lacks, named, number}
+use Rattle.station_book.specs.Readings.{read}
+use Rattle.station_book.specs.Slots.{end_faults}
+use Rattle.station_book.specs.Entries.{first_entry, with_set, reading_faults, with_reading}
+use Rattle.station_book.specs.Shelves.{Entries, last_of, front, AllMayEnd, change_last, first_set_faults, more_set_faults}
+
+-- what a book keeps: its limits, how many blocks it took, where it stands, and its stations with sets
+pub record Kept : Type 0 where
+  pub limits : FaceLimits
+  pub taken : ℕ
+  pub stage : Stage
+  pub entries : Entries
+
+-- the first of two that stands
+abbrev pub then_fault : {X : Type 0} → Option X → Option X → Option X
+then_fault None o = o
+then_fault (Some x) o = Some x
+
+-- a set is open
+abbrev pub is_open : Stage → Bool
+is_open Outside = false
+is_open (Station name) = false
+is_open BetweenSets = false
+is_open InSet = true
+
+-- the fault of the end of a set, where one is open
+abbrev pub ending : Stage → Entries → Option BookKind
+ending Outside es = None
+ending (Station name) es = None
+ending BetweenSets es = None
+ending InSet es = first_of (end_faults (last_of es).slots)
+
+-- the fault of a set that opens here
+abbrev pub opening : Stage → Entries → Option ℕ → Option BookKind
+opening Outside es n = Some kinds.SetOutside
+opening (Station name) es None = Some kinds.SetNumber
+opening (Station name) es (Some n) = first_of (first_set_faults name es)
+opening BetweenSets es None = Some kinds.SetNumber
+opening BetweenSets es (Some n) = first_of (more_set_faults (last_of es) n)
+opening InSet es None = Some kinds.SetNumber
+opening InSet es (Some n) = first_of (more_set_faults (last_of es) n)
+
+-- the stations after a set of this number
+abbrev pub opened : Stage → Option ℕ → Entries → Entries
+opened stage None es = es
+opened Outside (Some n) es = es
+opened (Station name) (Some n) es = es ++ (name, first_entry n) ∷ []
+opened BetweenSets (Some n) es = change_last (with_set n) es
+opened InSet (Some n) es = change_last (with_set n) es
+
+-- after a block of code 10 with this name
+abbrev pub at_station : Option (List ℕ) → Stage → Stage
+at_station None stage = stage
+at_station (Some name) stage = Station name
+
+-- after a closing code
+abbrev pub closed_stage : Stage → Stage
+closed_stage Outside = Outside
+closed_stage (Station name) = Station name
+closed_stage BetweenSets = BetweenSets
+closed_stage InSet = BetweenSets
+
+-- the fault of a measurement that says this, in an open set
+abbrev pub measured : FaceLimits → Entries → Result (Option Sighting) BookKind → Option BookKind
+measured limits es (Err k) = Some k
+measured limits es (Ok None) = None
+measured limits es (Ok (Some s)) = first_of (reading_faults limits (last_of es) s)
+
+-- the stations after a measurement that says this, in an open set
+abbrev pub with_measured : Result (Option Sighting) BookKind → Entries → Entries
+with_measured (Err k) es = es
+with_measured (Ok None) es = es
+with_measured (Ok (Some s)) es = change_last (with_reading s) es
+
+-- the fault of a block with this role
+abbrev pub fault_as : Role → Kept → GsiBlock → Option BookKind
+fault_as AsStation k b = then_fault (ending k.stage k.entries) (first_of (station_faults b))
+fault_as Set k b = then_fault (ending k.stage k.entries) (then_fault (when (has_two 42 b) (kinds.WordTwice 42)) (opening k.stage k.entries (number b)))
+fault_as Close k b = ending k.stage k.entries
+fault_as Measurement k b = if is_open k.stage then measured k.limits k.entries (read b) else None
+fault_as Other k b = None
+
+-- the fault of a block
+abbrev pub fault_of : Kept → GsiBlock → Option BookKind
+fault_of k b = fault_as (role_of b) k b
+
+-- a measurement that is a reading here
+abbrev pub is_read : Kept → GsiBlock → Bool
+is_read k b = is_open k.stage && not (lacks 21 b)
+
+-- whether a book may need memory for a block of this role: a set, or a reading
+abbrev pub grows_as : Role → Kept → GsiBlock → Bool
+grows_as AsStation k b = false
+grows_as Set k b = true
+grows_as Close k b = false
+grows_as Measurement k b = is_read k b
+grows_as Other k b = false
+
+-- whether a book may need memory for a block
+abbrev pub grows : Kept → GsiBlock → Bool
+grows k b = grows_as (role_of b) k b
+
+-- what is kept after a block with this role
+abbrev pub after_as : Role → GsiBlock → Kept → Kept
+after_as AsStation b k = record k { stage = at_station (named b) k.stage }
+after_as Set b k = record k { stage = InSet; entries = opened k.stage (number b) k.entries }
+after_as Close b k = record k { stage = closed_stage k.stage }
+after_as Measurement b k = record k { entries = if is_open k.stage then with_measured (read b) k.entries else k.entries }
+after_as Other b k = k
+
+-- what is kept after a block
+abbrev pub after : GsiBlock → Kept → Kept
+after b k = after_as (role_of b) b (record k { taken = k.taken + 1 })
+
+-- Where a station has a set, the last entry is its own.
+abbrev pub HasEntry : Stage → ℕ → Type 0
+HasEntry Outside n = Unit {0}
+HasEntry (Station name) n = Unit {0}
+HasEntry BetweenSets n = 0 < n
+HasEntry InSet n = 0 < n
+
+-- the stations of which no set is open
+abbrev pub resting : Stage → Entries → Entries
+resting Outside es = es
+resting (Station name) es = es
+resting BetweenSets es = es
+resting InSet es = front es
+
+-- what always holds of a book's stage and stations
+pub record IsBook (stage : Stage) (es : Entries) : Type 0 where
+  pub has_entry : HasEntry stage (length es)
+  pub rest : AllMayEnd (resting stage es)

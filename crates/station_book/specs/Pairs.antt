@@ -1,0 +1,19 @@
+-- What the two readings of a target give, as the book computes it.
+use Rattle.std.specs.Prelude.{ℕ, ◌+◌, ◌-◌, ◌*◌, ◌%◌, ℤ, pos, ◌-ℤ◌}
+use Rattle.adjust_kernel.specs.declared.limits.TheConstants.{TURN}
+use Rattle.station_book.specs.declared.bounds.TheConstants.{CIRCLE, HALF_CIRCLE}
+use Rattle.station_book.specs.Sights.{Sight}
+
+-- 2c and half a circle, from 0 up to a circle
+abbrev pub half_turned : Sight → Sight → ℕ
+half_turned first second = ((second.hz + CIRCLE) - first.hz) % CIRCLE
+
+abbrev pub two_c : Sight → Sight → ℤ
+two_c first second = pos (half_turned first second) -ℤ pos HALF_CIRCLE
+
+abbrev pub two_i : Sight → Sight → ℤ
+two_i first second = pos (first.zenith + second.zenith) -ℤ pos CIRCLE
+
+-- the two-face direction, in half units
+abbrev pub direction : Sight → Sight → ℕ
+direction first second = ((2 * first.hz + half_turned first second) + (CIRCLE + HALF_CIRCLE)) % TURN

@@ -1,0 +1,88 @@
+-- The readings of a set by target, as a book keeps them.
+use Rattle.std.specs.Prelude.{ℕ, Bool, true, false, ◌&&◌, ◌||◌, not, is_some, is_none, List, [], ◌∷◌, Option, Some, None, IfSome, if◌then◌else◌, filter_map, slice_index_or}
+use Rattle.std.specs.List.{list_any, list_all, enumerate_from}
+use Rattle.adjust_kernel.specs.declared.obs.Obs.{Obs}
+use Rattle.station_book.specs.declared.fault.BookKind.{BookKind}
+use Rattle.station_book.specs.declared.fault.BookKind.TheVariants as kinds
+use Rattle.station_book.specs.Limits.{FaceLimits}
+use Rattle.station_book.specs.declared.faces.Faces.{Faces}
+use Rattle.station_book.specs.Sights.{Sight, AreOnCircle}
+use Rattle.station_book.specs.declared.sight.Sighting.{Sighting}
+use Rattle.station_book.specs.declared.slot.Slot.{Slot}
+use Rattle.station_book.specs.Faults.{when, first_of, has_no_two_c, has_no_two_i}
+use Rattle.station_book.specs.Pairs.{two_c, two_i, direction}
+
+-- the reading of face I, or with `true` of face II
+abbrev pub side : Bool → Slot → Option Sight
+side false s = s.first
+side true s = s.second
+
+abbrev pub with_side : Bool → Sight → Slot → Slot
+with_side false v s = record s { first = Some v }
+with_side true v s = record s { second = Some v }
+
+abbrev pub empty_slot : Slot
+empty_slot = record { first = None; second = None }
+
+-- whether with the reading of the other face the difference is beyond its limit
+abbrev pub is_apart : (Sight → Sight → Bool) → Sighting → Option Sight → Bool
+is_apart beyond s None = false
+is_apart beyond s (Some other) = if s.is_second then beyond other s.sight else beyond s.sight other
+
+-- the faults of a reading of a target that has this slot
+abbrev pub slot_faults : FaceLimits → Slot → Sighting → List (Option BookKind)
+slot_faults limits slot s =
+    when (is_some (side s.is_second slot)) kinds.FaceTwice
+    ∷ when (is_apart (has_no_two_c limits.two_c) s (side (not s.is_second) slot)) kinds.TwoC
+    ∷ when (is_apart (has_no_two_i limits.two_i) s (side (not s.is_second) slot)) kinds.TwoI
+    ∷ []
+
+-- the fault of two readings
+abbrev pub pair_fault : FaceLimits → Sight → Sight → Option BookKind
+pair_fault limits a b = first_of (when (has_no_two_c limits.two_c a b) kinds.TwoC ∷ when (has_no_two_i limits.two_i a b) kinds.TwoI ∷ [])
+
+abbrev pub is_unread : Slot → Bool
+is_unread s = is_none s.first && is_none s.second
+
+-- one face alone
+abbrev pub is_single : Slot → Bool
+is_single s = (is_some s.first && is_none s.second) || (is_none s.first && is_some s.second)
+
+-- the faults of a set that ends
+abbrev pub end_faults : List Slot → List (Option BookKind)
+end_faults slots =
+    when (list_all is_unread slots) kinds.EmptySet
+    ∷ when (list_any is_single slots) kinds.OneFace
+    ∷ []
+
+-- its readings are on the circle
+abbrev pub IsKeptSlot : Slot → Type 0
+IsKeptSlot s = (IfSome s.first AreOnCircle) × (IfSome s.second AreOnCircle)
+
+-- the observation of two readings
+abbrev pub joined : ℕ → ℕ → Option Sight → Option Sight → Option Obs
+joined set target (Some a) (Some b) = Some (record { set = set; target = target; value = direction a b })
+joined set target (Some a) None = None
+joined set target None b = None
+
+abbrev pub obs_at : ℕ → ℕ × Slot → Option Obs
+obs_at set p = joined set p.0 p.1.first p.1.second
+
+-- the observations of a set, in the order of the targets
+abbrev pub obs_of : ℕ → List Slot → List Obs
+obs_of set slots = filter_map (obs_at set) (enumerate_from 0 slots)
+
+abbrev pub compared : Option Sight → Option Sight → Option Faces
+compared (Some a) (Some b) = Some (record { two_c = two_c a b; two_i = two_i a b })
+compared (Some a) None = None
+compared None b = None
+
+abbrev pub faces_at : Slot → Option Faces
+faces_at s = compared s.first s.second
+
+-- the face differences of a set, in the order of the targets
+abbrev pub faces_of : List Slot → List Faces
+faces_of slots = filter_map faces_at slots
+
+abbrev pub slot_at : List Slot → ℕ → Slot
+slot_at slots i = slice_index_or slots i empty_slot

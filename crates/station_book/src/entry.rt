@@ -1,0 +1,207 @@
+//! A station that has sets.
+
+ghost use Rattle.std.specs.Prelude.{◌≡◌, ◌<◌, ◌≤◌, None, Some, length, IfOk, IfErr, OnOk, OnErr, IfSome, IfNone, false, nat_le, ◌==◌, [], ◌∷◌};
+ghost use Rattle.std.specs.List.{list_any};
+ghost use Rattle.adjust_kernel.specs.Sheets.{IsSetNumber};
+ghost use Rattle.station_book.specs.Shelves.{survey_of, more_set_faults};
+ghost use Rattle.std.specs.Str.{bytes_eq};
+ghost use Rattle.station_book.specs.Faults.{first_of, when};
+ghost use Rattle.station_book.specs.Slots.{end_faults};
+ghost use Rattle.station_book.specs.Sights.{AreOnCircle};
+ghost use Rattle.station_book.specs.Entries.{MayEnd, first_entry, with_set, place_of, reading_faults, with_reading, with_reading_at};
+ghost use Rattle.station_book.specs.declared.fault.BookKind.TheVariants as kinds;
+ghost use Rattle.station_book.specs.Refusals.{ExplainsRefusal};
+
+use crate::fault::{BookKind, Refusal};
+use crate::limits::Limits;
+use crate::faces::Faces;
+use crate::sight::Sighting;
+use crate::slot::{Slot, empty_all, empty_slot, end_fault, push_pairs, slot_fault, with_side};
+use crate::surveyed::Surveyed;
+use adjust_kernel::{MOST_SETS, MOST_TARGETS, Name, Obs, Station};
+use std::alloc::{AllocError, Global};
+use std::marker::Model;
+
+/// What a book keeps of a station that has sets. The readings of its last set are kept by target; those of all earlier
+/// sets have become observations.
+#[derive(Drop)]
+pub(crate) struct Entry {
+    targets: Vec<Name>,
+    slots: Vec<Slot>,
+    sets: Vec<u16>,
+    obs: Vec<Obs>,
+    faces: Vec<Faces>,
+}
+
+impl Model for Entry {
+    ghost use Rattle.station_book.specs.Entries.{EntryValue, IsEntry};
+
+    ghost Value = { EntryValue };
+
+    ghost view = { λ e. record { targets = e.targets.items; slots = e.slots.items; sets = e.sets.items; obs = e.obs.items; faces = e.faces.items } };
+
+    ghost invariant = { λ e. IsEntry (record { targets = e.targets.items; slots = e.slots.items; sets = e.sets.items; obs = e.obs.items; faces = e.faces.items }) };
+}
+
+/// Whether two names are one.
+fn is_same(a: &Name, b: &Name) -> bool
+    ensures { result ≡ bytes_eq a.now b.now }
+{
+    a.bytes() == b.bytes()
+}
+
+// The place of the target of this name.
+fn position_of(targets: &[Name], name: &Name) -> Option<usize>
+    ensures { result ≡ place_of name.now targets.now }
+{
+    targets.iter().position(|target| is_same(target, name))
+}
+
+/// The place of the target of this name.
+fn place_of(targets: &[Name], name: &Name) -> Option<usize>
+    ensures place { result ≡ place_of name.now targets.now }
+    ensures inside { IfSome result (λ i. i < length targets.now) }
+    ensures absent { IfNone result (list_any (λ t. bytes_eq t name.now) targets.now ≡ false) }
+{
+    let place = position_of(targets, name);
+    place
+}
+
+impl Entry {
+    /// The station of a first set.
+    pub(crate) fn first(alloc: Global, number: u16) -> Result<Entry, AllocError>
+        requires { IsSetNumber number }
+        ensures { IfOk result (λ e. e ≡ first_entry number) }
+    {
+        let mut sets = Vec::new(alloc);
+        match sets.push(number) {
+            Ok(()) => Ok(Entry {
+                targets: Vec::new(alloc),
+                slots: Vec::new(alloc),
+                sets,
+                obs: Vec::new(alloc),
+                faces: Vec::new(alloc),
+            }),
+            Err(_) => Err(AllocError),
+        }
+    }
+
+    /// The fault of the last set, if it ends here.
+    pub(crate) fn end_fault(&self) -> Option<BookKind>
+        ensures { result ≡ first_of (end_faults self.now.slots) }
+    {
+        end_fault(&self.slots)
+    }
+
+    /// The fault of a further set of this number, if it has one.
+    pub(crate) fn set_fault(&self, number: u16) -> Option<BookKind>
+        ensures { result ≡ first_of (more_set_faults self.now number) }
+    {
+        if self.sets.contains(&number) {
+            return Some(BookKind::SetTwice);
+        }
+        if self.sets.len() >= MOST_SETS {
+            return Some(BookKind::TooManySets);
+        }
+        None
+    }
+
+    /// Adds a set.
+    pub(crate) fn add_set(&mut self, number: u16) -> Result<(), AllocError>
+        requires room { length self.old.sets < 40 }
+        requires may_end { MayEnd self.old }
+        requires new { list_any (λ m. m == number) self.old.sets ≡ false }
+        requires number { IsSetNumber number }
+        ensures ok { OnOk result (self.new ≡ with_set number self.old) }
+        ensures err { OnErr result (self.new ≡ self.old) }
+    {
+        if self.sets.reserve(1).is_err() {
+            return Err(AllocError);
+        }
+        let last = self.sets.len() as u32 - 1;
+        match push_pairs(last, &self.slots, &mut self.obs, &mut self.faces) {
+            Ok(()) => {}
+            Err(_) => return Err(AllocError),
+        }
+        match self.sets.push(number) {
+            Ok(()) => {}
+            Err(_) => unreachable!(),
+        }
+        empty_all(&mut self.slots);
+        Ok(())
+    }
+
+    /// Takes a reading of the last set.
+    pub(crate) fn take_reading(&mut self, limits: Limits, reading: Sighting) -> Result<(), Refusal>
+        requires { AreOnCircle reading.sight }
+        ensures clean { OnOk result (first_of (reading_faults limits self.old reading) ≡ None) }
+        ensures ok { OnOk result (self.new ≡ with_reading reading self.old) }
+        ensures fault { IfErr result (ExplainsRefusal (first_of (reading_faults limits self.old reading))) }
+        ensures err { OnErr result (self.new ≡ self.old) }
+    {
+        match place_of(&self.targets, &reading.target) {
+            Some(place) => {
+                let slot = self.slots[place];
+                match slot_fault(limits, slot, reading) {
+                    Some(kind) => Err(Refusal::Kind(kind)),
+                    None => {
+                        self.slots[place] = with_side(slot, reading.is_second, reading.sight);
+                        Ok(())
+                    }
+                }
+            }
+            None => self.add_target(reading),
+        }
+    }
+
+    // Takes the first reading of a target.
+    fn add_target(&mut self, reading: Sighting) -> Result<(), Refusal>
+        requires new { list_any (λ t. bytes_eq t reading.target) self.old.targets ≡ false }
+        requires angle { AreOnCircle reading.sight }
+        ensures clean { OnOk result (length self.old.targets < 100) }
+        ensures ok { OnOk result (self.new ≡ with_reading_at reading self.old None) }
+        ensures fault { IfErr result (ExplainsRefusal (first_of (when (nat_le 100 (length self.old.targets)) kinds.TooManyTargets ∷ []))) }
+        ensures err { OnErr result (self.new ≡ self.old) }
+    {
+        if self.targets.len() >= MOST_TARGETS {
+            return Err(Refusal::Kind(BookKind::TooManyTargets));
+        }
+        if self.targets.reserve(1).is_err() {
+            return Err(Refusal::Memory);
+        }
+        let _name = reading.target.bytes();
+        let slot = with_side(empty_slot(), reading.is_second, reading.sight);
+        match self.slots.push(slot) {
+            Ok(()) => {}
+            Err(_) => return Err(Refusal::Memory),
+        }
+        match self.targets.push(reading.target) {
+            Ok(()) => Ok(()),
+            Err(_) => unreachable!(),
+        }
+    }
+
+    /// The station with the observations of all its sets.
+    pub(crate) fn finish(self, name: Name) -> Result<Surveyed, AllocError>
+        requires { MayEnd self }
+        ensures { IfOk result (λ s. s ≡ survey_of (name, self)) }
+    {
+        let _name = name.bytes();
+        let Entry {
+            targets,
+            slots,
+            sets,
+            mut obs,
+            mut faces,
+        } = self;
+        let last = sets.len() as u32 - 1;
+        match push_pairs(last, &slots, &mut obs, &mut faces) {
+            Ok(()) => {}
+            Err(_) => return Err(AllocError),
+        }
+        match Station::new(name, targets, sets, obs) {
+            Some(station) => Ok(Surveyed { station, faces }),
+            None => unreachable!(),
+        }
+    }
+}

@@ -1,0 +1,152 @@
+//! What a block says.
+
+ghost use Rattle.std.specs.Prelude.{◌≡◌, ◌<◌, None, Some, IfOk, IfErr, IfSome, OnOk, ◌≤◌, length};
+ghost use Rattle.gsi_word.specs.BlockViews.{block_of};
+ghost use Rattle.adjust_kernel.specs.Sheets.{IsSetNumber};
+ghost use Rattle.gsi_word.specs.Names.{name_of};
+ghost use Rattle.station_book.specs.Faults.{first_of, station_faults};
+ghost use Rattle.station_book.specs.Blocks.{has_two, named, number, number_of_name, target};
+ghost use Rattle.station_book.specs.Readings.{face_of, read};
+ghost use Rattle.station_book.specs.Sights.{AreOnCircle};
+
+use crate::bounds::{CIRCLE, HALF_CIRCLE};
+use crate::fault::BookKind;
+use crate::sight::{Sight, Sighting};
+use adjust_kernel::{LARGEST_SET_NUMBER, Name};
+use gsi_word::{Block, Found, Word, decimal_number};
+
+/// The index of a horizontal direction.
+const DIRECTION: u8 = 21;
+
+/// The index of a zenith angle.
+const ZENITH: u8 = 22;
+
+/// The index of the first information behind a code.
+const INFORMATION: u8 = 42;
+
+/// The name that a word holds.
+fn name_in(word: &Word<'_>) -> Name
+    ensures { result ≡ name_of word.now.content }
+{
+    match Name::new(word.name()) {
+        Some(name) => name,
+        None => unreachable!(),
+    }
+}
+
+/// The name of the station that a block of code 10 opens.
+#[tactic(auto, unfolding(crate::specs::Blocks::named, crate::specs::Blocks::has_two, crate::specs::Blocks::lacks))]
+pub(crate) fn station_name(block: &Block<'_>) -> Result<Name, BookKind>
+    ensures ok { IfOk result (λ name. named (block_of block.now) ≡ Some name) }
+    ensures clean { OnOk result (first_of (station_faults (block_of block.now)) ≡ None) }
+    ensures fault { IfErr result (λ k. first_of (station_faults (block_of block.now)) ≡ Some k) }
+{
+    match block.find(INFORMATION) {
+        Found::Twice => Err(BookKind::WordTwice(INFORMATION)),
+        Found::Absent => Err(BookKind::StationName),
+        Found::One(word) => Ok(name_in(&word)),
+    }
+}
+
+/// The number that a name writes, 1 to 9999.
+fn number_of(name: &[u8]) -> Option<u16>
+    requires { length name.now ≤ 16 }
+    ensures value { result ≡ number_of_name (Some name.now) }
+    ensures valid { IfSome result IsSetNumber }
+{
+    match decimal_number(name) {
+        Some(n) if 1 <= n && n <= LARGEST_SET_NUMBER as u64 => Some(n as u16),
+        _ => None,
+    }
+}
+
+/// The number of a set, if the block of code 20 has one, and whether it has two words for it.
+#[derive(Clone, Copy, Debug, Drop)]
+pub(crate) struct SetBlock {
+    pub twice: bool,
+    pub number: Option<u16>,
+}
+
+/// What a block of code 20 says.
+#[tactic(auto, unfolding(crate::specs::Blocks::number, crate::specs::Blocks::named, crate::specs::Blocks::has_two))]
+pub(crate) fn set_block(block: &Block<'_>) -> SetBlock
+    ensures twice { result.twice ≡ has_two 42 (block_of block.now) }
+    ensures number { result.number ≡ number (block_of block.now) }
+    ensures valid { IfSome result.number IsSetNumber }
+{
+    match block.find(INFORMATION) {
+        Found::Twice => SetBlock {
+            twice: true,
+            number: None,
+        },
+        Found::Absent => SetBlock {
+            twice: false,
+            number: None,
+        },
+        Found::One(word) => SetBlock {
+            twice: false,
+            number: number_of(word.name()),
+        },
+    }
+}
+
+/// The face of a reading with this zenith angle.
+fn face_of(zenith: u32) -> Option<bool>
+    ensures { result ≡ face_of zenith }
+{
+    if 0 < zenith && zenith < HALF_CIRCLE {
+        return Some(false);
+    }
+    if HALF_CIRCLE < zenith && zenith < CIRCLE {
+        return Some(true);
+    }
+    None
+}
+
+/// The target of a reading.
+#[tactic(auto, unfolding(crate::specs::Blocks::target))]
+fn target(block: &Block<'_>) -> Name
+    requires { 0 < length (block_of block.now).words }
+    ensures { result ≡ target (block_of block.now) }
+{
+    match block.word(0) {
+        Some(word) => name_in(&word),
+        None => unreachable!(),
+    }
+}
+
+/// What a measurement block says: nothing where it has no direction.
+#[tactic(auto, unfolding(crate::specs::Blocks::has_two, crate::specs::Blocks::lacks, crate::specs::Blocks::angle_fault, crate::specs::Blocks::sight, crate::specs::Blocks::target))]
+pub(crate) fn read(block: &Block<'_>) -> Result<Option<Sighting>, BookKind>
+    ensures value { result ≡ read (block_of block.now) }
+    ensures angles { IfOk result (λ o. IfSome o (λ s. AreOnCircle s.sight)) }
+{
+    let direction = block.find(DIRECTION);
+    let direction = match direction {
+        Found::Absent => return Ok(None),
+        Found::Twice => return Err(BookKind::WordTwice(DIRECTION)),
+        Found::One(word) => word,
+    };
+    let zenith = match block.find(ZENITH) {
+        Found::Absent => return Err(BookKind::NoZenith),
+        Found::Twice => return Err(BookKind::WordTwice(ZENITH)),
+        Found::One(word) => word,
+    };
+    let hz = match direction.angle() {
+        Ok(units) => units,
+        Err(fault) => return Err(BookKind::Hz(fault)),
+    };
+    let zenith = match zenith.angle() {
+        Ok(units) => units,
+        Err(fault) => return Err(BookKind::Zenith(fault)),
+    };
+    let Some(is_second) = face_of(zenith) else {
+        return Err(BookKind::FaceUnclear);
+    };
+    let target = target(block);
+    Ok(Some(Sighting {
+        target,
+        sight: Sight { hz, zenith },
+        is_second,
+    }))
+}

@@ -1,0 +1,55 @@
+//! What a block is to a book.
+
+ghost use Rattle.std.specs.Prelude.{◌≡◌};
+ghost use Rattle.gsi_word.specs.BlockViews.{block_of};
+ghost use Rattle.station_book.specs.Roles.{code_role, role_of};
+
+use gsi_word::Block;
+
+/// What a block is to a book.
+#[derive(Clone, Copy, Debug, PartialEq, Eq)]
+pub(crate) enum Role {
+    /// Code 10: a station begins.
+    Station,
+    /// Code 20: a set begins.
+    Set,
+    /// Code 30: the set ends.
+    Close,
+    /// It begins with a point number.
+    Measurement,
+    /// Any other code.
+    Other,
+}
+
+/// What a code means.
+fn code_role(name: &[u8]) -> Role
+    ensures { result ≡ code_role name.now }
+{
+    if name == b"10".as_slice() {
+        return Role::Station;
+    }
+    if name == b"20".as_slice() {
+        return Role::Set;
+    }
+    if name == b"30".as_slice() {
+        return Role::Close;
+    }
+    Role::Other
+}
+
+/// What a block is.
+pub(crate) fn role_of(block: &Block<'_>) -> Role
+    ensures { result ≡ role_of (block_of block.now) }
+{
+    let Some(first) = block.word(0) else {
+        return Role::Other;
+    };
+    let index = first.index();
+    if index == 11 {
+        return Role::Measurement;
+    }
+    if index == 41 {
+        return code_role(first.name());
+    }
+    Role::Other
+}

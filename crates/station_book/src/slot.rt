@@ -1,0 +1,193 @@
+//! The readings of a set, by target.
+
+ghost use Rattle.std.specs.Prelude.{◌≡◌, ◌≤◌, ◌<◌, ◌+◌, ◌++◌, length, All, OnOk, OnErr, replicate, vec_len};
+ghost use Rattle.std.specs.Vec.{vec_capacity};
+ghost use Rattle.std.specs.List.{list_any, list_all};
+ghost use Rattle.std.specs.Option.{option_to_list};
+ghost use Rattle.station_book.specs.Faults.{first_of};
+ghost use Rattle.station_book.specs.Slots.{side, with_side, empty_slot, slot_faults, pair_fault, end_faults, is_unread, is_single, IsKeptSlot, obs_at, obs_of, faces_at, faces_of};
+ghost use Rattle.station_book.specs.Sights.{AreOnCircle};
+
+use crate::fault::BookKind;
+use crate::limits::Limits;
+use crate::faces::Faces;
+use crate::pair::{direction_of, faces_of, has_no_two_c, has_no_two_i};
+use crate::sight::{Sight, Sighting};
+use adjust_kernel::Obs;
+use std::alloc::AllocError;
+
+/// The readings of one target in a set.
+#[derive(Clone, Copy, Debug, PartialEq, Eq, Drop)]
+pub(crate) struct Slot {
+    pub first: Option<Sight>,
+    pub second: Option<Sight>,
+}
+
+/// A target without a reading.
+pub(crate) fn empty_slot() -> Slot
+    ensures { result ≡ empty_slot }
+{
+    Slot {
+        first: None,
+        second: None,
+    }
+}
+
+/// The reading of a face.
+fn side(slot: Slot, is_second: bool) -> Option<Sight>
+    ensures { result ≡ side is_second slot }
+{
+    if is_second { slot.second } else { slot.first }
+}
+
+/// The slot with a reading more.
+pub(crate) fn with_side(slot: Slot, is_second: bool, sight: Sight) -> Slot
+    ensures { result ≡ with_side is_second sight slot }
+{
+    if is_second {
+        Slot {
+            first: slot.first,
+            second: Some(sight),
+        }
+    } else {
+        Slot {
+            first: Some(sight),
+            second: slot.second,
+        }
+    }
+}
+
+/// The fault of a reading of the slot's target, if it has one.
+pub(crate) fn slot_fault(limits: Limits, slot: Slot, reading: Sighting) -> Option<BookKind>
+    requires angles { IsKeptSlot slot }
+    requires sight { AreOnCircle reading.sight }
+    ensures { result ≡ first_of (slot_faults limits slot reading) }
+{
+    if side(slot, reading.is_second).is_some() {
+        return Some(BookKind::FaceTwice);
+    }
+    let Some(other) = side(slot, !reading.is_second) else {
+        return None;
+    };
+    if reading.is_second {
+        pair_fault(limits, other, reading.sight)
+    } else {
+        pair_fault(limits, reading.sight, other)
+    }
+}
+
+fn pair_fault(limits: Limits, first: Sight, second: Sight) -> Option<BookKind>
+    requires first_in { AreOnCircle first }
+    requires second_in { AreOnCircle second }
+    ensures { result ≡ pair_fault limits first second }
+{
+    if has_no_two_c(limits.two_c(), first, second) {
+        return Some(BookKind::TwoC);
+    }
+    if has_no_two_i(limits.two_i(), first, second) {
+        return Some(BookKind::TwoI);
+    }
+    None
+}
+
+fn is_unread(slot: &Slot) -> bool
+    ensures { result ≡ is_unread slot.now }
+{
+    slot.first.is_none() && slot.second.is_none()
+}
+
+fn is_single(slot: &Slot) -> bool
+    ensures { result ≡ is_single slot.now }
+{
+    slot.first.is_some() != slot.second.is_some()
+}
+
+fn are_unread(slots: &[Slot]) -> bool
+    ensures { result ≡ list_all is_unread slots.now }
+{
+    slots.iter().all(|slot| is_unread(slot))
+}
+
+fn has_single(slots: &[Slot]) -> bool
+    ensures { result ≡ list_any is_single slots.now }
+{
+    slots.iter().any(|slot| is_single(slot))
+}
+
+/// The fault of a set that ends with these readings, if it has one.
+pub(crate) fn end_fault(slots: &[Slot]) -> Option<BookKind>
+    ensures { result ≡ first_of (end_faults slots.now) }
+{
+    if are_unread(slots) {
+        return Some(BookKind::EmptySet);
+    }
+    if has_single(slots) {
+        return Some(BookKind::OneFace);
+    }
+    None
+}
+
+// Appends the observation of a target, where it has one.
+fn push_pair(set: u32, target: u32, slot: Slot, obs: &mut Vec<Obs>, faces: &mut Vec<Faces>)
+    requires angles { IsKeptSlot slot }
+    requires obs_room { vec_len obs.old < vec_capacity obs.old }
+    requires faces_room { vec_len faces.old < vec_capacity faces.old }
+    ensures obs { obs.new.items ≡ obs.old.items ++ option_to_list (obs_at set (target, slot)) }
+    ensures faces { faces.new.items ≡ faces.old.items ++ option_to_list (faces_at slot) }
+    ensures obs_len { vec_len obs.new ≤ vec_len obs.old + 1 }
+    ensures faces_len { vec_len faces.new ≤ vec_len faces.old + 1 }
+    ensures obs_capacity { vec_capacity obs.old ≤ vec_capacity obs.new }
+    ensures faces_capacity { vec_capacity faces.old ≤ vec_capacity faces.new }
+{
+    let (Some(first), Some(second)) = (slot.first, slot.second) else {
+        return;
+    };
+    let one = Obs {
+        set,
+        target,
+        value: direction_of(first, second),
+    };
+    match obs.push(one) {
+        Ok(()) => {}
+        Err(_) => unreachable!(),
+    }
+    match faces.push(faces_of(first, second)) {
+        Ok(()) => {}
+        Err(_) => unreachable!(),
+    }
+}
+
+/// Appends the observations of a set and their face differences. All growths come first.
+pub(crate) fn push_pairs(
+    set: u32,
+    slots: &[Slot],
+    obs: &mut Vec<Obs>,
+    faces: &mut Vec<Faces>,
+) -> Result<(), AllocError>
+    requires few { length slots.now ≤ 100 }
+    requires angles { All IsKeptSlot slots.now }
+    ensures obs { OnOk result (obs.new.items ≡ obs.old.items ++ obs_of set slots.now) }
+    ensures faces { OnOk result (faces.new.items ≡ faces.old.items ++ faces_of slots.now) }
+    ensures kept_obs { OnErr result (obs.new.items ≡ obs.old.items) }
+    ensures kept_faces { OnErr result (faces.new.items ≡ faces.old.items) }
+{
+    if obs.reserve(slots.len()).is_err() {
+        return Err(AllocError);
+    }
+    if faces.reserve(slots.len()).is_err() {
+        return Err(AllocError);
+    }
+    'slots: for (place, slot) in slots.iter().enumerate() {
+        push_pair(set, place as u32, *slot, obs, faces);
+    }
+    Ok(())
+}
+
+/// Takes all readings out.
+pub(crate) fn empty_all(slots: &mut [Slot])
+    ensures { slots.new ≡ replicate (length slots.old) empty_slot }
+{
+    'slots: for slot in slots.iter_mut() {
+        *slot = empty_slot();
+    }
+}
