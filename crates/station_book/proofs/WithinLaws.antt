@@ -39,7 +39,7 @@ word_below false false false o = units_below o
 
 found_below : (f : Found) → angle_or_zero (angle_found f) < 40_000_000
 found_below Absent = omega arith
-found_below (One w) = word_below (not (is_gon w)) (not (is_input_mode (slice_index w.info 2))) w.negative (decimal_number w.content)
+found_below (One w) = word_below (not (is_gon (slice_index w.info 3))) (not (is_input_mode (slice_index w.info 2))) w.negative (decimal_number w.content)
 found_below Twice = omega arith
 
 -- what a block reads is on the circle

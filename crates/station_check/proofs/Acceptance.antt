@@ -1,9 +1,8 @@
 -- From the kernel's verdict to what an acceptance and a refusal say.
-use Rattle.std.proofs.Common.{◌≡◌, ℕ, zero, suc, ◌+◌, ◌<◌, Bool, true, false, List, [], ◌∷◌, ◌++◌, length, Option, Some, None, Result, Ok, Err, refl, sym, ap, subst, ◌∙◌, inl, inr, ◌⊎◌, arith, find, if◌then◌else◌}
-use Rattle.std.specs.Prelude.{◌↔◌, All, IfSome, IfOk, IfErr, reverse}
+use Rattle.std.proofs.Common.{◌≡◌, ℕ, List, [], ◌∷◌, Option, Some, None, Result, Ok, Err, refl, sym, ap, subst, ◌∙◌, inl, inr}
+use Rattle.std.specs.Prelude.{◌↔◌, IfSome, IfOk, IfErr, reverse}
 use mathlib.Core.List.{reverse_aux}
 use Rattle.std.specs.List.{AllZip, Contains}
-use Rattle.std.specs.Str.{bytes_eq}
 use Rattle.std.proofs.lemmas.List.{reverse-reverse}
 use Rattle.byte_ends.specs.Source.{Told}
 use Rattle.gsi_word.specs.Blocks.{GsiBlock, IsBlock}
@@ -15,18 +14,17 @@ use Rattle.adjust_kernel.specs.declared.kernel_fault.KernelFault.{KernelFault}
 use Rattle.adjust_kernel.specs.Stations.{StationValue}
 use Rattle.adjust_kernel.specs.Verdict.{IsAcceptedSheet, KeepsLimit}
 use Rattle.station_book.specs.declared.fault.BookKind.{BookKind}
-use Rattle.station_book.specs.declared.faces.Faces.{Faces}
 use Rattle.station_book.specs.Faults.{fault_at_end, IsWithoutFault}
 use Rattle.station_book.specs.Limits.{FaceLimits, AreLimits}
 use Rattle.station_book.specs.Places.{History}
-use Rattle.station_book.specs.Recorded.{IsRecorded}
+use Rattle.station_book.specs.Recorded.{IsRecorded, IsRecordedWith}
 use Rattle.adjust_kernel.specs.Matching.{Key, observed, keys_of}
-use Rattle.station_book.specs.Stations.{Couple, SurveyedStation, HasFaces, IsSurveyed, AreStations, stations_of, station_named}
+use Rattle.station_book.specs.Stations.{SurveyedStation, AreStations, station_named}
 use Rattle.station_check.specs.declared.fault.Fault.{Fault}
 use Rattle.station_check.specs.declared.fault.Fault.TheVariants.{Gsi, Book, SheetRead, Sheet, NoStation, Means, Kernel, Write, Memory}
 use Rattle.station_check.specs.Records.{ComesTo, FileComesTo, at_end, file_fault}
 use Rattle.station_check.specs.Surveys.{IsSurvey, Surveys}
-use Rattle.station_check.specs.Accepted.{AreWithin, IsAccepted}
+use Rattle.station_check.specs.Accepted.{IsAccepted}
 use Rattle.station_check.specs.Judged.{IsJudged, IsJudgedSheet, IfKernels}
 use Rattle.station_check.specs.Refused.{IsRefusedByKernel, TellsOfRefusal}
 use Rattle.station_check.specs.Telling.{WhereBothTell}
@@ -57,33 +55,6 @@ came_well limits past (line ∷ lines) last blocks clean (inr (inr h)) =
     let rest = came_well limits (h.block ∷ past) lines last blocks (h.clean, clean) h.after in
     record { more = h.block ∷ rest.more; each = (h.is_block, rest.each); split = rest.split; ended = rest.ended; faultless = rest.faultless; closed = rest.closed }
 
--- What is found in the second of two lists, and what stands in the first for it.
-record IsPartner {A B : Type 0} (R : A → B → Type 0) (xs : List A) (y : B) : Type 0 where
-  pub partner : A
-  pub among : Contains xs partner
-  pub related : R partner y
-
-one_further : {A B : Type 0} (R : A → B → Type 0) (x : A) (xs : List A) (y : B) → IsPartner R xs y → IsPartner R (x ∷ xs) y
-one_further R x xs y p = record { partner = p.partner; among = (suc p.among.0, omega (arith, p.among.1), p.among.2); related = p.related }
-
-partner_of : {A B : Type 0} (R : A → B → Type 0) (p : B → Bool) (xs : List A) (ys : List B) (y : B) → AllZip R xs ys → find p ys ≡ Some y → IsPartner R xs y
-partner_of R p [] [] y h e = cc
-partner_of R p [] (z ∷ ys) y h e = absurd h
-partner_of R p (x ∷ xs) [] y h e = absurd h
-partner_of R p (x ∷ xs) (z ∷ ys) y h e = split (partner_of R p xs ys y h.1) (p z) e where
-  split : (find p ys ≡ Some y → IsPartner R xs y) → (b : Bool) → (if b then Some z else find p ys) ≡ Some y → IsPartner R (x ∷ xs) y
-  split rest true g = let same : z ≡ y = cc in record { partner = x; among = (zero, omega arith, refl); related = subst (R x) same h.0 }
-  split rest false g = one_further R x xs y (rest g)
-
-all_within : (limits : FaceLimits) (couples : List Couple) (faces : List Faces) → AllZip (HasFaces limits) couples faces → All (AreWithin limits) faces
-all_within limits [] [] h = λ k d l. absurd (omega (arith, l))
-all_within limits [] (f ∷ faces) h = absurd h
-all_within limits (c ∷ couples) [] h = absurd h
-all_within limits (c ∷ couples) (f ∷ faces) h = each (all_within limits couples faces h.1) where
-  each : All (AreWithin limits) faces → All (AreWithin limits) (f ∷ faces)
-  each rest zero d l = record { two_c = h.0.two_c.within; two_i = h.0.two_i.within }
-  each rest (suc k) d l = rest k d (omega (arith, l))
-
 -- The station that a name finds is the only one that has it.
 abbrev pub FindsIts : Type 0
 FindsIts = (limits : FaceLimits) (h : History) (stations : List SurveyedStation) (name : List ℕ) (s : SurveyedStation) → IsWithoutFault limits h → AreStations limits h stations
@@ -94,20 +65,19 @@ abbrev pub IsJustRecorded : Type 0
 IsJustRecorded = (limits : FaceLimits) (h : History) (stations : List SurveyedStation) (s : SurveyedStation) (k : Key) → AreLimits limits → IsWithoutFault limits h → AreStations limits h stations → Contains stations s
     → Contains (observed s.station) k ↔ IsRecorded limits h s.station.name k
 
+-- Beside what is listed of a station stand the face differences of the same readings.
+abbrev pub HasRecordedFaces : Type 0
+HasRecordedFaces = (limits : FaceLimits) (h : History) (stations : List SurveyedStation) (s : SurveyedStation) → AreStations limits h stations → Contains stations s
+    → AllZip (IsRecordedWith limits h s.station.name) (observed s.station) s.faces
+
 -- An accepted sheet keeps the residual limit.
 abbrev pub KeepsResiduals : Type 0
 KeepsResiduals = (station : StationValue) (sheet : SheetValue) (limit : Option ℕ) → IsAcceptedSheet station sheet limit → IfSome limit (KeepsLimit station sheet)
 
-differences_within : (limits : FaceLimits) (blocks : History) (name : List ℕ) (stations : List SurveyedStation) (its : SurveyedStation) → AreStations limits blocks stations → station_named name stations ≡ Some its → All (AreWithin limits) its.faces
-unfolding AreStations
-differences_within limits blocks name stations its are named =
-    let p = partner_of (IsSurveyed limits blocks) (λ s. bytes_eq s.station.name name) (stations_of blocks) stations its are named in
-    all_within limits _ its.faces p.related.differences
-
 -- A sheet that was judged well is accepted.
-pub accepted_of : FindsIts → IsJustRecorded → KeepsResiduals → (limits : FaceLimits) (most : Option ℕ) (gsi told : Told) (stations : List SurveyedStation) (a : Accepted) → AreLimits limits → IsSurvey limits (file_answers gsi) stations → IsJudgedSheet stations most told (Ok a)
+pub accepted_of : FindsIts → IsJustRecorded → HasRecordedFaces → KeepsResiduals → (limits : FaceLimits) (most : Option ℕ) (gsi told : Told) (stations : List SurveyedStation) (a : Accepted) → AreLimits limits → IsSurvey limits (file_answers gsi) stations → IsJudgedSheet stations most told (Ok a)
     → IsAccepted limits most gsi told a
-accepted_of finds recorded keeps limits most gsi told stations a small survey judged =
+accepted_of finds recorded beside keeps limits most gsi told stations a small survey judged =
     let blocks = survey.blocks in
     let its = judged.judged.its in
     let name = judged.sheet.name in
@@ -131,12 +101,14 @@ accepted_of finds recorded keeps limits most gsi told stations a small survey ju
       named = found.1;
       only = λ other among same.
           let e : Some other ≡ Some its = sym ((finds limits blocks stations name other well.faultless survey.stations_are).1 (among, same)) ∙ judged.judged.named in cc;
-      within = differences_within limits blocks name stations its survey.stations_are judged.judged.named;
       exactly = λ k.
           let just = recorded limits blocks stations its k small well.faultless survey.stations_are found.0 in
           let by_name : Contains (observed its.station) k ↔ IsRecorded limits blocks name k = subst (λ (n : List ℕ). Contains (observed its.station) k ↔ IsRecorded limits blocks n k) found.1 just in
           subst (λ (keys : List Key). Contains keys k ↔ IsRecorded limits blocks name k) (sym judged.judged.matches.rows) by_name;
       matches = judged.judged.matches;
+      within =
+          let by_name : AllZip (IsRecordedWith limits blocks name) (observed its.station) its.faces = subst (λ (n : List ℕ). AllZip (IsRecordedWith limits blocks n) (observed its.station) its.faces) found.1 (beside limits blocks stations its survey.stations_are found.0) in
+          subst (λ (keys : List Key). AllZip (IsRecordedWith limits blocks name) keys its.faces) (sym judged.judged.matches.rows) by_name;
       least = judged.judged.squares.0.least;
       unique = judged.judged.squares.0.unique;
       limited = keeps its.station judged.sheet most (a, judged.judged.verdict);

@@ -2,7 +2,7 @@
 -- exactly the two-face directions of its station in the field file, every face difference is within
 -- the limits, and no other directions and orientations, over any denominator, give with the sheet's
 -- full turns a smaller sum of squared residuals.
-use Rattle.std.specs.Prelude.{◌≡◌, ◌↔◌, ℕ, List, All, length, reverse, Option, None, IfSome}
+use Rattle.std.specs.Prelude.{◌≡◌, ◌↔◌, ℕ, List, length, reverse, Option, None, IfSome}
 use Rattle.std.specs.List.{AllZip, Contains}
 use Rattle.byte_ends.specs.Source.{Told}
 use Rattle.byte_ends.specs.Input.{input_within, Ended}
@@ -20,15 +20,8 @@ use Rattle.sheet_format.specs.declared.reading.TheConstants.{LONGEST_SHEET}
 use Rattle.station_book.specs.Faults.{fault_at_end, IsWithoutFault}
 use Rattle.station_book.specs.Limits.{FaceLimits}
 use Rattle.station_book.specs.Places.{History}
-use Rattle.station_book.specs.Recorded.{IsRecorded}
-use Rattle.station_book.specs.Sights.{IsAtMost}
+use Rattle.station_book.specs.Recorded.{IsRecorded, IsRecordedWith}
 use Rattle.station_book.specs.Stations.{SurveyedStation, AreStations}
-use Rattle.station_book.specs.declared.faces.Faces.{Faces}
-
--- Face differences are within their limits.
-pub record AreWithin (limits : FaceLimits) (f : Faces) : Type 0 where
-  pub two_c : IsAtMost limits.two_c f.two_c
-  pub two_i : IsAtMost limits.two_i f.two_i
 
 -- Of what two readers tell, this is the acceptance; `most` is the residual limit in half units,
 -- where one is stated.
@@ -54,12 +47,13 @@ pub record IsAccepted (limits : FaceLimits) (most : Option ℕ) (gsi told : Told
   pub named : its.station.name ≡ sheet.name
   pub only : (other : SurveyedStation) → Contains stations other
       → other.station.name ≡ sheet.name → other ≡ its
-  -- Every face difference that was measured there is within the limits.
-  pub within : All (AreWithin limits) its.faces
   -- The sheet's observations are exactly its two-face directions: those that the blocks recorded in
   -- both faces, and no others; place by place, none missing, added, moved or altered.
   pub exactly : (k : Key) → Contains (keys_of sheet) k ↔ IsRecorded limits blocks sheet.name k
   pub matches : Matches its.station sheet
+  -- Every face difference is within the limits: beside each observation stand those of its two
+  -- readings.
+  pub within : AllZip (IsRecordedWith limits blocks sheet.name) (keys_of sheet) its.faces
   -- With the sheet's full turns no other directions and orientations, over any denominator, have a
   -- smaller sum of squared residuals; and those that have the same differ by one rotation.
   pub least : IsLeast (choice_stated_by sheet) (readings its.station sheet)
