@@ -192,9 +192,9 @@ module _ (sets targets : ℕ) (obs : List Obs) (placed : All (IsObs sets targets
   each_observed marks s all = (
     λ k h. let (i, o, inside, at, ends) = s.only k (all k (omega arith)) in (i, o, inside, at, ⊎_elim (λ e. e) (λ e. absurd (omega arith)) ends),
     λ t h. let (i, o, inside, at, ends) = s.only (sets + t) (all (sets + t) (omega arith)) in
-      let p = subst (IsObs sets targets) at (placed i o inside) in
-      let a = p.set in
-      (i, o, inside, at, ⊎_elim (λ e. absurd (omega arith)) (λ e. omega arith) ends),
+        let p = subst (IsObs sets targets) at (placed i o inside) in
+        let a = p.set in
+        (i, o, inside, at, ⊎_elim (λ e. absurd (omega arith)) (λ e. omega arith) ends),
   )
 
   -- where a node isn't, its set or target wasn't

@@ -200,11 +200,17 @@ module _ (station : StationValue) (sheet : SheetValue) where
         directions = length station.obs;
         greatest = pos (greatest_size (choice_stated_by sheet) (readings station sheet));
         denominator = sheet.denominator;
-      } in
-      (said, accepted_verdict limit said matches targets sets connected within (record {
-        name = refl; sets = refl; targets = refl; directions = refl; denominator = refl;
-        greatest = greatest_is (choice_stated_by sheet) (readings station sheet) some;
-      }))
+      } in (
+        said,
+        accepted_verdict limit said matches targets sets connected within (record {
+          name = refl;
+          sets = refl;
+          targets = refl;
+          directions = refl;
+          denominator = refl;
+          greatest = greatest_is (choice_stated_by sheet) (readings station sheet) some;
+        }),
+      )
 
   -- the verdict of a fault that stands, where what is looked for before it is as it has to be
   refused : (limit : Option ℕ) (fault : KernelFault) → Stands station sheet limit fault → ((other : KernelFault) → order_of other < order_of fault → IsClearOf station sheet limit other) → IsVerdict station sheet limit (Err fault)

@@ -6,8 +6,8 @@ use Rattle.adjust_kernel.specs.Pairs.{choice_stated_by}
 use Rattle.adjust_kernel.specs.Sheets.{SheetValue}
 use Rattle.adjust_kernel.specs.Stations.{StationValue}
 
--- what a row of a sheet and an observation of a station have to agree in: the number of the set, the
--- name of the target, and the direction
+-- what a row of a sheet and an observation of a station have to agree in: the number of the set,
+-- the name of the target, and the direction
 pub record Key : Type 0 where
   pub set : ℕ
   pub target : List ℕ
@@ -42,8 +42,8 @@ abbrev pub observed : StationValue → List Key
 observed station = map (key_of_obs station.sets station.targets) station.obs
 
 -- The sheet is of this station (profile): it has the station's name, and its lists of targets, of
--- sets and of observations equal the station's, so that nothing is missing, added, moved or altered;
--- and the first direction is 0.
+-- sets and of observations equal the station's, so that nothing is missing, added, moved or
+-- altered; and the first direction is 0.
 pub record Matches (station : StationValue) (sheet : SheetValue) : Type 0 where
   pub name : sheet.name ≡ station.name
   pub targets : names_of sheet ≡ station.targets

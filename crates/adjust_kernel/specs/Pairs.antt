@@ -11,7 +11,7 @@ use Rattle.adjust_kernel.specs.Stations.{IsObs}
 abbrev pub choice_stated_by : SheetValue → Choice
 choice_stated_by sheet =
     choice_of sheet.denominator (map (λ d. d.value) sheet.directions)
-      (map (λ o. o.value) sheet.orientations)
+    (map (λ o. o.value) sheet.orientations)
 
 -- an observation, with the full turns that the sheet's row adds to it
 abbrev pub reading_of : Obs → ℤ → Reading

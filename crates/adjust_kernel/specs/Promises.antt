@@ -2,9 +2,7 @@
 use Rattle.std.specs.Prelude.{ℕ, List, length, Option, IfSome, Result, Ok, Err, ⊤}
 use Rattle.adjust_kernel.specs.declared.accepted.Accepted.{Accepted}
 use Rattle.adjust_kernel.specs.declared.kernel_fault.KernelFault.{KernelFault}
-use Rattle.adjust_kernel.specs.declared.kernel_fault.KernelFault.TheVariants.{
-  TargetSum, SetSum, NotConnected
-}
+use Rattle.adjust_kernel.specs.declared.kernel_fault.KernelFault.TheVariants.{TargetSum, SetSum, NotConnected}
 use Rattle.adjust_kernel.specs.Least.{IsLeast, IsUnique, HasBetter, HasAnother}
 use Rattle.adjust_kernel.specs.Pairs.{choice_stated_by}
 use Rattle.adjust_kernel.specs.Readings.{Reading}
@@ -33,7 +31,7 @@ abbrev pub TellsOfSquares :
     StationValue → SheetValue → Option ℕ → Result Accepted KernelFault → Type 0
 TellsOfSquares station sheet limit (Ok accepted) =
     IsAdjusted (length station.sets) (length station.targets)
-      (choice_stated_by sheet) (readings station sheet)
+    (choice_stated_by sheet) (readings station sheet)
     × IfSome limit (λ n. IsAdjustedOverTurns (choice_stated_by sheet) (readings station sheet))
 TellsOfSquares station sheet limit (Err (TargetSum n)) =
     HasBetter (choice_stated_by sheet) (readings station sheet)
@@ -41,5 +39,5 @@ TellsOfSquares station sheet limit (Err (SetSum n)) =
     HasBetter (choice_stated_by sheet) (readings station sheet)
 TellsOfSquares station sheet limit (Err NotConnected) =
     HasAnother (length station.sets) (length station.targets)
-      (choice_stated_by sheet) (readings station sheet)
+    (choice_stated_by sheet) (readings station sheet)
 TellsOfSquares station sheet limit (Err fault) = ⊤

@@ -1,13 +1,9 @@
 -- The verdict on a sheet of a station: the first of its faults, in a stated order, or the
 -- acceptance. An office may state a residual limit.
-use Rattle.std.specs.Prelude.{
-  ◌≡◌, ◌≢◌, ℕ, pos, ◌+◌, ◌<◌, List, length, Option, Result, Ok, Err, IsSomeAnd
-}
+use Rattle.std.specs.Prelude.{◌≡◌, ◌≢◌, ℕ, pos, ◌+◌, ◌<◌, List, length, Option, Result, Ok, Err, IsSomeAnd}
 use Rattle.adjust_kernel.specs.declared.accepted.Accepted.{Accepted}
 use Rattle.adjust_kernel.specs.declared.kernel_fault.KernelFault.{KernelFault}
-use Rattle.adjust_kernel.specs.declared.kernel_fault.KernelFault.TheVariants.{
-  Name, TargetRow, SetRow, ObsRow, Datum, TargetSum, SetSum, NotConnected, Residual
-}
+use Rattle.adjust_kernel.specs.declared.kernel_fault.KernelFault.TheVariants.{Name, TargetRow, SetRow, ObsRow, Datum, TargetSum, SetSum, NotConnected, Residual}
 use Rattle.adjust_kernel.specs.Connected.{IsConnected, IsDivided}
 use Rattle.adjust_kernel.specs.Firsts.{IsFirstDifference, IsFirstWhere}
 use Rattle.adjust_kernel.specs.Greatest.{IsGreatest}
@@ -62,18 +58,18 @@ Stands station sheet limit (ObsRow n) =
 Stands station sheet limit Datum = (choice_stated_by sheet).direction 0 ≢ pos 0
 Stands station sheet limit (TargetSum n) =
     AtNth
-      (IsFirstWhere (λ t. target_sum (choice_stated_by sheet) (readings station sheet) t ≢ pos 0)
-        (length station.targets)) n
+    (IsFirstWhere (λ t. target_sum (choice_stated_by sheet) (readings station sheet) t ≢ pos 0)
+    (length station.targets)) n
 Stands station sheet limit (SetSum n) =
     AtNth
-      (IsFirstWhere (λ s. set_sum (choice_stated_by sheet) (readings station sheet) s ≢ pos 0)
-        (length station.sets)) n
+    (IsFirstWhere (λ s. set_sum (choice_stated_by sheet) (readings station sheet) s ≢ pos 0)
+    (length station.sets)) n
 Stands station sheet limit NotConnected =
     IsDivided (length station.sets) (length station.targets) (readings station sheet)
 Stands station sheet limit (Residual n) =
     IsSomeAnd limit (λ most.
-      AtNth (IsFirstWhere (IsAbove most (choice_stated_by sheet) (readings station sheet))
-        (length (readings station sheet))) n)
+    AtNth (IsFirstWhere (IsAbove most (choice_stated_by sheet) (readings station sheet))
+    (length (readings station sheet))) n)
 
 -- the order in which the faults are looked for
 abbrev pub order_of : KernelFault → ℕ
@@ -104,7 +100,7 @@ abbrev pub IsVerdict : StationValue → SheetValue → Option ℕ → Result Acc
 IsVerdict station sheet limit (Err fault) =
     Stands station sheet limit fault
     × ((other : KernelFault) → order_of other < order_of fault
-      → Stands station sheet limit other → ⊥)
+    → Stands station sheet limit other → ⊥)
 IsVerdict station sheet limit (Ok accepted) =
     ((fault : KernelFault) → Stands station sheet limit fault → ⊥)
     × IsAcceptance station sheet accepted

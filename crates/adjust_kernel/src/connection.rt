@@ -37,11 +37,9 @@ fn carry(marks: &mut [bool; MOST_NODES], sets: usize, targets: usize, obs: &Obs)
     requires sets { sets ≤ MOST_SETS }
     requires targets { targets ≤ MOST_TARGETS }
     requires obs { IsObs sets targets obs.now }
-    ensures carried {
-        OnTrue result
-            ((n : ℕ) × IsOpenEnd marks.old sets obs.now n
-            × (marks.new ≡ slice_set marks.old n true))
-    }
+    ensures carried { OnTrue result
+        ((n : ℕ) × IsOpenEnd marks.old sets obs.now n
+        × (marks.new ≡ slice_set marks.old n true)) }
     ensures alike { OnFalse result ((marks.new ≡ marks.old) × AreAlike marks.old sets obs.now) }
 {
     match open_end(marks, sets, targets, obs) {
@@ -58,9 +56,8 @@ fn sweep(marks: &mut [bool; MOST_NODES], sets: usize, targets: usize, obs: &[Obs
     requires sets { sets ≤ MOST_SETS }
     requires targets { targets ≤ MOST_TARGETS }
     requires obs { All (IsObs sets targets) obs.now }
-    ensures spread {
-        IsSpread sets targets obs.now marks.old → IsSpread sets targets obs.now marks.new
-    }
+    ensures spread { IsSpread sets targets obs.now marks.old
+        → IsSpread sets targets obs.now marks.new }
     ensures fewer { OnTrue result (count_by not marks.new < count_by not marks.old) }
     ensures alike { OnFalse result (All (AreAlike marks.new sets) obs.now) }
 {
@@ -78,14 +75,11 @@ pub(crate) fn is_connected(sets: usize, targets: usize, obs: &[Obs]) -> bool
     requires sets { sets ≤ MOST_SETS }
     requires targets { (0 < targets) × (targets ≤ MOST_TARGETS) }
     requires obs { All (IsObs sets targets) obs.now }
-    ensures connected {
-        OnTrue result
-            ((rows : List Row) → length rows ≡ length obs.now
-            → IsConnected sets targets (readings_of obs.now rows))
-    }
-    ensures divided {
-        OnFalse result ((rows : List Row) → IsDivided sets targets (readings_of obs.now rows))
-    }
+    ensures connected { OnTrue result
+        ((rows : List Row) → length rows ≡ length obs.now
+        → IsConnected sets targets (readings_of obs.now rows)) }
+    ensures divided { OnFalse result
+        ((rows : List Row) → IsDivided sets targets (readings_of obs.now rows)) }
 {
     let mut marks = [false; MOST_NODES];
     marks[sets] = true;

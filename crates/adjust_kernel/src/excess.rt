@@ -21,10 +21,8 @@ fn is_above(residual: i128, limit: u32, denominator: u64) -> bool
 fn is_row_above(sheet: &Sheet, obs: &[Obs], limit: u32, row: usize) -> bool
     requires paired { ArePaired sheet.now obs.now }
     requires row { row < length obs.now }
-    ensures {
-        IsTrue result
-        ↔ IsAbove limit (choice_stated_by sheet.now) (readings_of obs.now sheet.now.rows) row
-    }
+    ensures { IsTrue result
+        ↔ IsAbove limit (choice_stated_by sheet.now) (readings_of obs.now sheet.now.rows) row }
 {
     is_above(row_residual(sheet, obs, row), limit, sheet.denominator())
 }
@@ -33,16 +31,12 @@ fn is_row_above(sheet: &Sheet, obs: &[Obs], limit: u32, row: usize) -> bool
 /// denominator.
 pub fn first_excess(sheet: &Sheet, obs: &[Obs], limit: u32) -> Option<usize>
     requires { ArePaired sheet.now obs.now }
-    ensures none {
-        IfNone result
-            (IsLimited limit (choice_stated_by sheet.now) (readings_of obs.now sheet.now.rows))
-    }
-    ensures some {
-        IfSome result (λ n.
-            IsFirstWhere
-                (IsAbove limit (choice_stated_by sheet.now) (readings_of obs.now sheet.now.rows))
-                (length (readings_of obs.now sheet.now.rows)) n)
-    }
+    ensures none { IfNone result
+        (IsLimited limit (choice_stated_by sheet.now) (readings_of obs.now sheet.now.rows)) }
+    ensures some { IfSome result (λ n.
+        IsFirstWhere
+        (IsAbove limit (choice_stated_by sheet.now) (readings_of obs.now sheet.now.rows))
+        (length (readings_of obs.now sheet.now.rows)) n) }
     ensures bound { IfSome result (λ n. n < length obs.now) }
 {
     for row in 0..obs.len() {

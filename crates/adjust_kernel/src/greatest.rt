@@ -21,9 +21,7 @@ fn larger_size(size: i128, residual: i128) -> i128
 /// The greatest of the sizes of the scaled residuals of all rows.
 pub fn greatest_residual(sheet: &Sheet, obs: &[Obs]) -> i128
     requires { ArePaired sheet.now obs.now }
-    ensures {
-        IsGreatest (choice_stated_by sheet.now) (readings_of obs.now sheet.now.rows) result
-    }
+    ensures { IsGreatest (choice_stated_by sheet.now) (readings_of obs.now sheet.now.rows) result }
 {
     let mut greatest = 0;
     for row in 0..sheet.rows().len() {

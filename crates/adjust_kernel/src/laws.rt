@@ -12,64 +12,46 @@ ghost use Rattle.adjust_kernel.specs.Verdict.{HoldsTogether, IsAcceptedSheet, Is
 
 /// A station, a sheet and a residual limit have one verdict at most.
 pub fn one_verdict()
-    ensures {
-        (station : StationValue) (sheet : SheetValue) (limit : Option ℕ)
+    ensures { (station : StationValue) (sheet : SheetValue) (limit : Option ℕ)
         (a b : Result Accepted KernelFault)
-        → IsVerdict station sheet limit a → IsVerdict station sheet limit b → a ≡ b
-    }
+        → IsVerdict station sheet limit a → IsVerdict station sheet limit b → a ≡ b }
 {}
 
 /// A sheet is accepted just where it is of the station, the residuals add up, the observations hold
 /// all together and the residuals keep the limit, if one is stated.
 pub fn acceptance()
-    ensures matches {
-        (station : StationValue) (sheet : SheetValue) (limit : Option ℕ)
-        → IsAcceptedSheet station sheet limit → Matches station sheet
-    }
-    ensures targets {
-        (station : StationValue) (sheet : SheetValue) (limit : Option ℕ)
-        → IsAcceptedSheet station sheet limit → TargetsAddUp station sheet
-    }
-    ensures sets {
-        (station : StationValue) (sheet : SheetValue) (limit : Option ℕ)
-        → IsAcceptedSheet station sheet limit → SetsAddUp station sheet
-    }
-    ensures connection {
-        (station : StationValue) (sheet : SheetValue) (limit : Option ℕ)
-        → IsAcceptedSheet station sheet limit → HoldsTogether station sheet
-    }
-    ensures residuals {
-        (station : StationValue) (sheet : SheetValue) (limit : Option ℕ)
-        → IsAcceptedSheet station sheet limit → IfSome limit (KeepsLimit station sheet)
-    }
-    ensures accepted {
-        (station : StationValue) (sheet : SheetValue) (limit : Option ℕ)
+    ensures matches { (station : StationValue) (sheet : SheetValue) (limit : Option ℕ)
+        → IsAcceptedSheet station sheet limit → Matches station sheet }
+    ensures targets { (station : StationValue) (sheet : SheetValue) (limit : Option ℕ)
+        → IsAcceptedSheet station sheet limit → TargetsAddUp station sheet }
+    ensures sets { (station : StationValue) (sheet : SheetValue) (limit : Option ℕ)
+        → IsAcceptedSheet station sheet limit → SetsAddUp station sheet }
+    ensures connection { (station : StationValue) (sheet : SheetValue) (limit : Option ℕ)
+        → IsAcceptedSheet station sheet limit → HoldsTogether station sheet }
+    ensures residuals { (station : StationValue) (sheet : SheetValue) (limit : Option ℕ)
+        → IsAcceptedSheet station sheet limit → IfSome limit (KeepsLimit station sheet) }
+    ensures accepted { (station : StationValue) (sheet : SheetValue) (limit : Option ℕ)
         → Matches station sheet → TargetsAddUp station sheet → SetsAddUp station sheet
         → HoldsTogether station sheet → IfSome limit (KeepsLimit station sheet)
-        → 1 ≤ length (readings station sheet) → IsAcceptedSheet station sheet limit
-    }
+        → 1 ≤ length (readings station sheet) → IsAcceptedSheet station sheet limit }
 {}
 
 /// What is looked for before a refusal is as it has to be.
 pub fn refusal()
-    ensures matches {
-        (station : StationValue) (sheet : SheetValue) (limit : Option ℕ) (fault : KernelFault)
-        → IsVerdict station sheet limit (Err fault) → 5 < order_of fault → Matches station sheet
-    }
-    ensures targets {
-        (station : StationValue) (sheet : SheetValue) (limit : Option ℕ) (fault : KernelFault)
-        → IsVerdict station sheet limit (Err fault) → 6 < order_of fault
-        → TargetsAddUp station sheet
-    }
-    ensures sets {
-        (station : StationValue) (sheet : SheetValue) (limit : Option ℕ) (fault : KernelFault)
-        → IsVerdict station sheet limit (Err fault) → 7 < order_of fault → SetsAddUp station sheet
-    }
-    ensures connection {
-        (station : StationValue) (sheet : SheetValue) (limit : Option ℕ) (fault : KernelFault)
-        → IsVerdict station sheet limit (Err fault) → 8 < order_of fault
-        → HoldsTogether station sheet
-    }
+    ensures matches { (station : StationValue) (sheet : SheetValue) (limit : Option ℕ)
+        (fault : KernelFault) → IsVerdict station sheet limit (Err fault)
+        → 5 < order_of fault → Matches station sheet }
+    ensures targets { (station : StationValue) (sheet : SheetValue) (limit : Option ℕ)
+        (fault : KernelFault) → IsVerdict station sheet limit (Err fault)
+        → 6 < order_of fault
+        → TargetsAddUp station sheet }
+    ensures sets { (station : StationValue) (sheet : SheetValue) (limit : Option ℕ)
+        (fault : KernelFault) → IsVerdict station sheet limit (Err fault)
+        → 7 < order_of fault → SetsAddUp station sheet }
+    ensures connection { (station : StationValue) (sheet : SheetValue) (limit : Option ℕ)
+        (fault : KernelFault) → IsVerdict station sheet limit (Err fault)
+        → 8 < order_of fault
+        → HoldsTogether station sheet }
 {}
 
 /// The bounds of stations and sheets. Angles and the residual limit are in half units (0.005 mgon

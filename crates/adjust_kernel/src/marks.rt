@@ -12,9 +12,7 @@ pub(crate) const MOST_NODES: usize = MOST_SETS + MOST_TARGETS;
 pub(crate) fn are_marked(marks: &[bool], nodes: usize) -> bool
     requires { nodes ≤ length marks.now }
     ensures all { OnTrue result ((n : ℕ) → n < nodes → mark marks.now n ≡ true) }
-    ensures some_not {
-        OnFalse result ((n : ℕ) × (n < nodes) × (mark marks.now n ≡ false))
-    }
+    ensures some_not { OnFalse result ((n : ℕ) × (n < nodes) × (mark marks.now n ≡ false)) }
 {
     for n in 0..nodes {
         if !marks[n] {

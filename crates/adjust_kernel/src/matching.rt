@@ -19,10 +19,8 @@ use crate::station::Station;
 
 /// Whether sheet and station name one target at a place, or neither has one there.
 fn is_same_target_at(station: &Station, sheet: &Sheet, place: usize) -> bool
-    ensures {
-        IsTrue result
-        ↔ (slice_get (names_of sheet.now) place ≡ slice_get station.now.targets place)
-    }
+    ensures { IsTrue result
+        ↔ (slice_get (names_of sheet.now) place ≡ slice_get station.now.targets place) }
 {
     match (sheet.directions().get(place), station.targets().get(place)) {
         (Some(direction), Some(target)) => same(direction.name, *target),
@@ -33,10 +31,8 @@ fn is_same_target_at(station: &Station, sheet: &Sheet, place: usize) -> bool
 
 /// Whether sheet and station number one set at a place, or neither has one there.
 fn is_same_set_at(station: &Station, sheet: &Sheet, place: usize) -> bool
-    ensures {
-        IsTrue result
-        ↔ (slice_get (numbers_of sheet.now) place ≡ slice_get station.now.sets place)
-    }
+    ensures { IsTrue result
+        ↔ (slice_get (numbers_of sheet.now) place ≡ slice_get station.now.sets place) }
 {
     match (sheet.orientations().get(place), station.sets().get(place)) {
         (Some(orientation), Some(set)) => orientation.set == *set,
@@ -48,10 +44,8 @@ fn is_same_set_at(station: &Station, sheet: &Sheet, place: usize) -> bool
 /// Whether a row of the sheet states this observation.
 fn is_row_of(station: &Station, row: &Row, obs: &Obs) -> bool
     requires { IsObs (length station.now.sets) (length station.now.targets) obs.now }
-    ensures {
-        IsTrue result
-        ↔ (key_of_row row.now ≡ key_of_obs station.now.sets station.now.targets obs.now)
-    }
+    ensures { IsTrue result
+        ↔ (key_of_row row.now ≡ key_of_obs station.now.sets station.now.targets obs.now) }
 {
     row.set == station.sets()[obs.set as usize]
         && same(row.target, station.targets()[obs.target as usize])
@@ -60,10 +54,8 @@ fn is_row_of(station: &Station, row: &Row, obs: &Obs) -> bool
 
 /// Whether sheet and station have one observation at a place, or neither has one there.
 fn is_same_row_at(station: &Station, sheet: &Sheet, place: usize) -> bool
-    ensures {
-        IsTrue result
-        ↔ (slice_get (keys_of sheet.now) place ≡ slice_get (observed station.now) place)
-    }
+    ensures { IsTrue result
+        ↔ (slice_get (keys_of sheet.now) place ≡ slice_get (observed station.now) place) }
 {
     match (sheet.rows().get(place), station.obs().get(place)) {
         (Some(row), Some(obs)) => is_row_of(station, row, obs),
@@ -75,10 +67,8 @@ fn is_same_row_at(station: &Station, sheet: &Sheet, place: usize) -> bool
 /// The first place at which sheet and station have different targets, or one of them has ended.
 fn first_other_target(station: &Station, sheet: &Sheet) -> Option<usize>
     ensures none { IfNone result (names_of sheet.now ≡ station.now.targets) }
-    ensures some {
-        IfSome result (λ place.
-            IsFirstDifference (names_of sheet.now) station.now.targets place)
-    }
+    ensures some { IfSome result (λ place.
+        IsFirstDifference (names_of sheet.now) station.now.targets place) }
     ensures bound { IfSome result (λ place. place ≤ MOST_TARGETS) }
 {
     for place in 0..sheet.directions().len().max(station.targets().len()) {
@@ -92,10 +82,8 @@ fn first_other_target(station: &Station, sheet: &Sheet) -> Option<usize>
 /// The first place at which sheet and station have different sets, or one of them has ended.
 fn first_other_set(station: &Station, sheet: &Sheet) -> Option<usize>
     ensures none { IfNone result (numbers_of sheet.now ≡ station.now.sets) }
-    ensures some {
-        IfSome result (λ place.
-            IsFirstDifference (numbers_of sheet.now) station.now.sets place)
-    }
+    ensures some { IfSome result (λ place.
+        IsFirstDifference (numbers_of sheet.now) station.now.sets place) }
     ensures bound { IfSome result (λ place. place ≤ MOST_SETS) }
 {
     for place in 0..sheet.orientations().len().max(station.sets().len()) {
@@ -110,10 +98,8 @@ fn first_other_set(station: &Station, sheet: &Sheet) -> Option<usize>
 /// ended.
 fn first_other_row(station: &Station, sheet: &Sheet) -> Option<usize>
     ensures none { IfNone result (keys_of sheet.now ≡ observed station.now) }
-    ensures some {
-        IfSome result (λ place.
-            IsFirstDifference (keys_of sheet.now) (observed station.now) place)
-    }
+    ensures some { IfSome result (λ place.
+        IsFirstDifference (keys_of sheet.now) (observed station.now) place) }
     ensures bound { IfSome result (λ place. place ≤ MOST_ROWS) }
 {
     for place in 0..sheet.rows().len().max(station.obs().len()) {

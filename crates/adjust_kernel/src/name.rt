@@ -32,10 +32,9 @@ impl Model for Name {
 
     ghost view = { λ n. take n.len n.bytes };
 
-    ghost invariant = {
-        λ n. (n.bytes ≡ padded (take n.len n.bytes)) × (n.len ≡ length (take n.len n.bytes))
-            × IsName (take n.len n.bytes)
-    };
+    ghost invariant = { λ n. (n.bytes ≡ padded (take n.len n.bytes))
+        × (n.len ≡ length (take n.len n.bytes))
+        × IsName (take n.len n.bytes) };
 
     ghost inverse = { λ xs. record { bytes = padded xs; len = length xs } };
 }

@@ -60,9 +60,7 @@ fn has_each(obs: &[Obs], sets: usize, targets: usize) -> bool
     requires sets { sets ≤ MOST_SETS }
     requires targets { targets ≤ MOST_TARGETS }
     requires obs { All (IsObs sets targets) obs.now }
-    ensures {
-        IsTrue result ↔ (EachSetObserved sets obs.now × EachTargetObserved targets obs.now)
-    }
+    ensures { IsTrue result ↔ (EachSetObserved sets obs.now × EachTargetObserved targets obs.now) }
 {
     let mut seen = [false; MOST_NODES];
     for each in obs {

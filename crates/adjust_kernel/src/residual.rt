@@ -50,13 +50,10 @@ fn orientation_of(sheet: &Sheet, set: u32) -> i128
 
 /// The scaled residual of an observation and the sheet's row for it.
 fn residual_at(sheet: &Sheet, obs: &Obs, row: &Row) -> i128
-    requires obs {
-        IsObs (length sheet.now.orientations) (length sheet.now.directions) obs.now
-    }
+    requires obs { IsObs (length sheet.now.orientations) (length sheet.now.directions) obs.now }
     requires turn { IsWithin LARGEST_TURN row.now.turn }
-    ensures value {
-        result ≡ residual (choice_stated_by sheet.now) (reading_of obs.now row.now.turn)
-    }
+    ensures value { result
+        ≡ residual (choice_stated_by sheet.now) (reading_of obs.now row.now.turn) }
     ensures bound { IsWithin LARGEST_RESIDUAL result }
 {
     let direction = direction_of(sheet, obs.target);
@@ -70,11 +67,9 @@ fn residual_at(sheet: &Sheet, obs: &Obs, row: &Row) -> i128
 pub fn residual_of(station: &Station, sheet: &Sheet, row: usize) -> i128
     requires matches { Matches station.now sheet.now }
     requires row { row < length station.now.obs }
-    ensures value {
-        (d : Reading)
+    ensures value { (d : Reading)
         → result ≡ residual (choice_stated_by sheet.now)
-            (slice_index_or (readings station.now sheet.now) row d)
-    }
+        (slice_index_or (readings station.now sheet.now) row d) }
     ensures bound { IsWithin LARGEST_RESIDUAL result }
 {
     row_residual(sheet, station.obs(), row)
@@ -84,11 +79,9 @@ pub fn residual_of(station: &Station, sheet: &Sheet, row: usize) -> i128
 pub(crate) fn row_residual(sheet: &Sheet, obs: &[Obs], row: usize) -> i128
     requires paired { ArePaired sheet.now obs.now }
     requires row { row < length obs.now }
-    ensures value {
-        (d : Reading)
+    ensures value { (d : Reading)
         → result ≡ residual (choice_stated_by sheet.now)
-            (slice_index_or (readings_of obs.now sheet.now.rows) row d)
-    }
+        (slice_index_or (readings_of obs.now sheet.now.rows) row d) }
     ensures bound { IsWithin LARGEST_RESIDUAL result }
 {
     residual_at(sheet, &obs[row], &sheet.rows()[row])

@@ -39,10 +39,8 @@ impl Running {
 }
 
 impl Default for Running {
-    ghost is_default = {
-        λ running. ⟦<Running as Tally>⟧.StandsFor running []
-            × (⟦<Running as Tally>⟧.room running ≡ MOST_ROWS)
-    };
+    ghost is_default = { λ running. ⟦<Running as Tally>⟧.StandsFor running []
+        × (⟦<Running as Tally>⟧.room running ≡ MOST_ROWS) };
 
     fn default() -> Running {
         Running::new()
@@ -76,14 +74,11 @@ impl Tally for Running {
 /// Adds to the sum at a place. The sum is one of fewer than the most rows.
 fn add_at(sums: &mut [i128], place: usize, residual: i128)
     requires place { place < length sums.old }
-    requires sum {
-        IsWithin (LARGEST_RESIDUAL *ℤ pos MOST_ROWS) (slice_index_or sums.old place (pos 0))
-    }
+    requires sum { IsWithin (LARGEST_RESIDUAL *ℤ pos MOST_ROWS)
+        (slice_index_or sums.old place (pos 0)) }
     requires residual { IsWithin LARGEST_RESIDUAL residual }
-    ensures {
-        sums.new
-        ≡ slice_set sums.old place (slice_index_or sums.old place (pos 0) +ℤ residual)
-    }
+    ensures { sums.new
+        ≡ slice_set sums.old place (slice_index_or sums.old place (pos 0) +ℤ residual) }
 {
     sums[place] += residual;
 }

@@ -30,14 +30,11 @@ impl Model for Sheet {
 
     ghost Value = { SheetValue };
 
-    ghost view = {
-        λ s. sheet_of s.name s.denominator s.directions.items s.orientations.items s.rows.items
-    };
+    ghost view = { λ s. sheet_of s.name s.denominator s.directions.items s.orientations.items
+        s.rows.items };
 
-    ghost invariant = {
-        λ s. IsSheet
-            (sheet_of s.name s.denominator s.directions.items s.orientations.items s.rows.items)
-    };
+    ghost invariant = { λ s. IsSheet
+        (sheet_of s.name s.denominator s.directions.items s.orientations.items s.rows.items) };
 }
 
 impl Sheet {
@@ -50,15 +47,12 @@ impl Sheet {
         orientations: Vec<Orientation>,
         rows: Vec<Row>,
     ) -> Option<Sheet>
-        ensures some {
-            IfSome result (λ sheet.
-                sheet ≡ sheet_of name denominator directions.items orientations.items rows.items)
-        }
+        ensures some { IfSome result (λ sheet.
+            sheet ≡ sheet_of name denominator directions.items orientations.items rows.items) }
         ensures valid { IfSome result IsSheet }
-        ensures none {
-            IfNone result
-                (IsSheet (sheet_of name denominator directions.items orientations.items rows.items) → ⊥)
-        }
+        ensures none { IfNone result
+            (IsSheet (sheet_of name denominator directions.items orientations.items rows.items)
+            → ⊥) }
     {
         let _bytes = name.bytes();
         if is_denominator(denominator)
@@ -66,13 +60,7 @@ impl Sheet {
             && are_orientations(&orientations)
             && are_rows(&rows)
         {
-            return Some(Sheet::of_valid(
-                name,
-                denominator,
-                directions,
-                orientations,
-                rows,
-            ));
+            return Some(Sheet::of_valid(name, denominator, directions, orientations, rows));
         }
         None
     }
@@ -86,12 +74,10 @@ impl Sheet {
         orientations: Vec<Orientation>,
         rows: Vec<Row>,
     ) -> Sheet
-        requires {
-            IsSheet (sheet_of name denominator directions.items orientations.items rows.items)
-        }
-        ensures {
-            result ≡ sheet_of name denominator directions.items orientations.items rows.items
-        }
+        requires { IsSheet
+            (sheet_of name denominator directions.items orientations.items rows.items) }
+        ensures { result
+            ≡ sheet_of name denominator directions.items orientations.items rows.items }
     {
         Sheet {
             name,
@@ -104,9 +90,8 @@ impl Sheet {
 
     /// The station's name, the denominator, the directions, the orientations and the rows.
     pub fn into_parts(self) -> (Name, u64, Vec<Direction>, Vec<Orientation>, Vec<Row>)
-        ensures parts {
-            sheet_of result.0 result.1 result.2.items result.3.items result.4.items ≡ self
-        }
+        ensures parts { sheet_of result.0 result.1 result.2.items result.3.items result.4.items
+            ≡ self }
         ensures valid { IsSheet self }
     {
         let sheet = self;

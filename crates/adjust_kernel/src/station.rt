@@ -30,28 +30,22 @@ impl Model for Station {
 
     ghost view = { λ s. station_of s.name s.targets.items s.sets.items s.obs.items };
 
-    ghost invariant = {
-        λ s. IsStation (station_of s.name s.targets.items s.sets.items s.obs.items)
-    };
+    ghost invariant = { λ s. IsStation
+        (station_of s.name s.targets.items s.sets.items s.obs.items) };
 }
 
 impl Station {
     /// The station with these parts, if they keep the rules of a station; otherwise the lists are
     /// dropped.
     pub fn new(name: Name, targets: Vec<Name>, sets: Vec<u16>, obs: Vec<Obs>) -> Option<Station>
-        ensures some {
-            IfSome result (λ station. station ≡ station_of name targets.items sets.items obs.items)
-        }
+        ensures some { IfSome result (λ station.
+            station ≡ station_of name targets.items sets.items obs.items) }
         ensures valid { IfSome result IsStation }
-        ensures none {
-            IfNone result (IsStation (station_of name targets.items sets.items obs.items) → ⊥)
-        }
+        ensures none { IfNone result
+            (IsStation (station_of name targets.items sets.items obs.items) → ⊥) }
     {
         let _bytes = name.bytes();
-        if are_targets(&targets)
-            && are_sets(&sets)
-            && are_obs(&obs, sets.len(), targets.len())
-        {
+        if are_targets(&targets) && are_sets(&sets) && are_obs(&obs, sets.len(), targets.len()) {
             return Some(Station::of_valid(name, targets, sets, obs));
         }
         None
@@ -73,9 +67,7 @@ impl Station {
 
     /// Its name, the names of its targets, the numbers of its sets and its observations.
     pub fn into_parts(self) -> (Name, Vec<Name>, Vec<u16>, Vec<Obs>)
-        ensures parts {
-            station_of result.0 result.1.items result.2.items result.3.items ≡ self
-        }
+        ensures parts { station_of result.0 result.1.items result.2.items result.3.items ≡ self }
         ensures valid { IsStation self }
     {
         (self.name, self.targets, self.sets, self.obs)

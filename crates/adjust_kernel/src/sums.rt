@@ -18,10 +18,8 @@ pub fn add_residuals<T: Tally>(mut tally: T, sheet: &Sheet, obs: &[Obs]) -> T
     requires paired { ArePaired sheet.now obs.now }
     requires nothing { T.StandsFor tally [] }
     requires room { T.room tally ≡ MOST_ROWS }
-    ensures {
-        T.StandsFor result
-            (all_added (choice_stated_by sheet.now) (readings_of obs.now sheet.now.rows))
-    }
+    ensures { T.StandsFor result
+        (all_added (choice_stated_by sheet.now) (readings_of obs.now sheet.now.rows)) }
 {
     for row in 0..sheet.rows().len() {
         let residual = row_residual(sheet, obs, row);
@@ -33,16 +31,12 @@ pub fn add_residuals<T: Tally>(mut tally: T, sheet: &Sheet, obs: &[Obs]) -> T
 /// The first target from 0 whose residuals don't add to 0.
 pub fn first_uneven_target<T: Tally>(tally: &T, targets: u32) -> Option<u32>
     requires { targets ≤ MOST_TARGETS }
-    ensures none {
-        IfNone result
-            ((c : Choice) (rs : List Reading) → T.StandsFor tally.now (all_added c rs)
-            → (t : ℕ) → t < targets → target_sum c rs t ≡ pos 0)
-    }
-    ensures some {
-        IfSome result (λ n.
-            (c : Choice) (rs : List Reading) → T.StandsFor tally.now (all_added c rs)
-            → IsFirstWhere (λ t. target_sum c rs t ≢ pos 0) targets n)
-    }
+    ensures none { IfNone result
+        ((c : Choice) (rs : List Reading) → T.StandsFor tally.now (all_added c rs)
+        → (t : ℕ) → t < targets → target_sum c rs t ≡ pos 0) }
+    ensures some { IfSome result (λ n.
+        (c : Choice) (rs : List Reading) → T.StandsFor tally.now (all_added c rs)
+        → IsFirstWhere (λ t. target_sum c rs t ≢ pos 0) targets n) }
 {
     for target in 0..targets {
         if tally.target_sum(target) != 0 {
@@ -55,16 +49,12 @@ pub fn first_uneven_target<T: Tally>(tally: &T, targets: u32) -> Option<u32>
 /// The first set from 0 whose residuals don't add to 0.
 pub fn first_uneven_set<T: Tally>(tally: &T, sets: u32) -> Option<u32>
     requires { sets ≤ MOST_SETS }
-    ensures none {
-        IfNone result
-            ((c : Choice) (rs : List Reading) → T.StandsFor tally.now (all_added c rs)
-            → (s : ℕ) → s < sets → set_sum c rs s ≡ pos 0)
-    }
-    ensures some {
-        IfSome result (λ n.
-            (c : Choice) (rs : List Reading) → T.StandsFor tally.now (all_added c rs)
-            → IsFirstWhere (λ s. set_sum c rs s ≢ pos 0) sets n)
-    }
+    ensures none { IfNone result
+        ((c : Choice) (rs : List Reading) → T.StandsFor tally.now (all_added c rs)
+        → (s : ℕ) → s < sets → set_sum c rs s ≡ pos 0) }
+    ensures some { IfSome result (λ n.
+        (c : Choice) (rs : List Reading) → T.StandsFor tally.now (all_added c rs)
+        → IsFirstWhere (λ s. set_sum c rs s ≢ pos 0) sets n) }
 {
     for set in 0..sets {
         if tally.set_sum(set) != 0 {

@@ -39,11 +39,9 @@ pub trait Tally: Drop {
         requires set { set < MOST_SETS }
         requires residual { IsWithin LARGEST_RESIDUAL residual }
         ensures room { room self.new + 1 ≡ room self.old }
-        ensures added {
-            (l : List Added) → StandsFor self.old l
+        ensures added { (l : List Added) → StandsFor self.old l
             → StandsFor self.new
-                (l ++ record { target = target; set = set; residual = residual } ∷ [])
-        };
+            (l ++ record { target = target; set = set; residual = residual } ∷ []) };
 
     /// The sum of the residuals that were added for a target.
     fn target_sum(&self, target: u32) -> i128

@@ -44,10 +44,8 @@ pub fn check(
     residual: Option<ResidualLimit>,
 ) -> Result<Accepted, KernelFault>
     ensures verdict { IsVerdict station.now sheet.now residual result }
-    ensures no_other_verdict {
-        (other : Result Accepted KernelFault)
-        → IsVerdict station.now sheet.now residual other → result ≡ other
-    }
+    ensures no_other_verdict { (other : Result Accepted KernelFault)
+        → IsVerdict station.now sheet.now residual other → result ≡ other }
     ensures matches { OnOk result (Matches station.now sheet.now) }
     ensures squares { TellsOfSquares station.now sheet.now residual result }
 {
@@ -64,10 +62,8 @@ pub fn check_with<T: Tally>(
     requires nothing { T.StandsFor tally [] }
     requires room { T.room tally ≡ MOST_ROWS }
     ensures verdict { IsVerdict station.now sheet.now residual result }
-    ensures no_other_verdict {
-        (other : Result Accepted KernelFault)
-        → IsVerdict station.now sheet.now residual other → result ≡ other
-    }
+    ensures no_other_verdict { (other : Result Accepted KernelFault)
+        → IsVerdict station.now sheet.now residual other → result ≡ other }
     ensures matches { OnOk result (Matches station.now sheet.now) }
     ensures squares { TellsOfSquares station.now sheet.now residual result }
 {

@@ -21,4 +21,4 @@ whole_total readings = int_sum_by unrolled readings
 abbrev pub reading_at : List Reading → ℕ → ℕ → ℕ → Reading
 reading_at readings targets s t =
     slice_index_or readings (s * targets + t)
-      (record { set = 0; target = 0; value = 0; turn = pos 0 })
+    (record { set = 0; target = 0; value = 0; turn = pos 0 })

@@ -59,11 +59,9 @@ pub fn directions_of(
 ) -> Result<Vec<Direction>, AllocError>
     requires complete { IsComplete station.now }
     requires rows { AreMeansRows station.now rows.now }
-    ensures {
-        IfOk result (λ directions.
-            AreEach (IsMeansDirection station.now (readings_of station.now.obs rows.now))
-                (length station.now.targets) directions.items)
-    }
+    ensures { IfOk result (λ directions.
+        AreEach (IsMeansDirection station.now (readings_of station.now.obs rows.now))
+        (length station.now.targets) directions.items) }
 {
     let targets = station.targets().len();
     let first = target_total(station, rows, 0);
@@ -78,11 +76,9 @@ pub fn directions_of(
 fn rest_of(station: &Station, rows: &[Row]) -> i128
     requires complete { IsComplete station.now }
     requires rows { AreMeansRows station.now rows.now }
-    ensures value {
-        result ≡ Totals.whole_total (readings_of station.now.obs rows.now)
-            -ℤ pos (length station.now.targets)
-            *ℤ Totals.target_total (readings_of station.now.obs rows.now) 0
-    }
+    ensures value { result ≡ Totals.whole_total (readings_of station.now.obs rows.now)
+        -ℤ pos (length station.now.targets)
+        *ℤ Totals.target_total (readings_of station.now.obs rows.now) 0 }
     ensures bound { IsWithin (LARGEST_READING *ℤ pos 3 *ℤ pos MOST_ROWS) result }
 {
     let targets = station.targets().len();
@@ -94,11 +90,9 @@ fn rest_of(station: &Station, rows: &[Row]) -> i128
 fn orientation_of(station: &Station, rows: &[Row], rest: i128, set: usize) -> Orientation
     requires complete { IsComplete station.now }
     requires rows { AreMeansRows station.now rows.now }
-    requires rest {
-        rest ≡ Totals.whole_total (readings_of station.now.obs rows.now)
-            -ℤ pos (length station.now.targets)
-            *ℤ Totals.target_total (readings_of station.now.obs rows.now) 0
-    }
+    requires rest { rest ≡ Totals.whole_total (readings_of station.now.obs rows.now)
+        -ℤ pos (length station.now.targets)
+        *ℤ Totals.target_total (readings_of station.now.obs rows.now) 0 }
     requires bound { IsWithin (LARGEST_READING *ℤ pos 3 *ℤ pos MOST_ROWS) rest }
     requires set { set < length station.now.sets }
     ensures { IsMeansOrientation station.now (readings_of station.now.obs rows.now) set result }
@@ -119,11 +113,9 @@ pub fn orientations_of(
 ) -> Result<Vec<Orientation>, AllocError>
     requires complete { IsComplete station.now }
     requires rows { AreMeansRows station.now rows.now }
-    ensures {
-        IfOk result (λ orientations.
-            AreEach (IsMeansOrientation station.now (readings_of station.now.obs rows.now))
-                (length station.now.sets) orientations.items)
-    }
+    ensures { IfOk result (λ orientations.
+        AreEach (IsMeansOrientation station.now (readings_of station.now.obs rows.now))
+        (length station.now.sets) orientations.items) }
 {
     let sets = station.sets().len();
     let rest = rest_of(station, rows);

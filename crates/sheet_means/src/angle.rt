@@ -24,10 +24,8 @@ fn angle_of(station: &Station, set: usize, target: usize) -> i64
     requires complete { IsComplete station.now }
     requires set { set < length station.now.sets }
     requires target { target < length station.now.targets }
-    ensures value {
-        result
-        ≡ Turning.value_of station.now.obs set target -ℤ Turning.value_of station.now.obs set 0
-    }
+    ensures value { result
+        ≡ Turning.value_of station.now.obs set target -ℤ Turning.value_of station.now.obs set 0 }
     ensures bound { IsWithin (pos TURN) result }
 {
     value_of(station, set, target) - value_of(station, set, 0)

@@ -22,14 +22,12 @@ fn sheet_of(
     rows: Vec<Row>,
 ) -> Sheet
     requires complete { IsComplete station.now }
-    requires directions {
-        AreEach (IsMeansDirection station.now (readings_of station.now.obs rows.items))
-            (length station.now.targets) directions.items
-    }
-    requires orientations {
-        AreEach (IsMeansOrientation station.now (readings_of station.now.obs rows.items))
-            (length station.now.sets) orientations.items
-    }
+    requires directions { AreEach
+        (IsMeansDirection station.now (readings_of station.now.obs rows.items))
+        (length station.now.targets) directions.items }
+    requires orientations { AreEach
+        (IsMeansOrientation station.now (readings_of station.now.obs rows.items))
+        (length station.now.sets) orientations.items }
     requires rows { AreMeansRows station.now rows.items }
     ensures sheet { IsMeansSheet station.now result }
     ensures accepted { IsAcceptedSheet station.now result None }
@@ -54,10 +52,8 @@ pub fn means(alloc: Global, station: &Station) -> Result<Sheet, MeansFault>
     ensures incomplete { (result ≡ Err MeansFault.Incomplete) ↔ (IsComplete station.now → ⊥) }
     ensures complete { OnOk result (IsComplete station.now) }
     ensures sheet { IfOk result (IsMeansSheet station.now) }
-    ensures only {
-        IfOk result (λ sheet.
-            (other : SheetValue) → IsMeansSheet station.now other → other ≡ sheet)
-    }
+    ensures only { IfOk result (λ sheet.
+        (other : SheetValue) → IsMeansSheet station.now other → other ≡ sheet) }
 
     // Whatever memory there is, the kernel accepts the sheet.
     ensures accepted { IfOk result (λ sheet. IsAcceptedSheet station.now sheet None) }

@@ -20,10 +20,9 @@ fn reading_at(station: &Station, rows: &[Row], set: usize, target: usize) -> i12
     requires rows { AreMeansRows station.now rows.now }
     requires set { set < length station.now.sets }
     requires target { target < length station.now.targets }
-    ensures value {
-        result ≡ Residuals.unrolled (Totals.reading_at (readings_of station.now.obs rows.now)
-            (length station.now.targets) set target)
-    }
+    ensures value { result ≡ Residuals.unrolled
+        (Totals.reading_at (readings_of station.now.obs rows.now)
+        (length station.now.targets) set target) }
     ensures bound { IsWithin LARGEST_READING result }
 {
     rows[set * station.targets().len() + target].unrolled()

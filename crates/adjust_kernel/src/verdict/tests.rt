@@ -544,7 +544,10 @@ fn faults_are_told_in_words(rt: HostRuntime) -> Result<(), Fail> {
     for (fault, text) in faults {
         assert_eq!(rt; fault.to_string(rt.alloc())?.as_str(), text);
     }
-    assert_eq!(rt; OutOfMemory.to_string(rt.alloc())?.as_str(), "out of memory");
+    assert_eq!(rt;
+        OutOfMemory.to_string(rt.alloc())?.as_str(),
+        "out of memory"
+    );
     Ok(())
 }
 

@@ -30,12 +30,12 @@ returns-clause-accepted c =
     subst (λ (sheet : SheetValue). IsAcceptedSheet station sheet None)
     (sym (c.of_valid.ensures ∙ (λ i. record { name = c.name.ensures.value i; denominator = length (c.sets.ensures.value i) * length (c.targets.ensures.value i); directions = directions; orientations = orientations; rows = rows })))
     (c.acceptance.ensures.accepted station (record { name = station.name; denominator = length station.sets * length station.targets; directions = directions; orientations = orientations; rows = rows }) None
-      (is_means_sheet station valid c.requires.complete rows c.requires.rows directions c.requires.directions orientations c.requires.orientations).matches
-      (targets_add_up station valid c.requires.complete rows c.requires.rows directions c.requires.directions orientations c.requires.orientations)
-      (sets_add_up station valid c.requires.complete rows c.requires.rows directions c.requires.directions orientations c.requires.orientations)
-      (holds_together station valid c.requires.complete rows c.requires.rows directions c.requires.directions orientations c.requires.orientations)
-      tt
-      (some_readings station valid c.requires.complete rows c.requires.rows directions c.requires.directions orientations c.requires.orientations))
+    (is_means_sheet station valid c.requires.complete rows c.requires.rows directions c.requires.directions orientations c.requires.orientations).matches
+    (targets_add_up station valid c.requires.complete rows c.requires.rows directions c.requires.directions orientations c.requires.orientations)
+    (sets_add_up station valid c.requires.complete rows c.requires.rows directions c.requires.directions orientations c.requires.orientations)
+    (holds_together station valid c.requires.complete rows c.requires.rows directions c.requires.directions orientations c.requires.orientations)
+    tt
+    (some_readings station valid c.requires.complete rows c.requires.rows directions c.requires.directions orientations c.requires.orientations))
 
 pub returns-clause-unturned : goal.returns-clause-unturned
 returns-clause-unturned c =
