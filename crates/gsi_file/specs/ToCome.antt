@@ -81,11 +81,19 @@ Answers t (Ok None) t' = GivesEnd t t'
 Answers t (Err (At number kind)) t' = GivesFault t t' number kind
 Answers t (Err Memory) t' = ⊥
 
--- A step has found this line, a block of this shape, or gives the end or a fault.
-abbrev pub FindsNext : ToCome → Result (Option Shape) FileFault → ToCome → List ℕ → Type 0
-FindsNext t (Ok (Some shape)) t' line =
+-- A step has found this line, a block of this shape, or the end, or a fault, by which nothing is
+-- counted.
+abbrev pub FindsBlock : ToCome → Result (Option Shape) FileKind → ToCome → List ℕ → Type 0
+FindsBlock t (Ok (Some shape)) t' line =
     TakesLine t.answers t'.answers line × IsShape shape line
     × (t'.number ≡ t.number + 1) × (t'.number ≤ LONGEST_FILE)
-FindsNext t (Ok None) t' line = GivesEnd t t'
+FindsBlock t (Ok None) t' line = GivesEnd t t'
+FindsBlock t (Err kind) t' line =
+    IfSome t.answers (λ a. FaultIsNext a kind)
+    × (t'.number ≡ t.number) × (t.number + 1 ≤ LONGEST_FILE)
+
+-- The same, or what a call before it settled.
+abbrev pub FindsNext : ToCome → Result (Option Shape) FileFault → ToCome → List ℕ → Type 0
+FindsNext t (Ok found) t' line = FindsBlock t (Ok found) t' line
 FindsNext t (Err (At number kind)) t' line = GivesFault t t' number kind
 FindsNext t (Err Memory) t' line = ⊥

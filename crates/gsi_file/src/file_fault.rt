@@ -1,5 +1,11 @@
 //! Why a field file gives no more lines.
 
+ghost use Rattle.std.specs.Prelude.{List, ℕ};
+ghost use Rattle.gsi_word.specs.LineFaults.{IsLineFault};
+ghost use Rattle.gsi_file.specs.ToCome.{IsFileFault};
+
+use gsi_word::LineFault;
+
 /// What is wrong with a field file.
 #[derive(Clone, Copy, Debug, PartialEq, Eq)]
 pub enum FileKind {
@@ -15,6 +21,18 @@ pub enum FileKind {
     Word(usize),
     /// The first word is neither a point number nor a code number.
     FirstWord,
+}
+
+impl From<LineFault> for FileKind {
+    fn from(fault: LineFault) -> FileKind
+        ensures { (line : List ℕ) → IsLineFault line fault → IsFileFault line result }
+    {
+        match fault {
+            LineFault::Byte(at) => FileKind::Byte(at),
+            LineFault::Word(nth) => FileKind::Word(nth),
+            LineFault::FirstWord => FileKind::FirstWord,
+        }
+    }
 }
 
 /// Why there is no next line.

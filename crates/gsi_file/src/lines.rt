@@ -6,7 +6,6 @@
 
 ghost use Rattle.std.specs.Prelude.{◌≤◌, ◌+◌, ◌/◌, List, ℕ, IfOk, IfErr};
 ghost use Rattle.gsi_word.specs.Shapes.{IsShape};
-ghost use Rattle.gsi_word.specs.LineFaults.{IsLineFault};
 ghost use Rattle.gsi_file.specs.ToCome.{IsFileFault};
 ghost use Rattle.gsi_file.specs.declared.limits.TheConstants.{LONGEST_FILE};
 
@@ -18,7 +17,7 @@ use crate::line::Line;
 use crate::out_of_memory::OutOfMemory;
 use crate::search::find_line;
 use byte_ends::Source;
-use gsi_word::{LineFault, Shape, block_in, read_shape};
+use gsi_word::{Shape, block_in, read_shape};
 use std::alloc::Global;
 
 /// Whether more is to come.
@@ -46,17 +45,6 @@ pub struct Lines<R> {
     ghost counted: { count + (room + 1) / 2 ≤ LONGEST_FILE / 2 },
 }
 
-/// The fault of a line as one of the file.
-fn kind_of(fault: LineFault) -> FileKind
-    ensures { (line : List ℕ) → IsLineFault line fault → IsFileFault line result }
-{
-    match fault {
-        LineFault::Byte(at) => FileKind::Byte(at),
-        LineFault::Word(nth) => FileKind::Word(nth),
-        LineFault::FirstWord => FileKind::FirstWord,
-    }
-}
-
 /// The shape of the block that a line is, or the line's fault.
 fn check_line(line: &[u8]) -> Result<Shape, FileKind>
     ensures shape { IfOk result (λ s. IsShape s line.now) }
@@ -64,17 +52,18 @@ fn check_line(line: &[u8]) -> Result<Shape, FileKind>
 {
     match read_shape(line) {
         Ok(shape) => Ok(shape),
-        Err(fault) => Err(kind_of(fault)),
+        Err(fault) => Err(FileKind::from(fault)),
     }
 }
 
 impl<R: Source> Lines<R> {
-    ghost use Rattle.std.specs.Prelude.{◌≡◌, ◌<◌, ◌≤◌, List, ℕ, length, take, Some, IfOk, IfSome};
+    ghost use Rattle.std.specs.Prelude.{◌≡◌, ◌<◌, ◌≤◌, List, ℕ, length, take, false, Some, IfOk, IfErr, IfSome, OnOk};
     ghost use Rattle.std.specs.Io.BufRead.{Rests};
     ghost use Rattle.std.specs.Borrow.{sem};
     ghost use Rattle.gsi_file.specs.contracts.lines.Lines.{the_row};
     ghost use Rattle.gsi_file.specs.FileAnswers.{file_answers};
-    ghost use Rattle.gsi_file.specs.ToCome.{ToCome, Answers, FindsNext};
+    ghost use Rattle.gsi_file.specs.ToCome.{ToCome, Answers, FindsNext, FindsBlock, IsRead};
+    ghost use Rattle.gsi_file.specs.Finding.{BreaksOff};
     ghost use Rattle.gsi_file.specs.Standing.{to_come, reader_of, AsksNoMore, line_found, bytes_left, is_settled, Progresses, FailsAtItsEnd};
 
     /// Takes the one buffer, and reads nothing. Where there is no memory the reader is dropped.
@@ -97,6 +86,13 @@ impl<R: Source> Lines<R> {
         }
     }
 
+    /// The reader, as the reads have left it: it may have given bytes after the last line that came.
+    pub fn into_inner(self) -> R
+        ensures { result ≡ reader_of self }
+    {
+        self.reader
+    }
+
     /// The next numbered line: a block, until the end comes or a fault.
     ///
     /// After the end each call answers `None`, and after a fault the same fault. It takes no
@@ -113,7 +109,7 @@ impl<R: Source> Lines<R> {
         match self.advance()? {
             Some(shape) => {
                 let number = self.count;
-                let block = block_in(self.line(), shape);
+                let block = block_in(self.hand.line(), shape);
                 Ok(Some(Line { number, block }))
             }
             None => Ok(None),
@@ -134,29 +130,8 @@ impl<R: Source> Lines<R> {
             State::End => return Ok(None),
             State::Failed(kind) => return Err(FileFault::At(self.count + 1, kind)),
         }
-        self.hand.give_up_line();
-        match find_line(&mut self.reader, &mut self.hand.buffer, self.room) {
-            Ok(Some(found)) => {
-                self.hand.hold_line(found);
-                self.room = found.room;
-                match check_line(self.hand.line()) {
-                    Ok(shape) => {
-                        self.count += 1;
-                        if found.last {
-                            self.state = State::End;
-                        }
-                        Ok(Some(shape))
-                    }
-                    Err(kind) => {
-                        self.state = State::Failed(kind);
-                        Err(FileFault::At(self.count + 1, kind))
-                    }
-                }
-            }
-            Ok(None) => {
-                self.state = State::End;
-                Ok(None)
-            }
+        match self.find_block() {
+            Ok(found) => Ok(found),
             Err(kind) => {
                 self.state = State::Failed(kind);
                 Err(FileFault::At(self.count + 1, kind))
@@ -164,10 +139,31 @@ impl<R: Source> Lines<R> {
         }
     }
 
-    /// The line that was found.
-    fn line(&self) -> &[u8]
-        ensures { result.now ≡ line_found self.now }
+    /// Finds the next line and counts it, where nothing is settled. After a fault nothing is, yet.
+    fn find_block(&mut self) -> Result<Option<Shape>, FileKind>
+        requires { is_settled self.old ≡ false }
+        ensures finds { FindsBlock (to_come R.told self.old) result (to_come R.told self.new)
+            (line_found self.new) }
+        ensures settled { OnOk result (AsksNoMore result self.old self.new) }
+        ensures progress { Progresses result (bytes_left self.old) (bytes_left self.new) }
+        ensures fails { IfErr result (λ kind. IsRead kind
+            → BreaksOff (R.told (reader_of self.old)) (R.told (reader_of self.new))) }
     {
-        self.hand.line()
+        self.hand.give_up_line();
+        let Some(found) = find_line(&mut self.reader, &mut self.hand.buffer, self.room)? else {
+            self.state = State::End;
+            return Ok(None);
+        };
+        self.hand.hold_line(found);
+        self.room = found.room;
+        let shape = match check_line(self.hand.line()) {
+            Ok(shape) => shape,
+            Err(kind) => return Err(kind),
+        };
+        self.count += 1;
+        if found.last {
+            self.state = State::End;
+        }
+        Ok(Some(shape))
     }
 }

@@ -20,15 +20,18 @@ bytes_or_fault [] = inl (All-nil IsPrintable)
 bytes_or_fault (b ∷ line) = elim (cases_Bool (is_printable b)) [
   | inl good ↦ elim (bytes_or_fault line) [
     | inl all ↦ inl (All-cons IsPrintable b line (printable b good) all)
-    | inr later ↦ let f = later.1 in inr (later.0 + 1, record {
-      front = b ∷ f.front;
-      byte = f.byte;
-      rest = f.rest;
-      text = ap (λ (r : List ℕ). b ∷ r) f.text;
-      place = omega (arith, f.place);
-      before = All-cons IsPrintable b f.front (printable b good) f.before;
-      fault = f.fault;
-    })
+    | inr later ↦ let f = later.1 in inr (
+      later.0 + 1,
+      record {
+        front = b ∷ f.front;
+        byte = f.byte;
+        rest = f.rest;
+        text = ap (λ (r : List ℕ). b ∷ r) f.text;
+        place = omega (arith, f.place);
+        before = All-cons IsPrintable b f.front (printable b good) f.before;
+        fault = f.fault;
+      },
+    )
   ]
   | inr bad ↦ inr (1, record { front = []; byte = b; rest = line; text = refl; place = refl; before = All-nil IsPrintable; fault = no_printable b bad })
 ]
@@ -47,9 +50,9 @@ runs_out zero width bytes le = elim (cases_Bool (begins_word width bytes)) [
 ]
 runs_out (suc n) width bytes le = elim (cases_Bool (begins_word width bytes)) [
   | inl begins ↦ (
-    let next = drop (8 + width) bytes in
-    let r = runs_out n width next (omega (arith, le, long_of width bytes begins, length-drop (8 + width) bytes)) in
-    record { count = suc r.count; rest = r.rest; run = (begins, r.run); stops = r.stops })
+      let next = drop (8 + width) bytes in
+      let r = runs_out n width next (omega (arith, le, long_of width bytes begins, length-drop (8 + width) bytes)) in
+      record { count = suc r.count; rest = r.rest; run = (begins, r.run); stops = r.stops })
   | inr stops ↦ record { count = 0; rest = bytes; run = refl; stops = stops }
 ]
 

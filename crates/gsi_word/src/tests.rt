@@ -1,6 +1,9 @@
 //! Worked lines, words, names and angles.
 
-use crate::{AngleFault, Found, LineFault, Word, decimal_number, laws, read_block};
+use crate::{
+    AngleFault, CODE_INFORMATION, CODE_NUMBER, Found, HORIZONTAL_DIRECTION, LineFault,
+    POINT_NUMBER, VERTICAL_ANGLE, Word, decimal_number, laws, read_block,
+};
 use std::process::Abort;
 
 /// The word at a place of a line that is a block.
@@ -275,6 +278,31 @@ fn a_search_finds_the_only_word_of_an_index(rt: HostRuntime) {
         }
     }
     assert!(rt; block.word(5).is_none());
+}
+
+#[test]
+fn two_indices_are_searched_for_at_once(rt: HostRuntime) {
+    let line = b"110003+0000000A 21.102+00000005 22.102+10000000 21.102+00000007";
+    let block = read_block(line).expect(&rt, "a block");
+    let (point, direction) = block.find_two(POINT_NUMBER, HORIZONTAL_DIRECTION);
+    assert!(rt; matches!(point, Found::One(word) if word.name() == b"A".as_slice()));
+    assert!(rt; matches!(direction, Found::Twice));
+    let (code, angle) = block.find_two(CODE_INFORMATION, VERTICAL_ANGLE);
+    assert!(rt; matches!(code, Found::Absent));
+    assert!(rt; matches!(angle, Found::One(word) if word.angle() == Ok(10_000_000)));
+}
+
+#[test]
+fn the_words_come_in_order(rt: HostRuntime) {
+    let line = b"*410001+0000000000000020 42....+0000000000000001 43....+0000000000000002";
+    let block = read_block(line).expect(&rt, "a block");
+    assert_eq!(rt; block.first().index(), CODE_NUMBER);
+    let mut words = block.words();
+    for index in [41, 42, 43] {
+        assert_eq!(rt; words.next().map(|word| word.index()), Some(index));
+    }
+    assert!(rt; words.next().is_none());
+    assert!(rt; words.next().is_none());
 }
 
 #[test]

@@ -18,5 +18,10 @@ columns_of _ = None
 
 -- the same, of the columns in memory
 abbrev pub columns_view : Columns → Fields
-columns_view c = record { kind = c.kind.now; number = c.number.now; name = c.name.now;
-    value = c.value.now; turn = c.turn.now }
+columns_view c = record {
+  kind = c.kind.now;
+  number = c.number.now;
+  name = c.name.now;
+  value = c.value.now;
+  turn = c.turn.now;
+}

@@ -41,8 +41,13 @@ rows_of_draft d = header_rows d.header ++ body_rows d.directions d.orientations 
 
 -- a sheet has the parts of a draft
 abbrev pub sheet_of : Header → DraftValue → SheetValue
-sheet_of h d = record { name = h.name; denominator = h.denominator;
-    directions = d.directions; orientations = d.orientations; rows = d.rows }
+sheet_of h d = record {
+  name = h.name;
+  denominator = h.denominator;
+  directions = d.directions;
+  orientations = d.orientations;
+  rows = d.rows;
+}
 
 abbrev pub HasParts : Option Header → DraftValue → SheetValue → Type 0
 HasParts None d s = ⊥
@@ -70,13 +75,21 @@ version_of_header (Some h) = h.version
 
 -- what its rows say of the next
 abbrev pub said_by_draft : DraftValue → Before
-said_by_draft d = record { last = last_of_draft d; version = version_of_header d.header;
-    targets = length d.directions; sets = length d.orientations; obs = length d.rows }
+said_by_draft d = record {
+  last = last_of_draft d;
+  version = version_of_header d.header;
+  targets = length d.directions;
+  sets = length d.orientations;
+  obs = length d.rows;
+}
 
 -- what the columns of a row without a fault state
 abbrev pub header_of : Fields → Header
-header_of c = record { version = unwrap_or (version_of c.number) version.One;
-    name = c.name; denominator = natural_of (value_of c.value) }
+header_of c = record {
+  version = unwrap_or (version_of c.number) version.One;
+  name = c.name;
+  denominator = natural_of (value_of c.value);
+}
 
 abbrev pub direction_of : Fields → Direction
 direction_of c = record { name = c.name; value = value_of c.value }
@@ -85,23 +98,43 @@ abbrev pub orientation_of : Fields → Orientation
 orientation_of c = record { set = natural_of (value_of c.number); value = value_of c.value }
 
 abbrev pub obs_row_of : Fields → Row
-obs_row_of c = record { set = natural_of (value_of c.number); target = c.name;
-    value = natural_of (value_of c.value); turn = value_of c.turn }
+obs_row_of c = record {
+  set = natural_of (value_of c.number);
+  target = c.name;
+  value = natural_of (value_of c.value);
+  turn = value_of c.turn;
+}
 
 -- the draft with the entry of one more row
 abbrev pub with_columns : Kind → DraftValue → Fields → DraftValue
 with_columns kind.Sheet d c =
-    record { header = Some (header_of c); directions = d.directions;
-    orientations = d.orientations; rows = d.rows }
+    record {
+      header = Some (header_of c);
+      directions = d.directions;
+      orientations = d.orientations;
+      rows = d.rows;
+    }
 with_columns kind.Target d c =
-    record { header = d.header; directions = d.directions ++ (direction_of c ∷ []);
-    orientations = d.orientations; rows = d.rows }
+    record {
+      header = d.header;
+      directions = d.directions ++ (direction_of c ∷ []);
+      orientations = d.orientations;
+      rows = d.rows;
+    }
 with_columns kind.Set d c =
-    record { header = d.header; directions = d.directions;
-    orientations = d.orientations ++ (orientation_of c ∷ []); rows = d.rows }
+    record {
+      header = d.header;
+      directions = d.directions;
+      orientations = d.orientations ++ (orientation_of c ∷ []);
+      rows = d.rows;
+    }
 with_columns kind.Obs d c =
-    record { header = d.header; directions = d.directions; orientations = d.orientations;
-    rows = d.rows ++ (obs_row_of c ∷ []) }
+    record {
+      header = d.header;
+      directions = d.directions;
+      orientations = d.orientations;
+      rows = d.rows ++ (obs_row_of c ∷ []);
+    }
 
 abbrev pub with_kind : Option Kind → DraftValue → Fields → DraftValue
 with_kind None d c = d

@@ -80,7 +80,7 @@ set_fault v c = first_fault (
     unless (is_empty c.name && is_empty c.turn) fault.NotEmpty
     ∷ unless (is_canonical c.number && is_canonical c.value) fault.Number
     ∷ unless (is_set_number (value_of c.number) && is_at_most (largest_angle v) (value_of c.value))
-        fault.Range
+    fault.Range
     ∷ [])
 
 -- the row of an observation
@@ -89,7 +89,7 @@ obs_fault c = first_fault (
     unless (is_name c.name) fault.Name
     ∷ unless (is_canonical c.number && is_canonical c.value && is_canonical c.turn) fault.Number
     ∷ unless (is_set_number (value_of c.number) && is_circle_value (value_of c.value)
-        && is_at_most LARGEST_TURN (value_of c.turn)) fault.Range
+    && is_at_most LARGEST_TURN (value_of c.turn)) fault.Range
     ∷ [])
 
 -- what the rows before a row say of it: the kind of the last of them, the version of the sheet, and
@@ -125,9 +125,13 @@ abbrev pub count_of : Kind → List (List (List ℕ)) → ℕ
 count_of k rows = count_by (λ row. names_kind k (first_field row)) rows
 
 abbrev pub said_by : List (List (List ℕ)) → Before
-said_by rows = record { last = last_kind rows; version = version_of_rows rows;
-    targets = count_of kind.Target rows; sets = count_of kind.Set rows;
-    obs = count_of kind.Obs rows }
+said_by rows = record {
+  last = last_kind rows;
+  version = version_of_rows rows;
+  targets = count_of kind.Target rows;
+  sets = count_of kind.Set rows;
+  obs = count_of kind.Obs rows;
+}
 
 -- the fault of the columns of a row of this kind, and then too many of its kind
 abbrev pub columns_fault : Before → Kind → Fields → Option RowKind

@@ -44,8 +44,12 @@ impl Model for Draft {
 
     ghost Value = { spec.DraftValue };
 
-    ghost view = { λ d. record { header = d.header; directions = d.directions.items;
-        orientations = d.orientations.items; rows = d.rows.items } };
+    ghost view = { λ d. record {
+      header = d.header;
+      directions = d.directions.items;
+      orientations = d.orientations.items;
+      rows = d.rows.items;
+    } };
 
     ghost invariant = { λ d. (length d.directions.items ≤ MOST_TARGETS)
         × (length d.orientations.items ≤ MOST_SETS) × (length d.rows.items ≤ MOST_ROWS) };

@@ -22,8 +22,7 @@ const SHEET: [&str; 9] = [
 ];
 
 /// Its numbers, as `answer` shows them.
-const NUMBERS: &str =
-    "S1/4; A 0; B 40000024; 1 -20; 2 -80000020; 1 A 6 0; \
+const NUMBERS: &str = "S1/4; A 0; B 40000024; 1 -20; 2 -80000020; 1 A 6 0; \
     1 B 10000010 0; 2 A 20000004 0; 2 B 30000012 0";
 
 /// Lines as a text, each with this end.

@@ -50,7 +50,7 @@ fn push_sheet<W: Write + Drop>(writer: &mut Writer<W>, sheet: &Sheet) -> Result<
 fn push_row<W: Write + Drop>(writer: &mut Writer<W>, fields: &[&[u8]]) -> Result<(), WriteFault>
     ensures ok { OnOk result ((text : List ℕ) → spec.HasWritten W.contents writer.old text
         → spec.HasWritten W.contents writer.new
-            (text ++ row_text default_writer (map (λ f. f.now) fields.now))) }
+        (text ++ row_text default_writer (map (λ f. f.now) fields.now))) }
     ensures err { IfErr result (λ fault. fault ≡ Memory) }
 {
     writer.write_fields(fields).map_err(|_| WriteFault::Memory)
@@ -65,7 +65,7 @@ fn push_header<W: Write + Drop>(
 ) -> Result<(), WriteFault>
     ensures ok { OnOk result ((text : List ℕ) → spec.HasWritten W.contents writer.old text
         → spec.HasWritten W.contents writer.new
-            (text ++ row_text default_writer (sheet_fields version name denominator))) }
+        (text ++ row_text default_writer (sheet_fields version name denominator))) }
     ensures err { IfErr result (λ fault. fault ≡ Memory) }
 {
     let mut number = Buffer::new();
@@ -88,7 +88,7 @@ fn push_target<W: Write + Drop>(
 ) -> Result<(), WriteFault>
     ensures ok { OnOk result ((text : List ℕ) → spec.HasWritten W.contents writer.old text
         → spec.HasWritten W.contents writer.new
-            (text ++ row_text default_writer (target_fields direction.now))) }
+        (text ++ row_text default_writer (target_fields direction.now))) }
     ensures err { IfErr result (λ fault. fault ≡ Memory) }
 {
     let mut value = Buffer::new();
@@ -111,7 +111,7 @@ fn push_set<W: Write + Drop>(
 ) -> Result<(), WriteFault>
     ensures ok { OnOk result ((text : List ℕ) → spec.HasWritten W.contents writer.old text
         → spec.HasWritten W.contents writer.new
-            (text ++ row_text default_writer (set_fields orientation.now))) }
+        (text ++ row_text default_writer (set_fields orientation.now))) }
     ensures err { IfErr result (λ fault. fault ≡ Memory) }
 {
     let mut number = Buffer::new();
@@ -132,7 +132,7 @@ fn push_set<W: Write + Drop>(
 fn push_obs_row<W: Write + Drop>(writer: &mut Writer<W>, row: &Row) -> Result<(), WriteFault>
     ensures ok { OnOk result ((text : List ℕ) → spec.HasWritten W.contents writer.old text
         → spec.HasWritten W.contents writer.new
-            (text ++ row_text default_writer (obs_fields row.now))) }
+        (text ++ row_text default_writer (obs_fields row.now))) }
     ensures err { IfErr result (λ fault. fault ≡ Memory) }
 {
     let mut number = Buffer::new();
@@ -157,7 +157,7 @@ fn push_targets<W: Write + Drop>(
 ) -> Result<(), WriteFault>
     ensures ok { OnOk result ((text : List ℕ) → spec.HasWritten W.contents writer.old text
         → spec.HasWritten W.contents writer.new
-            (text ++ spec.rows_text (map target_fields directions.now))) }
+        (text ++ spec.rows_text (map target_fields directions.now))) }
     ensures err { IfErr result (λ fault. fault ≡ Memory) }
 {
     for direction in directions {
@@ -173,7 +173,7 @@ fn push_sets<W: Write + Drop>(
 ) -> Result<(), WriteFault>
     ensures ok { OnOk result ((text : List ℕ) → spec.HasWritten W.contents writer.old text
         → spec.HasWritten W.contents writer.new
-            (text ++ spec.rows_text (map set_fields orientations.now))) }
+        (text ++ spec.rows_text (map set_fields orientations.now))) }
     ensures err { IfErr result (λ fault. fault ≡ Memory) }
 {
     for orientation in orientations {
@@ -186,7 +186,7 @@ fn push_sets<W: Write + Drop>(
 fn push_obs<W: Write + Drop>(writer: &mut Writer<W>, rows: &[Row]) -> Result<(), WriteFault>
     ensures ok { OnOk result ((text : List ℕ) → spec.HasWritten W.contents writer.old text
         → spec.HasWritten W.contents writer.new
-            (text ++ spec.rows_text (map obs_fields rows.now))) }
+        (text ++ spec.rows_text (map obs_fields rows.now))) }
     ensures err { IfErr result (λ fault. fault ≡ Memory) }
 {
     for row in rows {

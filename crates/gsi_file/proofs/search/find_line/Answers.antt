@@ -60,6 +60,7 @@ pub returns-in-Err : goal.returns-in-Err
 returns-in-Err g c =
     let told = g.R.Source.told in
     let line = c.line_end-line.result in
-    let s : Searching (told c.args.reader.now) (told c.search.reader) c.args.room c.args.buffer.now c.search.left line c.search.buffer = record { short = omega arith; inside = omega arith; fits = omega arith; most = c.search.invariant.most; plain = c.line_end-line.ensures.plain; same = c.search.invariant.same } in
-    (fails _ (told c.search.reader) _ _ _ c.search.left line c.search.buffer (omega arith) s c.in-Err.ensures.1,
-    λ read. breaks_off _ (told c.search.reader) _ _ _ c.search.left line c.search.buffer s c.in-Err.ensures.1)
+    let s : Searching (told c.args.reader.now) (told c.search.reader) c.args.room c.args.buffer.now c.search.left line c.search.buffer = record { short = omega arith; inside = omega arith; fits = omega arith; most = c.search.invariant.most; plain = c.line_end-line.ensures.plain; same = c.search.invariant.same } in (
+      fails _ (told c.search.reader) _ _ _ c.search.left line c.search.buffer (omega arith) s c.in-Err.ensures.1,
+      λ read. breaks_off _ (told c.search.reader) _ _ _ c.search.left line c.search.buffer s c.in-Err.ensures.1,
+    )
