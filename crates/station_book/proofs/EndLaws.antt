@@ -174,4 +174,3 @@ map_reverse f (x ∷ xs) = ap (map f) (reverse-append (x ∷ []) xs) ∙ map_sno
 -- THE LAW of the answer: what the entries give are the stations of the blocks
 pub same_stations : (k : Kept) (past : History) → StandsFor k.limits k past → AreComputed past (stations_in past) (reverse (map survey_of k.entries))
 same_stations k past h = subst (λ (ss : List SurveyedStation). AreComputed past (stations_in past) ss) (map_reverse survey_of k.entries) (answers past (stations_in past) (reverse k.entries) h.entries)
-
