@@ -5,7 +5,7 @@ PREFIX ?= /usr/local
 PROGRAM := crates/station_check/out/station_check
 EXAMPLE := examples/station_s1.gsi
 
-.PHONY: run test check install clean toolchain
+.PHONY: run test sweep check install clean toolchain
 
 # Builds the proved program and runs it on an example.
 run: $(PROGRAM)
@@ -15,6 +15,10 @@ run: $(PROGRAM)
 # The gate: every proof from nothing, the wrong bodies, the tests, the stored run; then the tests of the command line.
 test: toolchain
 	@RT='$(RT)' python3 tests/gate.py
+
+# The long sweeps of the tests of the command line, of which the gate runs samples: minutes. STATION_CHECK names another program.
+sweep:
+	@SWEEP=1 python3 -m unittest discover -s tests/cli -p 'test_[cgr]*.py'
 
 # Proves every crate over what earlier checks kept.
 check: toolchain
