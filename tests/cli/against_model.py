@@ -42,7 +42,7 @@ class Case(NamedTuple):
         return {
             "words": ["words", gsi],
             "list": ["list", *options, gsi],
-            "means": ["means", *options, gsi, self.station],
+            "means": ["means", *options, "--", gsi, self.station],
             "check": ["check", *options, gsi, sheet],
         }[self.command]
 
@@ -66,12 +66,14 @@ class AgainstModel(ProgramTest):
         return answer
 
     def compare(self, cases):
-        """Runs all cases, and names those that the program answers in another way than the model."""
-        cases = list(cases)
+        """Runs all cases, names those that the program answers in another way than the model, and gives the answers."""
+        cases, wanted = list(cases), []
         self.assertTrue(cases)
         with ThreadPoolExecutor(os.cpu_count()) as pool:
             answers = pool.map(self.answer, range(len(cases)), cases)
             for case, answer in zip(cases, answers):
-                if answer != (expected := case.expected()):
+                wanted.append(case.expected())
+                if answer != wanted[-1]:
                     with self.subTest(case.name, gsi=case.gsi[:2000], sheet=case.sheet[:2000]):
-                        self.assertEqual(expected, answer)
+                        self.assertEqual(wanted[-1], answer)
+        return wanted
