@@ -18,7 +18,7 @@ test: toolchain
 
 # The long sweeps of the tests of the command line, of which the gate runs samples: minutes. STATION_CHECK names another program.
 sweep:
-	@SWEEP=1 python3 -m unittest discover -s tests/cli -p 'test_[cgr]*.py'
+	@SWEEP=1 python3 -m unittest discover -s tests/cli -p 'test_*.py'
 
 # Proves every crate over what earlier checks kept.
 check: toolchain

@@ -7,17 +7,14 @@ a C compiler the library can't be built, and its tests are skipped.
 import itertools
 import os
 import resource
-import shutil
 import subprocess
 import unittest
 from concurrent.futures import ThreadPoolExecutor
-from pathlib import Path
 
+import preload
 import test_generated
 from against_model import FIELD, SHEET, SWEEP
-from program import PROGRAM, ProgramTest, answer_of
-
-LIBRARY = Path(__file__).with_name("refuse_allocation.c")
+from program import ProgramTest, answer_of
 
 NO_MEMORY = (1, b"", b"refused: out of memory\n")
 
@@ -82,10 +79,6 @@ LARGE_RUNS = ["words {large}", "list {large}", "means {large} S1", "check {large
 
 
 class RefusedMemoryTest(ProgramTest):
-    @classmethod
-    def setUpClass(cls):
-        cls.compiler = next(filter(None, map(shutil.which, ["cc", "gcc", "clang"])), None)
-
     def setUp(self):
         super().setUp()
         self.paths = {"folder": self.folder}
@@ -94,14 +87,6 @@ class RefusedMemoryTest(ProgramTest):
             self.paths[name].write_bytes(content)
         self.paths["large_sheet"] = self.folder / "large_sheet"
         self.paths["large_sheet"].write_bytes(answer_of(["means", self.paths["large"], "S1"])[1])
-
-    def built_library(self):
-        if self.compiler is None:
-            self.skipTest("no C compiler is found, so no allocation is refused")
-        library = self.folder / "refuse_allocation.so"
-        command = [self.compiler, "-O2", "-shared", "-fPIC", "-o", library, LIBRARY, "-ldl"]
-        subprocess.run(command, check=True, timeout=60)
-        return library
 
     def words_of(self, run):
         return run.format(**self.paths).split()
@@ -135,25 +120,25 @@ class RefusedMemoryTest(ProgramTest):
         self.assertIn(NO_MEMORY, answers)
 
     def test_each_allocation_refused(self):
-        library = self.built_library()
+        library = preload.built("refuse_allocation")
         for run in RUNS:
             with self.subTest(run):
                 self.check_refusals(run, self.refused_in_turn(library, run, 1))
 
     def test_each_allocation_and_all_after_it_refused(self):
-        library = self.built_library()
+        library = preload.built("refuse_allocation")
         for run in RUNS:
             with self.subTest(run):
                 self.check_refusals(run, self.refused_in_turn(library, run, 1, refuses_all=True))
 
     def test_allocations_for_the_largest_station_refused(self):
-        library = self.built_library()
+        library = preload.built("refuse_allocation")
         for run in LARGE_RUNS:
             with self.subTest(run):
                 self.check_refusals(run, self.refused_in_turn(library, run, STEP if "words" not in run else 1))
 
     def test_a_run_without_a_refusal_is_as_ever(self):
-        library = self.built_library()
+        library = preload.built("refuse_allocation")
         for run in RUNS:
             with self.subTest(run):
                 preloaded = answer_of(self.words_of(run), FIELD, env={"LD_PRELOAD": str(library), "REFUSE_CALL": "0"})
