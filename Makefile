@@ -20,7 +20,7 @@ NEED_TOOLCHAIN = command -v $(RT) > /dev/null || { \
   echo "make: the Rattle toolchain is missing: no command '$(RT)' is found; put it on PATH, or name it as RT=/path/to/rt" >&2; \
   exit 1; }
 
-.PHONY: run test check install clean
+.PHONY: run test sweep check install clean
 
 # Builds the proved program and runs it on an example.
 run: $(PROGRAM)
@@ -37,6 +37,10 @@ run: $(PROGRAM)
 test:
 	@$(NEED_TOOLCHAIN)
 	@RT='$(RT)' $(PYTHON) tests/gate.py
+
+# The long sweeps of the tests of the command line, of which the gate runs samples: minutes. STATION_CHECK names another program.
+sweep:
+	@SWEEP=1 $(PYTHON) -m unittest discover -s tests/cli -p 'test_*.py'
 
 # Proves every crate over what earlier checks kept.
 check:

@@ -1,5 +1,6 @@
 """The built program, run as a user runs it."""
 
+import os
 import subprocess
 import tempfile
 import unittest
@@ -7,7 +8,7 @@ from dataclasses import dataclass, field
 from pathlib import Path
 
 ROOT = Path(__file__).resolve().parents[2]
-PROGRAM = ROOT / "crates" / "station_check" / "out" / "station_check"
+PROGRAM = Path(os.environ.get("STATION_CHECK", ROOT / "crates" / "station_check" / "out" / "station_check"))
 EXAMPLE = ROOT / "examples" / "station_s1.gsi"
 EXAMPLE_SHEET = ROOT / "examples" / "station_s1.csv"
 
