@@ -106,7 +106,11 @@ SHEETS = [
         refused("sheet row 3: Range"),
     ),
     ("no name", edited(SHEET, (b"target,,B", b"target,,")), refused("sheet row 3: Name")),
-    ("17 bytes", edited(SHEET, (b"target,,B", b"target,," + b"B" * 17)), refused("sheet row 3: Name")),
+    (
+        "17 bytes",
+        edited(SHEET, (b"target,,B", b"target,," + b"B" * 17)),
+        refused("sheet row 3: Name"),
+    ),
     ("a byte 00", edited(SHEET, (b"target,,B", b"target,,\0")), refused("sheet row 3: Name")),
     ("six columns", edited(SHEET, (b"40000024,", b"40000024,,")), refused("sheet row 3: Fields")),
     (
@@ -128,14 +132,24 @@ SHEETS = [
     ("no bytes", b"", refused("sheet row 1: Unfinished")),
     ("lines ended by CR LF", edited(SHEET, (b"\n", b"\r\n")), ACCEPTED),
     ("a line without a byte", edited(SHEET, (b"obs,1,A", b"\nobs,1,A")), ACCEPTED),
-    ("a line of a blank", edited(SHEET, (b"obs,1,A", b" \nobs,1,A")), refused("sheet row 6: Fields")),
+    (
+        "a line of a blank",
+        edited(SHEET, (b"obs,1,A", b" \nobs,1,A")),
+        refused("sheet row 6: Fields"),
+    ),
     ("a byte order mark", b"\xef\xbb\xbf" + SHEET, ACCEPTED),
     ("as many blanks as a sheet may have", b" " * 1_048_576, refused("sheet row 1: Fields")),
     ("one more", b" " * 1_048_577, refused("sheet: TooLong")),
-    ("a byte order mark past the limit", b"\xef\xbb\xbf" + b" " * 1_048_574, refused("sheet: TooLong")),
+    (
+        "a byte order mark past the limit",
+        b"\xef\xbb\xbf" + b" " * 1_048_574,
+        refused("sheet: TooLong"),
+    ),
 ]
 
-THIRD_BLOCK = b"110003+0000000A 21.102"
+OTHER_UNIT = edited(STATION, (b"0A 21.102+00000000", b"0A 21.104+00000000"))
+
+OTHER_MODE = edited(STATION, (b"0A 21.102+00000000", b"0A 21.112+00000000"))
 
 MORE_WORDS = b" 31..00+00012345 51....+0000+000 87..10+00001500\r\n"
 
@@ -143,14 +157,9 @@ MORE_WORDS = b" 31..00+00012345 51....+0000+000 87..10+00001500\r\n"
 FILES = [
     ("no bytes", b"", SHEET, refused("no station")),
     ("GSI-16", widened(STATION), SHEET, ACCEPTED),
-    ("another unit", edited(STATION, (THIRD_BLOCK, b"110003+0000000A 21.104")), SHEET, refused("block 3: Hz Unit")),
-    ("and no sheet", edited(STATION, (THIRD_BLOCK, b"110003+0000000A 21.104")), b"", refused("block 3: Hz Unit")),
-    (
-        "another input mode",
-        edited(STATION, (THIRD_BLOCK, b"110003+0000000A 21.112")),
-        SHEET,
-        refused("block 3: Hz InputMode"),
-    ),
+    ("another unit", OTHER_UNIT, SHEET, refused("block 3: Hz Unit")),
+    ("and no sheet", OTHER_UNIT, b"", refused("block 3: Hz Unit")),
+    ("another input mode", OTHER_MODE, SHEET, refused("block 3: Hz InputMode")),
     ("a block outside", b"110001+0000000A 21.104+00000000\n" + STATION, SHEET, ACCEPTED),
     (
         "what is not read",
@@ -166,7 +175,11 @@ FILES = [
         "a target in one set alone",
         field_file(
             {
-                1: [("A", 0, 20_000_006), ("B", 5_000_000, 25_000_010), ("C", 10_000_001, 30_000_001)],
+                1: [
+                    ("A", 0, 20_000_006),
+                    ("B", 5_000_000, 25_000_010),
+                    ("C", 10_000_001, 30_000_001),
+                ],
                 2: [("A", 10_000_000, 30_000_004), ("B", 15_000_004, 35_000_008)],
             }
         ),
@@ -185,7 +198,8 @@ FILES = [
                 2: [("C", 0, 20_000_000), ("D", 50, 20_000_050)],
             }
         ),
-        b"sheet,1,S1,1,\ntarget,,A,0,\ntarget,,B,100,\ntarget,,C,0,\ntarget,,D,100,\nset,1,,0,\nset,2,,0,\n"
+        b"sheet,1,S1,1,\ntarget,,A,0,\ntarget,,B,100,\ntarget,,C,0,\ntarget,,D,100,\n"
+        b"set,1,,0,\nset,2,,0,\n"
         b"obs,1,A,0,0\nobs,1,B,100,0\nobs,2,C,0,0\nobs,2,D,100,0\n",
         refused("kernel: NotConnected"),
     ),
@@ -313,4 +327,5 @@ class CheckTest(ProgramTest):
     def test_a_sheet_that_never_ends_is_refused(self):
         command = f"yes | '{PROGRAM}' check '{EXAMPLE}' /dev/stdin"
         done = subprocess.run(["bash", "-c", command], capture_output=True, timeout=60)
-        self.assertEqual((1, b"", refused("sheet: TooLong")), (done.returncode, done.stdout, done.stderr))
+        answer = done.returncode, done.stdout, done.stderr
+        self.assertEqual((1, b"", refused("sheet: TooLong")), answer)

@@ -2,6 +2,7 @@
 
 import os
 import resource
+import shlex
 import shutil
 import subprocess
 
@@ -32,7 +33,8 @@ MORE = b"\nFor more information, try '--help'.\n"
 
 NOT_TEXT = (
     b"error: an argument is not UTF-8 text\n\n"
-    b"A file of such a name can be handed in as standard input: station_check list /dev/stdin < FILE\n"
+    b"A file of such a name can be handed in as standard input: "
+    b"station_check list /dev/stdin < FILE\n"
 )
 
 
@@ -72,7 +74,8 @@ class CommandLineTest(ProgramTest):
                 self.assert_answer(cannot_open(path), of_file(command, path))
         for gsi in [EXAMPLE, unsound, self.folder]:
             self.assert_answer(cannot_open(missing), ["check", str(gsi), str(missing)])
-        self.assert_answer(cannot_open(missing), ["check", str(missing), str(self.folder / "other")])
+        other = self.folder / "other"
+        self.assert_answer(cannot_open(missing), ["check", str(missing), str(other)])
 
     def test_a_file_without_permission_cannot_be_opened(self):
         program, secret = self.folder / "station_check", self.folder / "secret.gsi"
@@ -104,7 +107,8 @@ class CommandLineTest(ProgramTest):
             ("words", (0, b"", b"")),
         ]:
             self.assert_answer(expected, of_file(command, "/dev/null"))
-        self.assert_answer((1, b"", refused("sheet row 1: Unfinished")), ["check", EXAMPLE, "/dev/null"])
+        unfinished = 1, b"", refused("sheet row 1: Unfinished")
+        self.assert_answer(unfinished, ["check", EXAMPLE, "/dev/null"])
 
     def test_limits_are_those_of_the_command_line(self):
         for command in ["check", "means", "list"]:
@@ -135,9 +139,15 @@ class CommandLineTest(ProgramTest):
             (["check", "a", "b", "c"], b"error: unexpected argument 'c' found\n"),
             (["words", "--two-c", "1", "a"], b"error: unexpected argument '--two-c' found\n"),
             (["list", "--residual", "1", "a"], b"error: unexpected argument '--residual' found\n"),
-            (["means", "--residual", "1", "a", "b"], b"error: unexpected argument '--residual' found\n"),
+            (
+                ["means", "--residual", "1", "a", "b"],
+                b"error: unexpected argument '--residual' found\n",
+            ),
             (["list", "--two-c", "-5", "a"], b"error: unexpected argument '-5' found\n"),
-            (["list", "a", "--two-c"], b"error: a value is required for '--two-c <N>' but none was supplied\n"),
+            (
+                ["list", "a", "--two-c"],
+                b"error: a value is required for '--two-c <N>' but none was supplied\n",
+            ),
             (
                 ["check", "--residual", "2001", "a", "b"],
                 b"error: invalid value '2001' for '--residual <N>': 2001 is not in 0..=2000\n",
@@ -146,10 +156,9 @@ class CommandLineTest(ProgramTest):
         for command in ["check", "means", "list"]:
             for option in ["two-c", "two-i"]:
                 args = [*of_file(command, "a"), f"--{option}"]
-                mistakes += [
-                    ([*args, value], f"error: invalid value '{value}' for '--{option} <N>'".encode())
-                    for value in ["1000001", "4294967296", "1e3", "2.5", " 1", "9" * 40]
-                ]
+                for value in ["1000001", "4294967296", "1e3", "2.5", " 1", "9" * 40]:
+                    invalid = f"error: invalid value '{value}' for '--{option} <N>'"
+                    mistakes.append(([*args, value], invalid.encode()))
                 twice = f"error: the argument '--{option} <N>' cannot be used multiple times\n"
                 mistakes.append(([*args, "1", f"--{option}", "1"], twice.encode()))
         for args, message in mistakes:
@@ -178,7 +187,7 @@ class CommandLineTest(ProgramTest):
             (["--help"], [b"Exit status:", b"0.00001 gon", b"/dev/stdin"]),
             (["-h"], [b"Usage: "]),
             (["help"], [b"Usage: "]),
-            (["check", "--help"], [b"--residual <N>", b"half units", b"[default: 2000]", b"[default: none]"]),
+            (["check", "--help"], [b"--residual <N>", b"half units", b"[default: none]"]),
             (["means", "--help"], [b"<STATION>", b"--two-c <N>", b"[default: 2000]"]),
             (["list", "--help"], [b"0.01 mgon", b"--two-i <N>", b"[default: 2000]"]),
             (["words", "--help"], [b"GSI-8, GSI-16 or both"]),
@@ -198,7 +207,7 @@ class CommandLineTest(ProgramTest):
                 self.assertIn(f"Example:\n  station_check {command} ".encode(), stdout)
 
     def test_an_output_that_takes_nothing_is_a_refusal(self):
-        commands = [" ".join(f"'{word}'" for word in of_file(command, EXAMPLE)) for command in COMMANDS]
+        commands = [shlex.join(of_file(command, EXAMPLE)) for command in COMMANDS]
         for args in [*commands, "--help", "--version"]:
             for output in [">/dev/full", ">&-"]:
                 with self.subTest(args=args, output=output):
@@ -215,8 +224,7 @@ class CommandLineTest(ProgramTest):
         What comes before the last failure of the loader is none of the program's answers; what comes after is, and a
         death by a signal would be one."""
         met = set()
-        of_example = [of_file(command, EXAMPLE) for command in COMMANDS]
-        for args in [*of_example, ["words", "x" * 100_000], ["--help"]]:
+        for args in [of_file("check", EXAMPLE), ["words", "x" * 100_000], ["--help"]]:
             with self.subTest(args[-1][:20]):
                 ample, answers = answer_of(args), set()
                 for room in range(1 << 20, 64 << 20, resource.getpagesize()):

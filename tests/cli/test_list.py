@@ -5,24 +5,45 @@ from worked import LIST, STATION, edited, field_file, refused, widened
 
 LISTING = ["list", "{file}"]
 
-# The first reading of the example up to its zenith angle, that angle, and the line of its first set.
+# The first direction of the example, its zenith angle, and the number of its first set.
 DIRECTION = b"0A 21.102+00000000"
 ZENITH = b"00000000 22.102+10000000"
 FIRST_SET = b"42....+00000001"
 LAST_LINE = b"410012+00000030\r\n"
+OTHER_WORDS = b" 31..00+00012345 51....+0000+000 87..10+00001500"
 THREE_LINES = b"".join(STATION.splitlines(keepends=True)[:3])
 FIVE_LINES = b"".join(STATION.splitlines(keepends=True)[:5])
 
 # Each is a field file with a fault, and the fault.
 FAULTS = [
     ("another unit", edited(STATION, (DIRECTION, b"0A 21.104+00000000")), "block 3: Hz Unit"),
-    ("another input mode", edited(STATION, (DIRECTION, b"0A 21.112+00000000")), "block 3: Hz InputMode"),
+    (
+        "another input mode",
+        edited(STATION, (DIRECTION, b"0A 21.112+00000000")),
+        "block 3: Hz InputMode",
+    ),
     ("a minus", edited(STATION, (DIRECTION, b"0A 21.102-00000000")), "block 3: Hz Sign"),
-    ("a blank for a digit", edited(STATION, (DIRECTION, b"0A 21.102+0000000 ")), "block 3: Hz Digits"),
+    (
+        "a blank for a digit",
+        edited(STATION, (DIRECTION, b"0A 21.102+0000000 ")),
+        "block 3: Hz Digits",
+    ),
     ("a full circle", edited(STATION, (DIRECTION, b"0A 21.102+40000000")), "block 3: Hz Range"),
-    ("a zenith of 400 gon", edited(STATION, (ZENITH, b"00000000 22.102+40000000")), "block 3: Zenith Range"),
-    ("a zenith of 200 gon", edited(STATION, (ZENITH, b"00000000 22.102+20000000")), "block 3: FaceUnclear"),
-    ("a zenith of 0 gon", edited(STATION, (ZENITH, b"00000000 22.102+00000000")), "block 3: FaceUnclear"),
+    (
+        "a zenith of 400 gon",
+        edited(STATION, (ZENITH, b"00000000 22.102+40000000")),
+        "block 3: Zenith Range",
+    ),
+    (
+        "a zenith of 200 gon",
+        edited(STATION, (ZENITH, b"00000000 22.102+20000000")),
+        "block 3: FaceUnclear",
+    ),
+    (
+        "a zenith of 0 gon",
+        edited(STATION, (ZENITH, b"00000000 22.102+00000000")),
+        "block 3: FaceUnclear",
+    ),
     ("no zenith", edited(STATION, (ZENITH, b"00000000")), "block 3: NoZenith"),
     (
         "two directions",
@@ -46,7 +67,11 @@ FAULTS = [
         STATION + b"410013+00000010 42....+000000S1\n410014+00000020 42....+00000003",
         "block 14: StationTwice",
     ),
-    ("a face again", THREE_LINES + b"110004+0000000A 21.102+00000001 22.102+10000000", "block 4: FaceTwice"),
+    (
+        "a face again",
+        THREE_LINES + b"110004+0000000A 21.102+00000001 22.102+10000000",
+        "block 4: FaceTwice",
+    ),
     ("one face", THREE_LINES + b"410004+00000030", "block 4: OneFace"),
     ("one face at the end", FIVE_LINES, "block 6: OneFace"),
     (
@@ -75,7 +100,7 @@ SAME = [
     ("the station named again", STATION + b"410013+00000010 42....+000000S1"),
     (
         "other words",
-        edited(STATION, (b" 22.102+10000000", b" 22.102+10000000 31..00+00012345 51....+0000+000 87..10+00001500")),
+        edited(STATION, (b" 22.102+10000000", b" 22.102+10000000" + OTHER_WORDS)),
     ),
 ]
 
@@ -119,8 +144,10 @@ class ListTest(ProgramTest):
 
     def test_face_differences_are_held_to_their_limits(self):
         for reading, limits, said in LIMITS:
-            options = [] if limits is None else ["--two-c", str(limits[0]), "--two-i", str(limits[1])]
-            file, args = field_file({1: [reading]}), [*LISTING, *options]
+            args = [*LISTING]
+            if limits is not None:
+                args += ["--two-c", str(limits[0]), "--two-i", str(limits[1])]
+            file = field_file({1: [reading]})
             if said.startswith("block"):
                 run = Run(said, args, file=file, stderr=refused(said), status=1)
             else:
@@ -131,7 +158,8 @@ class ListTest(ProgramTest):
     def test_a_cut_file_is_refused_at_its_end(self):
         line = STATION.splitlines()[5]
         for lengths, fault in CUTS:
-            self.check([refusal(f"{length} bytes", FIVE_LINES + line[:length], fault) for length in lengths])
+            files = [(length, FIVE_LINES + line[:length]) for length in lengths]
+            self.check([refusal(f"{length} bytes", file, fault) for length, file in files])
         listed = b"".join(LIST.splitlines(keepends=True)[1:3])
         listed = b"station S1: 1 sets, 2 targets, 2 directions\n" + listed
         self.check([Run("a whole line", LISTING, file=FIVE_LINES + line, stdout=listed)])

@@ -59,7 +59,8 @@ def largest():
     rows = ["sheet,1,S1,4000,"]
     rows += [f"target,,{target},{8_000_000 * (target - 1)}," for target in targets]
     rows += [f"set,{of_set},,-8000000," for of_set in range(1, 41)]
-    rows += [f"obs,{of_set},{target},{2_000 * target},0" for of_set in range(1, 41) for target in targets]
+    for of_set in range(1, 41):
+        rows += [f"obs,{of_set},{target},{2_000 * target},0" for target in targets]
     sheet = "".join(f"{row}\n" for row in rows).encode()
     greatest = b"40 sets, 100 targets, 4000 directions, greatest residual 0/4000"
     return "the largest station", {of_set: readings for of_set in range(1, 41)}, sheet, greatest
@@ -69,31 +70,35 @@ class MeansTest(ProgramTest):
     def test_means_are_written_and_accepted(self):
         for name, sets, sheet, greatest in [*STATIONS, largest()]:
             file = field_file(sets)
+            self.check([Run(name, MEANS, file=file, stdout=sheet)])
+            check = ["check", "{file}", "{sheet}"]
             accepted = b"accepted S1: " + greatest + b"\n"
-            self.check(
-                [
-                    Run(name, MEANS, file=file, stdout=sheet),
-                    Run(name, ["check", "{file}", "{sheet}"], file=file, sheet=sheet, stdout=accepted),
-                ]
-            )
+            self.check([Run(name, check, file=file, sheet=sheet, stdout=accepted)])
 
     def test_the_files_of_one_station_have_one_sheet(self):
         outside = b"110001+0000000A 21.104+00000000\n" + STATION
-        for name, file in [("GSI-8", STATION), ("GSI-16", widened(STATION)), ("a block outside", outside)]:
+        for name, file in [
+            ("GSI-8", STATION),
+            ("GSI-16", widened(STATION)),
+            ("a block outside", outside),
+        ]:
             self.check([Run(name, MEANS, file=file, stdout=SHEET)])
 
     def test_an_observation_may_not_be_missing(self):
-        lines = [line for line in STATION.splitlines(keepends=True) if line[:6] not in (b"110009", b"110010")]
-        self.check([Run("one", MEANS, file=b"".join(lines), stderr=refused("means: Incomplete"), status=1)])
+        gone = (b"110009", b"110010")
+        lines = [line for line in STATION.splitlines(keepends=True) if line[:6] not in gone]
+        refusal = refused("means: Incomplete")
+        self.check([Run("one", MEANS, file=b"".join(lines), stderr=refusal, status=1)])
 
     def test_a_station_is_looked_up_by_its_whole_name(self):
         for name in ["S9", "", " S1", "0S1", "s1", "S1S1S1S1S1S1S1S1S", "\x7f"]:
             with self.subTest(name=name):
-                self.assertEqual((1, b"", refused("no station")), answer_of(["means", EXAMPLE, name]))
+                answer = answer_of(["means", EXAMPLE, name])
+                self.assertEqual((1, b"", refused("no station")), answer)
         self.check([Run("no bytes", MEANS, file=b"", stderr=refused("no station"), status=1)])
         fault = edited(STATION, (b"0A 21.102+00000000", b"0A 21.104+00000000"))
-        args = ["means", "{file}", "S9"]
-        self.check([Run("a fault", args, file=fault, stderr=refused("block 3: Hz Unit"), status=1)])
+        args, refusal = ["means", "{file}", "S9"], refused("block 3: Hz Unit")
+        self.check([Run("a fault", args, file=fault, stderr=refusal, status=1)])
 
     def test_a_name_that_begins_with_a_minus_follows_after_two(self):
         file = edited(STATION, (b"000000S1", b"00000-S1"))

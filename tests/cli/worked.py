@@ -33,10 +33,10 @@ def edited(text, *edits):
 
 
 def field_file(sets):
-    """The field file of the station S1 with these sets: in each, face I in order and then face II backwards.
+    """The field file of the station S1 with these sets: in each, face I and then face II backwards.
 
-    `sets` has for each number of a set its readings: the name of a target and its directions in face I and in face II,
-    and perhaps its zenith angles."""
+    `sets` has for each number of a set its readings: the name of a target, its directions in face I
+    and in face II, and perhaps its zenith angles."""
     lines = []
 
     def number():
@@ -55,7 +55,7 @@ def field_file(sets):
 
 
 def widened(narrow):
-    """The same lines with sixteen bytes of content in each word, each line ended by CR but the last, which has no end."""
+    """The same lines in GSI-16, each ended by CR; the last has no end."""
 
     def line_of(words):
         return b"*" + b" ".join(word[:7] + b"0" * 8 + word[7:] for word in words)

@@ -34,7 +34,7 @@ impl Ran {
         })
     }
 
-    /// What was written, with status 0, or the line of a refusal, with status 1 and nothing written.
+    /// The text written with status 0, or the line of a refusal, with status 1 and nothing written.
     pub fn text(&self) -> &str {
         let text = match (self.status, self.out.bytes(), self.err.bytes()) {
             (0, out, []) => out,
@@ -45,7 +45,8 @@ impl Ran {
     }
 }
 
-/// The check of a sheet against a field file under the usual limits, from ends that give so many bytes at a time.
+/// The check of a sheet against a field file under the usual limits, from readers that give so many
+/// bytes at a time.
 pub fn checked(
     alloc: Global,
     gsi: &str,

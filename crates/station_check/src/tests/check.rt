@@ -160,7 +160,8 @@ fn a_sheet_is_accepted_or_its_first_fault_is_named(rt: HostRuntime) -> Result<()
         (
             WIDEST,
             None,
-            "accepted S1: 2 sets, 2 targets, 4 directions, greatest residual 1000000000000/1000000000000\n",
+            "accepted S1: 2 sets, 2 targets, 4 directions, greatest residual \
+                1000000000000/1000000000000\n",
         ),
         (
             &[("S1,4,", "S1,1000000000000,")],

@@ -249,7 +249,8 @@ fn a_file_has_so_many_stations_and_targets(rt: HostRuntime) -> Result<(), Fail> 
             break;
         }
         gsi.push_str(
-            "110003+0000000A 21.102+00000000 22.102+10000000\n110004+0000000A 21.102+20000000 22.102+30000000\n",
+            "110003+0000000A 21.102+00000000 22.102+10000000\n\
+             110004+0000000A 21.102+20000000 22.102+30000000\n",
         )?;
     }
     let ran = listed(rt.alloc(), &gsi, usual_limits()?)?;
