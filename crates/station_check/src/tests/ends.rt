@@ -6,7 +6,7 @@ use crate::check::check_bytes;
 use crate::fault::Fault;
 use crate::list::write_list;
 use crate::means::write_means;
-use crate::runs::{run_check, run_list, run_means};
+use crate::runs::{run_check, run_list};
 use byte_ends::{Held, OfRead, OfWrite, Script};
 use gsi_file::{FileFault, FileKind};
 use sheet_format::{LONGEST_SHEET, RowKind, SheetFault};
@@ -150,116 +150,130 @@ fn a_flush_that_fails_is_a_write_fault_with_the_whole_text_gone_out(
 }
 
 #[test]
-fn the_writer_is_flushed_once_after_the_last_byte_and_never_at_a_refusal(
+fn the_list_is_flushed_once_after_its_last_byte(rt: HostRuntime) -> Result<(), Fail> {
+    let rows: [(&[u8], usize, usize); 3] = [(STATION, LIST.len(), 1), (b"", 0, 1), (b"5", 0, 0)];
+    for (gsi, bytes, flushes) in rows {
+        let mut noted = Noted::new();
+        let gsi = Script::new(gsi, 100, false);
+        let _ = write_list(
+            rt.alloc(),
+            gsi,
+            usual_limits()?,
+            &mut OfWrite::new(&mut noted),
+        );
+        assert_eq!(rt; noted.bytes, bytes);
+        assert_eq!(rt; noted.flushes, flushes);
+        assert_eq!(rt; noted.is_flushed, flushes == 1);
+    }
+    Ok(())
+}
+
+#[test]
+fn the_sheet_of_means_is_flushed_once_after_its_last_byte(rt: HostRuntime) -> Result<(), Fail> {
+    let rows: [(&[u8], usize, usize); 3] = [(STATION, SHEET.len(), 1), (b"", 0, 0), (b"5", 0, 0)];
+    for (gsi, bytes, flushes) in rows {
+        let mut noted = Noted::new();
+        let gsi = Script::new(gsi, 100, false);
+        let _ = write_means(
+            rt.alloc(),
+            gsi,
+            b"S1",
+            usual_limits()?,
+            &mut OfWrite::new(&mut noted),
+        );
+        assert_eq!(rt; noted.bytes, bytes);
+        assert_eq!(rt; noted.flushes, flushes);
+        assert_eq!(rt; noted.is_flushed, flushes == 1);
+    }
+    Ok(())
+}
+
+#[test]
+fn the_line_of_an_acceptance_is_flushed_once(rt: HostRuntime) -> Result<(), Fail> {
+    let rows: [(&[u8], usize, usize); 2] = [(STATION, ACCEPTED.len(), 1), (b"", 0, 0)];
+    for (gsi, bytes, flushes) in rows {
+        let mut noted = Noted::new();
+        let mut err = Held::new(rt.alloc(), AMPLE, AMPLE, false)?;
+        let gsi = Script::new(gsi, 100, false);
+        let mut sheet = Script::new(SHEET, 100, false);
+        let _ = run_check(
+            rt.alloc(),
+            gsi,
+            &mut sheet,
+            usual_limits()?,
+            None,
+            &mut OfWrite::new(&mut noted),
+            &mut err,
+        );
+        assert_eq!(rt; noted.bytes, bytes);
+        assert_eq!(rt; noted.flushes, flushes);
+        assert_eq!(rt; noted.is_flushed, flushes == 1);
+    }
+    Ok(())
+}
+
+#[test]
+fn writers_of_std_that_fail_are_named(rt: HostRuntime) -> Result<(), Fail> {
+    let mut err = Held::new(rt.alloc(), AMPLE, AMPLE, false)?;
+    let gsi = Script::new(STATION, 100, false);
+    let mut broken = OfWrite::new(Broken);
+    let status = run_list(rt.alloc(), gsi, usual_limits()?, &mut broken, &mut err);
+    assert_eq!(rt; status, 1);
+    assert_eq!(rt; err.bytes(), b"refused: write failed\n".as_slice());
+    let gsi = Script::new(STATION, 100, false);
+    let mut stuck = OfWrite::new(Stuck);
+    let answer = write_means(rt.alloc(), gsi, b"S1", usual_limits()?, &mut stuck);
+    assert_eq!(rt; answer, Err(Fault::Write));
+    Ok(())
+}
+
+#[test]
+fn a_reader_of_a_sheet_that_fails_is_named_after_the_field_file(
     rt: HostRuntime,
 ) -> Result<(), Fail> {
-    let limits = usual_limits()?;
-    let rows: [(&[u8], [usize; 3]); 3] = [
-        (STATION, [LIST.len(), SHEET.len(), ACCEPTED.len()]),
-        (b"", [0, 0, 0]),
-        (b"5", [0, 0, 0]),
+    let rows: [(&[u8], &[u8]); 2] = [
+        (STATION, b"refused: sheet: Read\n"),
+        (b"110001+0000000A\n5", b"refused: block 2: Word 1\n"),
     ];
-    for (gsi, lengths) in rows {
-        let mut noted = [Noted::new(), Noted::new(), Noted::new()];
-        let [list, means, check] = &mut noted;
-        let ends = || Script::new(gsi, 100, false);
-        let is_listed = write_list(rt.alloc(), ends(), limits, &mut OfWrite::new(list)).is_ok();
-        let is_written = write_means(
-            rt.alloc(),
-            ends(),
-            b"S1",
-            limits,
-            &mut OfWrite::new(means),
-        ).is_ok();
-        let mut sheet = Script::new(SHEET, 100, false);
-        let mut err = OfWrite::new(std::io::sink());
-        let mut out = OfWrite::new(check);
+    for (gsi, line) in rows {
+        let mut out = Held::new(rt.alloc(), AMPLE, AMPLE, false)?;
+        let mut err = Held::new(rt.alloc(), AMPLE, AMPLE, false)?;
+        let gsi = Script::new(gsi, 100, false);
+        let mut sheet = OfRead::new(Broken);
+        let limits = usual_limits()?;
         let status = run_check(
             rt.alloc(),
-            ends(),
+            gsi,
             &mut sheet,
             limits,
             None,
             &mut out,
             &mut err,
         );
-        drop(out);
-        let done = [is_listed, is_written, status == 0];
-        for ((noted, bytes), is_done) in noted.iter().zip(lengths).zip(done) {
-            assert_eq!(rt; noted.bytes, bytes);
-            assert_eq!(rt; noted.flushes, if is_done { 1 } else { 0 });
-            assert_eq!(rt; noted.is_flushed, is_done);
-        }
+        assert_eq!(rt; status, 1);
+        assert_eq!(rt; err.bytes(), line);
+        assert!(rt; out.bytes().is_empty());
     }
     Ok(())
 }
 
 #[test]
-fn ends_of_std_that_fail_are_named_and_a_failing_err_changes_no_status(
-    rt: HostRuntime,
-) -> Result<(), Fail> {
-    let limits = usual_limits()?;
-    let gsi = || Script::new(STATION, 100, false);
-    let mut err = Held::new(rt.alloc(), AMPLE, AMPLE, false)?;
-    let status = run_list(
-        rt.alloc(),
-        gsi(),
-        limits,
-        &mut OfWrite::new(Broken),
-        &mut err,
-    );
-    assert_eq!(rt;
-        (status, err.bytes()),
-        (1, b"refused: write failed\n".as_slice())
-    );
-    let mut err = Held::new(rt.alloc(), AMPLE, AMPLE, false)?;
-    let mut out = OfWrite::new(Stuck);
-    let status = run_means(rt.alloc(), gsi(), b"S1", limits, &mut out, &mut err);
-    assert_eq!(rt;
-        (status, err.bytes()),
-        (1, b"refused: write failed\n".as_slice())
-    );
-    let mut err = Held::new(rt.alloc(), AMPLE, AMPLE, false)?;
+fn a_failing_err_changes_no_status(rt: HostRuntime) -> Result<(), Fail> {
     let mut out = Held::new(rt.alloc(), AMPLE, AMPLE, false)?;
-    let mut sheet = OfRead::new(Broken);
+    let mut err = OfWrite::new(Broken);
+    let gsi = Script::new(STATION, 100, false);
+    let mut sheet = Script::new(b"", 100, false);
+    let limits = usual_limits()?;
     let status = run_check(
         rt.alloc(),
-        gsi(),
+        gsi,
         &mut sheet,
         limits,
         None,
         &mut out,
         &mut err,
     );
-    assert_eq!(rt;
-        (status, err.bytes()),
-        (1, b"refused: sheet: Read\n".as_slice())
-    );
-    let mut broken = OfWrite::new(Broken);
-    let status = run_check(
-        rt.alloc(),
-        gsi(),
-        &mut sheet,
-        limits,
-        None,
-        &mut out,
-        &mut broken,
-    );
-    assert_eq!(rt; (status, out.bytes().len()), (1, 0));
-    let mut err = Held::new(rt.alloc(), AMPLE, AMPLE, false)?;
-    let unsound = Script::new(b"110001+0000000A\n5", 100, false);
-    let status = run_check(
-        rt.alloc(),
-        unsound,
-        &mut sheet,
-        limits,
-        None,
-        &mut out,
-        &mut err,
-    );
-    assert_eq!(rt;
-        (status, err.bytes()),
-        (1, b"refused: block 2: Word 1\n".as_slice())
-    );
+    assert_eq!(rt; status, 1);
+    assert!(rt; out.bytes().is_empty());
     Ok(())
 }
