@@ -35,6 +35,8 @@ def command_line_passed_and_failed():
 
 
 def main():
+    if sys.version_info < (3, 10):
+        sys.exit("the gate needs Python 3.10 or later: name it as PYTHON=/path/to/python3")
     passed, failed = proofs_passed_and_failed()
     if failed == 0:
         more_passed, failed = command_line_passed_and_failed()

@@ -2,10 +2,27 @@
 
 import os
 import resource
+import shlex
 import shutil
 import subprocess
 
-from program import EXAMPLE, PROGRAM, ProgramTest, Run, answer_of
+from program import EXAMPLE, EXAMPLE_SHEET, PROGRAM, ProgramTest, Run, answer_of
+from worked import ACCEPTED, LIST, SHEET, STATION, refused
+
+# The words of each command for the field file `{gsi}`, and what it answers to the example.
+COMMANDS = {
+    "check": ["check", "{gsi}", str(EXAMPLE_SHEET)],
+    "means": ["means", "{gsi}", "S1"],
+    "list": ["list", "{gsi}"],
+    "words": ["words", "{gsi}"],
+}
+
+OF_EXAMPLE = {
+    "check": ACCEPTED,
+    "means": SHEET,
+    "list": LIST,
+    "words": answer_of(["words", EXAMPLE])[1] if PROGRAM.exists() else b"",
+}
 
 NO_MEMORY = (1, b"", b"refused: out of memory\n")
 
@@ -13,6 +30,21 @@ NO_MEMORY = (1, b"", b"refused: out of memory\n")
 NOT_LOADED = 127
 
 MORE = b"\nFor more information, try '--help'.\n"
+
+NOT_TEXT = (
+    b"error: an argument is not UTF-8 text\n\n"
+    b"A file of such a name can be handed in as standard input: "
+    b"station_check list /dev/stdin < FILE\n"
+)
+
+
+def of_file(command, gsi):
+    """The words of a command for a field file."""
+    return [word.format(gsi=gsi) for word in COMMANDS[command]]
+
+
+def cannot_open(path):
+    return 2, b"", f"cannot open {path}\n".encode()
 
 
 def answer_in(room, args):
@@ -25,9 +57,25 @@ def answer_in(room, args):
 
 
 class CommandLineTest(ProgramTest):
+    def assert_answer(self, expected, args, *given):
+        with self.subTest(args=args):
+            self.assertEqual(expected, answer_of(args, *given))
+
+    def test_each_command_answers_of_the_example(self):
+        for command, stdout in OF_EXAMPLE.items():
+            self.assert_answer((0, stdout, b""), of_file(command, EXAMPLE))
+            self.assert_answer((0, stdout, b""), of_file(command, "/dev/stdin"), STATION)
+
     def test_a_file_that_cannot_be_opened_is_named(self):
-        missing = self.folder / "missing.gsi"
-        self.check([Run("no such file", ["words", str(missing)], stderr=f"cannot open {missing}\n".encode(), status=2)])
+        missing, unsound = self.folder / "missing", self.folder / "unsound.gsi"
+        unsound.write_bytes(b"5")
+        for command in COMMANDS:
+            for path in [missing, "", "-", f"{EXAMPLE}/"]:
+                self.assert_answer(cannot_open(path), of_file(command, path))
+        for gsi in [EXAMPLE, unsound, self.folder]:
+            self.assert_answer(cannot_open(missing), ["check", str(gsi), str(missing)])
+        other = self.folder / "other"
+        self.assert_answer(cannot_open(missing), ["check", str(missing), str(other)])
 
     def test_a_file_without_permission_cannot_be_opened(self):
         program, secret = self.folder / "station_check", self.folder / "secret.gsi"
@@ -40,15 +88,80 @@ class CommandLineTest(ProgramTest):
         self.assertEqual((2, b"", f"cannot open {secret}\n".encode()), (done.returncode, done.stdout, done.stderr))
 
     def test_a_folder_is_no_file(self):
-        self.check([Run("a folder", ["words", str(self.folder)], stderr=b"refused: block 1: Read\n", status=1)])
+        for command in COMMANDS:
+            self.assert_answer((1, b"", refused("block 1: Read")), of_file(command, self.folder))
+        self.assert_answer((1, b"", refused("sheet: Read")), ["check", EXAMPLE, self.folder])
+
+    def test_a_named_pipe_is_a_file(self):
+        pipe = self.folder / "pipe"
+        os.mkfifo(pipe)
+        for command, stdout in OF_EXAMPLE.items():
+            with subprocess.Popen(["bash", "-c", f"cat '{EXAMPLE}' > '{pipe}'"]):
+                self.assert_answer((0, stdout, b""), of_file(command, pipe))
+
+    def test_an_empty_file_has_no_station(self):
+        for command, expected in [
+            ("check", (1, b"", refused("no station"))),
+            ("means", (1, b"", refused("no station"))),
+            ("list", (0, b"", b"")),
+            ("words", (0, b"", b"")),
+        ]:
+            self.assert_answer(expected, of_file(command, "/dev/null"))
+        unfinished = 1, b"", refused("sheet row 1: Unfinished")
+        self.assert_answer(unfinished, ["check", EXAMPLE, "/dev/null"])
+
+    def test_limits_are_those_of_the_command_line(self):
+        for command in ["check", "means", "list"]:
+            args, stdout = of_file(command, EXAMPLE), OF_EXAMPLE[command]
+            for options, fault in [
+                (["--two-c", "10", "--two-i", "2"], None),
+                (["--two-c", "9"], "block 5: TwoC"),
+                (["--two-i", "1"], "block 6: TwoI"),
+                (["--two-i=2", "--two-c=10"], None),
+                (["--two-c", "1000000", "--two-i", "1000000"], None),
+                (["--two-c", "+0010"], None),
+                (["--two-c", "0"], "block 5: TwoC"),
+            ]:
+                expected = (1, b"", refused(fault)) if fault else (0, stdout, b"")
+                self.assert_answer(expected, [*args, *options])
+                self.assert_answer(expected, [args[0], *options, *args[1:]])
 
     def test_a_mistake_is_explained_on_standard_error(self):
-        for args, message in [
-            (["words"], b"error: the following required arguments were not provided:\n  <GSI>\n"),
+        missing = b"error: the following required arguments were not provided:\n"
+        mistakes = [
+            (["words"], missing + b"  <GSI>\n"),
+            (["list"], missing + b"  <GSI>\n"),
+            (["means", "a"], missing + b"  <STATION>\n"),
+            (["check", "a"], missing + b"  <SHEET>\n"),
             (["nonsense"], b"error: unrecognized subcommand 'nonsense'\n"),
             (["--nonsense"], b"error: unexpected argument '--nonsense' found\n"),
             (["words", "a", "b"], b"error: unexpected argument 'b' found\n"),
-        ]:
+            (["check", "a", "b", "c"], b"error: unexpected argument 'c' found\n"),
+            (["words", "--two-c", "1", "a"], b"error: unexpected argument '--two-c' found\n"),
+            (["list", "--residual", "1", "a"], b"error: unexpected argument '--residual' found\n"),
+            (
+                ["means", "--residual", "1", "a", "b"],
+                b"error: unexpected argument '--residual' found\n",
+            ),
+            (["list", "--two-c", "-5", "a"], b"error: unexpected argument '-5' found\n"),
+            (
+                ["list", "a", "--two-c"],
+                b"error: a value is required for '--two-c <N>' but none was supplied\n",
+            ),
+            (
+                ["check", "--residual", "2001", "a", "b"],
+                b"error: invalid value '2001' for '--residual <N>': 2001 is not in 0..=2000\n",
+            ),
+        ]
+        for command in ["check", "means", "list"]:
+            for option in ["two-c", "two-i"]:
+                args = [*of_file(command, "a"), f"--{option}"]
+                for value in ["1000001", "4294967296", "1e3", "2.5", " 1", "9" * 40]:
+                    invalid = f"error: invalid value '{value}' for '--{option} <N>'"
+                    mistakes.append(([*args, value], invalid.encode()))
+                twice = f"error: the argument '--{option} <N>' cannot be used multiple times\n"
+                mistakes.append(([*args, "1", f"--{option}", "1"], twice.encode()))
+        for args, message in mistakes:
             with self.subTest(args=args):
                 status, stdout, stderr = answer_of(args)
                 self.assertEqual((2, b""), (status, stdout))
@@ -56,25 +169,46 @@ class CommandLineTest(ProgramTest):
                 self.assertTrue(stderr.endswith(MORE), stderr)
 
     def test_an_argument_that_is_no_text_is_a_mistake(self):
-        status, stdout, stderr = answer_of([b"words", b"\xff.gsi"])
-        self.assertEqual((2, b"", b"error: an argument is not UTF-8 text\n" + MORE), (status, stdout, stderr))
+        for args in [
+            [b"words", b"\xff.gsi"],
+            [b"check", EXAMPLE, b"\xff.csv"],
+            [b"means", EXAMPLE, b"S\xff"],
+            [b"list", EXAMPLE, b"--two-c", b"\xff"],
+            [b"\xff"],
+        ]:
+            self.assert_answer((2, b"", NOT_TEXT + MORE), args)
+
+    def test_the_version_is_printed_on_standard_output(self):
+        for args in [["--version"], ["-V"]]:
+            self.assert_answer((0, b"station_check 0.1.0\n", b""), args)
 
     def test_help_is_printed_on_standard_output(self):
-        for args, part in [
-            (["--help"], b"Exit status:"),
-            (["-h"], b"Usage: "),
-            (["help"], b"Usage: "),
-            (["words", "--help"], b"Example:\n  station_check words field.gsi\n"),
-            (["help", "words"], b"GSI-8, GSI-16 or both"),
+        for args, parts in [
+            (["--help"], [b"Exit status:", b"0.00001 gon", b"/dev/stdin"]),
+            (["-h"], [b"Usage: "]),
+            (["help"], [b"Usage: "]),
+            (["check", "--help"], [b"--residual <N>", b"half units", b"[default: none]"]),
+            (["means", "--help"], [b"<STATION>", b"--two-c <N>", b"[default: 2000]"]),
+            (["list", "--help"], [b"0.01 mgon", b"--two-i <N>", b"[default: 2000]"]),
+            (["words", "--help"], [b"GSI-8, GSI-16 or both"]),
+            (["help", "words"], [b"GSI-8, GSI-16 or both"]),
+            (["check", "-h"], [b"Usage: station_check check [OPTIONS] <GSI> <SHEET>\n"]),
         ]:
             with self.subTest(args=args):
                 status, stdout, stderr = answer_of(args)
                 self.assertEqual((0, b""), (status, stderr))
-                self.assertIn(part, stdout)
+                for part in parts:
+                    self.assertIn(part, stdout)
                 self.assertLessEqual(max(map(len, stdout.splitlines())), 100)
+        for command in COMMANDS:
+            with self.subTest(command=command):
+                stdout = answer_of([command, "--help"])[1]
+                self.assertIn(b"Exit status:\n  0  ", stdout)
+                self.assertIn(f"Example:\n  station_check {command} ".encode(), stdout)
 
     def test_an_output_that_takes_nothing_is_a_refusal(self):
-        for args in [f"words '{EXAMPLE}'", "--help"]:
+        commands = [shlex.join(of_file(command, EXAMPLE)) for command in COMMANDS]
+        for args in [*commands, "--help", "--version"]:
             for output in [">/dev/full", ">&-"]:
                 with self.subTest(args=args, output=output):
                     done = subprocess.run(["bash", "-c", f"'{PROGRAM}' {args} {output}"], capture_output=True, timeout=60)
@@ -90,7 +224,7 @@ class CommandLineTest(ProgramTest):
         What comes before the last failure of the loader is none of the program's answers; what comes after is, and a
         death by a signal would be one."""
         met = set()
-        for args in [["words", str(EXAMPLE)], ["words", "x" * 100_000], ["--help"]]:
+        for args in [of_file("check", EXAMPLE), ["words", "x" * 100_000], ["--help"]]:
             with self.subTest(args[-1][:20]):
                 ample, answers = answer_of(args), set()
                 for room in range(1 << 20, 64 << 20, resource.getpagesize()):
@@ -108,7 +242,12 @@ class CommandLineTest(ProgramTest):
             self.skipTest("the loader of this machine wants more room than the program")
 
     def test_a_closed_standard_error_changes_no_status(self):
-        for args, status in [(f"words {self.folder}", 1), (f"words {self.folder}/missing", 2), ("nonsense", 2)]:
+        for args, status in [
+            (f"words {self.folder}", 1),
+            (f"check {EXAMPLE} {self.folder}", 1),
+            (f"list {self.folder}/missing", 2),
+            ("nonsense", 2),
+        ]:
             with self.subTest(args=args):
                 done = subprocess.run(["bash", "-c", f"'{PROGRAM}' {args} 2>&-"], capture_output=True, timeout=60)
                 self.assertEqual((status, b""), (done.returncode, done.stdout))

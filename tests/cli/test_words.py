@@ -4,6 +4,7 @@ import resource
 import subprocess
 
 from program import EXAMPLE, PROGRAM, ProgramTest, Run, answer_of
+from worked import refused, widened
 
 LINES = (
     b"410001+00000010 42....+000000S1\r\n"
@@ -40,10 +41,6 @@ TWO_MORE = (
 )
 
 
-def refused(reason):
-    return b"refused: " + reason + b"\n"
-
-
 RUNS = [
     Run("three lines on standard input", stdin=LINES, stdout=WORDS),
     Run("three lines of a path", ["words", "{file}"], file=LINES, stdout=WORDS),
@@ -60,31 +57,22 @@ RUNS = [
         stdout=FIRST_BLOCK + b"2 1 41 0002 +0000000000000020\n2 2 42 .... +0000000000000001\n",
     ),
     Run("an index with a leading zero is a number", stdin=b"110001+0000000A 05....-00000001", stdout=b"1 1 11 0001 +0000000A\n1 2 5 .... -00000001\n"),
-    Run("the text before a fault is written", stdin=FIRST_WORD, stdout=FIRST_BLOCK, stderr=refused(b"block 2: FirstWord"), status=1),
-    Run("blank lines before a fault are not numbered", stdin=b"\n" + FIRST_WORD, stdout=FIRST_BLOCK, stderr=refused(b"block 2: FirstWord"), status=1),
-    Run("a tab", stdin=b"110001+0000000A\t21.102+00000000", stderr=refused(b"block 1: Byte 16"), status=1),
-    Run("a foreign first word", stdin=b"510001+00000000", stderr=refused(b"block 1: FirstWord"), status=1),
+    Run("the text before a fault is written", stdin=FIRST_WORD, stdout=FIRST_BLOCK, stderr=refused("block 2: FirstWord"), status=1),
+    Run("blank lines before a fault are not numbered", stdin=b"\n" + FIRST_WORD, stdout=FIRST_BLOCK, stderr=refused("block 2: FirstWord"), status=1),
+    Run("a tab", stdin=b"110001+0000000A\t21.102+00000000", stderr=refused("block 1: Byte 16"), status=1),
+    Run("a foreign first word", stdin=b"510001+00000000", stderr=refused("block 1: FirstWord"), status=1),
     Run(
         "a cut word",
         stdin=FIVE_LINES + b"110006+0000000A 21.102+20000006 22.102+2999",
         stdout=WORDS + TWO_MORE,
-        stderr=refused(b"block 6: Word 3"),
+        stderr=refused("block 6: Word 3"),
         status=1,
     ),
     Run("1,024 blanks", stdin=b" " * 1024 + b"\n"),
-    Run("1,025 blanks", stdin=b" " * 1025, stderr=refused(b"block 1: LineTooLong"), status=1),
+    Run("1,025 blanks", stdin=b" " * 1025, stderr=refused("block 1: LineTooLong"), status=1),
     Run("as many line feeds as a file may have", stdin=b"\n" * 16_777_216),
-    Run("one line feed more", stdin=b"\n" * 16_777_217, stderr=refused(b"block 1: FileTooLong"), status=1),
+    Run("one line feed more", stdin=b"\n" * 16_777_217, stderr=refused("block 1: FileTooLong"), status=1),
 ]
-
-
-def widened(narrow):
-    """The same lines with words of sixteen bytes of content, each line ended by CR but the last, which has no end."""
-
-    def line_of(words):
-        return b"*" + b" ".join(word[:7] + b"0" * 8 + word[7:] for word in words)
-
-    return b"\r".join(line_of(line.split(b" ")) for line in narrow.splitlines())
 
 
 class WordsTest(ProgramTest):
@@ -104,7 +92,7 @@ class WordsTest(ProgramTest):
     def test_a_file_that_never_ends_is_refused(self):
         command = f"yes '110001+0000000A' | '{PROGRAM}' > /dev/null"
         done = subprocess.run(["bash", "-c", command], capture_output=True, timeout=60)
-        self.assertEqual((1, refused(b"block 1048577: FileTooLong")), (done.returncode, done.stderr))
+        self.assertEqual((1, refused("block 1048577: FileTooLong")), (done.returncode, done.stderr))
 
     def test_memory_does_not_grow_with_the_file(self):
         room = 64 * 1024 * 1024

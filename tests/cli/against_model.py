@@ -1,0 +1,79 @@
+"""Runs of the program beside the model's answers. With SWEEP in the environment whole sweeps are run, not samples."""
+
+import os
+from concurrent.futures import ThreadPoolExecutor
+from typing import NamedTuple, Optional
+
+import model
+from program import EXAMPLE, ProgramTest, answer_of
+
+SWEEP = "SWEEP" in os.environ
+
+FIELD = EXAMPLE.read_bytes()
+SHEET = model.means(FIELD, b"S1")[1]
+
+
+class Case(NamedTuple):
+    """One run: a command, the bytes of its files, and its options."""
+
+    name: str
+    command: str
+    gsi: bytes
+    sheet: bytes = b""
+    station: str = "S1"
+    limits: model.Limits = model.Limits()
+    residual: Optional[int] = None
+
+    def expected(self):
+        """What the model answers."""
+        if self.command == "words":
+            return model.words(self.gsi)
+        if self.command == "list":
+            return model.listed(self.gsi, self.limits)
+        if self.command == "means":
+            return model.means(self.gsi, self.station.encode(), self.limits)
+        return model.check(self.gsi, self.sheet, self.limits, self.residual)
+
+    def args(self, gsi, sheet):
+        """The words of its command line, over these paths."""
+        options = [f"--two-c={self.limits.two_c}", f"--two-i={self.limits.two_i}"]
+        if self.residual is not None:
+            options.append(f"--residual={self.residual}")
+        return {
+            "words": ["words", gsi],
+            "list": ["list", *options, gsi],
+            "means": ["means", *options, "--", gsi, self.station],
+            "check": ["check", *options, gsi, sheet],
+        }[self.command]
+
+
+def sample(cases, step):
+    """Every so-many-th case, and all of them in a sweep. A step without a common divisor with the length of a table's
+    inner loop meets each of its entries."""
+    cases = list(cases)
+    return cases if SWEEP else cases[::step]
+
+
+class AgainstModel(ProgramTest):
+    def answer(self, place, case):
+        """What the program answers, over files of this run alone."""
+        gsi, sheet = self.folder / f"{place}.gsi", self.folder / f"{place}.csv"
+        gsi.write_bytes(case.gsi)
+        sheet.write_bytes(case.sheet)
+        answer = answer_of(case.args(gsi, sheet))
+        gsi.unlink()
+        sheet.unlink()
+        return answer
+
+    def compare(self, cases):
+        """Runs all cases, names those that the program answers in another way than the model, and gives the answers."""
+        cases, wanted = list(cases), []
+        self.assertTrue(cases)
+        with ThreadPoolExecutor(os.cpu_count()) as pool:
+            answers = pool.map(self.answer, range(len(cases)), cases)
+            for case, answer in zip(cases, answers):
+                wanted.append(case.expected())
+                if answer != wanted[-1]:
+                    with self.subTest(case.name, gsi=case.gsi[:2000], sheet=case.sheet[:2000]):
+                        self.assertEqual(wanted[-1], answer)
+        return wanted

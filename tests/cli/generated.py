@@ -1,0 +1,325 @@
+"""Field files and sheets of a fixed seed: right ones, and ones with every kind of fault.
+
+`python3 tests/cli/generated.py [COUNT]` prints how often the model answers what over so many files.
+"""
+
+import math
+import re
+import sys
+from collections import Counter
+from fractions import Fraction
+from random import Random
+
+import model
+from against_model import Case
+from model import CIRCLE, HALF_CIRCLE, TURN, Limits
+
+SEED = 20_000_002
+
+NAMES = ["A", "B", "C", "D", "S1", "S2", "10", "0", '1,"A', "A B", "-7", "x" * 8]
+LINE_ENDS = ["\r\n", "\n", "\r", "\n\n", " \r\n", "   \n", "\r\n    \r\n"]
+LIMITS = [Limits()] * 5 + [Limits(0, 0), Limits(1_000_000, 1_000_000), Limits(5, 2_000), Limits(2_000, 5)]
+
+# How often a step goes wrong in a file that may have faults, and how much more often where a file has few such steps.
+CHANCES = [0.02, 0.01, 0.003]
+RARE = 10
+
+
+class FieldFile:
+    """A field file that is written block by block; `chance` says how often a step goes wrong."""
+
+    def __init__(self, random, chance):
+        self.random, self.chance = random, chance
+        self.limits = random.choice(LIMITS)
+        self.wide = random.choice([False, False, True, None])
+        self.lines = []
+
+    def goes_wrong(self, weight=1):
+        return self.random.random() < self.chance * weight
+
+    def word(self, index, information, sign, content):
+        """The parts of a word, of which one may be changed."""
+        parts = [f"{index:02}", information, sign, content]
+        if self.goes_wrong(0.3):
+            place = self.random.randrange(4)
+            parts[place] = self.random.choice(["", "+", "-1", "x" * len(parts[place]), parts[place][1:] + " ", " " * len(parts[place])])
+        return parts
+
+    def add(self, *words):
+        """A line of these words, in the width of the file or, where it has both, in one of them."""
+        wide = self.random.random() < 0.5 if self.wide is None else self.wide
+        texts = ["".join([*parts, content.rjust(16 if wide else 8, "0")]) for *parts, content in words]
+        line = ("*" if wide else "") + " ".join(texts)
+        if self.goes_wrong(0.5):
+            line = self.changed(line)
+        self.lines.append(line)
+
+    def changed(self, line):
+        place = self.random.randrange(len(line) + 1)
+        return self.random.choice([
+            line[:place], line[place:], line[:place] + " " + line[place:], line[:place] + "\t" + line[place + 1 :],
+            line[:place] + "\x7f" + line[place:], "*" + line, line + " " * 1_024, "51" + line[2:], line + " 11",
+        ])
+
+    def number(self):
+        return f"{len(self.lines) + 1:04}"[-4:]
+
+    def code(self, code, name=None):
+        words = [self.word(41, self.number(), "+", code)]
+        if name is not None:
+            words.append(self.word(42, "....", self.random.choice("++-"), name))
+        if self.goes_wrong(2):
+            words = self.random.choice([words[:1], [*words, words[-1]], [*words, self.word(42, "....", "+", "7")]])
+        self.add(*words)
+
+    def angle(self, index, value):
+        mode, unit, sign, text = self.random.choice(".023"), "2", "+", f"{value:08}"
+        if self.goes_wrong():
+            change = self.random.randrange(5)
+            mode = self.random.choice("14 x") if change == 0 else mode
+            unit = self.random.choice("0134") if change == 1 else unit
+            sign = "-" if change == 2 else sign
+            text = self.random.choice(["0000000x", "1 234567", "+1234567"]) if change == 3 else text
+            text = self.random.choice(["40000000", "99999999"]) if change == 4 else text
+        return self.word(index, f".1{mode}{unit}", sign, text)
+
+    def reading(self, target, direction, zenith):
+        words = [self.word(11, self.number(), self.random.choice("++-"), target)]
+        words += [self.angle(21, direction % CIRCLE), self.angle(22, zenith)]
+        if self.random.random() < 0.1:
+            words.insert(self.random.randrange(1, len(words) + 1), ("31", "..00", "+", "00012345"))
+        if self.goes_wrong():
+            words = self.random.choice([[words[0], words[-1]], words[:2], words[:1], [*words, words[1]], [*words, words[-1]]])
+        self.add(*words)
+
+    def difference(self, limit):
+        edges = [0, 0, 0, 1, -1, limit, -limit, self.random.randint(-limit, limit)]
+        if self.goes_wrong():
+            edges = [limit + 1, -limit - 1, limit * 3 + 7]
+        return self.random.choice(edges)
+
+    def pair(self, target, direction):
+        """The two readings of a target near a direction."""
+        two_c, two_i = self.difference(self.limits.two_c), self.difference(self.limits.two_i)
+        zenith = self.random.choice([10_000_000, 10_000_000, 1, HALF_CIRCLE - 1, self.random.randrange(1, HALF_CIRCLE)])
+        other = min(max(CIRCLE - zenith + two_i, HALF_CIRCLE + 1), CIRCLE - 1)
+        if self.goes_wrong():
+            zenith = self.random.choice([0, HALF_CIRCLE, CIRCLE])
+        return (target, direction, zenith), (target, direction + HALF_CIRCLE + two_c, other)
+
+    def one_set(self, number, targets):
+        self.code("20", str(number))
+        if self.goes_wrong(3):
+            targets = []
+        turned = self.random.randrange(CIRCLE)
+        pairs = [self.pair(target, direction + turned + self.random.randint(-9, 9)) for target, direction in targets]
+        readings = [first for first, _ in pairs] + [second for _, second in reversed(pairs)]
+        if self.random.random() < 0.3:
+            self.random.shuffle(readings)
+        if self.goes_wrong(RARE):
+            again = [*readings, *readings[:1]]
+            readings = self.random.choice([readings[:-1], readings[1:], again, again])
+        for reading in readings:
+            self.reading(*reading)
+        self.closing()
+
+    def closing(self):
+        """What may stand between sets."""
+        if self.random.random() < 0.4:
+            self.code("30")
+        if self.random.random() < 0.1:
+            self.code("40", "remark")
+        if self.random.random() < 0.1:
+            self.reading("99", 1, 1)
+
+    def station(self, name):
+        self.code("10", name)
+        targets = [(target, self.random.randrange(CIRCLE)) for target in self.random.sample(NAMES, self.random.randint(1, 4))]
+        numbers = self.random.sample([1, 2, 3, 7, 12, 9_999], self.random.randint(0, 4))
+        most = self.random.choice([1, len(targets), len(targets), 0])
+        if self.goes_wrong(RARE):
+            again = [*numbers, *numbers[:1]]
+            numbers = self.random.choice([[0], [10_000], again, again, again, ["1x"], ["-1"]])
+        for number in numbers:
+            seen = self.random.sample(targets, self.random.randint(1, most)) if most else targets
+            self.one_set(number, seen)
+
+    def text(self):
+        """The bytes of the file, in one of the forms of line ends."""
+        if self.goes_wrong(2):
+            self.lines = self.lines[1:]
+        end = self.random.choice(LINE_ENDS)
+        joined = end.join(self.lines)
+        return (joined + (end if self.random.random() < 0.8 else "")).encode("latin-1")
+
+
+def field_file(random):
+    """A field file and its limits."""
+    chance = random.choice([0, *CHANCES])
+    field = FieldFile(random, chance)
+    names = random.sample(NAMES, random.randint(1, 3))
+    if field.goes_wrong(2 * RARE):
+        names.append(names[0])
+    for name in names:
+        field.station(name)
+    return field.text(), field.limits
+
+
+# ---------------------------------------------------------------- sheets
+
+
+def eliminated(equations):
+    """The equations, each a list of factors with its sum, solved for as many unknowns as they fix; the others are 0."""
+    solved = {}
+    for unknown in range(len(equations[0]) - 1):
+        pivot = next((row for row in equations if row[unknown] and id(row) not in solved.values()), None)
+        if pivot is None:
+            continue
+        pivot[:] = [x / pivot[unknown] for x in pivot]
+        for row in equations:
+            if row is not pivot and row[unknown]:
+                row[:] = [x - row[unknown] * y for x, y in zip(row, pivot)]
+        solved[unknown] = id(pivot)
+    rows = {id(row): row for row in equations}
+    return [rows[solved[unknown]][-1] if unknown in solved else Fraction(0) for unknown in range(len(equations[0]) - 1)]
+
+
+def adjusted(station, turns):
+    """The least-squares directions and orientations in half units, as fractions; the first direction is 0."""
+    targets, sets = len(station.targets), len(station.sets)
+    equations = [[Fraction(0)] * (targets + sets + 1) for _ in range(targets + sets)]
+    for seen, turn in zip(station.observations, turns):
+        value, unknowns = seen.p + TURN * turn, {seen.target: 1, targets + seen.set: -1}
+        for row, sign in unknowns.items():
+            for column, other in unknowns.items():
+                equations[row][column] += sign * other
+            equations[row][-1] += sign * value
+    equations[0] = [Fraction(1)] + [Fraction(0)] * (targets + sets)
+    solution = eliminated(equations)
+    return solution[:targets], solution[targets:]
+
+
+def least_sheet(random, station):
+    """The sheet of a station under some full turns."""
+    turns = [random.choice([0, 0, 0, 0, 0, 1, -1, 9]) for _ in station.observations]
+    directions, orientations = adjusted(station, turns)
+    denominator = math.lcm(*[x.denominator for x in directions + orientations]) * random.choice([1, 1, 2, 10**6])
+    scaled = lambda names, values: [(name, int(value * denominator)) for name, value in zip(names, values)]
+    seen = [(station.sets[o.set], station.targets[o.target], o.p, turn) for o, turn in zip(station.observations, turns)]
+    return model.Sheet(station.name, denominator, scaled(station.targets, directions), scaled(station.sets, orientations), seen)
+
+
+def moved(random, sheet):
+    """The sheet, now and then with all directions and orientations turned, or with two orientations moved apart."""
+    change, by = random.randrange(12), random.choice([1, -1, sheet.denominator, -TURN])
+    directions, orientations = list(sheet.directions), list(sheet.orientations)
+    if change == 0:
+        directions = [(name, value + by) for name, value in directions]
+        orientations = [(number, value + by) for number, value in orientations]
+    elif change < 3:
+        for place, sign in [(0, 1), (-1, -1)]:
+            number, value = orientations[place]
+            orientations[place] = number, value + sign * by
+    return sheet._replace(directions=directions, orientations=orientations)
+
+
+def change_row(random, rows):
+    """A row dropped, repeated or moved, the rest of the rows dropped, or a field changed."""
+    row = random.randrange(len(rows))
+    column = random.randrange(len(rows[row]))
+    field = rows[row][column]
+    change = random.randrange(10)
+    if change == 0:
+        del rows[row : random.choice([row + 1, row + 1, len(rows)])]
+    elif change == 1:
+        rows.insert(random.randrange(len(rows) + 1), list(rows[row]))
+    elif change == 2:
+        other = random.randrange(len(rows))
+        rows[row], rows[other] = rows[other], rows[row]
+    elif change == 3:
+        rows[row] = rows[row][:column] + random.choice([[], [b"", b""]]) + rows[row][column + 1 :]
+    elif re.fullmatch(rb"-?[0-9]+", field) and change < 8:
+        steps = [1, -1, 1, -1, TURN, -TURN, 10**9, 10**12, 10**18, -(10**18), 10**21, 10**22, -int(field), -2 * int(field)]
+        rows[row][column] = b"%d" % (int(field) + random.choice(steps))
+    else:
+        kinds = [b"sheet", b"target", b"set", b"obs"]
+        others = [b"", b"0", b"-0", b"+5", b"007", b"2", b"3", b" ", b"x" * 17, b"\x00", b"A", b" 1", b"1 ", b"1" + b"0" * 30]
+        rows[row][column] = random.choice([field + b"0", *kinds, *others])
+
+
+def written(random, rows):
+    """The text of rows; fields may be quoted without need."""
+    quotes = random.choice([0, 0, 0.2, 1])
+    end = random.choice([b"\n", b"\n", b"\r\n", b"\r", b"\n\n"])
+
+    def text_of(field):
+        return b'"' + field.replace(b'"', b'""') + b'"' if random.random() < quotes else model.field_text(field)
+
+    text = end.join(b",".join(map(text_of, row)) for row in rows) + random.choice([end, b""])
+    return random.choice([b"", b"", b"", b"\xef\xbb\xbf", b"\n"]) + text
+
+
+def sheet_text(random, stations):
+    """A sheet of one of the stations, or what is left of one after some changes."""
+    text = model.sheet_text(moved(random, least_sheet(random, random.choice(stations))))
+    rows = list(model.records_of(text))
+    if random.random() < 0.3 or abs(int(rows[0][3])) > 10**9:
+        rows[0][1] = b"2"
+    for _ in range(random.choice([0, 0, 1, 1, 1, 2])):
+        if rows:
+            change_row(random, rows)
+    text = written(random, rows)
+    if random.random() < 0.1:
+        place = random.randrange(len(text) + 1)
+        text = text[:place] + random.choice([b'"', b",", b"\n", b" ", b"\xff", b""]) + text[place + random.choice([0, 1]) :]
+    return text
+
+
+# ---------------------------------------------------------------- cases
+
+
+def cases_of(place):
+    """The runs over one generated file, and over sheets of its stations."""
+    random = Random(f"{SEED} {place}")
+    field, limits = field_file(random)
+    yield Case(f"{place}: words", "words", field)
+    yield Case(f"{place}: list", "list", field, limits=limits)
+    try:
+        stations = model.survey_of(field, limits)
+    except model.Refusal:
+        stations = []
+    if not stations:
+        yield Case(f"{place}: check", "check", field, b"no sheet", limits=limits)
+        return
+    station = random.choice(stations).name.decode()
+    yield Case(f"{place}: means", "means", field, station=random.choice([station, station, station, "?"]), limits=limits)
+    for nth in range(3):
+        residual = random.choice([None, None, 0, 1, 20, 2_000])
+        yield Case(f"{place}: sheet {nth}", "check", field, sheet_text(random, stations), limits=limits, residual=residual)
+
+
+def generated(count):
+    for place in range(count):
+        yield from cases_of(place)
+
+
+def kind_of(answer):
+    """An answer without its numbers and places: accepted, written, or the name of a fault."""
+    status, stdout, stderr = answer
+    if status == 0:
+        return "accepted" if stdout.startswith(b"accepted") else "written" if stdout else "nothing to write"
+    fault = stderr.decode().removeprefix("refused: ").rstrip("\n")
+    fault = re.sub(r"(block|sheet row) \d+", r"\1 n", fault)
+    return fault if "WordTwice" in fault else re.sub(r" \d+$", " n", fault)
+
+
+def main():
+    count = int(sys.argv[1]) if len(sys.argv) > 1 else 1_000
+    kinds = Counter(kind_of(case.expected()) for case in generated(count))
+    for kind, met in kinds.most_common():
+        print(f"{met:8}  {kind}")
+    print(f"{sum(kinds.values()):8}  cases of {count} files")
+
+
+if __name__ == "__main__":
+    main()

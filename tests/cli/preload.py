@@ -1,0 +1,27 @@
+"""Libraries in C that are preloaded into the program. They are built once, where a C compiler is found."""
+
+import functools
+import shutil
+import subprocess
+import tempfile
+import unittest
+from pathlib import Path
+
+COMPILERS = ["cc", "gcc", "clang"]
+
+FOLDER = tempfile.TemporaryDirectory()
+
+
+@functools.lru_cache(maxsize=None)
+def compiled(compiler, name):
+    library, source = Path(FOLDER.name) / f"{name}.so", Path(__file__).with_name(f"{name}.c")
+    subprocess.run([compiler, "-O2", "-shared", "-fPIC", "-o", library, source, "-ldl"], check=True, timeout=60)
+    return library
+
+
+def built(name):
+    """The path of the library built of `name`.c beside this file; a test without a compiler is skipped."""
+    compiler = next(filter(None, map(shutil.which, COMPILERS)), None)
+    if compiler is None:
+        raise unittest.SkipTest(f"no C compiler is found, so {name}.c isn't built")
+    return compiled(compiler, name)

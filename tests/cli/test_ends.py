@@ -1,0 +1,280 @@
+"""Ends of a process: streams that are closed, full or left, files of all kinds, signals, and input that is huge or endless.
+
+No run leaves half a line, or takes more than its time.
+"""
+
+import contextlib
+import os
+import select
+import signal
+import socket
+import subprocess
+import threading
+import unittest
+
+import model
+import test_generated
+from against_model import FIELD, SHEET
+from program import PROGRAM, ProgramTest, answer_of
+
+# More than any run here takes, in seconds.
+TIME = 60
+
+# How long a run that still has input prints nothing, in seconds.
+QUIET = 0.5
+
+REFUSED_WRITE = b"refused: write failed\n"
+
+ACCEPTED = model.check(FIELD, SHEET)
+
+
+def refused(reason):
+    return 1, b"", f"refused: {reason}\n".encode()
+
+
+class EndsTest(ProgramTest):
+    def setUp(self):
+        super().setUp()
+        self.field = self.file("field.gsi", FIELD)
+        self.sheet = self.file("sheet.csv", SHEET)
+        self.runs = [["words", self.field], ["list", self.field], ["means", self.field, "S1"], ["check", self.field, self.sheet]]
+
+    def file(self, name, content):
+        path = self.folder / name
+        path.write_bytes(content)
+        return path
+
+    def in_shell(self, script, *args):
+        """The answer of a script of the shell, in which "$@" is the program and its words."""
+        done = subprocess.run(["bash", "-c", script, "bash", PROGRAM, *args], capture_output=True, timeout=TIME)
+        return done.returncode, done.stdout, done.stderr
+
+
+class StreamsTest(EndsTest):
+    def test_an_output_without_room(self):
+        for args in self.runs:
+            with self.subTest(args[0]):
+                self.assertEqual((1, b"", REFUSED_WRITE), self.in_shell('"$@" > /dev/full', *args))
+
+    @unittest.skipIf("STATION_CHECK" in os.environ, "another program may open closed streams anew")
+    def test_a_closed_output(self):
+        for args in self.runs:
+            for closed in [">&-", "<&- >&-"]:
+                with self.subTest(args[0], closed=closed):
+                    self.assertEqual((1, b"", REFUSED_WRITE), self.in_shell(f'"$@" {closed}', *args))
+
+    def test_closed_streams_that_are_not_used(self):
+        for args in self.runs:
+            for closed in ["<&-", "2>&-", "<&- 2>&-"]:
+                with self.subTest(args[0], closed=closed):
+                    self.assertEqual(answer_of(args), self.in_shell(f'"$@" {closed}', *args))
+
+    def test_a_failing_standard_error_changes_no_status(self):
+        folder = str(self.folder)
+        for args in [["words", folder], ["list", folder], ["means", folder, "S1"], ["check", self.field, folder]]:
+            for err in ["2> /dev/full", "2>&-"]:
+                with self.subTest(args[0], err=err):
+                    self.assertEqual((1, b"", b""), self.in_shell(f'"$@" {err}', *args))
+
+    def test_a_pipe_whose_reader_left(self):
+        for args in self.runs:
+            with self.subTest(args[0]):
+                reader, writer = os.pipe()
+                os.close(reader)
+                with os.fdopen(writer, "wb") as output:
+                    done = subprocess.run([PROGRAM, *args], stdout=output, stderr=subprocess.PIPE, timeout=TIME)
+                self.assertEqual((1, REFUSED_WRITE), (done.returncode, done.stderr))
+
+    def test_a_reader_that_leaves_after_some_bytes(self):
+        large = self.file("large.gsi", FIELD * 10_000)
+        with subprocess.Popen([PROGRAM, "words", large], stdout=subprocess.PIPE, stderr=subprocess.PIPE) as run:
+            self.assertEqual(b"1 1 41", os.read(run.stdout.fileno(), 6))
+            run.stdout.close()
+            self.assertEqual((REFUSED_WRITE, 1), (run.stderr.read(), run.wait(TIME)))
+
+
+class FilesTest(EndsTest):
+    def test_a_folder_cannot_be_read(self):
+        folder = str(self.folder)
+        for args, reason in [
+            (["list", folder], "block 1: Read"),
+            (["means", folder, "S1"], "block 1: Read"),
+            (["check", folder, self.sheet], "block 1: Read"),
+            (["check", self.field, folder], "sheet: Read"),
+            (["check", folder, folder], "block 1: Read"),
+        ]:
+            with self.subTest(args):
+                self.assertEqual(refused(reason), answer_of(args))
+
+    def test_files_are_opened_before_any_is_read(self):
+        missing, faulty = self.folder / "missing", self.file("faulty.gsi", b"?")
+        listener = socket.socket(socket.AF_UNIX)
+        self.addCleanup(listener.close)
+        listener.bind(str(self.folder / "socket"))
+        for args, path in [
+            (["check", faulty, missing], missing),
+            (["check", missing, self.folder / "too"], missing),
+            (["check", missing, self.sheet], missing),
+            (["list", missing], missing),
+            (["means", missing, "S1"], missing),
+            (["list", self.folder / "socket"], self.folder / "socket"),
+            (["list", self.field / "below"], self.field / "below"),
+            (["list", "x" * 5_000], "x" * 5_000),
+        ]:
+            with self.subTest(args):
+                self.assertEqual((2, b"", f"cannot open {path}\n".encode()), answer_of(args))
+
+    def test_devices(self):
+        for args, answer in [
+            (["list", "/dev/null"], (0, b"", b"")),
+            (["words", "/dev/null"], (0, b"", b"")),
+            (["means", "/dev/null", "S1"], refused("no station")),
+            (["check", "/dev/null", self.sheet], refused("no station")),
+            (["check", self.field, "/dev/null"], refused("sheet row 1: Unfinished")),
+            (["words", "/dev/zero"], refused("block 1: LineTooLong")),
+            (["list", "/dev/zero"], refused("block 1: LineTooLong")),
+            (["means", "/dev/zero", "S1"], refused("block 1: LineTooLong")),
+            (["check", "/dev/zero", self.sheet], refused("block 1: LineTooLong")),
+            (["check", self.field, "/dev/zero"], refused("sheet: TooLong")),
+            (["check", "/dev/zero", "/dev/zero"], refused("block 1: LineTooLong")),
+        ]:
+            with self.subTest(args):
+                self.assertEqual(answer, answer_of(args))
+
+    def test_standard_input_as_a_path(self):
+        self.assertEqual(model.listed(FIELD), answer_of(["list", "/dev/stdin"], FIELD))
+        self.assertEqual(ACCEPTED, answer_of(["check", self.field, "/dev/stdin"], SHEET))
+        self.assertEqual(ACCEPTED, answer_of(["check", "/dev/stdin", self.sheet], FIELD))
+
+    def test_one_path_for_both_files(self):
+        self.assertEqual(refused("sheet row 1: Fields"), answer_of(["check", self.field, self.field]))
+
+    def test_pipes_with_names(self):
+        """Both files come in small pieces, the sheet's only after the field file was read."""
+        for field, answer in [(FIELD, ACCEPTED), (FIELD[:-30], model.listed(FIELD[:-30])), (b"", refused("no station"))]:
+            with self.subTest(answer):
+                paths = [self.folder / f"{name} {len(field)}" for name in ["field", "sheet"]]
+                for path in paths:
+                    os.mkfifo(path)
+                writers = [threading.Thread(target=self.write_pieces, args=pair) for pair in zip(paths, [field, SHEET])]
+                for writer in writers:
+                    writer.start()
+                self.assertEqual(answer, answer_of(["check", *paths]))
+                for writer in writers:
+                    writer.join(TIME)
+
+    @staticmethod
+    def write_pieces(path, content):
+        with contextlib.suppress(BrokenPipeError), open(path, "wb", buffering=0) as pipe:
+            for at in range(0, len(content), 7):
+                pipe.write(content[at : at + 7])
+
+
+class SignalsTest(EndsTest):
+    def started(self, *args):
+        pipes = {"stdin": subprocess.PIPE, "stdout": subprocess.PIPE, "stderr": subprocess.PIPE}
+        run = subprocess.Popen([PROGRAM, *args], **pipes)
+        for end in [run.stdin, run.stdout, run.stderr]:
+            self.addCleanup(end.close)
+        self.addCleanup(run.wait)
+        self.addCleanup(run.kill)
+        return run
+
+    def test_a_run_that_was_stopped_goes_on(self):
+        for args, answer in [
+            ([], model.words(FIELD)),
+            (["list", "/dev/stdin"], model.listed(FIELD)),
+            (["check", "/dev/stdin", self.sheet], ACCEPTED),
+        ]:
+            with self.subTest(args):
+                run = self.started(*args)
+                for piece in [FIELD[:100], FIELD[100:]]:
+                    os.write(run.stdin.fileno(), piece)
+                    run.send_signal(signal.SIGSTOP)
+                    os.waitid(os.P_PID, run.pid, os.WSTOPPED)
+                    run.send_signal(signal.SIGCONT)
+                stdout, stderr = run.communicate(timeout=TIME)
+                self.assertEqual(answer, (run.returncode, stdout, stderr))
+
+    def test_a_run_that_is_ended_leaves_whole_lines(self):
+        """What waits for more input has printed whole lines, or nothing of a list, and prints no more at its end."""
+        words = model.words(FIELD * 100)[1]
+        for how in [signal.SIGTERM, signal.SIGINT, signal.SIGKILL]:
+            for args, field, last in [([], FIELD * 100, b"\n"), (["list", "/dev/stdin"], FIELD, b"")]:
+                with self.subTest(how=how, args=args):
+                    run = self.started(*args)
+                    run.stdin.write(field)
+                    run.stdin.flush()
+                    printed = self.printed_so_far(run)
+                    run.send_signal(how)
+                    self.assertEqual((-how, b"", b""), (run.wait(TIME), run.stdout.read(), run.stderr.read()))
+                    self.assertTrue(words.startswith(printed))
+                    self.assertEqual(last, printed[-1:])
+
+    @staticmethod
+    def printed_so_far(run):
+        """What a run prints until it is quiet, or has ended."""
+        printed = b""
+        while select.select([run.stdout], [], [], QUIET)[0] and (piece := os.read(run.stdout.fileno(), 65_536)):
+            printed += piece
+        return printed
+
+
+class HugeTest(EndsTest):
+    def test_endless_input(self):
+        for lines, reason in [
+            ("yes '110001+0000000A'", "block 1048577: FileTooLong"),
+            ("yes ''", "block 1: FileTooLong"),
+            ("yes A | tr -d '\\n'", "block 1: LineTooLong"),
+            ("yes '   ' | tr '\\n' '\\r'", "block 1: FileTooLong"),
+        ]:
+            for args in ["list /dev/stdin", "means /dev/stdin S1", f"check /dev/stdin {self.sheet}"]:
+                with self.subTest(lines, args=args):
+                    self.assertEqual(refused(reason), self.in_shell(f'{lines} | "$@"', *args.split()))
+
+    def test_an_endless_sheet(self):
+        for lines in ["yes 'sheet,1,S1,4,'", "yes ''", "yes '\"' | tr -d '\\n'", "yes , | tr -d '\\n'"]:
+            with self.subTest(lines):
+                check = self.in_shell(f'{lines} | "$@"', "check", self.field, "/dev/stdin")
+                self.assertEqual(refused("sheet: TooLong"), check)
+
+    def test_a_line_of_16_megabytes(self):
+        path = self.file("line.gsi", b"1" * model.LONGEST_FILE)
+        for args in [["words", path], ["list", path], ["means", path, "S1"], ["check", path, self.sheet]]:
+            with self.subTest(args[0]):
+                self.assertEqual(refused("block 1: LineTooLong"), answer_of(args))
+
+    def test_line_feeds_up_to_the_limit_and_past_it(self):
+        within = self.file("within.gsi", b"\n" * model.LONGEST_FILE)
+        past = self.file("past.gsi", b"\n" * (model.LONGEST_FILE + 1))
+        self.assertEqual((0, b"", b""), answer_of(["list", within]))
+        self.assertEqual(refused("no station"), answer_of(["means", within, "S1"]))
+        self.assertEqual(refused("no station"), answer_of(["check", within, self.sheet]))
+        for args in [["list", past], ["means", past, "S1"], ["check", past, self.sheet]]:
+            with self.subTest(args[0]):
+                self.assertEqual(refused("block 1: FileTooLong"), answer_of(args))
+
+    def test_a_file_full_of_the_largest_stations(self):
+        """A file of just as many bytes as it may have: 42 stations of 40 sets of 100 targets, and blanks to the end."""
+        stations = [test_generated.station(f"S{n}", 40, 100) for n in range(42)]
+        field = test_generated.lines(*stations) + b"\n"
+        field += (b" " * 1_000 + b"\n") * ((model.LONGEST_FILE - len(field)) // 1_001)
+        field += b"\n" * (model.LONGEST_FILE - len(field))
+        full, past = self.file("full.gsi", field), self.file("past.gsi", field + b"\n")
+        observations = b"".join(
+            b"set %d, target %d: p %d, 2c 0, 2i 0\n" % (number, target, 2_000 * target)
+            for number in range(1, 41)
+            for target in range(1, 101)
+        )
+        heads = (b"station S%d: 40 sets, 100 targets, 4000 directions\n" % n for n in range(42))
+        self.assertEqual((0, b"".join(head + observations for head in heads), b""), answer_of(["list", full]))
+        status, sheet, stderr = answer_of(["means", full, "S41"])
+        self.assertEqual((0, b""), (status, stderr))
+        accepted = b"accepted S41: 40 sets, 100 targets, 4000 directions, greatest residual 0/4000\n"
+        self.assertEqual((0, accepted, b""), answer_of(["check", full, self.file("means.csv", sheet)]))
+        blocks = 42 * (1 + 40 * 201)
+        self.assertEqual(refused(f"block {blocks + 1}: FileTooLong"), answer_of(["list", past]))
+
+
+if __name__ == "__main__":
+    unittest.main()

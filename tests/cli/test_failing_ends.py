@@ -1,0 +1,148 @@
+"""Reads and writes that fail in turn, or move a few bytes at a time, by a preloaded library."""
+
+import errno
+import os
+import unittest
+from concurrent.futures import ThreadPoolExecutor
+
+import model
+import preload
+import test_generated
+from against_model import FIELD, SHEET, SWEEP, sample
+from program import ProgramTest, answer_of
+
+COMMANDS = {
+    "words": ["words", "{field}"],
+    "list": ["list", "{field}"],
+    "means": ["means", "{field}", "S1"],
+    "check": ["check", "{field}", "{sheet}"],
+}
+
+WHOLE = {
+    "words": model.words(FIELD),
+    "list": model.listed(FIELD),
+    "means": model.means(FIELD, b"S1"),
+    "check": model.check(FIELD, SHEET),
+}
+
+REFUSED_WRITE = b"refused: write failed\n"
+
+
+def expected_of_field(command, room):
+    """What a command answers over a field file whose reads fail after so many bytes."""
+    given = FIELD[:room]
+    return {
+        "words": lambda: model.words(given, fails=True),
+        "list": lambda: model.listed(given, fails=True),
+        "means": lambda: model.means(given, b"S1", fails=True),
+        "check": lambda: model.check(given, SHEET, fails=(True, False)),
+    }[command]()
+
+
+class FailingEndsTest(ProgramTest):
+    def setUp(self):
+        super().setUp()
+        self.library = preload.built("failing_ends")
+        self.field, self.sheet = self.folder / "field.gsi", self.folder / "sheet.csv"
+        self.field.write_bytes(FIELD)
+        self.sheet.write_bytes(SHEET)
+
+    def answer(self, command, **limits):
+        args = [word.format(field=self.field, sheet=self.sheet) for word in COMMANDS[command]]
+        env = {"LD_PRELOAD": str(self.library), **{name: str(value) for name, value in limits.items()}}
+        return answer_of(args, env=env)
+
+    def check_all(self, runs):
+        """Runs each of (command, limits, expected answer)."""
+        runs = list(runs)
+        self.assertTrue(runs)
+        with ThreadPoolExecutor(os.cpu_count()) as pool:
+            answers = pool.map(lambda run: self.answer(run[0], **run[1]), runs)
+            for (command, limits, expected), answer in zip(runs, answers):
+                if expected != answer:
+                    with self.subTest(command, **limits):
+                        self.assertEqual(expected, answer)
+
+    def test_a_field_file_that_fails_after_each_byte(self):
+        runs = (
+            (command, {"READ_PATH": self.field, "READ_ROOM": room}, expected_of_field(command, room))
+            for room in range(len(FIELD) + 1)
+            for command in COMMANDS
+        )
+        self.check_all(sample(runs, 3))
+
+    def test_a_sheet_that_fails_after_each_byte(self):
+        refused = (1, b"", b"refused: sheet: Read\n")
+        self.check_all(
+            ("check", {"READ_PATH": self.sheet, "READ_ROOM": room}, refused) for room in range(len(SHEET) + 1)
+        )
+
+    def test_a_sheet_that_fails_is_looked_at_after_the_field_file(self):
+        for field, expected in [
+            (FIELD.replace(b"410012", b"4100 2"), b"refused: block 12: Word 1\n"),
+            (b"", b"refused: sheet: Read\n"),
+        ]:
+            with self.subTest(expected):
+                self.field.write_bytes(field)
+                self.assertEqual((1, b"", expected), self.answer("check", READ_PATH=self.sheet, READ_ROOM=0))
+
+    def test_any_error_of_a_read_is_a_fault_and_is_not_tried_again(self):
+        self.check_all(
+            ("list", {"READ_PATH": self.field, "READ_ROOM": room, "READ_ERROR": error}, expected_of_field("list", room))
+            for error in [errno.EIO, errno.EINTR, errno.EAGAIN, errno.EBADF]
+            for room in [0, 40]
+        )
+
+    def test_an_output_that_fails_after_each_byte(self):
+        runs = (
+            (command, {"WRITE_ROOM": room}, (1, text[:room], REFUSED_WRITE))
+            for command, (_, text, _) in WHOLE.items()
+            for room in range(len(text))
+        )
+        self.check_all(runs)
+
+    def test_an_output_with_just_enough_room(self):
+        self.check_all((command, {"WRITE_ROOM": len(text)}, (0, text, b"")) for command, (_, text, _) in WHOLE.items())
+
+    def test_pieces_change_no_answer(self):
+        self.check_all(
+            (command, {"READ_MOST": most_read, "WRITE_MOST": most_written}, whole)
+            for command, whole in WHOLE.items()
+            for most_read in [1, 2, 3, 7, 1_000]
+            for most_written in [1, 2, 16]
+        )
+
+    def test_the_largest_station_byte_by_byte(self):
+        self.field.write_bytes(test_generated.lines(test_generated.station("S1", 40, 100)))
+        for command in ["words", "list", "means"]:
+            with self.subTest(command):
+                whole = self.answer(command)
+                self.assertEqual((0, b""), (whole[0], whole[2]))
+                self.assertEqual(whole, self.answer(command, READ_MOST=1, WRITE_MOST=1_000))
+        self.sheet.write_bytes(self.answer("means")[1])
+        accepted = b"accepted S1: 40 sets, 100 targets, 4000 directions, greatest residual 0/4000\n"
+        self.assertEqual((0, accepted, b""), self.answer("check", READ_MOST=1))
+
+    def test_line_feeds_one_a_read_are_refused_at_the_limit(self):
+        """At the limit a file is refused, however small its pieces; a sheet too."""
+        self.field.write_bytes(b"\n" * (model.LONGEST_FILE + 1))
+        refused = (1, b"", b"refused: block 1: FileTooLong\n")
+        self.assertEqual(refused, self.answer("list", READ_MOST=1 if SWEEP else 64))
+        self.field.write_bytes(FIELD)
+        self.sheet.write_bytes(b"\n" * (model.LONGEST_SHEET + 1))
+        self.assertEqual((1, b"", b"refused: sheet: TooLong\n"), self.answer("check", READ_MOST=1))
+        self.sheet.write_bytes(b"\n" * model.LONGEST_SHEET)
+        self.assertEqual((1, b"", b"refused: sheet row 1: Unfinished\n"), self.answer("check", READ_MOST=1))
+
+    def test_a_sheet_that_fails_past_its_limit_is_too_long(self):
+        self.sheet.write_bytes(b" " * (model.LONGEST_SHEET + 2))
+        for room, expected in [
+            (model.LONGEST_SHEET + 1, b"refused: sheet: TooLong\n"),
+            (model.LONGEST_SHEET, b"refused: sheet: Read\n"),
+        ]:
+            with self.subTest(room):
+                self.assertEqual((1, b"", expected), self.answer("check", READ_PATH=self.sheet, READ_ROOM=room))
+
+
+if __name__ == "__main__":
+    unittest.main()

@@ -1,0 +1,91 @@
+"""Generated field files and sheets, with every kind of fault, beside the model; and the largest ones."""
+
+import unittest
+from collections import Counter
+
+import model
+from against_model import FIELD, SWEEP, AgainstModel, Case
+from generated import generated, kind_of
+
+FILES = 20_000 if SWEEP else 700
+
+ANGLE_FAULTS = ["Unit", "InputMode", "Sign", "Digits", "Range"]
+
+# Every answer that small files can have.
+KINDS = (
+    ["accepted", "written", "nothing to write", "no station", "means: Incomplete"]
+    + [f"block n: {fault} n" for fault in ["Byte", "Word"]]
+    + [f"block n: {fault}" for fault in ["LineTooLong", "FirstWord", "EmptySet", "OneFace", "StationName", "SetOutside"]]
+    + [f"block n: {fault}" for fault in ["SetNumber", "StationTwice", "SetTwice", "NoZenith", "FaceUnclear", "FaceTwice"]]
+    + [f"block n: WordTwice {index}" for index in [21, 22, 42]]
+    + [f"block n: {word} {fault}" for word in ["Hz", "Zenith"] for fault in ANGLE_FAULTS]
+    + ["block n: TwoC", "block n: TwoI"]
+    + [f"sheet row n: {fault}" for fault in ["Fields", "Kind", "Version", "NotEmpty", "Name", "Number", "Range", "Unfinished"]]
+    + [f"kernel: {fault} n" for fault in ["TargetRow", "SetRow", "ObsRow", "TargetSum", "SetSum", "Residual"]]
+    + ["kernel: Datum", "kernel: NotConnected"]
+)
+
+
+def station(name, sets, targets, face_two=True):
+    """A station whose readings are all right, as lines."""
+    yield f"41....+00000010 42....+{name:0>8}"
+    for number in range(1, sets + 1):
+        yield f"41....+00000020 42....+{number:08}"
+        for target in range(1, targets + 1):
+            yield f"11....+{target:08} 21.102+{1_000 * target:08} 22.102+10000000"
+            if face_two:
+                yield f"11....+{target:08} 21.102+{20_000_000 + 1_000 * target:08} 22.102+30000000"
+
+
+def lines(*parts):
+    return "\n".join(line for part in parts for line in part).encode()
+
+
+def rows(*counts):
+    """A sheet with so many rows of each kind."""
+    sheet, targets, sets, observations = counts
+    kinds = ["sheet,1,S1,4,"] * sheet + ["target,,A,0,"] * targets + ["set,1,,0,"] * sets + ["obs,1,A,0,0"] * observations
+    return "\n".join(kinds).encode()
+
+
+# The faults of size, each with the largest input that has none.
+LARGE = [
+    Case("100 targets", "list", lines(station("S1", 1, 100))),
+    Case("101 targets", "list", lines(station("S1", 1, 101))),
+    Case("101 targets, one face at a time", "list", lines(station("S1", 1, 101, face_two=False))),
+    Case("40 sets", "list", lines(station("S1", 40, 1))),
+    Case("41 sets", "list", lines(station("S1", 41, 1))),
+    Case("40 sets, means", "means", lines(station("S1", 40, 2))),
+    Case("1,001 stations", "list", lines(*(station(f"S{n}", 1, 1) for n in range(1_001)))),
+    Case("a sheet of 100 targets and 40 sets", "check", FIELD, rows(1, 100, 40, 4_000)),
+    Case("a sheet of 101 targets", "check", FIELD, rows(1, 101, 1, 1)),
+    Case("a sheet of 41 sets", "check", FIELD, rows(1, 1, 41, 1)),
+    Case("a sheet of 4,001 observations", "check", FIELD, rows(1, 1, 1, 4_001)),
+    Case("a sheet of as many bytes as may be", "check", FIELD, b" " * model.LONGEST_SHEET),
+    Case("a sheet of a byte more", "check", FIELD, b" " * (model.LONGEST_SHEET + 1)),
+    Case("a sheet of empty lines", "check", FIELD, b"\n" * model.LONGEST_SHEET),
+]
+
+# These take the model some time.
+LARGER = [
+    Case("1,000 stations", "list", lines(*(station(f"S{n}", 1, 1) for n in range(1_000)))),
+    Case("1,001 stations, of which one has no set", "list", lines(*(station(f"S{n}", min(n, 1), 1) for n in range(1_001)))),
+    Case("40 sets of 100 targets", "means", lines(station("S1", 40, 100))),
+]
+
+LARGE_FAULTS = ["block n: TooManyTargets", "block n: TooManySets", "block n: TooManyStations", "sheet row n: TooMany", "sheet: TooLong"]
+
+
+class GeneratedTest(AgainstModel):
+    def test_generated_files_and_sheets(self):
+        met = Counter(map(kind_of, self.compare(generated(FILES))))
+        self.assertEqual([], [kind for kind in KINDS if not met[kind]], met)
+        self.assertEqual(set(), met.keys() - set(KINDS))
+
+    def test_the_largest_files_and_sheets(self):
+        met = Counter(map(kind_of, self.compare(LARGE + LARGER if SWEEP else LARGE)))
+        self.assertEqual([], [kind for kind in LARGE_FAULTS if not met[kind]], met)
+
+
+if __name__ == "__main__":
+    unittest.main()

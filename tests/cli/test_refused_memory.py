@@ -1,0 +1,173 @@
+"""Refused memory: each allocation of a run in turn, by a preloaded library, and all of them from one on.
+
+A run with a refusal answers want of memory, with nothing on standard output, or what it answers with ample memory. Without
+a C compiler the library can't be built, and its tests are skipped.
+"""
+
+import itertools
+import os
+import resource
+import subprocess
+import unittest
+from concurrent.futures import ThreadPoolExecutor
+
+import preload
+import test_generated
+from against_model import FIELD, SHEET, SWEEP
+from program import ProgramTest, answer_of
+
+NO_MEMORY = (1, b"", b"refused: out of memory\n")
+
+# No run over a small file makes more allocations than this.
+MOST_CALLS = 100_000
+
+# How many runs are started before it is looked whether one met no refusal.
+BATCH = 64
+
+# Of the largest station every so-many-th allocation is refused.
+STEP = 7 if SWEEP else 50
+
+LINES = FIELD.splitlines(keepends=True)
+
+# The files of the runs.
+FILES = {
+    "field": FIELD,
+    "sheet": SHEET,
+    "empty": b"",
+    "face_twice": b"".join(LINES[:3] + LINES[2:3]),
+    "first_word": FIELD.replace(b"110011", b"510011"),
+    "unlike": SHEET.replace(b"obs,1,A,6", b"obs,1,A,7"),
+    "no_number": SHEET.replace(b"-20", b"-0"),
+    "version_2": SHEET.replace(b"sheet,1,", b"sheet,2,"),
+    "quoted": SHEET.replace(b"S1", b'"S1"').replace(b"A", b'"A"'),
+    "large": test_generated.lines(test_generated.station("S1", 40, 100)),
+}
+
+# Each run by its words; {name} is the path of a file.
+RUNS = [
+    "",
+    "words {field}",
+    "words {empty}",
+    "words {first_word}",
+    "list {field}",
+    "list --two-c 10 --two-i=2 {field}",
+    "list {face_twice}",
+    "list {first_word}",
+    "list {empty}",
+    "means {field} S1",
+    "means {field} S2",
+    "means --two-c 1000000 {face_twice} S1",
+    "check {field} {sheet}",
+    "check --residual 0 {field} {sheet}",
+    "check --two-c 2000 --two-i 2000 --residual 2000 {field} {version_2}",
+    "check {field} {quoted}",
+    "check {field} {unlike}",
+    "check {field} {no_number}",
+    "check {field} {empty}",
+    "check {empty} {sheet}",
+    "check {face_twice} {sheet}",
+    "--help",
+    "check --help",
+    "nonsense",
+    "check --two-c 1000001 {field} {sheet}",
+    "list {folder}/missing",
+    "list {folder}",
+]
+
+# Runs over the largest station.
+LARGE_RUNS = ["words {large}", "list {large}", "means {large} S1", "check {large} {large_sheet}"]
+
+
+class RefusedMemoryTest(ProgramTest):
+    def setUp(self):
+        super().setUp()
+        self.paths = {"folder": self.folder}
+        for name, content in FILES.items():
+            self.paths[name] = self.folder / name
+            self.paths[name].write_bytes(content)
+        self.paths["large_sheet"] = self.folder / "large_sheet"
+        self.paths["large_sheet"].write_bytes(answer_of(["means", self.paths["large"], "S1"])[1])
+
+    def words_of(self, run):
+        return run.format(**self.paths).split()
+
+    def refused_run(self, library, run, call, refuses_all):
+        """The answer of a run in which this call is refused, or none where there was no such call."""
+        met = self.folder / f"met-{call}"
+        env = {"LD_PRELOAD": str(library), "REFUSE_CALL": str(call), "REFUSE_ALL": str(int(refuses_all)), "REFUSE_MET": str(met)}
+        answer = answer_of(self.words_of(run), FIELD, env=env)
+        if not met.exists():
+            return None
+        met.unlink()
+        return answer
+
+    def refused_in_turn(self, library, run, step, refuses_all=False):
+        """The answers of runs in which one call after the other is refused, until a run meets no refusal."""
+        answers = []
+        with ThreadPoolExecutor(os.cpu_count()) as pool:
+            for first in range(1, MOST_CALLS, step * BATCH):
+                calls = range(first, first + step * BATCH, step)
+                batch = list(pool.map(lambda call: self.refused_run(library, run, call, refuses_all), calls))
+                answers += itertools.takewhile(lambda answer: answer is not None, batch)
+                if None in batch:
+                    return answers
+        self.fail(f"{run}: a run makes more than {MOST_CALLS} allocations")
+
+    def check_refusals(self, run, answers):
+        """Each answer is the one with ample memory, or want of memory; and the latter was met."""
+        ample = answer_of(self.words_of(run), FIELD)
+        self.assertLessEqual(set(answers), {ample, NO_MEMORY})
+        self.assertIn(NO_MEMORY, answers)
+
+    def test_each_allocation_refused(self):
+        library = preload.built("refuse_allocation")
+        for run in RUNS:
+            with self.subTest(run):
+                self.check_refusals(run, self.refused_in_turn(library, run, 1))
+
+    def test_each_allocation_and_all_after_it_refused(self):
+        library = preload.built("refuse_allocation")
+        for run in RUNS:
+            with self.subTest(run):
+                self.check_refusals(run, self.refused_in_turn(library, run, 1, refuses_all=True))
+
+    def test_allocations_for_the_largest_station_refused(self):
+        library = preload.built("refuse_allocation")
+        for run in LARGE_RUNS:
+            with self.subTest(run):
+                self.check_refusals(run, self.refused_in_turn(library, run, STEP if "words" not in run else 1))
+
+    def test_a_run_without_a_refusal_is_as_ever(self):
+        library = preload.built("refuse_allocation")
+        for run in RUNS:
+            with self.subTest(run):
+                preloaded = answer_of(self.words_of(run), FIELD, env={"LD_PRELOAD": str(library), "REFUSE_CALL": "0"})
+                self.assertEqual(answer_of(self.words_of(run), FIELD), preloaded)
+
+    def test_room_that_grows_for_the_largest_station(self):
+        """The room of the process grows until the run has all that it wants. What comes before the last failure of the
+        loader, which ends with status 127, is none of the program's answers."""
+        step = resource.getpagesize() * (1 if SWEEP else 8)
+        for run in LARGE_RUNS:
+            with self.subTest(run):
+                ample, answers = answer_of(self.words_of(run)), set()
+                for room in range(1 << 20, 64 << 20, step):
+                    answer = self.answer_in(room, run)
+                    if answer == ample:
+                        break
+                    answers = answers | {answer} if answer else set()
+                self.assertEqual(ample, answer)
+                self.assertLessEqual(answers, {NO_MEMORY})
+
+    def answer_in(self, room, run):
+        """The answer of a run in so many bytes of address space, or none where the program couldn't be loaded."""
+        limit = lambda: resource.setrlimit(resource.RLIMIT_AS, (room, room))
+        try:
+            answer = answer_of(self.words_of(run), preexec_fn=limit)
+        except (OSError, subprocess.SubprocessError):
+            return None
+        return None if answer[0] == 127 else answer
+
+
+if __name__ == "__main__":
+    unittest.main()

@@ -1,0 +1,63 @@
+"""Field files and sheets worked out by hand."""
+
+from program import EXAMPLE, EXAMPLE_SHEET
+
+STATION = EXAMPLE.read_bytes()
+
+SHEET = EXAMPLE_SHEET.read_bytes()
+
+LIST = b"""\
+station S1: 2 sets, 2 targets, 4 directions
+set 1, target A: p 6, 2c 6, 2i -2
+set 1, target B: p 10000010, 2c 10, 2i 0
+set 2, target A: p 20000004, 2c 4, 2i 0
+set 2, target B: p 30000012, 2c 4, 2i 0
+"""
+
+ACCEPTED = b"accepted S1: 2 sets, 2 targets, 4 directions, greatest residual 4/4\n"
+
+# The zenith angles of a reading in face I and in face II where nothing else is said.
+ZENITHS = (10_000_000, 30_000_000)
+
+
+def refused(reason):
+    return f"refused: {reason}\n".encode()
+
+
+def edited(text, *edits):
+    """A text with some parts in the place of others, each of which must stand in it."""
+    for old, new in edits:
+        assert old in text, old
+        text = text.replace(old, new)
+    return text
+
+
+def field_file(sets):
+    """The field file of the station S1 with these sets: in each, face I and then face II backwards.
+
+    `sets` has for each number of a set its readings: the name of a target, its directions in face I
+    and in face II, and perhaps its zenith angles."""
+    lines = []
+
+    def number():
+        return (len(lines) + 1) % 10_000
+
+    lines.append(f"41{number():04}+00000010 42....+000000S1")
+    for of_set, readings in sets.items():
+        lines.append(f"41{number():04}+00000020 42....+{of_set:08}")
+        for face, ordered in enumerate((readings, list(reversed(readings)))):
+            for name, *angles in ordered:
+                directions, zeniths = angles[:2], angles[2:] or ZENITHS
+                words = f"21.102+{directions[face]:08} 22.102+{zeniths[face]:08}"
+                lines.append(f"11{number():04}+{name:0>8} {words}")
+    lines.append(f"41{number():04}+00000030")
+    return "".join(f"{line}\r\n" for line in lines).encode()
+
+
+def widened(narrow):
+    """The same lines in GSI-16, each ended by CR; the last has no end."""
+
+    def line_of(words):
+        return b"*" + b" ".join(word[:7] + b"0" * 8 + word[7:] for word in words)
+
+    return b"\r".join(line_of(line.split(b" ")) for line in narrow.splitlines())
