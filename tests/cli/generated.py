@@ -12,6 +12,7 @@ from random import Random
 
 import model
 from against_model import Case
+from kinds import kind_of
 from model import CIRCLE, HALF_CIRCLE, TURN, Limits
 
 SEED = 20_000_002
@@ -42,7 +43,8 @@ class FieldFile:
         parts = [f"{index:02}", information, sign, content]
         if self.goes_wrong(0.3):
             place = self.random.randrange(4)
-            parts[place] = self.random.choice(["", "+", "-1", "x" * len(parts[place]), parts[place][1:] + " ", " " * len(parts[place])])
+            old = parts[place]
+            parts[place] = self.random.choice(["", "+", "-1", "x" * len(old), old[1:] + " ", " " * len(old)])
         return parts
 
     def add(self, *words):
@@ -89,7 +91,8 @@ class FieldFile:
         if self.random.random() < 0.1:
             words.insert(self.random.randrange(1, len(words) + 1), ("31", "..00", "+", "00012345"))
         if self.goes_wrong():
-            words = self.random.choice([[words[0], words[-1]], words[:2], words[:1], [*words, words[1]], [*words, words[-1]]])
+            fewer, more = [[words[0], words[-1]], words[:2], words[:1]], [[*words, words[1]], [*words, words[-1]]]
+            words = self.random.choice(fewer + more)
         self.add(*words)
 
     def difference(self, limit):
@@ -134,7 +137,8 @@ class FieldFile:
 
     def station(self, name):
         self.code("10", name)
-        targets = [(target, self.random.randrange(CIRCLE)) for target in self.random.sample(NAMES, self.random.randint(1, 4))]
+        names = self.random.sample(NAMES, self.random.randint(1, 4))
+        targets = [(target, self.random.randrange(CIRCLE)) for target in names]
         numbers = self.random.sample([1, 2, 3, 7, 12, 9_999], self.random.randint(0, 4))
         most = self.random.choice([1, len(targets), len(targets), 0])
         if self.goes_wrong(RARE):
@@ -181,7 +185,8 @@ def eliminated(equations):
                 row[:] = [x - row[unknown] * y for x, y in zip(row, pivot)]
         solved[unknown] = id(pivot)
     rows = {id(row): row for row in equations}
-    return [rows[solved[unknown]][-1] if unknown in solved else Fraction(0) for unknown in range(len(equations[0]) - 1)]
+    value = lambda unknown: rows[solved[unknown]][-1] if unknown in solved else Fraction(0)
+    return list(map(value, range(len(equations[0]) - 1)))
 
 
 def adjusted(station, turns):
@@ -204,9 +209,17 @@ def least_sheet(random, station):
     turns = [random.choice([0, 0, 0, 0, 0, 1, -1, 9]) for _ in station.observations]
     directions, orientations = adjusted(station, turns)
     denominator = math.lcm(*[x.denominator for x in directions + orientations]) * random.choice([1, 1, 2, 10**6])
-    scaled = lambda names, values: [(name, int(value * denominator)) for name, value in zip(names, values)]
-    seen = [(station.sets[o.set], station.targets[o.target], o.p, turn) for o, turn in zip(station.observations, turns)]
-    return model.Sheet(station.name, denominator, scaled(station.targets, directions), scaled(station.sets, orientations), seen)
+    rows = [
+        (station.sets[seen.set], station.targets[seen.target], seen.p, turn)
+        for seen, turn in zip(station.observations, turns)
+    ]
+    return model.Sheet(
+        station.name,
+        denominator,
+        [(name, int(value * denominator)) for name, value in zip(station.targets, directions)],
+        [(number, int(value * denominator)) for number, value in zip(station.sets, orientations)],
+        rows,
+    )
 
 
 def moved(random, sheet):
@@ -239,12 +252,14 @@ def change_row(random, rows):
     elif change == 3:
         rows[row] = rows[row][:column] + random.choice([[], [b"", b""]]) + rows[row][column + 1 :]
     elif re.fullmatch(rb"-?[0-9]+", field) and change < 8:
-        steps = [1, -1, 1, -1, TURN, -TURN, 10**9, 10**12, 10**18, -(10**18), 10**21, 10**22, -int(field), -2 * int(field)]
+        steps = [1, -1, 1, -1, TURN, -TURN, 10**9, 10**12, 10**18, -(10**18), 10**21, 10**22]
+        steps += [-int(field), -2 * int(field)]
         rows[row][column] = b"%d" % (int(field) + random.choice(steps))
     else:
         kinds = [b"sheet", b"target", b"set", b"obs"]
-        others = [b"", b"0", b"-0", b"+5", b"007", b"2", b"3", b" ", b"x" * 17, b"\x00", b"A", b" 1", b"1 ", b"1" + b"0" * 30]
-        rows[row][column] = random.choice([field + b"0", *kinds, *others])
+        numbers = [b"0", b"-0", b"+5", b"007", b"2", b"3", b" 1", b"1 ", b"1" + b"0" * 30]
+        others = [b"", b" ", b"A", b"x" * 17, b"\x00", field + b"0"]
+        rows[row][column] = random.choice(kinds + numbers + others)
 
 
 def written(random, rows):
@@ -271,7 +286,8 @@ def sheet_text(random, stations):
     text = written(random, rows)
     if random.random() < 0.1:
         place = random.randrange(len(text) + 1)
-        text = text[:place] + random.choice([b'"', b",", b"\n", b" ", b"\xff", b""]) + text[place + random.choice([0, 1]) :]
+        byte = random.choice([b'"', b",", b"\n", b" ", b"\xff", b""])
+        text = text[:place] + byte + text[place + random.choice([0, 1]) :]
     return text
 
 
@@ -292,25 +308,17 @@ def cases_of(place):
         yield Case(f"{place}: check", "check", field, b"no sheet", limits=limits)
         return
     station = random.choice(stations).name.decode()
-    yield Case(f"{place}: means", "means", field, station=random.choice([station, station, station, "?"]), limits=limits)
+    asked = random.choice([station, station, station, "?"])
+    yield Case(f"{place}: means", "means", field, station=asked, limits=limits)
     for nth in range(3):
         residual = random.choice([None, None, 0, 1, 20, 2_000])
-        yield Case(f"{place}: sheet {nth}", "check", field, sheet_text(random, stations), limits=limits, residual=residual)
+        sheet = sheet_text(random, stations)
+        yield Case(f"{place}: sheet {nth}", "check", field, sheet, limits=limits, residual=residual)
 
 
 def generated(count):
     for place in range(count):
         yield from cases_of(place)
-
-
-def kind_of(answer):
-    """An answer without its numbers and places: accepted, written, or the name of a fault."""
-    status, stdout, stderr = answer
-    if status == 0:
-        return "accepted" if stdout.startswith(b"accepted") else "written" if stdout else "nothing to write"
-    fault = stderr.decode().removeprefix("refused: ").rstrip("\n")
-    fault = re.sub(r"(block|sheet row) \d+", r"\1 n", fault)
-    return fault if "WordTwice" in fault else re.sub(r" \d+$", " n", fault)
 
 
 def main():

@@ -82,10 +82,12 @@ class CutsTest(AgainstModel):
 
     def test_every_byte_of_the_example_replaced(self):
         for command, step in [("list", 5), ("check", 23), ("words", 29), ("means", 31)]:
-            self.compare(sample((Case(f"{command}, {name}", command, field, SHEET) for name, field in replaced(FIELD)), step))
+            fields = sample(replaced(FIELD), step)
+            self.compare(Case(f"{command}, {name}", command, field, SHEET) for name, field in fields)
 
     def test_every_byte_of_the_sheet_replaced(self):
-        self.compare(sample((Case(name, "check", FIELD, sheet) for name, sheet in replaced(SHEET)), 5))
+        sheets = sample(replaced(SHEET), 5)
+        self.compare(Case(name, "check", FIELD, sheet) for name, sheet in sheets)
 
 
 if __name__ == "__main__":

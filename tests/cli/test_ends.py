@@ -1,4 +1,4 @@
-"""Ends of a process: streams that are closed, full or left, files of all kinds, signals, and input that is huge or endless.
+"""Ends of a process: streams that are closed, full or left; files of all kinds; signals; huge input.
 
 No run leaves half a line, or takes more than its time.
 """
@@ -37,7 +37,12 @@ class EndsTest(ProgramTest):
         super().setUp()
         self.field = self.file("field.gsi", FIELD)
         self.sheet = self.file("sheet.csv", SHEET)
-        self.runs = [["words", self.field], ["list", self.field], ["means", self.field, "S1"], ["check", self.field, self.sheet]]
+        self.runs = [
+            ["words", self.field],
+            ["list", self.field],
+            ["means", self.field, "S1"],
+            ["check", self.field, self.sheet],
+        ]
 
     def file(self, name, content):
         path = self.folder / name
@@ -151,7 +156,8 @@ class FilesTest(EndsTest):
 
     def test_pipes_with_names(self):
         """Both files come in small pieces, the sheet's only after the field file was read."""
-        for field, answer in [(FIELD, ACCEPTED), (FIELD[:-30], model.listed(FIELD[:-30])), (b"", refused("no station"))]:
+        cut = FIELD[:-30]
+        for field, answer in [(FIELD, ACCEPTED), (cut, model.listed(cut)), (b"", refused("no station"))]:
             with self.subTest(answer):
                 paths = [self.folder / f"{name} {len(field)}" for name in ["field", "sheet"]]
                 for path in paths:

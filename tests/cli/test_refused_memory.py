@@ -1,7 +1,7 @@
 """Refused memory: each allocation of a run in turn, by a preloaded library, and all of them from one on.
 
-A run with a refusal answers want of memory, with nothing on standard output, or what it answers with ample memory. Without
-a C compiler the library can't be built, and its tests are skipped.
+A run with a refusal answers want of memory, with nothing on standard output, or what it answers
+with ample memory. Without a C compiler the library can't be built, and its tests are skipped.
 """
 
 import itertools
@@ -94,8 +94,8 @@ class RefusedMemoryTest(ProgramTest):
     def refused_run(self, library, run, call, refuses_all):
         """The answer of a run in which this call is refused, or none where there was no such call."""
         met = self.folder / f"met-{call}"
-        env = {"LD_PRELOAD": str(library), "REFUSE_CALL": str(call), "REFUSE_ALL": str(int(refuses_all)), "REFUSE_MET": str(met)}
-        answer = answer_of(self.words_of(run), FIELD, env=env)
+        env = {"REFUSE_CALL": str(call), "REFUSE_ALL": str(int(refuses_all)), "REFUSE_MET": str(met)}
+        answer = answer_of(self.words_of(run), FIELD, env={"LD_PRELOAD": str(library), **env})
         if not met.exists():
             return None
         met.unlink()

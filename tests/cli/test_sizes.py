@@ -1,6 +1,7 @@
 """Want of memory has no size: with ample memory, input of every size gets its answer.
 
-Each number of sets and of targets, and files and sheets of many lengths, each with the answer worked out from its numbers.
+Each number of sets and of targets has the answer that its numbers give; files and sheets of many
+lengths, with blanks and empty lines in them, have the answer of those without.
 """
 
 import os
@@ -18,9 +19,12 @@ LENGTHS = [*range(0, 5_000), *(1 << power for power in range(13, 21))]
 
 def list_of(sets, targets):
     """The list of a station of `test_generated`, in which the direction of target t is 1000 t in each set."""
-    head = "station S1: %d sets, %d targets, %d directions\n" % (sets, targets, sets * targets)
-    places = ((number, target) for number in range(1, sets + 1) for target in range(1, targets + 1))
-    return (head + "".join("set %d, target %d: p %d, 2c 0, 2i 0\n" % (*place, 2_000 * place[1]) for place in places)).encode()
+    head = b"station S1: %d sets, %d targets, %d directions\n" % (sets, targets, sets * targets)
+    return head + b"".join(
+        b"set %d, target %d: p %d, 2c 0, 2i 0\n" % (number, target, 2_000 * target)
+        for number in range(1, sets + 1)
+        for target in range(1, targets + 1)
+    )
 
 
 def sheet_of(sets, targets):
