@@ -40,7 +40,7 @@ OF_READS = ["block n: Read", "sheet: Read"]
 
 
 def kind_of(answer):
-    """The kind of an answer: what was printed, or the reason of the refusal, `n` for each number but those of words."""
+    """What was printed, or the reason of a refusal, with `n` for each number but those of words."""
     status, stdout, stderr = answer
     if status == 0:
         printed = "written" if stdout else "nothing to write"

@@ -25,7 +25,8 @@ def model_answer(case):
     """What the model answers; a folder is a file whose first read fails."""
     asked = command_line().parse_intermixed_args(case.args)
     limits = model.Limits(asked.two_c, asked.two_i)
-    paths = [run.FOLDER / case.name / name for name in asked.operands[: 2 if asked.command == "check" else 1]]
+    count = 2 if asked.command == "check" else 1
+    paths = [run.FOLDER / case.name / name for name in asked.operands[:count]]
     for name, path in zip(asked.operands, paths):
         if not path.exists():
             return 2, b"", f"cannot open {name}\n".encode()

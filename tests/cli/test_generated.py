@@ -1,4 +1,4 @@
-"""Generated field files and sheets, with every kind of fault, beside the model; and the largest ones."""
+"""Generated field files and sheets, with every kind of fault, and the largest ones."""
 
 import unittest
 from collections import Counter
@@ -60,7 +60,7 @@ LARGE = [
 # These take the model some time.
 LARGER = [
     Case("1,000 stations", "list", stations_with(1 for _ in range(1_000))),
-    Case("1,001 stations, one without a set", "list", stations_with(min(n, 1) for n in range(1_001))),
+    Case("1,000 stations and one", "list", stations_with(min(n, 1) for n in range(1_001))),
     Case("40 sets of 100 targets", "means", lines(station("S1", 40, 100))),
 ]
 

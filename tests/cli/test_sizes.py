@@ -18,7 +18,7 @@ LENGTHS = [*range(0, 5_000), *(1 << power for power in range(13, 21))]
 
 
 def list_of(sets, targets):
-    """The list of a station of `test_generated`, in which the direction of target t is 1000 t in each set."""
+    """The list of a station of `test_generated`: target t is at 1000 t in each set."""
     head = b"station S1: %d sets, %d targets, %d directions\n" % (sets, targets, sets * targets)
     return head + b"".join(
         b"set %d, target %d: p %d, 2c 0, 2i 0\n" % (number, target, 2_000 * target)
@@ -61,7 +61,8 @@ class SizesTest(ProgramTest):
         sheet = self.file(f"{sets} {targets}.csv", sheet_of(sets, targets))
         self.assertEqual((0, list_of(sets, targets), b""), answer_of(["list", field]), size)
         self.assertEqual((0, sheet_of(sets, targets), b""), answer_of(["means", field, "S1"]), size)
-        self.assertEqual((0, accepted(sets, targets), b""), answer_of(["check", field, sheet]), size)
+        check = answer_of(["check", field, sheet])
+        self.assertEqual((0, accepted(sets, targets), b""), check, size)
 
     def test_each_number_of_sets_and_of_targets(self):
         self.each(self.check_station, [(sets, 3) for sets in range(1, 41)])
@@ -69,7 +70,8 @@ class SizesTest(ProgramTest):
 
     def check_file(self, length):
         """A file of blanks and line feeds behind the example has the example's answers."""
-        path = self.file(f"{length}.gsi", FIELD + (b" " * 37 + b"\n" * 3) * (length // 40) + b"\n" * (length % 40))
+        more = (b" " * 37 + b"\n" * 3) * (length // 40) + b"\n" * (length % 40)
+        path = self.file(f"{length}.gsi", FIELD + more)
         self.assertEqual(model.listed(FIELD), answer_of(["list", path]), length)
         path.unlink()
 
@@ -78,7 +80,8 @@ class SizesTest(ProgramTest):
 
     def check_sheet(self, length):
         """A sheet with empty lines has the answer of the one without."""
-        path = self.file(f"{length}.csv", (b"\r\n\n" * length)[: min(length, model.LONGEST_SHEET - len(SHEET))] + SHEET)
+        more = (b"\r\n\n" * length)[: min(length, model.LONGEST_SHEET - len(SHEET))]
+        path = self.file(f"{length}.csv", more + SHEET)
         self.assertEqual(model.check(FIELD, SHEET), answer_of(["check", self.field, path]), length)
         path.unlink()
 
