@@ -1,4 +1,7 @@
-"""Runs a program over the cases of this folder: `python3 run.py PROGRAM [CASE..]`. README.md says what a case is."""
+"""Runs a program over the cases of this folder: `python3 run.py PROGRAM [CASE..]`.
+
+README.md says what a case is.
+"""
 
 import subprocess
 import sys
@@ -26,8 +29,10 @@ def content(folder, name):
 
 
 def case_in(folder):
-    expected = int(content(folder, "status") or b"0"), content(folder, "stdout"), content(folder, "stderr")
-    return Case(folder.name, content(folder, "args").decode().splitlines(), content(folder, "stdin"), expected)
+    status = int(content(folder, "status") or b"0")
+    expected = status, content(folder, "stdout"), content(folder, "stderr")
+    args = content(folder, "args").decode().splitlines()
+    return Case(folder.name, args, content(folder, "stdin"), expected)
 
 
 def cases(names=()):
@@ -39,7 +44,8 @@ def answer(program, case):
     """What the program answers, in a copy of the case's folder."""
     with tempfile.TemporaryDirectory() as top:
         folder = copytree(FOLDER / case.name, Path(top) / "case")
-        done = subprocess.run([program, *case.args], cwd=folder, input=case.stdin, capture_output=True, timeout=TIME)
+        run = {"cwd": folder, "input": case.stdin, "capture_output": True, "timeout": TIME}
+        done = subprocess.run([program, *case.args], **run)
     return done.returncode, done.stdout, done.stderr
 
 

@@ -1,4 +1,7 @@
-"""Runs of the program beside the model's answers. With SWEEP in the environment whole sweeps are run, not samples."""
+"""Runs of the program beside the model's answers.
+
+With SWEEP in the environment whole sweeps are run, not samples of them.
+"""
 
 import os
 from concurrent.futures import ThreadPoolExecutor
@@ -48,8 +51,7 @@ class Case(NamedTuple):
 
 
 def sample(cases, step):
-    """Every so-many-th case, and all of them in a sweep. A step without a common divisor with the length of a table's
-    inner loop meets each of its entries."""
+    """Every so-many-th case, and all of them in a sweep."""
     cases = list(cases)
     return cases if SWEEP else cases[::step]
 
@@ -66,7 +68,7 @@ class AgainstModel(ProgramTest):
         return answer
 
     def compare(self, cases):
-        """Runs all cases, names those that the program answers in another way than the model, and gives the answers."""
+        """Runs all cases and gives the model's answers; fails where the program's differ."""
         cases, wanted = list(cases), []
         self.assertTrue(cases)
         with ThreadPoolExecutor(os.cpu_count()) as pool:

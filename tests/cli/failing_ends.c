@@ -1,7 +1,7 @@
-/* A library to preload: reads that give little or fail, and a standard output that takes little or fails.
+/* A library to preload: reads that give little or fail, and an output that takes little or fails.
  *
  *   READ_MOST=N     each read gives at most N bytes
- *   READ_PATH=PATH  the file whose reads fail once they gave READ_ROOM bytes, with the error number READ_ERROR
+ *   READ_PATH=PATH  the file whose reads fail with READ_ERROR once they gave READ_ROOM bytes
  *   WRITE_MOST=N    each write to standard output takes at most N bytes
  *   WRITE_ROOM=N    standard output takes N bytes in all, and then fails
  */

@@ -12,15 +12,17 @@ from random import Random
 
 import model
 from against_model import Case
+from kinds import kind_of
 from model import CIRCLE, HALF_CIRCLE, TURN, Limits
 
 SEED = 20_000_002
 
 NAMES = ["A", "B", "C", "D", "S1", "S2", "10", "0", '1,"A', "A B", "-7", "x" * 8]
 LINE_ENDS = ["\r\n", "\n", "\r", "\n\n", " \r\n", "   \n", "\r\n    \r\n"]
-LIMITS = [Limits()] * 5 + [Limits(0, 0), Limits(1_000_000, 1_000_000), Limits(5, 2_000), Limits(2_000, 5)]
+RARE_LIMITS = [Limits(0, 0), Limits(1_000_000, 1_000_000), Limits(5, 2_000), Limits(2_000, 5)]
+LIMITS = [Limits()] * 5 + RARE_LIMITS
 
-# How often a step goes wrong in a file that may have faults, and how much more often where a file has few such steps.
+# How often a step goes wrong in a file, and how much more often where a file has few such steps.
 CHANCES = [0.02, 0.01, 0.003]
 RARE = 10
 
@@ -42,13 +44,16 @@ class FieldFile:
         parts = [f"{index:02}", information, sign, content]
         if self.goes_wrong(0.3):
             place = self.random.randrange(4)
-            parts[place] = self.random.choice(["", "+", "-1", "x" * len(parts[place]), parts[place][1:] + " ", " " * len(parts[place])])
+            old = parts[place]
+            others = ["", "+", "-1", "x" * len(old), old[1:] + " ", " " * len(old)]
+            parts[place] = self.random.choice(others)
         return parts
 
     def add(self, *words):
         """A line of these words, in the width of the file or, where it has both, in one of them."""
         wide = self.random.random() < 0.5 if self.wide is None else self.wide
-        texts = ["".join([*parts, content.rjust(16 if wide else 8, "0")]) for *parts, content in words]
+        width = 16 if wide else 8
+        texts = ["".join([*parts, content.rjust(width, "0")]) for *parts, content in words]
         line = ("*" if wide else "") + " ".join(texts)
         if self.goes_wrong(0.5):
             line = self.changed(line)
@@ -56,10 +61,10 @@ class FieldFile:
 
     def changed(self, line):
         place = self.random.randrange(len(line) + 1)
-        return self.random.choice([
-            line[:place], line[place:], line[:place] + " " + line[place:], line[:place] + "\t" + line[place + 1 :],
-            line[:place] + "\x7f" + line[place:], "*" + line, line + " " * 1_024, "51" + line[2:], line + " 11",
-        ])
+        before, after = line[:place], line[place:]
+        changed = [before, after, before + " " + after, before + "\t" + after[1:]]
+        changed += [before + "\x7f" + after, "*" + line, "51" + line[2:], line + " 11"]
+        return self.random.choice([*changed, line + " " * 1_024])
 
     def number(self):
         return f"{len(self.lines) + 1:04}"[-4:]
@@ -69,7 +74,8 @@ class FieldFile:
         if name is not None:
             words.append(self.word(42, "....", self.random.choice("++-"), name))
         if self.goes_wrong(2):
-            words = self.random.choice([words[:1], [*words, words[-1]], [*words, self.word(42, "....", "+", "7")]])
+            more = self.random.choice([words[-1], self.word(42, "....", "+", "7")])
+            words = self.random.choice([words[:1], [*words, more], [*words, more]])
         self.add(*words)
 
     def angle(self, index, value):
@@ -89,7 +95,9 @@ class FieldFile:
         if self.random.random() < 0.1:
             words.insert(self.random.randrange(1, len(words) + 1), ("31", "..00", "+", "00012345"))
         if self.goes_wrong():
-            words = self.random.choice([[words[0], words[-1]], words[:2], words[:1], [*words, words[1]], [*words, words[-1]]])
+            fewer = [[words[0], words[-1]], words[:2], words[:1]]
+            more = [[*words, words[1]], [*words, words[-1]]]
+            words = self.random.choice(fewer + more)
         self.add(*words)
 
     def difference(self, limit):
@@ -101,7 +109,8 @@ class FieldFile:
     def pair(self, target, direction):
         """The two readings of a target near a direction."""
         two_c, two_i = self.difference(self.limits.two_c), self.difference(self.limits.two_i)
-        zenith = self.random.choice([10_000_000, 10_000_000, 1, HALF_CIRCLE - 1, self.random.randrange(1, HALF_CIRCLE)])
+        any_zenith = self.random.randrange(1, HALF_CIRCLE)
+        zenith = self.random.choice([10_000_000, 10_000_000, 1, HALF_CIRCLE - 1, any_zenith])
         other = min(max(CIRCLE - zenith + two_i, HALF_CIRCLE + 1), CIRCLE - 1)
         if self.goes_wrong():
             zenith = self.random.choice([0, HALF_CIRCLE, CIRCLE])
@@ -112,7 +121,8 @@ class FieldFile:
         if self.goes_wrong(3):
             targets = []
         turned = self.random.randrange(CIRCLE)
-        pairs = [self.pair(target, direction + turned + self.random.randint(-9, 9)) for target, direction in targets]
+        near = lambda direction: direction + turned + self.random.randint(-9, 9)
+        pairs = [self.pair(target, near(direction)) for target, direction in targets]
         readings = [first for first, _ in pairs] + [second for _, second in reversed(pairs)]
         if self.random.random() < 0.3:
             self.random.shuffle(readings)
@@ -134,7 +144,8 @@ class FieldFile:
 
     def station(self, name):
         self.code("10", name)
-        targets = [(target, self.random.randrange(CIRCLE)) for target in self.random.sample(NAMES, self.random.randint(1, 4))]
+        names = self.random.sample(NAMES, self.random.randint(1, 4))
+        targets = [(target, self.random.randrange(CIRCLE)) for target in names]
         numbers = self.random.sample([1, 2, 3, 7, 12, 9_999], self.random.randint(0, 4))
         most = self.random.choice([1, len(targets), len(targets), 0])
         if self.goes_wrong(RARE):
@@ -169,10 +180,11 @@ def field_file(random):
 
 
 def eliminated(equations):
-    """The equations, each a list of factors with its sum, solved for as many unknowns as they fix; the others are 0."""
+    """The solution of equations, each a list of factors and its sum; what they leave open is 0."""
     solved = {}
     for unknown in range(len(equations[0]) - 1):
-        pivot = next((row for row in equations if row[unknown] and id(row) not in solved.values()), None)
+        unused = (row for row in equations if row[unknown] and id(row) not in solved.values())
+        pivot = next(unused, None)
         if pivot is None:
             continue
         pivot[:] = [x / pivot[unknown] for x in pivot]
@@ -181,11 +193,12 @@ def eliminated(equations):
                 row[:] = [x - row[unknown] * y for x, y in zip(row, pivot)]
         solved[unknown] = id(pivot)
     rows = {id(row): row for row in equations}
-    return [rows[solved[unknown]][-1] if unknown in solved else Fraction(0) for unknown in range(len(equations[0]) - 1)]
+    value = lambda unknown: rows[solved[unknown]][-1] if unknown in solved else Fraction(0)
+    return list(map(value, range(len(equations[0]) - 1)))
 
 
 def adjusted(station, turns):
-    """The least-squares directions and orientations in half units, as fractions; the first direction is 0."""
+    """The least-squares directions and orientations in half units; the first direction is 0."""
     targets, sets = len(station.targets), len(station.sets)
     equations = [[Fraction(0)] * (targets + sets + 1) for _ in range(targets + sets)]
     for seen, turn in zip(station.observations, turns):
@@ -203,14 +216,23 @@ def least_sheet(random, station):
     """The sheet of a station under some full turns."""
     turns = [random.choice([0, 0, 0, 0, 0, 1, -1, 9]) for _ in station.observations]
     directions, orientations = adjusted(station, turns)
-    denominator = math.lcm(*[x.denominator for x in directions + orientations]) * random.choice([1, 1, 2, 10**6])
-    scaled = lambda names, values: [(name, int(value * denominator)) for name, value in zip(names, values)]
-    seen = [(station.sets[o.set], station.targets[o.target], o.p, turn) for o, turn in zip(station.observations, turns)]
-    return model.Sheet(station.name, denominator, scaled(station.targets, directions), scaled(station.sets, orientations), seen)
+    denominator = math.lcm(*[x.denominator for x in directions + orientations])
+    denominator *= random.choice([1, 1, 2, 10**6])
+    rows = [
+        (station.sets[seen.set], station.targets[seen.target], seen.p, turn)
+        for seen, turn in zip(station.observations, turns)
+    ]
+    return model.Sheet(
+        station.name,
+        denominator,
+        [(name, int(value * denominator)) for name, value in zip(station.targets, directions)],
+        [(number, int(value * denominator)) for number, value in zip(station.sets, orientations)],
+        rows,
+    )
 
 
 def moved(random, sheet):
-    """The sheet, now and then with all directions and orientations turned, or with two orientations moved apart."""
+    """The sheet, now and then with all of it turned, or with two orientations moved apart."""
     change, by = random.randrange(12), random.choice([1, -1, sheet.denominator, -TURN])
     directions, orientations = list(sheet.directions), list(sheet.orientations)
     if change == 0:
@@ -239,12 +261,14 @@ def change_row(random, rows):
     elif change == 3:
         rows[row] = rows[row][:column] + random.choice([[], [b"", b""]]) + rows[row][column + 1 :]
     elif re.fullmatch(rb"-?[0-9]+", field) and change < 8:
-        steps = [1, -1, 1, -1, TURN, -TURN, 10**9, 10**12, 10**18, -(10**18), 10**21, 10**22, -int(field), -2 * int(field)]
+        steps = [1, -1, 1, -1, TURN, -TURN, 10**9, 10**12, 10**18, -(10**18), 10**21, 10**22]
+        steps += [-int(field), -2 * int(field)]
         rows[row][column] = b"%d" % (int(field) + random.choice(steps))
     else:
         kinds = [b"sheet", b"target", b"set", b"obs"]
-        others = [b"", b"0", b"-0", b"+5", b"007", b"2", b"3", b" ", b"x" * 17, b"\x00", b"A", b" 1", b"1 ", b"1" + b"0" * 30]
-        rows[row][column] = random.choice([field + b"0", *kinds, *others])
+        numbers = [b"0", b"-0", b"+5", b"007", b"2", b"3", b" 1", b"1 ", b"1" + b"0" * 30]
+        others = [b"", b" ", b"A", b"x" * 17, b"\x00", field + b"0"]
+        rows[row][column] = random.choice(kinds + numbers + others)
 
 
 def written(random, rows):
@@ -253,7 +277,8 @@ def written(random, rows):
     end = random.choice([b"\n", b"\n", b"\r\n", b"\r", b"\n\n"])
 
     def text_of(field):
-        return b'"' + field.replace(b'"', b'""') + b'"' if random.random() < quotes else model.field_text(field)
+        quoted = b'"' + field.replace(b'"', b'""') + b'"'
+        return quoted if random.random() < quotes else model.field_text(field)
 
     text = end.join(b",".join(map(text_of, row)) for row in rows) + random.choice([end, b""])
     return random.choice([b"", b"", b"", b"\xef\xbb\xbf", b"\n"]) + text
@@ -271,7 +296,8 @@ def sheet_text(random, stations):
     text = written(random, rows)
     if random.random() < 0.1:
         place = random.randrange(len(text) + 1)
-        text = text[:place] + random.choice([b'"', b",", b"\n", b" ", b"\xff", b""]) + text[place + random.choice([0, 1]) :]
+        byte = random.choice([b'"', b",", b"\n", b" ", b"\xff", b""])
+        text = text[:place] + byte + text[place + random.choice([0, 1]) :]
     return text
 
 
@@ -292,25 +318,17 @@ def cases_of(place):
         yield Case(f"{place}: check", "check", field, b"no sheet", limits=limits)
         return
     station = random.choice(stations).name.decode()
-    yield Case(f"{place}: means", "means", field, station=random.choice([station, station, station, "?"]), limits=limits)
+    asked = random.choice([station, station, station, "?"])
+    yield Case(f"{place}: means", "means", field, station=asked, limits=limits)
     for nth in range(3):
         residual = random.choice([None, None, 0, 1, 20, 2_000])
-        yield Case(f"{place}: sheet {nth}", "check", field, sheet_text(random, stations), limits=limits, residual=residual)
+        sheet = sheet_text(random, stations)
+        yield Case(f"{place}: sheet {nth}", "check", field, sheet, limits=limits, residual=residual)
 
 
 def generated(count):
     for place in range(count):
         yield from cases_of(place)
-
-
-def kind_of(answer):
-    """An answer without its numbers and places: accepted, written, or the name of a fault."""
-    status, stdout, stderr = answer
-    if status == 0:
-        return "accepted" if stdout.startswith(b"accepted") else "written" if stdout else "nothing to write"
-    fault = stderr.decode().removeprefix("refused: ").rstrip("\n")
-    fault = re.sub(r"(block|sheet row) \d+", r"\1 n", fault)
-    return fault if "WordTwice" in fault else re.sub(r" \d+$", " n", fault)
 
 
 def main():

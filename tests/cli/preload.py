@@ -1,4 +1,4 @@
-"""Libraries in C that are preloaded into the program. They are built once, where a C compiler is found."""
+"""Libraries in C that are preloaded into the program, built once where a C compiler is found."""
 
 import functools
 import shutil
@@ -15,12 +15,13 @@ FOLDER = tempfile.TemporaryDirectory()
 @functools.lru_cache(maxsize=None)
 def compiled(compiler, name):
     library, source = Path(FOLDER.name) / f"{name}.so", Path(__file__).with_name(f"{name}.c")
-    subprocess.run([compiler, "-O2", "-shared", "-fPIC", "-o", library, source, "-ldl"], check=True, timeout=60)
+    command = [compiler, "-O2", "-shared", "-fPIC", "-o", library, source, "-ldl"]
+    subprocess.run(command, check=True, timeout=60)
     return library
 
 
 def built(name):
-    """The path of the library built of `name`.c beside this file; a test without a compiler is skipped."""
+    """The path of the library of `name`.c; without a compiler the test is skipped."""
     compiler = next(filter(None, map(shutil.which, COMPILERS)), None)
     if compiler is None:
         raise unittest.SkipTest(f"no C compiler is found, so {name}.c isn't built")

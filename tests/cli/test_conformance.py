@@ -1,29 +1,15 @@
 """The cases of conformance/ over the program, and over the model."""
 
-import re
 import sys
 import unittest
 from argparse import ArgumentParser
 
 import model
+from kinds import OF_COUNTS, OF_READS, REFUSALS, kind_of
 from program import PROGRAM, ROOT
 
 sys.path.insert(0, str(ROOT / "conformance"))
 import run  # noqa: E402
-
-# The lines that have a case, `n` for each number.
-REFUSALS = (
-    [f"block n: {fault}" for fault in ["Read", "LineTooLong", "Byte n", "Word n", "FirstWord"]]
-    + [f"block n: {fault}" for fault in ["EmptySet", "OneFace", "StationName", "SetOutside", "SetNumber", "StationTwice"]]
-    + [f"block n: {fault}" for fault in ["SetTwice", "TooManyStations", "TooManySets", "NoZenith", "FaceUnclear"]]
-    + [f"block n: {fault}" for fault in ["FaceTwice", "TooManyTargets", "TwoC", "TwoI"]]
-    + [f"block n: WordTwice {index}" for index in [21, 22, 42]]
-    + [f"block n: {word} {fault}" for word in ["Hz", "Zenith"] for fault in ["Unit", "InputMode", "Sign", "Digits", "Range"]]
-    + [f"sheet row n: {fault}" for fault in ["Fields", "Kind", "Version", "NotEmpty", "Name", "Number", "Range", "TooMany"]]
-    + ["sheet row n: Unfinished", "sheet: Read", "no station", "means: Incomplete", "kernel: Datum", "kernel: NotConnected"]
-    + [f"kernel: {fault} n" for fault in ["TargetRow", "SetRow", "ObsRow", "TargetSum", "SetSum", "Residual"]]
-)
-
 
 def command_line():
     parser = ArgumentParser()
@@ -39,7 +25,8 @@ def model_answer(case):
     """What the model answers; a folder is a file whose first read fails."""
     asked = command_line().parse_intermixed_args(case.args)
     limits = model.Limits(asked.two_c, asked.two_i)
-    paths = [run.FOLDER / case.name / name for name in asked.operands[: 2 if asked.command == "check" else 1]]
+    count = 2 if asked.command == "check" else 1
+    paths = [run.FOLDER / case.name / name for name in asked.operands[:count]]
     for name, path in zip(asked.operands, paths):
         if not path.exists():
             return 2, b"", f"cannot open {name}\n".encode()
@@ -56,13 +43,6 @@ def model_answer(case):
     return model.check(*files, limits, asked.residual, fails)
 
 
-def reason_of(stderr):
-    """A refusal without its numbers but those of words."""
-    reason = stderr.decode().removeprefix("refused: ").rstrip("\n")
-    reason = re.sub(r"^(block|sheet row) \d+", r"\1 n", reason)
-    return reason if "WordTwice" in reason else re.sub(r" \d+$", " n", reason)
-
-
 class ConformanceTest(unittest.TestCase):
     maxDiff = None
 
@@ -77,13 +57,14 @@ class ConformanceTest(unittest.TestCase):
                 self.assertEqual(case.expected, model_answer(case))
 
     def test_each_refusal_has_a_case(self):
-        met = {reason_of(case.expected[2]) for case in run.cases() if case.expected[0] == 1}
-        self.assertEqual(set(REFUSALS), met)
+        met = {kind_of(case.expected) for case in run.cases() if case.expected[0] == 1}
+        self.assertEqual({*REFUSALS, *OF_COUNTS, *OF_READS}, met)
 
     def test_what_is_named_a_fault_is_refused(self):
         for case in run.cases():
             with self.subTest(case.name):
-                self.assertEqual(case.name.startswith("fault_"), case.expected[2].startswith(b"refused: "))
+                refused = case.expected[2].startswith(b"refused: ")
+                self.assertEqual(case.name.startswith("fault_"), refused)
 
 
 if __name__ == "__main__":

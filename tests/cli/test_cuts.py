@@ -1,4 +1,4 @@
-"""Cut and changed input: every prefix of the example and of its sheet, and every byte of both replaced."""
+"""Cut and changed input: every first part of the example and of its sheet, every byte replaced."""
 
 import unittest
 
@@ -77,15 +77,17 @@ class CutsTest(AgainstModel):
             self.compare(sample(cuts(command, b"", FIELD, sheet=SHEET), 3))
 
     def test_every_first_part_of_the_sheet(self):
-        sheets = [Case(f"{left} bytes", "check", FIELD, SHEET[:left]) for left in range(len(SHEET) + 1)]
-        self.compare(sheets)
+        lengths = range(len(SHEET) + 1)
+        self.compare(Case(f"{left} bytes", "check", FIELD, SHEET[:left]) for left in lengths)
 
     def test_every_byte_of_the_example_replaced(self):
         for command, step in [("list", 5), ("check", 23), ("words", 29), ("means", 31)]:
-            self.compare(sample((Case(f"{command}, {name}", command, field, SHEET) for name, field in replaced(FIELD)), step))
+            fields = sample(replaced(FIELD), step)
+            self.compare(Case(f"{command}, {name}", command, *pair) for name, *pair in fields)
 
     def test_every_byte_of_the_sheet_replaced(self):
-        self.compare(sample((Case(name, "check", FIELD, sheet) for name, sheet in replaced(SHEET)), 5))
+        sheets = sample(replaced(SHEET), 5)
+        self.compare(Case(name, "check", FIELD, sheet) for name, sheet in sheets)
 
 
 if __name__ == "__main__":

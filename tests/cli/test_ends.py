@@ -1,4 +1,4 @@
-"""Ends of a process: streams that are closed, full or left, files of all kinds, signals, and input that is huge or endless.
+"""Ends of a process: streams closed, full or left; files of all kinds; signals; huge input.
 
 No run leaves half a line, or takes more than its time.
 """
@@ -37,7 +37,12 @@ class EndsTest(ProgramTest):
         super().setUp()
         self.field = self.file("field.gsi", FIELD)
         self.sheet = self.file("sheet.csv", SHEET)
-        self.runs = [["words", self.field], ["list", self.field], ["means", self.field, "S1"], ["check", self.field, self.sheet]]
+        self.runs = [
+            ["words", self.field],
+            ["list", self.field],
+            ["means", self.field, "S1"],
+            ["check", self.field, self.sheet],
+        ]
 
     def file(self, name, content):
         path = self.folder / name
@@ -46,7 +51,8 @@ class EndsTest(ProgramTest):
 
     def in_shell(self, script, *args):
         """The answer of a script of the shell, in which "$@" is the program and its words."""
-        done = subprocess.run(["bash", "-c", script, "bash", PROGRAM, *args], capture_output=True, timeout=TIME)
+        command = ["bash", "-c", script, "bash", PROGRAM, *args]
+        done = subprocess.run(command, capture_output=True, timeout=TIME)
         return done.returncode, done.stdout, done.stderr
 
 
@@ -61,7 +67,8 @@ class StreamsTest(EndsTest):
         for args in self.runs:
             for closed in [">&-", "<&- >&-"]:
                 with self.subTest(args[0], closed=closed):
-                    self.assertEqual((1, b"", REFUSED_WRITE), self.in_shell(f'"$@" {closed}', *args))
+                    answer = self.in_shell(f'"$@" {closed}', *args)
+                    self.assertEqual((1, b"", REFUSED_WRITE), answer)
 
     def test_closed_streams_that_are_not_used(self):
         for args in self.runs:
@@ -71,7 +78,8 @@ class StreamsTest(EndsTest):
 
     def test_a_failing_standard_error_changes_no_status(self):
         folder = str(self.folder)
-        for args in [["words", folder], ["list", folder], ["means", folder, "S1"], ["check", self.field, folder]]:
+        read = [["words", folder], ["list", folder], ["means", folder, "S1"]]
+        for args in [*read, ["check", self.field, folder]]:
             for err in ["2> /dev/full", "2>&-"]:
                 with self.subTest(args[0], err=err):
                     self.assertEqual((1, b"", b""), self.in_shell(f'"$@" {err}', *args))
@@ -81,13 +89,15 @@ class StreamsTest(EndsTest):
             with self.subTest(args[0]):
                 reader, writer = os.pipe()
                 os.close(reader)
-                with os.fdopen(writer, "wb") as output:
-                    done = subprocess.run([PROGRAM, *args], stdout=output, stderr=subprocess.PIPE, timeout=TIME)
+                streams = {"stdout": writer, "stderr": subprocess.PIPE}
+                done = subprocess.run([PROGRAM, *args], **streams, timeout=TIME)
+                os.close(writer)
                 self.assertEqual((1, REFUSED_WRITE), (done.returncode, done.stderr))
 
     def test_a_reader_that_leaves_after_some_bytes(self):
         large = self.file("large.gsi", FIELD * 10_000)
-        with subprocess.Popen([PROGRAM, "words", large], stdout=subprocess.PIPE, stderr=subprocess.PIPE) as run:
+        pipes = {"stdout": subprocess.PIPE, "stderr": subprocess.PIPE}
+        with subprocess.Popen([PROGRAM, "words", large], **pipes) as run:
             self.assertEqual(b"1 1 41", os.read(run.stdout.fileno(), 6))
             run.stdout.close()
             self.assertEqual((REFUSED_WRITE, 1), (run.stderr.read(), run.wait(TIME)))
@@ -147,16 +157,19 @@ class FilesTest(EndsTest):
         self.assertEqual(ACCEPTED, answer_of(["check", "/dev/stdin", self.sheet], FIELD))
 
     def test_one_path_for_both_files(self):
-        self.assertEqual(refused("sheet row 1: Fields"), answer_of(["check", self.field, self.field]))
+        check = answer_of(["check", self.field, self.field])
+        self.assertEqual(refused("sheet row 1: Fields"), check)
 
     def test_pipes_with_names(self):
         """Both files come in small pieces, the sheet's only after the field file was read."""
-        for field, answer in [(FIELD, ACCEPTED), (FIELD[:-30], model.listed(FIELD[:-30])), (b"", refused("no station"))]:
+        cut, none = FIELD[:-30], refused("no station")
+        for field, answer in [(FIELD, ACCEPTED), (cut, model.listed(cut)), (b"", none)]:
             with self.subTest(answer):
                 paths = [self.folder / f"{name} {len(field)}" for name in ["field", "sheet"]]
                 for path in paths:
                     os.mkfifo(path)
-                writers = [threading.Thread(target=self.write_pieces, args=pair) for pair in zip(paths, [field, SHEET])]
+                pairs = zip(paths, [field, SHEET])
+                writers = [threading.Thread(target=self.write_pieces, args=pair) for pair in pairs]
                 for writer in writers:
                     writer.start()
                 self.assertEqual(answer, answer_of(["check", *paths]))
@@ -197,17 +210,19 @@ class SignalsTest(EndsTest):
                 self.assertEqual(answer, (run.returncode, stdout, stderr))
 
     def test_a_run_that_is_ended_leaves_whole_lines(self):
-        """What waits for more input has printed whole lines, or nothing of a list, and prints no more at its end."""
+        """What waits for more input has printed whole lines, or nothing of a list, and stays so."""
         words = model.words(FIELD * 100)[1]
         for how in [signal.SIGTERM, signal.SIGINT, signal.SIGKILL]:
-            for args, field, last in [([], FIELD * 100, b"\n"), (["list", "/dev/stdin"], FIELD, b"")]:
+            runs = [([], FIELD * 100, b"\n"), (["list", "/dev/stdin"], FIELD, b"")]
+            for args, field, last in runs:
                 with self.subTest(how=how, args=args):
                     run = self.started(*args)
                     run.stdin.write(field)
                     run.stdin.flush()
                     printed = self.printed_so_far(run)
                     run.send_signal(how)
-                    self.assertEqual((-how, b"", b""), (run.wait(TIME), run.stdout.read(), run.stderr.read()))
+                    rest = run.stdout.read() + run.stderr.read()
+                    self.assertEqual((-how, b""), (run.wait(TIME), rest))
                     self.assertTrue(words.startswith(printed))
                     self.assertEqual(last, printed[-1:])
 
@@ -215,7 +230,10 @@ class SignalsTest(EndsTest):
     def printed_so_far(run):
         """What a run prints until it is quiet, or has ended."""
         printed = b""
-        while select.select([run.stdout], [], [], QUIET)[0] and (piece := os.read(run.stdout.fileno(), 65_536)):
+        while select.select([run.stdout], [], [], QUIET)[0]:
+            piece = os.read(run.stdout.fileno(), 65_536)
+            if not piece:
+                break
             printed += piece
         return printed
 
@@ -228,21 +246,23 @@ class HugeTest(EndsTest):
             ("yes A | tr -d '\\n'", "block 1: LineTooLong"),
             ("yes '   ' | tr '\\n' '\\r'", "block 1: FileTooLong"),
         ]:
-            for args in ["list /dev/stdin", "means /dev/stdin S1", f"check /dev/stdin {self.sheet}"]:
-                with self.subTest(lines, args=args):
-                    self.assertEqual(refused(reason), self.in_shell(f'{lines} | "$@"', *args.split()))
+            for command, *more in [["list"], ["means", "S1"], ["check", self.sheet]]:
+                with self.subTest(lines, command=command):
+                    answer = self.in_shell(f'{lines} | "$@"', command, "/dev/stdin", *more)
+                    self.assertEqual(refused(reason), answer)
 
     def test_an_endless_sheet(self):
-        for lines in ["yes 'sheet,1,S1,4,'", "yes ''", "yes '\"' | tr -d '\\n'", "yes , | tr -d '\\n'"]:
+        rows = ["yes 'sheet,1,S1,4,'", "yes ''"]
+        for lines in [*rows, "yes '\"' | tr -d '\\n'", "yes , | tr -d '\\n'"]:
             with self.subTest(lines):
                 check = self.in_shell(f'{lines} | "$@"', "check", self.field, "/dev/stdin")
                 self.assertEqual(refused("sheet: TooLong"), check)
 
     def test_a_line_of_16_megabytes(self):
         path = self.file("line.gsi", b"1" * model.LONGEST_FILE)
-        for args in [["words", path], ["list", path], ["means", path, "S1"], ["check", path, self.sheet]]:
-            with self.subTest(args[0]):
-                self.assertEqual(refused("block 1: LineTooLong"), answer_of(args))
+        for command, *more in [["words"], ["list"], ["means", "S1"], ["check", self.sheet]]:
+            with self.subTest(command):
+                self.assertEqual(refused("block 1: LineTooLong"), answer_of([command, path, *more]))
 
     def test_line_feeds_up_to_the_limit_and_past_it(self):
         within = self.file("within.gsi", b"\n" * model.LONGEST_FILE)
@@ -255,7 +275,7 @@ class HugeTest(EndsTest):
                 self.assertEqual(refused("block 1: FileTooLong"), answer_of(args))
 
     def test_a_file_full_of_the_largest_stations(self):
-        """A file of just as many bytes as it may have: 42 stations of 40 sets of 100 targets, and blanks to the end."""
+        """Just as many bytes as a file may have: 42 of the largest stations, and blanks."""
         stations = [test_generated.station(f"S{n}", 40, 100) for n in range(42)]
         field = test_generated.lines(*stations) + b"\n"
         field += (b" " * 1_000 + b"\n") * ((model.LONGEST_FILE - len(field)) // 1_001)
@@ -267,11 +287,14 @@ class HugeTest(EndsTest):
             for target in range(1, 101)
         )
         heads = (b"station S%d: 40 sets, 100 targets, 4000 directions\n" % n for n in range(42))
-        self.assertEqual((0, b"".join(head + observations for head in heads), b""), answer_of(["list", full]))
+        listed = b"".join(head + observations for head in heads)
+        self.assertEqual((0, listed, b""), answer_of(["list", full]))
         status, sheet, stderr = answer_of(["means", full, "S41"])
         self.assertEqual((0, b""), (status, stderr))
-        accepted = b"accepted S41: 40 sets, 100 targets, 4000 directions, greatest residual 0/4000\n"
-        self.assertEqual((0, accepted, b""), answer_of(["check", full, self.file("means.csv", sheet)]))
+        counts = b"40 sets, 100 targets, 4000 directions"
+        accepted = b"accepted S41: %s, greatest residual 0/4000\n" % counts
+        check = answer_of(["check", full, self.file("means.csv", sheet)])
+        self.assertEqual((0, accepted, b""), check)
         blocks = 42 * (1 + 40 * 201)
         self.assertEqual(refused(f"block {blocks + 1}: FileTooLong"), answer_of(["list", past]))
 

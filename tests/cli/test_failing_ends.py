@@ -49,8 +49,11 @@ class FailingEndsTest(ProgramTest):
 
     def answer(self, command, **limits):
         args = [word.format(field=self.field, sheet=self.sheet) for word in COMMANDS[command]]
-        env = {"LD_PRELOAD": str(self.library), **{name: str(value) for name, value in limits.items()}}
-        return answer_of(args, env=env)
+        env = {name: str(value) for name, value in limits.items()}
+        return answer_of(args, env={"LD_PRELOAD": str(self.library), **env})
+
+    def failing_field(self, room, **more):
+        return {"READ_PATH": self.field, "READ_ROOM": room, **more}
 
     def check_all(self, runs):
         """Runs each of (command, limits, expected answer)."""
@@ -65,7 +68,7 @@ class FailingEndsTest(ProgramTest):
 
     def test_a_field_file_that_fails_after_each_byte(self):
         runs = (
-            (command, {"READ_PATH": self.field, "READ_ROOM": room}, expected_of_field(command, room))
+            (command, self.failing_field(room), expected_of_field(command, room))
             for room in range(len(FIELD) + 1)
             for command in COMMANDS
         )
@@ -74,7 +77,8 @@ class FailingEndsTest(ProgramTest):
     def test_a_sheet_that_fails_after_each_byte(self):
         refused = (1, b"", b"refused: sheet: Read\n")
         self.check_all(
-            ("check", {"READ_PATH": self.sheet, "READ_ROOM": room}, refused) for room in range(len(SHEET) + 1)
+            ("check", {"READ_PATH": self.sheet, "READ_ROOM": room}, refused)
+            for room in range(len(SHEET) + 1)
         )
 
     def test_a_sheet_that_fails_is_looked_at_after_the_field_file(self):
@@ -84,13 +88,14 @@ class FailingEndsTest(ProgramTest):
         ]:
             with self.subTest(expected):
                 self.field.write_bytes(field)
-                self.assertEqual((1, b"", expected), self.answer("check", READ_PATH=self.sheet, READ_ROOM=0))
+                check = self.answer("check", READ_PATH=self.sheet, READ_ROOM=0)
+                self.assertEqual((1, b"", expected), check)
 
     def test_any_error_of_a_read_is_a_fault_and_is_not_tried_again(self):
         self.check_all(
-            ("list", {"READ_PATH": self.field, "READ_ROOM": room, "READ_ERROR": error}, expected_of_field("list", room))
+            (command, self.failing_field(40, READ_ERROR=error), expected_of_field(command, 40))
             for error in [errno.EIO, errno.EINTR, errno.EAGAIN, errno.EBADF]
-            for room in [0, 40]
+            for command in COMMANDS
         )
 
     def test_an_output_that_fails_after_each_byte(self):
@@ -102,7 +107,9 @@ class FailingEndsTest(ProgramTest):
         self.check_all(runs)
 
     def test_an_output_with_just_enough_room(self):
-        self.check_all((command, {"WRITE_ROOM": len(text)}, (0, text, b"")) for command, (_, text, _) in WHOLE.items())
+        self.check_all(
+            (command, {"WRITE_ROOM": len(whole[1])}, whole) for command, whole in WHOLE.items()
+        )
 
     def test_pieces_change_no_answer(self):
         self.check_all(
@@ -132,7 +139,8 @@ class FailingEndsTest(ProgramTest):
         self.sheet.write_bytes(b"\n" * (model.LONGEST_SHEET + 1))
         self.assertEqual((1, b"", b"refused: sheet: TooLong\n"), self.answer("check", READ_MOST=1))
         self.sheet.write_bytes(b"\n" * model.LONGEST_SHEET)
-        self.assertEqual((1, b"", b"refused: sheet row 1: Unfinished\n"), self.answer("check", READ_MOST=1))
+        unfinished = (1, b"", b"refused: sheet row 1: Unfinished\n")
+        self.assertEqual(unfinished, self.answer("check", READ_MOST=1))
 
     def test_a_sheet_that_fails_past_its_limit_is_too_long(self):
         self.sheet.write_bytes(b" " * (model.LONGEST_SHEET + 2))
@@ -141,7 +149,8 @@ class FailingEndsTest(ProgramTest):
             (model.LONGEST_SHEET, b"refused: sheet: Read\n"),
         ]:
             with self.subTest(room):
-                self.assertEqual((1, b"", expected), self.answer("check", READ_PATH=self.sheet, READ_ROOM=room))
+                check = self.answer("check", READ_PATH=self.sheet, READ_ROOM=room)
+                self.assertEqual((1, b"", expected), check)
 
 
 if __name__ == "__main__":

@@ -1,29 +1,14 @@
-"""Generated field files and sheets, with every kind of fault, beside the model; and the largest ones."""
+"""Generated field files and sheets, with every kind of fault, and the largest ones."""
 
 import unittest
 from collections import Counter
 
 import model
 from against_model import FIELD, SWEEP, AgainstModel, Case
-from generated import generated, kind_of
+from generated import generated
+from kinds import OF_COUNTS, REFUSALS, WRITTEN, kind_of
 
 FILES = 20_000 if SWEEP else 700
-
-ANGLE_FAULTS = ["Unit", "InputMode", "Sign", "Digits", "Range"]
-
-# Every answer that small files can have.
-KINDS = (
-    ["accepted", "written", "nothing to write", "no station", "means: Incomplete"]
-    + [f"block n: {fault} n" for fault in ["Byte", "Word"]]
-    + [f"block n: {fault}" for fault in ["LineTooLong", "FirstWord", "EmptySet", "OneFace", "StationName", "SetOutside"]]
-    + [f"block n: {fault}" for fault in ["SetNumber", "StationTwice", "SetTwice", "NoZenith", "FaceUnclear", "FaceTwice"]]
-    + [f"block n: WordTwice {index}" for index in [21, 22, 42]]
-    + [f"block n: {word} {fault}" for word in ["Hz", "Zenith"] for fault in ANGLE_FAULTS]
-    + ["block n: TwoC", "block n: TwoI"]
-    + [f"sheet row n: {fault}" for fault in ["Fields", "Kind", "Version", "NotEmpty", "Name", "Number", "Range", "Unfinished"]]
-    + [f"kernel: {fault} n" for fault in ["TargetRow", "SetRow", "ObsRow", "TargetSum", "SetSum", "Residual"]]
-    + ["kernel: Datum", "kernel: NotConnected"]
-)
 
 
 def station(name, sets, targets, face_two=True):
@@ -38,14 +23,20 @@ def station(name, sets, targets, face_two=True):
 
 
 def lines(*parts):
+    """The bytes of a file of all these lines."""
     return "\n".join(line for part in parts for line in part).encode()
+
+
+def stations_with(sets):
+    """A file of stations with so many sets of one target."""
+    return lines(*(station(f"S{n}", count, 1) for n, count in enumerate(sets)))
 
 
 def rows(*counts):
     """A sheet with so many rows of each kind."""
     sheet, targets, sets, observations = counts
-    kinds = ["sheet,1,S1,4,"] * sheet + ["target,,A,0,"] * targets + ["set,1,,0,"] * sets + ["obs,1,A,0,0"] * observations
-    return "\n".join(kinds).encode()
+    written = ["sheet,1,S1,4,"] * sheet + ["target,,A,0,"] * targets + ["set,1,,0,"] * sets
+    return "\n".join(written + ["obs,1,A,0,0"] * observations).encode()
 
 
 # The faults of size, each with the largest input that has none.
@@ -56,7 +47,7 @@ LARGE = [
     Case("40 sets", "list", lines(station("S1", 40, 1))),
     Case("41 sets", "list", lines(station("S1", 41, 1))),
     Case("40 sets, means", "means", lines(station("S1", 40, 2))),
-    Case("1,001 stations", "list", lines(*(station(f"S{n}", 1, 1) for n in range(1_001)))),
+    Case("1,001 stations", "list", stations_with(1 for _ in range(1_001))),
     Case("a sheet of 100 targets and 40 sets", "check", FIELD, rows(1, 100, 40, 4_000)),
     Case("a sheet of 101 targets", "check", FIELD, rows(1, 101, 1, 1)),
     Case("a sheet of 41 sets", "check", FIELD, rows(1, 1, 41, 1)),
@@ -68,23 +59,20 @@ LARGE = [
 
 # These take the model some time.
 LARGER = [
-    Case("1,000 stations", "list", lines(*(station(f"S{n}", 1, 1) for n in range(1_000)))),
-    Case("1,001 stations, of which one has no set", "list", lines(*(station(f"S{n}", min(n, 1), 1) for n in range(1_001)))),
+    Case("1,000 stations", "list", stations_with(1 for _ in range(1_000))),
+    Case("1,000 stations and one", "list", stations_with(min(n, 1) for n in range(1_001))),
     Case("40 sets of 100 targets", "means", lines(station("S1", 40, 100))),
 ]
-
-LARGE_FAULTS = ["block n: TooManyTargets", "block n: TooManySets", "block n: TooManyStations", "sheet row n: TooMany", "sheet: TooLong"]
 
 
 class GeneratedTest(AgainstModel):
     def test_generated_files_and_sheets(self):
         met = Counter(map(kind_of, self.compare(generated(FILES))))
-        self.assertEqual([], [kind for kind in KINDS if not met[kind]], met)
-        self.assertEqual(set(), met.keys() - set(KINDS))
+        self.assertEqual({*REFUSALS, *WRITTEN}, met.keys())
 
     def test_the_largest_files_and_sheets(self):
         met = Counter(map(kind_of, self.compare(LARGE + LARGER if SWEEP else LARGE)))
-        self.assertEqual([], [kind for kind in LARGE_FAULTS if not met[kind]], met)
+        self.assertLessEqual({*OF_COUNTS, "sheet: TooLong"}, met.keys())
 
 
 if __name__ == "__main__":

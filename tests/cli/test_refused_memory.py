@@ -1,7 +1,7 @@
-"""Refused memory: each allocation of a run in turn, by a preloaded library, and all of them from one on.
+"""Refused memory: each allocation of a run in turn, alone and with all that follow it.
 
-A run with a refusal answers want of memory, with nothing on standard output, or what it answers with ample memory. Without
-a C compiler the library can't be built, and its tests are skipped.
+A run with a refusal answers want of memory, with nothing on standard output, or what it answers
+with ample memory. Without a C compiler the library can't be built, and its tests are skipped.
 """
 
 import itertools
@@ -92,22 +92,24 @@ class RefusedMemoryTest(ProgramTest):
         return run.format(**self.paths).split()
 
     def refused_run(self, library, run, call, refuses_all):
-        """The answer of a run in which this call is refused, or none where there was no such call."""
+        """The answer of a run in which this call is refused; none where there was no such call."""
         met = self.folder / f"met-{call}"
-        env = {"LD_PRELOAD": str(library), "REFUSE_CALL": str(call), "REFUSE_ALL": str(int(refuses_all)), "REFUSE_MET": str(met)}
-        answer = answer_of(self.words_of(run), FIELD, env=env)
+        env = {"REFUSE_CALL": call, "REFUSE_ALL": int(refuses_all), "REFUSE_MET": met}
+        env = {name: str(value) for name, value in env.items()}
+        answer = answer_of(self.words_of(run), FIELD, env={"LD_PRELOAD": str(library), **env})
         if not met.exists():
             return None
         met.unlink()
         return answer
 
     def refused_in_turn(self, library, run, step, refuses_all=False):
-        """The answers of runs in which one call after the other is refused, until a run meets no refusal."""
+        """The answers where one call after the other is refused, until a run meets no refusal."""
         answers = []
+        refused = lambda call: self.refused_run(library, run, call, refuses_all)
         with ThreadPoolExecutor(os.cpu_count()) as pool:
             for first in range(1, MOST_CALLS, step * BATCH):
                 calls = range(first, first + step * BATCH, step)
-                batch = list(pool.map(lambda call: self.refused_run(library, run, call, refuses_all), calls))
+                batch = list(pool.map(refused, calls))
                 answers += itertools.takewhile(lambda answer: answer is not None, batch)
                 if None in batch:
                     return answers
@@ -135,18 +137,20 @@ class RefusedMemoryTest(ProgramTest):
         library = preload.built("refuse_allocation")
         for run in LARGE_RUNS:
             with self.subTest(run):
-                self.check_refusals(run, self.refused_in_turn(library, run, STEP if "words" not in run else 1))
+                step = 1 if "words" in run else STEP
+                self.check_refusals(run, self.refused_in_turn(library, run, step))
 
     def test_a_run_without_a_refusal_is_as_ever(self):
         library = preload.built("refuse_allocation")
         for run in RUNS:
             with self.subTest(run):
-                preloaded = answer_of(self.words_of(run), FIELD, env={"LD_PRELOAD": str(library), "REFUSE_CALL": "0"})
+                env = {"LD_PRELOAD": str(library), "REFUSE_CALL": "0"}
+                preloaded = answer_of(self.words_of(run), FIELD, env=env)
                 self.assertEqual(answer_of(self.words_of(run), FIELD), preloaded)
 
     def test_room_that_grows_for_the_largest_station(self):
-        """The room of the process grows until the run has all that it wants. What comes before the last failure of the
-        loader, which ends with status 127, is none of the program's answers."""
+        """The room of the process grows until the run has all that it wants. What comes before the
+        last failure of the loader, which ends with status 127, is none of the program's answers."""
         step = resource.getpagesize() * (1 if SWEEP else 8)
         for run in LARGE_RUNS:
             with self.subTest(run):
@@ -160,7 +164,7 @@ class RefusedMemoryTest(ProgramTest):
                 self.assertLessEqual(answers, {NO_MEMORY})
 
     def answer_in(self, room, run):
-        """The answer of a run in so many bytes of address space, or none where the program couldn't be loaded."""
+        """The answer in so much address space; none where the program couldn't be loaded."""
         limit = lambda: resource.setrlimit(resource.RLIMIT_AS, (room, room))
         try:
             answer = answer_of(self.words_of(run), preexec_fn=limit)

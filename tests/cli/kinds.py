@@ -1,0 +1,50 @@
+"""The kinds of answers: an answer without its numbers and places, and all that are met."""
+
+import re
+
+ANGLE_FAULTS = ["Unit", "InputMode", "Sign", "Digits", "Range"]
+
+BLOCK_FAULTS = [
+    *["LineTooLong", "Byte n", "Word n", "FirstWord"],
+    *["EmptySet", "OneFace", "WordTwice 42", "StationName"],
+    *["SetOutside", "SetNumber", "StationTwice", "SetTwice"],
+    *["WordTwice 21", "WordTwice 22", "NoZenith"],
+    *[f"{word} {fault}" for word in ["Hz", "Zenith"] for fault in ANGLE_FAULTS],
+    *["FaceUnclear", "FaceTwice", "TwoC", "TwoI"],
+]
+
+ROW_FAULTS = ["Fields", "Kind", "Version", "NotEmpty", "Name", "Number", "Range", "Unfinished"]
+
+KERNEL_FAULTS = [
+    *["TargetRow n", "SetRow n", "ObsRow n", "Datum"],
+    *["TargetSum n", "SetSum n", "NotConnected", "Residual n"],
+]
+
+WRITTEN = ["accepted", "written", "nothing to write"]
+
+# The refusals that files of any size can have.
+REFUSALS = [
+    *[f"block n: {fault}" for fault in BLOCK_FAULTS],
+    *[f"sheet row n: {fault}" for fault in ROW_FAULTS],
+    *[f"kernel: {fault}" for fault in KERNEL_FAULTS],
+    *["no station", "means: Incomplete"],
+]
+
+# Those of files and sheets with too much of something, and of reads that fail.
+OF_COUNTS = [
+    *["block n: TooManyTargets", "block n: TooManySets", "block n: TooManyStations"],
+    "sheet row n: TooMany",
+]
+OF_BYTES = ["block n: FileTooLong", "sheet: TooLong"]
+OF_READS = ["block n: Read", "sheet: Read"]
+
+
+def kind_of(answer):
+    """What was printed, or the reason of a refusal, with `n` for each number but those of words."""
+    status, stdout, stderr = answer
+    if status == 0:
+        printed = "written" if stdout else "nothing to write"
+        return "accepted" if stdout.startswith(b"accepted") else printed
+    reason = stderr.decode().removeprefix("refused: ").rstrip("\n")
+    reason = re.sub(r"^(block|sheet row) \d+", r"\1 n", reason)
+    return reason if "WordTwice" in reason else re.sub(r" \d+$", " n", reason)
