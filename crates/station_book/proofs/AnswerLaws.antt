@@ -1,5 +1,5 @@
 -- What a book answers at the end are the stations of its blocks.
-use Rattle.std.proofs.Common.{◌≡◌, ℕ, ◌+◌, Bool, true, false, List, [], ◌∷◌, ◌++◌, length, map, filter, reverse, Option, Some, None, refl, sym, ap, ◌∙◌, subst, arith}
+use Rattle.std.proofs.Common.{◌≡◌, ℕ, ◌+◌, true, false, List, [], ◌∷◌, ◌++◌, length, map, reverse, Option, Some, None, refl, sym, ap, ◌∙◌, subst, arith}
 use Rattle.std.specs.Prelude.{Result, Ok, Err, OnOk, IfOk, IfErr}
 use Rattle.std.specs.List.{AllZip, enumerate_from, filter_map, flat_map, cons_option}
 use Rattle.std.proofs.lemmas.List.{append-nil, length-reverse, map-append, reverse-append, reverse-reverse}
@@ -10,17 +10,15 @@ use Rattle.station_book.specs.declared.fault.BookFault.{BookFault}
 use Rattle.station_book.specs.declared.fault.BookFault.TheVariants.{At, Memory}
 use Rattle.station_book.specs.declared.stage.Stage.TheVariants.{Outside}
 use Rattle.station_book.specs.Limits.{FaceLimits}
-use Rattle.station_book.specs.Sights.{Sight}
-use Rattle.station_book.specs.Blocks.{number}
-use Rattle.station_book.specs.Places.{History, Place, at, before, station, reading_in, sets_of, first_sets, station_readings, targets_of}
+use Rattle.station_book.specs.Places.{History, Place, before, station, reading_in, sets_of, first_sets, station_readings, targets_of}
 use Rattle.station_book.specs.Faults.{fault_at_end, sight_at, IsWithoutFault}
-use Rattle.station_book.specs.Stations.{Couple, joined, couples_in, couples_of, in_set, stations_of, SurveyedStation, IsObserved, HasFaces, IsSurveyed, AreStations}
+use Rattle.station_book.specs.Stations.{Couple, joined, couples_in, in_set, SurveyedStation, IsObserved, HasFaces, IsSurveyed, AreStations}
 use Rattle.station_book.specs.Slots as slots
 use Rattle.station_book.specs.Slots.{obs_at, obs_of, faces_at, faces_of}
 use Rattle.station_book.specs.Shelves.{survey_of}
 use Rattle.station_book.specs.Refusals.{ExplainsFault}
 use Rattle.station_book.specs.Kept.{Kept, ending}
-use Rattle.station_book.specs.Keeps.{sighted, slot_of, slots_of, targets_in, obs_in, faces_in, numbers_in, number_at, stations_in}
+use Rattle.station_book.specs.Keeps.{sighted, slots_of, obs_in, faces_in, numbers_in, number_at, stations_in}
 use Rattle.station_book.specs.Standing.{StandsFor, ExplainsEnd}
 use Rattle.station_book.proofs.SlotLaws.{enumerate-append}
 use Rattle.station_book.proofs.ComputedLaws.{computed_two_c, computed_two_i, computed_direction}

@@ -1,5 +1,5 @@
 -- The fault of a block by what is kept is its fault by the blocks before it; and where memory is wanted.
-use Rattle.std.proofs.Common.{◌≡◌, ◌+◌, ℕ, Bool, true, ◌&&◌, ◌⊎◌, inl, inr, ◌∷◌, None, Result, Ok, Err, not, sym, ap, ◌∙◌, subst, refl}
+use Rattle.std.proofs.Common.{◌≡◌, ◌+◌, ℕ, true, ◌&&◌, ◌⊎◌, inl, inr, ◌∷◌, None, Result, Ok, Err, not, sym, ap, ◌∙◌, subst, refl}
 use Rattle.std.specs.Prelude.{OnOk, IfErr}
 use Rattle.std.proofs.lemmas.Bool.{false≢true, and_parts}
 use Rattle.gsi_word.specs.Blocks.{GsiBlock}

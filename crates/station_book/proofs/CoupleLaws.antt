@@ -1,13 +1,11 @@
 -- Which reading of a target is found among those of a set, and which readings are of the open set.
-use Rattle.std.proofs.Common.{◌≡◌, ℕ, zero, suc, ◌+◌, ◌≤◌, Bool, true, false, cond, ◌&&◌, List, [], ◌∷◌, ◌++◌, length, map, filter, Option, Some, None, set, refl, sym, ap, ◌∙◌, inl, inr, ◌⊎◌, arith}
-use Rattle.std.specs.List.{enumerate_from, filter_map, cons_option, slice_get}
+use Rattle.std.proofs.Common.{◌≡◌, ℕ, ◌≤◌, Bool, true, false, cond, ◌&&◌, List, [], ◌∷◌, length, filter, Some, refl, sym, ap, ◌∙◌, inl, inr, ◌⊎◌, arith}
 use Rattle.std.specs.Str.{bytes_eq}
 use Rattle.std.proofs.lemmas.Bool.{cases_Bool, and_from, eq-eqb, ne_eqb}
-use Rattle.station_book.specs.Blocks.{target, is_of_face, opens_station, is_opening}
+use Rattle.station_book.specs.Blocks.{is_of_face, opens_station, is_opening}
 use Rattle.station_book.specs.Places.{History, Place, places, last, before, reading_in, is_same, is_reading, opening, station, station_readings, target_at, stands}
 use Rattle.station_book.specs.Faults.{open_readings}
-use Rattle.station_book.specs.Stations.{Couple, joined, in_set}
-use Rattle.station_book.proofs.FaceLaws.{Slot, slot, slots}
+use Rattle.station_book.specs.Stations.{in_set}
 use Rattle.station_book.proofs.PlaceLaws.{length-last, belonging-more, belonging-same}
 use Rattle.station_book.proofs.StepLaws.{readings-opening, readings-more, readings-other, sight_opens_no_station}
 

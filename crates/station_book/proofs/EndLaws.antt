@@ -1,28 +1,21 @@
 -- The end of a set and of the file: the faults and the stations by what is kept are those by the blocks.
-use Rattle.std.proofs.Common.{◌≡◌, ℕ, suc, ◌+◌, ◌-◌, ◌++◌, Bool, true, false, cond, not, ◌&&◌, ◌||◌, List, [], ◌∷◌, length, map, reverse, Option, Some, None, is_some, is_none, refl, sym, ap, ◌∙◌, inl, inr, ◌⊎◌, subst, arith}
+use Rattle.std.proofs.Common.{◌≡◌, ℕ, suc, ◌-◌, ◌++◌, Bool, true, false, ◌&&◌, ◌||◌, List, [], ◌∷◌, length, map, reverse, Option, Some, None, is_some, is_none, refl, sym, ap, ◌∙◌, inl, inr, subst, arith}
 use Rattle.std.specs.List.{list_any, list_all, AllByRecursion}
 use Rattle.std.specs.Str.{bytes_eq}
-use Rattle.std.proofs.lemmas.Bool.{cases_Bool, false≢true}
+use Rattle.std.proofs.lemmas.Bool.{false≢true}
 use Rattle.std.proofs.lemmas.List.{reverse-append, length-append}
 use Rattle.std.proofs.lemmas.Slice.Eq.{bytes_eq-Decides}
-use Rattle.std.specs.Prelude.{Result, Ok, Err, OnOk, IfOk, IfErr}
-use Rattle.station_book.specs.declared.fault.BookKind.{BookKind}
-use Rattle.station_book.specs.declared.fault.BookFault.{BookFault}
-use Rattle.station_book.specs.Limits.{FaceLimits}
-use Rattle.station_book.specs.Refusals.{ExplainsFault}
 use Rattle.station_book.specs.declared.fault.BookKind.TheVariants as kinds
 use Rattle.station_book.specs.declared.stage.Stage.{Stage}
 use Rattle.station_book.specs.declared.stage.Stage.TheVariants.{Outside, Station, BetweenSets, InSet}
-use Rattle.station_book.specs.declared.slot.Slot.{Slot}
-use Rattle.station_book.specs.Faults.{when, first_of, face, open_sets, open_readings, has_one_face, fault_at_end, IsWithoutFault, face_at, name_at}
+use Rattle.station_book.specs.Faults.{when, first_of, open_sets, open_readings, has_one_face, fault_at_end, face_at, name_at}
 use Rattle.station_book.specs.Slots.{is_unread, is_single, obs_of, faces_of}
-use Rattle.station_book.specs.Entries.{EntryValue, closed}
+use Rattle.station_book.specs.Entries.{EntryValue}
 use Rattle.station_book.specs.Shelves.{Entries, last_of, survey_of}
-use Rattle.station_book.specs.Stations.{SurveyedStation, in_set}
+use Rattle.station_book.specs.Stations.{SurveyedStation}
 use Rattle.station_book.specs.Kept.{Kept, ending}
-use Rattle.station_book.specs.Blocks.{target, is_of_face, opens_station, number}
-use Rattle.station_book.specs.Places.{History, Place, station, opening, is_empty, is_open, is_among, reading_in, sets_of, station_readings, target_at, stands}
-use Rattle.station_book.specs.Keeps.{sighted, slot_of, slots_of, targets_in, obs_in, faces_in, numbers_in, IsEntryOf, IsEntryWith, StandsAt, Stand, stations_in, IsStage, number_at}
+use Rattle.station_book.specs.Places.{History, Place, station, opening, is_empty, is_open, reading_in, sets_of, station_readings, target_at}
+use Rattle.station_book.specs.Keeps.{sighted, slot_of, slots_of, targets_in, obs_in, faces_in, numbers_in, IsEntryWith, StandsAt, Stand, stations_in, IsStage, number_at}
 use Rattle.station_book.specs.Standing.{StandsFor}
 use Rattle.station_book.proofs.Membership.{In, any_to}
 use Rattle.station_book.proofs.StepLaws.{open_targets}
@@ -30,7 +23,7 @@ use Rattle.station_book.proofs.FaceLaws as faces
 use Rattle.station_book.proofs.FaceLaws.{IsKept, some_there}
 use Rattle.station_book.proofs.KeptLaws.{open_kept}
 use Rattle.station_book.proofs.CoupleLaws.{open_in_set}
-use Rattle.station_book.proofs.StandLaws.{Parted, parted, HasOpenLast, HasOpenSet, open_set, open_has_set, last_newest}
+use Rattle.station_book.proofs.StandLaws.{Parted, parted, HasOpenSet, open_set, open_has_set, last_newest}
 
 pub some_sighted : (o : Option Place) → is_some (sighted o) ≡ is_some o
 some_sighted None = refl

@@ -1,25 +1,15 @@
 -- A station that has a set is the first of its name that has one.
-use Rattle.std.proofs.Common.{◌≡◌, ℕ, suc, ◌++◌, Bool, true, false, cond, ◌&&◌, ◌||◌, not, leb, eqb, List, [], ◌∷◌, length, map, Option, Some, None, is_none, refl, sym, ap, ◌∙◌, inl, inr, ◌⊎◌}
+use Rattle.std.proofs.Common.{◌≡◌, ◌++◌, Bool, true, false, cond, ◌&&◌, ◌||◌, not, List, [], ◌∷◌, length, Option, Some, None, refl, sym, ap, ◌∙◌, inl, inr, ◌⊎◌}
 use Rattle.std.specs.List.{list_any}
-use Rattle.std.proofs.lemmas.Bool.{and_parts, cases_Bool, false≢true, eq-eqb}
-use Rattle.std.specs.Str.{bytes_eq}
-use Rattle.std.specs.Prelude.{codes}
-use Rattle.std.proofs.lemmas.Slice.Eq.{bytes_eq-Decides}
-use Rattle.station_book.specs.declared.fault.BookKind.{BookKind}
+use Rattle.std.proofs.lemmas.Bool.{cases_Bool, false≢true, eq-eqb}
 use Rattle.station_book.specs.declared.fault.BookKind.TheVariants as kinds
 use Rattle.gsi_word.specs.Blocks.{GsiBlock}
-use Rattle.station_book.specs.Blocks.{opens_station, opens_set, closes_set, is_opening, named, number, has_two, found}
-use Rattle.station_book.specs.declared.role.Role.{Role}
-use Rattle.station_book.specs.declared.role.Role.TheVariants as roles
-use Rattle.station_book.specs.Roles.{role_of, is_station, is_set_code}
-use Rattle.station_book.specs.Places.{History, Place, places, last, before, is_same, is_set, is_open, station, first_sets, is_empty}
-use Rattle.station_book.specs.Faults.{open_sets, had_sets, same_name, same_number, has_set_number, faults, fault_after, set_faults, end_faults, IsWithoutFault, when, first_of, name_at}
+use Rattle.station_book.specs.Blocks.{opens_station, opens_set}
+use Rattle.station_book.specs.Places.{History, Place, places, last, before, is_same, is_set, station, is_empty}
+use Rattle.station_book.specs.Faults.{open_sets, had_sets, same_name, faults, fault_after, set_faults, end_faults, IsWithoutFault, first_of, name_at}
 use Rattle.station_book.specs.Limits.{FaceLimits}
-use Rattle.station_book.proofs.CodeLaws.{no_set_at_station}
-use Rattle.station_book.proofs.StepLaws.{is_open-opening, is_open-other, sets-station, sets-more, sets-other}
-use Rattle.station_book.proofs.StationLaws.{had_sets_by_names, number_by_kept}
+use Rattle.station_book.proofs.StepLaws.{sets-station, sets-other}
 use Rattle.station_book.proofs.KeptLaws.{none_stands, none_when}
-use Rattle.station_book.specs.Keeps.{number_at}
 
 -- a block without code 10 leaves the station
 same_station : (b : GsiBlock) (past : History) → opens_station b ≡ false → station (b ∷ past) ≡ station past

@@ -24,8 +24,8 @@ use Rattle.station_book.specs.Entries.{EntryValue, place_of}
 use Rattle.station_book.specs.Shelves.{Entries, last_of}
 use Rattle.station_book.specs.Kept as kept
 use Rattle.gsi_word.specs.Blocks.{GsiBlock}
-use Rattle.station_book.specs.Blocks.{has_two, lacks, angle_fault, is_of_face, sight, target, found}
-use Rattle.station_book.specs.Places.{History, Place, is_among, is_open, reading_in, stands}
+use Rattle.station_book.specs.Blocks.{has_two, lacks, angle_fault, is_of_face, sight, target}
+use Rattle.station_book.specs.Places.{History, Place, is_among, is_open, reading_in}
 use Rattle.station_book.specs.Keeps.{sighted, slot_of, slots_of, Stand, IsStage, stations_in}
 use Rattle.station_book.specs.Standing.{StandsFor}
 use Rattle.station_book.proofs.ListLaws.{absent}

@@ -19,7 +19,7 @@ use Rattle.station_book.specs.Entries.{EntryValue}
 use Rattle.station_book.specs.Shelves.{Entries, last_of, is_known, first_set_faults, more_set_faults}
 use Rattle.station_book.specs.Kept as kept
 use Rattle.gsi_word.specs.Blocks.{GsiBlock}
-use Rattle.station_book.specs.Blocks.{opens_station, opens_set, closes_set, is_sight, has_two, named, number}
+use Rattle.station_book.specs.Blocks.{opens_station, opens_set, closes_set, is_sight, has_two, number}
 use Rattle.station_book.specs.Places.{History, Place, last, before, station, is_empty, is_open, sets_of, first_sets, station_readings}
 use Rattle.station_book.specs.Keeps.{numbers_in, IsEntryOf, IsEntryWith, StandsAt, Stand, IsStage, stations_in, number_at}
 use Rattle.station_book.specs.Standing.{StandsFor}

@@ -1,11 +1,9 @@
 -- What is kept of a station stands for it: after its first set, after a further set, and, where the station is closed,
 -- after any block.
-use Rattle.std.proofs.Common.{◌≡◌, ℕ, zero, suc, ◌+◌, ◌-◌, ◌<◌, ◌≤◌, Bool, true, false, cond, ◌&&◌, ◌||◌, List, [], ◌∷◌, ◌++◌, length, map, filter, reverse, replicate, Option, Some, None, refl, sym, ap, ◌∙◌, inl, inr, ◌⊎◌, subst, arith}
+use Rattle.std.proofs.Common.{◌≡◌, ℕ, suc, ◌-◌, ◌<◌, ◌≤◌, Bool, true, false, cond, ◌&&◌, ◌||◌, List, [], ◌∷◌, ◌++◌, length, map, filter, reverse, replicate, Some, refl, sym, ap, ◌∙◌, inl, inr, ◌⊎◌, subst, arith}
 use Rattle.std.specs.List.{AllByRecursion}
 use Rattle.std.proofs.lemmas.Bool.{cases_Bool, false≢true, and_parts, ne_eqb, eq-eqb}
 use Rattle.std.proofs.lemmas.List.{length-append, reverse-append, reverse-reverse}
-use Rattle.adjust_kernel.specs.declared.obs.Obs.{Obs}
-use Rattle.station_book.specs.declared.slot.Slot.{Slot}
 use Rattle.station_book.specs.Slots.{empty_slot, obs_of, faces_of}
 use Rattle.station_book.specs.Entries.{EntryValue, first_entry, with_set, with_reading}
 use Rattle.station_book.specs.declared.sight.Sighting.{Sighting}
@@ -13,11 +11,11 @@ use Rattle.station_book.proofs.ReadingLaws.{Says, IsInNone, reading_stands}
 use Rattle.station_book.specs.Shelves.{Entries, last_of, change_last}
 use Rattle.station_book.proofs.CoupleLaws.{none_in_later}
 use Rattle.gsi_word.specs.Blocks.{GsiBlock}
-use Rattle.station_book.specs.Blocks.{named, number, opens_station, opens_set, closes_set, is_opening, is_sight}
-use Rattle.station_book.specs.Places.{History, Place, places, last, before, station, opening, is_empty, is_open, is_set, is_reading, is_same, sets_of, station_readings, first_sets, stands}
+use Rattle.station_book.specs.Blocks.{number, opens_station, opens_set, closes_set, is_opening, is_sight}
+use Rattle.station_book.specs.Places.{History, Place, places, last, before, station, opening, is_empty, is_open, is_set, is_reading, is_same, sets_of, station_readings, first_sets}
 use Rattle.station_book.specs.Stations.{in_set}
 use Rattle.station_book.specs.Faults.{open_sets, name_at}
-use Rattle.station_book.specs.Keeps.{slot_of, slots_of, targets_in, obs_in, faces_in, numbers_in, IsEntryOf, IsEntryWith, StandsAt, stations_in, Stand, number_at}
+use Rattle.station_book.specs.Keeps.{slots_of, targets_in, numbers_in, IsEntryOf, IsEntryWith, StandsAt, stations_in, Stand, number_at}
 use Rattle.station_book.proofs.PlaceLaws.{length-last, belonging-more, belonging-same, belonging-fresh}
 use Rattle.station_book.proofs.OlderLaws.{belonging-older, owners_in_order}
 use Rattle.station_book.proofs.CodeLaws.{no_set_at_station}

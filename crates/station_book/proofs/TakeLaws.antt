@@ -1,10 +1,7 @@
 -- After a block without fault, what is kept stands for the blocks with it.
-use Rattle.std.proofs.Common.{◌≡◌, ℕ, suc, ◌+◌, ◌<◌, Bool, true, false, cond, not, ltb, ◌&&◌, ◌||◌, List, [], ◌∷◌, ◌++◌, length, reverse, Option, Some, None, is_none, Result, Ok, Err, refl, sym, ap, ◌∙◌, inl, inr, ◌⊎◌, subst, arith}
-use Rattle.std.proofs.lemmas.Bool.{cases_Bool, false≢true, and_parts}
+use Rattle.std.proofs.Common.{◌≡◌, ℕ, ◌+◌, Bool, true, false, cond, not, ltb, ◌&&◌, ◌||◌, List, [], ◌∷◌, reverse, Option, Some, None, is_none, Result, Ok, Err, refl, sym, ap, ◌∙◌, inl, inr, subst, arith}
+use Rattle.std.proofs.lemmas.Bool.{false≢true}
 use Rattle.std.proofs.lemmas.List.{reverse-append}
-use Rattle.std.specs.Prelude.{OnOk, slice_get}
-use Rattle.gsi_word.specs.Words.{GsiWord}
-use Rattle.gsi_word.specs.Words.{GsiWord}
 use Rattle.gsi_word.specs.Names.{name_of}
 use Rattle.gsi_word.specs.declared.found.Found.{Found}
 use Rattle.gsi_word.specs.declared.found.Found.TheVariants.{Absent, One, Twice}
@@ -20,11 +17,11 @@ use Rattle.station_book.specs.Kept.{then_fault}
 use Rattle.station_book.specs.Roles.{role_of, is_station, is_set_code, is_close, is_measurement}
 use Rattle.station_book.specs.Readings as said
 use Rattle.station_book.specs.Entries.{EntryValue, first_entry, with_set, with_reading}
-use Rattle.station_book.specs.Shelves.{Entries, change_last}
+use Rattle.station_book.specs.Shelves.{Entries}
 use Rattle.station_book.specs.Kept as kept
 use Rattle.gsi_word.specs.Blocks.{GsiBlock}
-use Rattle.station_book.specs.Blocks.{opens_station, opens_set, closes_set, is_opening, is_sight, named, number, target, sight, is_of_face, found, is_absent, is_twice, name_found, has_two, lacks}
-use Rattle.station_book.specs.Places.{History, Place, last, station, is_empty, is_open, is_reading, stands}
+use Rattle.station_book.specs.Blocks.{opens_station, opens_set, closes_set, is_opening, is_sight, named, number, sight, is_of_face, found, is_absent, is_twice, name_found, has_two, lacks}
+use Rattle.station_book.specs.Places.{History, Place, last, station, is_empty, is_open, is_reading}
 use Rattle.station_book.specs.Keeps.{IsStage, Stand, stations_in}
 use Rattle.station_book.specs.Standing.{StandsFor}
 use Rattle.station_book.proofs.RoleLaws.{station_is, set_is, close_is, sight_is}
@@ -33,7 +30,7 @@ use Rattle.station_book.specs.Limits.{FaceLimits}
 use Rattle.station_book.proofs.FaceLaws.{one_face}
 use Rattle.station_book.proofs.KeptLaws.{none_stands, none_when}
 use Rattle.station_book.proofs.ReadingLaws.{Says}
-use Rattle.station_book.proofs.StandLaws.{stand_idle, stand_first, stand_further, stand_reading, open_has_set, set_is_no_reading, Parted, parted, HasOpenLast, changed_newest}
+use Rattle.station_book.proofs.StandLaws.{stand_idle, stand_first, stand_further, stand_reading, open_has_set, Parted, parted, changed_newest}
 
 -- what a role says of the tests
 pub station_as : (b : GsiBlock) (r : Role) → role_of b ≡ r → opens_station b ≡ is_station r

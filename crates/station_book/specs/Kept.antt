@@ -1,5 +1,5 @@
 -- What a book keeps, and what each kind of block does to it.
-use Rattle.std.specs.Prelude.{ℕ, ◌+◌, ◌<◌, nat_le, Bool, true, false, ◌&&◌, not, if◌then◌else◌, Result, Ok, Err, List, [], ◌∷◌, ◌++◌, length, Option, Some, None}
+use Rattle.std.specs.Prelude.{ℕ, ◌+◌, ◌<◌, Bool, true, false, ◌&&◌, not, if◌then◌else◌, Result, Ok, Err, List, [], ◌∷◌, ◌++◌, length, Option, Some, None}
 use Rattle.station_book.specs.declared.fault.BookKind.{BookKind}
 use Rattle.station_book.specs.declared.fault.BookKind.TheVariants as kinds
 use Rattle.station_book.specs.Limits.{FaceLimits}

@@ -1,6 +1,5 @@
 use Rattle.std.proofs.Common.{ap, ◌∙◌}
 use Rattle.station_book.specs.Faults.{first_of}
-use Rattle.station_book.specs.Slots.{end_faults}
 use Rattle.station_book.specs.Entries.{EntryValue}
 use Rattle.station_book.specs.Shelves.{more_set_faults}
 use Rattle.station_book.proofs.ShelfLaws.{last_entry}

@@ -1,8 +1,7 @@
-use Rattle.std.proofs.Common.{◌≡◌, None, sym, ap, subst, ◌∙◌}
+use Rattle.std.proofs.Common.{sym, ap, subst, ◌∙◌}
 use Rattle.station_book.specs.Faults.{first_of}
 use Rattle.station_book.specs.Entries.{EntryValue, reading_faults, with_reading}
 use Rattle.station_book.specs.Refusals.{ExplainsRefusal}
-use Rattle.station_book.specs.declared.fault.Refusal.{Refusal}
 use Rattle.station_book.proofs.ShelfLaws.{on_ok, on_err, if_err, last_changed, last_same, last_value}
 use Rattle.station_book.proofs.shelf.Shelf.take_reading.Goals as goal
 
