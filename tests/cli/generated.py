@@ -64,7 +64,7 @@ class FieldFile:
         before, after = line[:place], line[place:]
         changed = [before, after, before + " " + after, before + "\t" + after[1:]]
         changed += [before + "\x7f" + after, "*" + line, "51" + line[2:], line + " 11"]
-        return self.random.choice([*changed, line + " " * 1_024])
+        return self.random.choice([*changed, line.ljust(1_024), line.ljust(1_025)])
 
     def number(self):
         return f"{len(self.lines) + 1:04}"[-4:]
