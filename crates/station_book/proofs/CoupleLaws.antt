@@ -3,7 +3,7 @@ use Rattle.std.proofs.Common.{◌≡◌, ℕ, zero, suc, ◌+◌, ◌≤◌, Boo
 use Rattle.std.specs.List.{enumerate_from, filter_map, cons_option, slice_get}
 use Rattle.std.specs.Str.{bytes_eq}
 use Rattle.std.proofs.lemmas.Bool.{cases_Bool, and_from, eq-eqb, ne_eqb}
-use Rattle.station_book.specs.Blocks.{target, is_of_face, opens_station, is_opening}
+use Rattle.station_book.specs.Blocks.{is_of_face, opens_station, is_opening}
 use Rattle.station_book.specs.Places.{History, Place, places, last, before, reading_in, is_same, is_reading, opening, station, station_readings, target_at, stands}
 use Rattle.station_book.specs.Faults.{open_readings}
 use Rattle.station_book.specs.Stations.{Couple, joined, in_set}

@@ -1,11 +1,11 @@
 -- What always holds of what is kept of a station still holds after a set and after a reading; and once the last set may
 -- end, it is a station of the kernel.
-use Rattle.std.proofs.Common.{◌≡◌, ◌≢◌, ℕ, zero, suc, ◌+◌, ◌-◌, ◌<◌, ◌≤◌, Bool, true, false, cond, eqb, ltb, leb, Result, Ok, Err, ◌&&◌, ◌||◌, List, [], ◌∷◌, ◌++◌, length, get_or, set, replicate, All, Any, AllPairs, Option, Some, None, is_some, is_none, inl, inr, ◌⊎◌, refl, sym, ap, ◌∙◌, subst, arith}
+use Rattle.std.proofs.Common.{◌≡◌, ◌≢◌, ℕ, zero, suc, ◌+◌, ◌-◌, ◌<◌, ◌≤◌, Bool, true, false, eqb, leb, Result, Ok, Err, ◌&&◌, ◌||◌, List, [], ◌∷◌, ◌++◌, length, get_or, set, replicate, All, Any, Option, Some, None, is_none, inl, inr, ◌⊎◌, refl, sym, ap, ◌∙◌, subst, arith}
 use Rattle.std.specs.List.{list_any, list_all}
 use Rattle.std.specs.Str.{bytes_eq}
 use Rattle.std.proofs.lemmas.Bool.{cases_lt, cases_eq, false≢true, eq-eqb}
 use Rattle.std.proofs.lemmas.List.{length-append, length-set, get_or_append_left, get_or-append-add, get_or-set_same, get_or-set_other}
-use Rattle.std.proofs.lemmas.List.Elements.{All-push, All-append, All-weaker, All-set, All-replicate}
+use Rattle.std.proofs.lemmas.List.Elements.{All-push, All-weaker, All-set, All-replicate}
 use Rattle.std.proofs.lemmas.List.Quantifiers.{all_pairs_push}
 use Rattle.std.proofs.lemmas.Slice.Eq.{bytes_eq-Decides}
 use Rattle.adjust_kernel.specs.Names.{IsName}
@@ -17,7 +17,7 @@ use Rattle.station_book.specs.Sights.{Sight, AreOnCircle}
 use Rattle.station_book.specs.declared.sight.Sighting.{Sighting}
 use Rattle.station_book.specs.declared.slot.Slot.{Slot}
 use Rattle.station_book.specs.Faults.{when, first_of}
-use Rattle.station_book.specs.Slots.{slot_at, empty_slot, with_side, is_unread, is_single, end_faults, obs_of, faces_of, IsKeptSlot}
+use Rattle.station_book.specs.Slots.{slot_at, empty_slot, with_side, is_unread, is_single, obs_of, faces_of, IsKeptSlot}
 use Rattle.station_book.specs.Sound.{AreSoFar}
 use Rattle.station_book.specs.Entries.{EntryValue, first_entry, closed, with_set, place_of, reading_faults_at, reading_faults, with_reading_at, IsEntry, MayEnd}
 use Rattle.std.specs.Prelude.{IfErr, IfNone}

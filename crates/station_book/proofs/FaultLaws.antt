@@ -1,9 +1,6 @@
 -- The fault of a block by what is kept is its fault by the blocks before it: codes 10 and 30, other codes, and a
 -- measurement outside a set.
-use Rattle.std.proofs.Common.{◌≡◌, Bool, true, false, cond, ◌&&◌, List, [], ◌∷◌, ◌++◌, Option, Some, None, is_none, refl, sym, ap, ◌∙◌}
-use Rattle.gsi_word.specs.declared.found.Found.{Found}
-use Rattle.gsi_word.specs.declared.found.Found.TheVariants.{Absent, One, Twice}
-use Rattle.station_book.specs.declared.fault.BookKind.{BookKind}
+use Rattle.std.proofs.Common.{◌≡◌, cond, ◌&&◌, List, [], ◌∷◌, ◌++◌, Option, Some, None, refl, sym, ◌∙◌}
 use Rattle.station_book.specs.declared.fault.BookKind.TheVariants as kinds
 use Rattle.station_book.specs.declared.role.Role.TheVariants as roles
 use Rattle.station_book.specs.Faults.{when, first_of, end_faults, station_faults, set_faults, reading_faults, fault_after, fault_at_end}
@@ -12,10 +9,10 @@ use Rattle.station_book.specs.Roles.{role_of}
 use Rattle.station_book.specs.Readings as blocks
 use Rattle.station_book.specs.Kept as kept
 use Rattle.gsi_word.specs.Blocks.{GsiBlock}
-use Rattle.station_book.specs.Blocks.{has_two, lacks, named, opens_station, opens_set, closes_set, is_sight, found, is_absent, is_twice, name_found}
+use Rattle.station_book.specs.Blocks.{has_two, lacks, opens_set, closes_set, is_sight, found, is_absent, is_twice}
 use Rattle.station_book.specs.Places.{History, is_open}
 use Rattle.station_book.specs.Standing.{StandsFor}
-use Rattle.station_book.proofs.TakeLaws.{station_as, set_as, close_as, sight_as, named_as}
+use Rattle.station_book.proofs.TakeLaws.{station_as, set_as, close_as, sight_as}
 use Rattle.station_book.proofs.EndLaws.{same_end}
 
 pub first_append : {X : Type 0} (xs ys : List (Option X)) → first_of (xs ++ ys) ≡ then_fault (first_of xs) (first_of ys)

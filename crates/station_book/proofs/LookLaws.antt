@@ -1,5 +1,5 @@
 -- A reading is looked for in the slots.
-use Rattle.std.proofs.Common.{◌≡◌, ℕ, Bool, true, false, cond, ◌||◌, List, [], ◌∷◌, Option, None, refl, sym, ap, ◌∙◌, inl, inr, ◌⊎◌, ◌&&◌, not, leb, length, is_some, is_none}
+use Rattle.std.proofs.Common.{◌≡◌, ℕ, Bool, true, false, cond, ◌||◌, List, [], ◌∷◌, Option, None, refl, sym, ap, ◌∙◌, inl, inr, ◌⊎◌, ◌&&◌, not, leb, length, is_some}
 use Rattle.std.specs.List.{AllByRecursion}
 use Rattle.std.specs.Str.{bytes_eq}
 use Rattle.std.proofs.lemmas.Bool.{cases_Bool}
@@ -8,7 +8,7 @@ use Rattle.std.specs.Option.{option_map}
 use Rattle.station_book.specs.declared.fault.BookKind.{BookKind}
 use Rattle.station_book.specs.declared.fault.BookKind.TheVariants as kinds
 use Rattle.gsi_word.specs.Blocks.{GsiBlock}
-use Rattle.station_book.specs.Blocks.{has_two, lacks, angle_fault, is_of_face, target, found}
+use Rattle.station_book.specs.Blocks.{has_two, lacks, angle_fault, is_of_face, target}
 use Rattle.station_book.specs.Places.{History, Place, reading_in, is_among}
 use Rattle.station_book.specs.Faults.{face, by_faces, reading_faults, open_readings, IsWithoutFault, when, has_no_two_c, has_no_two_i}
 use Rattle.station_book.specs.Limits.{FaceLimits}

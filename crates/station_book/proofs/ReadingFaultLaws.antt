@@ -1,5 +1,5 @@
 -- The fault of a measurement by what is kept is its fault by the blocks before it.
-use Rattle.std.proofs.Common.{◌≡◌, ℕ, Bool, true, false, cond, not, leb, ltb, ◌&&◌, ◌||◌, List, [], ◌∷◌, ◌++◌, length, reverse, get_or, Option, Some, None, is_none, is_some, Ok, refl, sym, ap, ◌∙◌}
+use Rattle.std.proofs.Common.{◌≡◌, ℕ, Bool, true, false, cond, not, leb, ltb, ◌&&◌, ◌||◌, List, [], ◌∷◌, ◌++◌, length, get_or, Option, Some, None, is_none, is_some, Ok, refl, sym, ap, ◌∙◌}
 use Rattle.std.specs.List.{AllByRecursion}
 use Rattle.std.specs.Option.{option_map}
 use Rattle.std.specs.Str.{bytes_eq}
@@ -21,11 +21,11 @@ use Rattle.station_book.specs.Readings as blocks
 use Rattle.station_book.specs.Slots.{side, is_apart, slot_at}
 use Rattle.station_book.specs.Entries as entries
 use Rattle.station_book.specs.Entries.{EntryValue, place_of}
-use Rattle.station_book.specs.Shelves.{Entries, last_of}
+use Rattle.station_book.specs.Shelves.{ShelfValue, last_of}
 use Rattle.station_book.specs.Kept as kept
 use Rattle.gsi_word.specs.Blocks.{GsiBlock}
 use Rattle.station_book.specs.Blocks.{has_two, lacks, angle_fault, is_of_face, sight, target, found, is_absent, is_twice}
-use Rattle.station_book.specs.Places.{History, Place, is_among, is_open, reading_in, stands}
+use Rattle.station_book.specs.Places.{History, Place, is_among, is_open, reading_in}
 use Rattle.station_book.specs.Keeps.{sighted, slot_of, slots_of, Stand, IsStage, stations_in}
 use Rattle.station_book.specs.Standing.{StandsFor}
 use Rattle.station_book.proofs.ListLaws.{absent}
@@ -165,19 +165,19 @@ same_later limits targets rs b e kept ts ss = split (place_of (target b) e.targe
       ∙ sym (λ i. first_of (tests (is_some (reading_in (face b) (target b) rs)) (not (among i) && leb 100 (length targets)) (by_faces (has_no_two_c limits.two_c) b (reading_in (not (face b)) (target b) rs)) (by_faces (has_no_two_i limits.two_i) b (reading_in (not (face b)) (target b) rs))))
 
 -- the same, in the open set
-same_later_open : (limits : FaceLimits) (es : Entries) (past : History) (b : GsiBlock) → IsWithoutFault limits past → is_open past ≡ true → Stand past (stations_in past) (reverse es)
+same_later_open : (limits : FaceLimits) (es : ShelfValue) (past : History) (b : GsiBlock) → IsWithoutFault limits past → is_open past ≡ true → Stand past (stations_in past) es
     → first_of (entries.reading_faults limits (last_of es) (blocks.sighting b)) ≡ first_of (later_faults limits (open_targets past) (open_readings past) b)
 same_later_open limits es past b w now h =
     let e = open_entry es past (open_has_set past now) h in
     ap (λ s. first_of (entries.reading_faults limits (last_of es) s)) (sighting_as b)
     ∙ same_later limits (open_targets past) (open_readings past) b (last_of es) (open_kept limits past w) e.is.targets (slots_kept es past now h)
 
-measured_parts : (limits : FaceLimits) (es : Entries) (o : Option BookKind) (s : Sighting) → kept.measured limits es (blocks.unless_fault o s) ≡ then_fault o (first_of (entries.reading_faults limits (last_of es) s))
+measured_parts : (limits : FaceLimits) (es : ShelfValue) (o : Option BookKind) (s : Sighting) → kept.measured limits es (blocks.unless_fault o s) ≡ then_fault o (first_of (entries.reading_faults limits (last_of es) s))
 measured_parts limits es None s = refl
 measured_parts limits es (Some k) s = refl
 
 -- a reading in the open set
-same_measured : (limits : FaceLimits) (es : Entries) (past : History) (b : GsiBlock) → IsWithoutFault limits past → is_open past ≡ true → Stand past (stations_in past) (reverse es)
+same_measured : (limits : FaceLimits) (es : ShelfValue) (past : History) (b : GsiBlock) → IsWithoutFault limits past → is_open past ≡ true → Stand past (stations_in past) es
     → kept.measured limits es (blocks.unless_fault (first_of (blocks.sighting_faults b)) (blocks.sighting b)) ≡ first_of (reading_faults limits past b)
 same_measured limits es past b w now h =
     measured_parts limits es (first_of (blocks.sighting_faults b)) (blocks.sighting b)
@@ -189,7 +189,7 @@ not_open true now os e = sym (ap (λ v. first_of (cond v os [])) e)
 not_open false now os e = refl
 
 -- a measurement, by where it stands
-by_stage : (limits : FaceLimits) (stage : Stage) (es : Entries) (past : History) (b : GsiBlock) → IsWithoutFault limits past → IsStage stage past → Stand past (stations_in past) (reverse es)
+by_stage : (limits : FaceLimits) (stage : Stage) (es : ShelfValue) (past : History) (b : GsiBlock) → IsWithoutFault limits past → IsStage stage past → Stand past (stations_in past) es
     → cond (kept.is_open stage) (kept.measured limits es (blocks.read b)) None ≡ first_of (cond (not (is_absent (found 21 b)) && is_open past) (reading_faults limits past b) [])
 by_stage limits Outside es past b w g h = not_open (not (is_absent (found 21 b))) (is_open past) (reading_faults limits past b) g.1
 by_stage limits (Station name) es past b w g h = not_open (not (is_absent (found 21 b))) (is_open past) (reading_faults limits past b) g.3
@@ -203,5 +203,5 @@ by_stage limits InSet es past b w g h = by (is_absent (found 21 b)) where
 pub same_measurement_fault : (k : kept.Kept) (b : GsiBlock) (past : History) → role_of b ≡ roles.Measurement → StandsFor k.limits k past → kept.fault_as roles.Measurement k b ≡ fault_after k.limits past b
 unfolding fault_after
 same_measurement_fault k b past r h =
-    by_stage k.limits k.stage k.entries past b h.clean h.stage h.entries
+    by_stage k.limits k.stage k.shelf past b h.clean h.stage h.stations
     ∙ sym (λ i. first_of (cond (station_as b roles.Measurement r i) (end_faults past ++ station_faults b) (cond (set_as b roles.Measurement r i) (end_faults past ++ set_faults past b) (cond (close_as b roles.Measurement r i) (end_faults past) (cond (sight_as b roles.Measurement r i && is_open past) (reading_faults k.limits past b) [])))))

@@ -1,9 +1,9 @@
 -- What is kept of a station stands for it after a reading.
-use Rattle.std.proofs.Common.{◌≡◌, ◌≢◌, ℕ, zero, suc, ◌+◌, ◌<◌, ◌≤◌, Bool, true, false, cond, not, ◌&&◌, ◌||◌, List, [], ◌∷◌, ◌++◌, length, map, filter, find, get_or, set, Option, Some, None, AllPairs, refl, sym, ap, ◌∙◌, inl, inr, ◌⊎◌, subst, arith, append-nil}
-use Rattle.std.specs.List.{AllByRecursion, list_any, enumerate_from, filter_map, position}
+use Rattle.std.proofs.Common.{◌≡◌, ◌≢◌, ℕ, zero, suc, ◌+◌, ◌<◌, ◌≤◌, Bool, true, false, cond, not, ◌||◌, List, [], ◌∷◌, ◌++◌, length, map, filter, get_or, set, Option, Some, None, AllPairs, refl, sym, ap, ◌∙◌, inl, inr, ◌⊎◌, arith, append-nil}
+use Rattle.std.specs.List.{AllByRecursion, list_any, enumerate_from, filter_map}
 use Rattle.std.specs.Str.{bytes_eq}
 use Rattle.std.proofs.lemmas.Bool.{cases_Bool, false≢true, cases_eq, cases_lt}
-use Rattle.std.proofs.lemmas.List.{length-append, length-set, ext_get_or, get_or-set_same, get_or-set_other}
+use Rattle.std.proofs.lemmas.List.{length-set, ext_get_or, get_or-set_same, get_or-set_other}
 use Rattle.std.proofs.lemmas.List.Elements.{filter_map-append}
 use Rattle.std.proofs.lemmas.List.Folds.{list_any_at}
 use Rattle.std.proofs.lemmas.List.Quantifiers.{all_pairs_push, position-Some}
@@ -11,14 +11,12 @@ use Rattle.std.proofs.lemmas.Slice.Eq.{bytes_eq-Decides}
 use Rattle.station_book.specs.Sights.{Sight}
 use Rattle.station_book.specs.declared.sight.Sighting.{Sighting}
 use Rattle.station_book.specs.declared.slot.Slot.{Slot}
-use Rattle.adjust_kernel.specs.declared.obs.Obs.{Obs}
-use Rattle.station_book.specs.declared.faces.Faces.{Faces}
 use Rattle.station_book.specs.Slots.{empty_slot, slot_at, with_side, obs_at, obs_of, faces_at, faces_of}
 use Rattle.station_book.specs.Entries.{EntryValue, place_of, with_reading, with_reading_at}
-use Rattle.station_book.specs.Blocks.{target, sight, is_of_face}
-use Rattle.station_book.specs.Places.{Place, opening, before, is_same, is_among, with_new, distinct, reading_in, target_at, stands}
+use Rattle.station_book.specs.Blocks.{is_of_face}
+use Rattle.station_book.specs.Places.{Place, opening, before, is_same, is_among, distinct, reading_in, target_at, stands}
 use Rattle.station_book.specs.Stations.{in_set}
-use Rattle.station_book.specs.Keeps.{sighted, slot_of, slots_of, targets_in, obs_in, faces_in, numbers_in, IsEntryOf}
+use Rattle.station_book.specs.Keeps.{sighted, slot_of, slots_of, targets_in, obs_in, faces_in, IsEntryOf}
 use Rattle.station_book.proofs.CoupleLaws.{found_other, found_here, found_not}
 use Rattle.station_book.proofs.SlotLaws.{enumerate-append}
 use Rattle.station_book.proofs.EntryLaws.{absent_name}

@@ -1,5 +1,5 @@
 -- The tests of a block's first word, and what the code tells a block to be.
-use Rattle.std.proofs.Common.{◌≡◌, ℕ, Bool, true, false, cond, eqb, ◌&&◌, ◌||◌, not, List, [], ◌∷◌, refl, sym, ap, ◌∙◌, inl, inr, ◌⊎◌}
+use Rattle.std.proofs.Common.{◌≡◌, ℕ, Bool, true, false, cond, eqb, ◌&&◌, not, List, [], ◌∷◌, refl, sym, ap, ◌∙◌, inl, inr, ◌⊎◌}
 use Rattle.std.proofs.lemmas.Bool.{cases_Bool, eqb-true, false≢true}
 use Rattle.std.proofs.lemmas.Slice.Eq.{bytes_eq-Decides}
 use Rattle.std.specs.Str.{bytes_eq}
@@ -9,8 +9,8 @@ use Rattle.gsi_word.specs.Blocks.{GsiBlock}
 use Rattle.gsi_word.specs.Names.{name_of}
 use Rattle.station_book.specs.declared.role.Role.{Role}
 use Rattle.station_book.specs.declared.role.Role.TheVariants as roles
-use Rattle.station_book.specs.Roles.{code_role, word_role, role_of, is_station, is_set_code, is_close, is_measurement}
-use Rattle.station_book.specs.Blocks.{begins, has_code, opens_station, opens_set, closes_set, is_sight, is_opening, found, is_absent}
+use Rattle.station_book.specs.Roles.{role_of, is_station, is_set_code, is_close, is_measurement}
+use Rattle.station_book.specs.Blocks.{begins, opens_station, opens_set, closes_set, is_sight, found, is_absent}
 
 -- the role of a block whose first word passes these tests
 abbrev by_tests : Bool → Bool → Bool → Bool → Bool → Role

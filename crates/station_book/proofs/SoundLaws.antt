@@ -1,14 +1,14 @@
 -- What is kept of a station makes a station of the kernel once its last set is closed.
-use Rattle.std.proofs.Common.{◌≡◌, ℕ, zero, suc, ◌+◌, ◌-◌, ◌<◌, ◌≤◌, Bool, true, false, ◌&&◌, ◌||◌, List, [], ◌∷◌, ◌++◌, length, get_or, All, Any, AllPairs, Option, Some, None, is_some, is_none, inl, inr, ◌⊎◌, refl, sym, ap, ◌∙◌, subst, arith}
+use Rattle.std.proofs.Common.{◌≡◌, ℕ, zero, suc, ◌+◌, ◌<◌, ◌≤◌, Bool, true, false, ◌&&◌, ◌||◌, List, [], ◌∷◌, ◌++◌, length, get_or, All, Any, AllPairs, Option, Some, None, is_some, is_none, inl, inr, ◌⊎◌, refl, sym, ap, ◌∙◌, subst, arith}
 use Rattle.std.specs.List.{list_any, list_all, enumerate_from, filter_map, cons_option}
 use Rattle.std.proofs.lemmas.Bool.{cases_Bool, cases_lt}
 use Rattle.std.proofs.lemmas.List.Elements.{All-cons, All-append, All-weaker}
 use Rattle.adjust_kernel.specs.declared.obs.Obs.{Obs}
-use Rattle.adjust_kernel.specs.Stations.{IsObs, IsBefore, AreObs, EachSetObserved}
+use Rattle.adjust_kernel.specs.Stations.{IsObs, IsBefore, AreObs}
 use Rattle.station_book.specs.Sights.{Sight}
 use Rattle.station_book.specs.declared.slot.Slot.{Slot}
 use Rattle.station_book.specs.Pairs.{direction}
-use Rattle.station_book.specs.Slots.{joined, obs_at, obs_of, is_unread, is_single, slot_at, empty_slot}
+use Rattle.station_book.specs.Slots.{joined, obs_at, obs_of, is_unread, is_single, slot_at}
 use Rattle.station_book.specs.Sound.{AreSoFar}
 use Rattle.station_book.proofs.ListLaws.{pairs_cons, pairs_append, any_left, any_right, any_head, any_tail, any_weaker}
 

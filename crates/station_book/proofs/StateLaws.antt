@@ -1,17 +1,11 @@
 -- What a book keeps of its codes 10, 20 and 30, and that it answers for the places before.
-use Rattle.std.proofs.Common.{◌≡◌, ℕ, suc, ◌++◌, Bool, true, false, cond, ◌&&◌, ◌||◌, not, leb, eqb, List, [], ◌∷◌, length, map, Option, Some, None, is_none, refl, sym, ap, ◌∙◌, inl, inr, ◌⊎◌}
+use Rattle.std.proofs.Common.{◌≡◌, ℕ, suc, ◌++◌, Bool, true, false, cond, ◌&&◌, ◌||◌, not, leb, List, [], ◌∷◌, length, map, Option, Some, None, is_none, refl, sym, ap, ◌∙◌, inl, inr, ◌⊎◌}
 use Rattle.std.specs.List.{list_any}
-use Rattle.std.proofs.lemmas.Bool.{and_parts, cases_Bool, false≢true, eq-eqb}
-use Rattle.std.specs.Str.{bytes_eq}
-use Rattle.std.specs.Prelude.{codes}
-use Rattle.std.proofs.lemmas.Slice.Eq.{bytes_eq-Decides}
+use Rattle.std.proofs.lemmas.Bool.{cases_Bool, false≢true, eq-eqb}
 use Rattle.station_book.specs.declared.fault.BookKind.{BookKind}
 use Rattle.station_book.specs.declared.fault.BookKind.TheVariants as kinds
 use Rattle.gsi_word.specs.Blocks.{GsiBlock}
-use Rattle.station_book.specs.Blocks.{opens_station, opens_set, closes_set, is_opening, named, number, has_two, found}
-use Rattle.station_book.specs.declared.role.Role.{Role}
-use Rattle.station_book.specs.declared.role.Role.TheVariants as roles
-use Rattle.station_book.specs.Roles.{role_of, is_station, is_set_code}
+use Rattle.station_book.specs.Blocks.{opens_station, opens_set, closes_set, is_opening, named, number, has_two}
 use Rattle.station_book.specs.Places.{History, Place, places, last, before, is_same, is_set, is_open, station, first_sets, is_empty}
 use Rattle.station_book.specs.Faults.{open_sets, had_sets, same_name, same_number, has_set_number, faults, fault_after, set_faults, end_faults, IsWithoutFault, when, first_of, name_at}
 use Rattle.station_book.specs.Limits.{FaceLimits}

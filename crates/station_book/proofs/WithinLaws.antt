@@ -1,12 +1,10 @@
 -- In a file without fault the two readings of a target in a set are within the limits.
-use Rattle.std.proofs.Common.{◌≡◌, ℕ, ◌<◌, Bool, true, false, cond, eqb, leb, ◌&&◌, not, List, [], ◌∷◌, length, filter, Option, Some, None, Result, Ok, Err, refl, sym, ap, subst, ◌∙◌, inl, inr, ◌⊎◌, arith}
+use Rattle.std.proofs.Common.{◌≡◌, ℕ, ◌<◌, Bool, true, false, cond, eqb, leb, ◌&&◌, not, List, [], ◌∷◌, length, filter, Option, Some, None, Ok, Err, refl, sym, ap, subst, ◌∙◌, arith}
 use Rattle.std.specs.Str.{bytes_eq}
-use Rattle.std.proofs.lemmas.Bool.{cases_Bool, and_parts, eqb-true, leb-true, false≢true}
+use Rattle.std.proofs.lemmas.Bool.{and_parts, eqb-true, leb-true, false≢true}
 use Rattle.std.proofs.lemmas.Slice.Eq.{bytes_eq-Decides}
-use Rattle.gsi_word.specs.Words.{GsiWord}
 use Rattle.gsi_word.specs.Blocks.{GsiBlock}
 use Rattle.gsi_word.specs.Angles.{is_gon, is_input_mode, decimal_number, angle_within_turn, last_unit}
-use Rattle.gsi_word.specs.declared.angle.AngleFault.{AngleFault}
 use Rattle.gsi_word.specs.declared.angle.AngleFault.TheVariants as angle_faults
 use Rattle.gsi_word.specs.declared.found.Found.{Found}
 use Rattle.gsi_word.specs.declared.found.Found.TheVariants.{Absent, One, Twice}
@@ -14,8 +12,8 @@ use Rattle.std.specs.Prelude.{slice_index}
 use Rattle.station_book.specs.declared.fault.BookKind.TheVariants as kinds
 use Rattle.station_book.specs.Limits.{FaceLimits}
 use Rattle.station_book.specs.Sights.{Sight, AreOnCircle}
-use Rattle.station_book.specs.Blocks.{found, angle_found, angle_or_zero, sight, target, is_of_face, is_sight, is_opening}
-use Rattle.station_book.specs.Places.{History, Place, places, last, before, station, opening, is_same, is_open, is_reading, reading_in, station_readings, target_at, stands}
+use Rattle.station_book.specs.Blocks.{found, angle_found, angle_or_zero, sight, target, is_of_face, is_sight}
+use Rattle.station_book.specs.Places.{History, Place, places, before, station, opening, is_same, is_open, is_reading, reading_in, station_readings, target_at, stands}
 use Rattle.station_book.specs.Faults.{face, by_faces, is_beyond, has_no_two_c, has_no_two_i, reading_faults, open_readings, first_of, sight_at, fault_after, IsWithoutFault}
 use Rattle.station_book.specs.Stations.{in_set}
 use Rattle.station_book.proofs.FaceLaws.{one_face}
