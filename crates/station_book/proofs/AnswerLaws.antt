@@ -61,11 +61,13 @@ module _ (limits : FaceLimits) where
   one_compared : (s n : ℕ) (o p : Option Place) (cs : List Couple) (fs : List Faces) → Beside o p → AllZip (HasFaces limits) cs fs
       → AllZip (HasFaces limits) (cons_option (joined s n o p) cs) (cons_option (slots.compared (sighted o) (sighted p)) fs)
   one_compared s n (Some a) (Some b) cs fs w h =
-      let within = w a b refl refl in
-      (record {
-        two_c = computed_two_c limits.two_c (sight_at a) (sight_at b) (place_on_circle a) (place_on_circle b) within.two_c;
-        two_i = computed_two_i limits.two_i (sight_at a) (sight_at b) within.two_i;
-      }, h)
+      let within = w a b refl refl in (
+        record {
+          two_c = computed_two_c limits.two_c (sight_at a) (sight_at b) (place_on_circle a) (place_on_circle b) within.two_c;
+          two_i = computed_two_i limits.two_i (sight_at a) (sight_at b) within.two_i;
+        },
+        h,
+      )
   one_compared s n (Some a) None cs fs w h = h
   one_compared s n None p cs fs w h = h
 

@@ -13,7 +13,7 @@ use Rattle.station_book.specs.Limits.{FaceLimits}
 use Rattle.station_book.specs.Roles.{role_of}
 use Rattle.station_book.specs.Kept as kept
 use Rattle.station_book.specs.Refusals.{ExplainsFault, WantsOnlyAt}
-use Rattle.station_book.specs.Blocks.{opens_set, found, is_absent}
+use Rattle.station_book.specs.Blocks.{opens_set, lacks}
 use Rattle.station_book.specs.Places.{History, is_open, is_reading}
 use Rattle.station_book.specs.Faults.{fault_after}
 use Rattle.station_book.specs.Keeps.{IsStage}
@@ -51,7 +51,7 @@ may_grow limits k b past h = by (role_of b) refl where
   by roles.Set e t = inl (set_as b roles.Set e)
   by roles.Close e t = absurd (false≢true t)
   by roles.Measurement e t =
-      let p = and_parts (kept.is_open k.stage) (not (is_absent (found 21 b))) t in
+      let p = and_parts (kept.is_open k.stage) (not (lacks 21 b)) t in
       let now = open_stage k.stage past h.stage p.0 in
       inr (λ i. (sight_as b roles.Measurement e ∙ p.1) i && now i)
   by roles.Other e t = absurd (false≢true t)

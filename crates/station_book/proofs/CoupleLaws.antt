@@ -1,48 +1,19 @@
--- The couples of a set, from what a book keeps of it.
-use Rattle.std.proofs.Common.{◌≡◌, ℕ, zero, suc, ◌+◌, ◌≤◌, Bool, true, false, cond, ◌&&◌, List, [], ◌∷◌, ◌++◌, length, map, filter, Option, Some, None, set, refl, sym, ap, ◌∙◌, inl, inr, ◌⊎◌, arith}
-use Rattle.std.specs.List.{enumerate_from, filter_map, cons_option, slice_get}
+-- Which reading of a target is found among those of a set, and which readings are of the open set.
+use Rattle.std.proofs.Common.{◌≡◌, ℕ, ◌≤◌, Bool, true, false, cond, ◌&&◌, List, [], ◌∷◌, length, filter, Some, refl, sym, ap, ◌∙◌, inl, inr, ◌⊎◌, arith}
 use Rattle.std.specs.Str.{bytes_eq}
 use Rattle.std.proofs.lemmas.Bool.{cases_Bool, and_from, eq-eqb, ne_eqb}
 use Rattle.station_book.specs.Blocks.{is_of_face, opens_station, is_opening}
 use Rattle.station_book.specs.Places.{History, Place, places, last, before, reading_in, is_same, is_reading, opening, station, station_readings, target_at, stands}
 use Rattle.station_book.specs.Faults.{open_readings}
-use Rattle.station_book.specs.Stations.{Couple, joined, in_set}
-use Rattle.station_book.proofs.FaceLaws.{Slot, slot, slots}
+use Rattle.station_book.specs.Stations.{in_set}
 use Rattle.station_book.proofs.PlaceLaws.{length-last, belonging-more, belonging-same}
 use Rattle.station_book.proofs.StepLaws.{readings-opening, readings-more, readings-other, sight_opens_no_station}
-
--- the couples of the slots that have both readings
-abbrev pub joined_slot : ℕ → ℕ × Slot → Option Couple
-joined_slot s t = joined s t.0 t.1.first t.1.second
-
-pub couples_by_slots : (s n : ℕ) (targets : List (List ℕ)) (rs : List Place) →
-    filter_map (λ t. joined s t.0 (reading_in false t.1 rs) (reading_in true t.1 rs)) (enumerate_from n targets) ≡ filter_map (joined_slot s) (enumerate_from n (slots targets rs))
-couples_by_slots s n [] rs = refl
-couples_by_slots s n (t ∷ ts) rs = ap (cons_option (joined s n (reading_in false t rs) (reading_in true t rs))) (couples_by_slots s (n + 1) ts rs)
-
-no_couple : (s n : ℕ) (a b : Option Place) → a ≡ None → joined s n a b ≡ None
-no_couple s n None b e = refl
-no_couple s n (Some a) b e = cc
-
--- a target with no reading in the set adds no couple
-pub couples_new_target : (s n : ℕ) (targets : List (List ℕ)) (name : List ℕ) (rs : List Place) → reading_in false name rs ≡ None →
-    filter_map (λ t. joined s t.0 (reading_in false t.1 rs) (reading_in true t.1 rs)) (enumerate_from n (targets ++ name ∷ []))
-    ≡ filter_map (λ t. joined s t.0 (reading_in false t.1 rs) (reading_in true t.1 rs)) (enumerate_from n targets)
-couples_new_target s n [] name rs e = ap (λ o. cons_option o []) (no_couple s n (reading_in false name rs) (reading_in true name rs) e)
-couples_new_target s n (t ∷ ts) name rs e = ap (cons_option (joined s n (reading_in false t rs) (reading_in true t rs))) (couples_new_target s (n + 1) ts name rs e)
 
 -- what a reading does to the slots: nothing at other targets
 pub found_other : (f : Bool) (r : Place) (name : List ℕ) (rs : List Place) → bytes_eq (target_at r) name ≡ false → reading_in f name (r ∷ rs) ≡ reading_in f name rs
 found_other f r name rs e = ap (λ v. cond (v && stands (is_of_face f) r) (Some r) (reading_in f name rs)) e
 
-pub slot-other : (r : Place) (name : List ℕ) (rs : List Place) → bytes_eq (target_at r) name ≡ false → slot (r ∷ rs) name ≡ slot rs name
-slot-other r name rs e = λ i. record { first = found_other false r name rs e i; second = found_other true r name rs e i }
-
--- and at its own target it takes its face's side
-abbrev pub with_reading : Bool → Place → Slot → Slot
-with_reading false r s = record s { first = Some r }
-with_reading true r s = record s { second = Some r }
-
+-- and at its own target it is found
 pub found_here : (f : Bool) (r : Place) (name : List ℕ) (rs : List Place) → bytes_eq (target_at r) name ≡ true → stands (is_of_face f) r ≡ true → reading_in f name (r ∷ rs) ≡ Some r
 found_here f r name rs e g = ap (λ v. cond v (Some r) (reading_in f name rs)) (and_from _ _ e g)
 
@@ -51,35 +22,6 @@ found_not f r name rs g = ap (λ v. cond v (Some r) (reading_in f name rs)) (rig
   right : (a b : Bool) → b ≡ false → (a && b) ≡ false
   right true b h = h
   right false b h = refl
-
-pub slot-first : (r : Place) (name : List ℕ) (rs : List Place) → bytes_eq (target_at r) name ≡ true → stands (is_of_face false) r ≡ true → stands (is_of_face true) r ≡ false
-    → slot (r ∷ rs) name ≡ with_reading false r (slot rs name)
-slot-first r name rs e f g = λ i. record { first = found_here false r name rs e f i; second = found_not true r name rs g i }
-
-pub slot-second : (r : Place) (name : List ℕ) (rs : List Place) → bytes_eq (target_at r) name ≡ true → stands (is_of_face true) r ≡ true → stands (is_of_face false) r ≡ false
-    → slot (r ∷ rs) name ≡ with_reading true r (slot rs name)
-slot-second r name rs e f g = λ i. record { first = found_not false r name rs g i; second = found_here true r name rs e f i }
-
--- the slots after a reading of the target at place j, no other target having this name
-pub slots-more : (targets : List (List ℕ)) (j : ℕ) (r : Place) (rs : List Place) (new : Slot) → slice_get (map (λ name. bytes_eq (target_at r) name) targets) j ≡ Some true
-    → ((k : ℕ) → (k ≡ j → ⊥) → slice_get (map (λ name. bytes_eq (target_at r) name) targets) k ≡ Some true → ⊥)
-    → ((name : List ℕ) → bytes_eq (target_at r) name ≡ true → slot (r ∷ rs) name ≡ new)
-    → slots targets (r ∷ rs) ≡ set (slots targets rs) j new
-slots-more [] j r rs new e once h = refl
-slots-more (t ∷ ts) zero r rs new e once h = let q : bytes_eq (target_at r) t ≡ true = cc in λ i. h t q i ∷ others ts (λ k g. once (suc k) (λ z. absurd (omega (arith, z))) g) i where
-  others : (ts : List (List ℕ)) → ((k : ℕ) → slice_get (map (λ name. bytes_eq (target_at r) name) ts) k ≡ Some true → ⊥) → slots ts (r ∷ rs) ≡ slots ts rs
-  others [] none = refl
-  others (t ∷ ts) none = let q : bytes_eq (target_at r) t ≡ false = no (bytes_eq (target_at r) t) (λ b. none 0 (ap Some b)) in λ i. slot-other r t rs q i ∷ others ts (λ k g. none (suc k) g) i where
-    no : (b : Bool) → (b ≡ true → ⊥) → b ≡ false
-    no true h = absurd (h refl)
-    no false h = refl
-slots-more (t ∷ ts) (suc j) r rs new e once h =
-    let q : bytes_eq (target_at r) t ≡ false = no (bytes_eq (target_at r) t) (λ b. once 0 (λ z. absurd (omega (arith, z))) (ap Some b)) in
-    λ i. slot-other r t rs q i ∷ slots-more ts j r rs new e (λ k z g. once (suc k) (λ y. z (omega (arith, y))) g) h i
-  where
-    no : (b : Bool) → (b ≡ true → ⊥) → b ≡ false
-    no true h = absurd (h refl)
-    no false h = refl
 
 keep : {X : Type 0} (test : X → Bool) (x : X) (xs : List X) → test x ≡ true → filter test (x ∷ xs) ≡ x ∷ filter test xs
 keep test x xs e = ap (λ v. cond v (x ∷ filter test xs) (filter test xs)) e

@@ -1,15 +1,13 @@
 -- The fault of a block by what is kept is its fault by the blocks before it: codes 10 and 30, other codes, and a
 -- measurement outside a set.
 use Rattle.std.proofs.Common.{◌≡◌, cond, ◌&&◌, List, [], ◌∷◌, ◌++◌, Option, Some, None, refl, sym, ◌∙◌}
-use Rattle.station_book.specs.declared.fault.BookKind.TheVariants as kinds
 use Rattle.station_book.specs.declared.role.Role.TheVariants as roles
-use Rattle.station_book.specs.Faults.{when, first_of, end_faults, station_faults, set_faults, reading_faults, fault_after, fault_at_end}
+use Rattle.station_book.specs.Faults.{first_of, end_faults, station_faults, set_faults, reading_faults, fault_after, fault_at_end}
 use Rattle.station_book.specs.Kept.{then_fault}
 use Rattle.station_book.specs.Roles.{role_of}
-use Rattle.station_book.specs.Readings as blocks
 use Rattle.station_book.specs.Kept as kept
 use Rattle.gsi_word.specs.Blocks.{GsiBlock}
-use Rattle.station_book.specs.Blocks.{has_two, lacks, opens_set, closes_set, is_sight, found, is_absent, is_twice}
+use Rattle.station_book.specs.Blocks.{opens_set, closes_set, is_sight}
 use Rattle.station_book.specs.Places.{History, is_open}
 use Rattle.station_book.specs.Standing.{StandsFor}
 use Rattle.station_book.proofs.TakeLaws.{station_as, set_as, close_as, sight_as}
@@ -20,22 +18,11 @@ first_append [] ys = refl
 first_append (None ∷ xs) ys = first_append xs ys
 first_append (Some x ∷ xs) ys = refl
 
-pub two_as : (b : GsiBlock) → has_two 42 b ≡ is_twice (found 42 b)
-unfolding has_two
-two_as b = refl
-
-lacks_as : (b : GsiBlock) → lacks 42 b ≡ is_absent (found 42 b)
-unfolding lacks
-lacks_as b = refl
-
-station_same : (b : GsiBlock) → first_of (station_faults b) ≡ first_of (blocks.station_faults b)
-station_same b = (λ i. first_of (when (two_as b i) (kinds.WordTwice 42) ∷ when (lacks_as b i) kinds.StationName ∷ []))
-
 -- code 10
 pub same_station_fault : (k : kept.Kept) (b : GsiBlock) (past : History) → role_of b ≡ roles.Station → StandsFor k.limits k past → kept.fault_as roles.Station k b ≡ fault_after k.limits past b
 unfolding fault_after fault_at_end
 same_station_fault k b past r h =
-    (λ i. then_fault (same_end k past h i) (sym (station_same b) i)) ∙ sym (first_append (end_faults past) (station_faults b))
+    (λ i. then_fault (same_end k past h i) (first_of (station_faults b))) ∙ sym (first_append (end_faults past) (station_faults b))
     ∙ (λ i. first_of (cond (sym (station_as b roles.Station r) i) (end_faults past ++ station_faults b) (cond (opens_set b) (end_faults past ++ set_faults past b) (cond (closes_set b) (end_faults past) (cond (is_sight b && is_open past) (reading_faults k.limits past b) [])))))
 
 -- code 30

@@ -1,5 +1,5 @@
 -- No two stations of a file without fault have one name.
-use Rattle.std.proofs.Common.{◌≡◌, ◌≢◌, ◌↔◌, ℕ, zero, suc, arith, Bool, true, false, cond, ◌&&◌, List, [], ◌∷◌, ◌++◌, map, reverse, Some, None, is_none, refl, sym, ap, ◌∙◌, inl, inr, ◌⊎◌, subst}
+use Rattle.std.proofs.Common.{◌≡◌, ◌≢◌, ◌↔◌, ℕ, arith, Bool, true, false, cond, ◌&&◌, List, [], ◌∷◌, ◌++◌, map, reverse, Some, refl, sym, ap, ◌∙◌, inl, inr, ◌⊎◌, subst}
 use Rattle.std.specs.Str.{bytes_eq}
 use Rattle.std.specs.List.{list_any, AllByRecursion, AllZip, AllPairs, Contains}
 use Rattle.std.proofs.lemmas.List.Elements.{All-from_recursion}
@@ -8,42 +8,15 @@ use Rattle.std.proofs.lemmas.Bool.{cases_Bool, and_from, and_left, and_right, or
 use Rattle.std.proofs.lemmas.List.{map-append, reverse-append}
 use Rattle.std.proofs.lemmas.Slice.Eq.{bytes_eq-Decides}
 use Rattle.gsi_word.specs.Blocks.{GsiBlock}
-use Rattle.station_book.specs.declared.fault.BookKind.TheVariants as kinds
 use Rattle.station_book.specs.Limits.{FaceLimits}
-use Rattle.station_book.specs.Blocks.{opens_station, opens_set, number}
+use Rattle.station_book.specs.Blocks.{opens_set}
 use Rattle.station_book.specs.Places.{History, Place, before, station, is_empty, first_sets}
-use Rattle.station_book.specs.Faults.{open_sets, had_sets, same_name, name_at, end_faults, set_faults, faults, fault_after, first_of, IsWithoutFault}
+use Rattle.station_book.specs.Faults.{open_sets, same_name, name_at, IsWithoutFault}
 use Rattle.station_book.specs.Stations.{SurveyedStation, IsSurveyed, AreStations, stations_of, station_named}
-use Rattle.station_book.proofs.CodeLaws.{no_station_at_set}
 use Rattle.station_book.proofs.Membership.{In, all_in, find_some}
-use Rattle.station_book.proofs.KeptLaws.{none_stands, none_when}
+use Rattle.station_book.proofs.Elements.{in_contains, contains_in}
+use Rattle.station_book.proofs.CleanLaws.{clean_set}
 use Rattle.station_book.proofs.StationLaws.{had_sets_by_names}
-
-second : {X : Type 0} (x y : Bool) (whole a b c : X) → whole ≡ cond x a (cond y b c)
-    → x ≡ false → y ≡ true → whole ≡ b
-second true y whole a b c w f g = cc
-second false true whole a b c w f g = w
-second false false whole a b c w f g = cc
-
--- What the tests of a set without fault say.
-pub record IsCleanSet (past : History) (b : GsiBlock) : Type 0 where
-  pub of_station : is_empty (station past) ≡ false
-  pub numbered : is_none (number b) ≡ false
-  pub first_time : had_sets past ≡ false
-
-pub clean_set : (limits : FaceLimits) (past : History) (b : GsiBlock) → opens_set b ≡ true
-    → fault_after limits past b ≡ None → IsCleanSet past b
-unfolding fault_after
-clean_set limits past b e clean =
-    let whole : faults limits past b ≡ end_faults past ++ set_faults past b =
-        second (opens_station b) (opens_set b) (faults limits past b) _ _ _ refl
-        (no_station_at_set b e) e in
-    let none = (none_stands (end_faults past ++ set_faults past b) (sym (ap first_of whole) ∙ clean)).1.1.1 in
-    record {
-      of_station = none_when (is_empty (station past)) kinds.SetOutside none.0;
-      numbered = none_when (is_none (number b)) kinds.SetNumber none.1.0;
-      first_time = none_when (had_sets past) kinds.StationTwice none.1.1.0;
-    }
 
 module _ {X : Type 0} where
   -- R holds of each element and each later one
@@ -109,8 +82,8 @@ apart limits (b ∷ past) clean =
     split older (inl s) (inl n) =
         let c = clean_set limits past b s clean.0 in
         let others =
-            each_false (λ s. same_name (name_at (station (before s))) (name_at (station past))) (first_sets past)
-            (sym (had_sets_by_names past (empty_list (open_sets past) n)) ∙ c.first_time) in
+        each_false (λ s. same_name (name_at (station (before s))) (name_at (station past))) (first_sets past)
+        (sym (had_sets_by_names past (empty_list (open_sets past) n)) ∙ c.first_time) in
         subst (Pairwise AreApart) (sym (more_stations true b past (and_from (opens_set b) _ s n)))
         (pairwise_snoc AreApart (stations_of past) (station past) older
         (all_map (λ st. AreApart st (station past)) (λ s. station (before s)) (reverse (first_sets past))
@@ -183,16 +156,6 @@ named_only name s (x ∷ xs) pairs listed e =
         ((bytes_eq-Decides x.station.name name).0 t ∙ sym e))
     split rest (inr later) (inr f) =
         ap (λ v. cond v (Some x) (station_named name xs)) f ∙ rest later e
-
-pub in_contains : {X : Type 0} (x : X) (xs : List X) → Contains xs x → In x xs
-in_contains x [] c = absurd (let lt = c.1 in omega arith)
-in_contains x (y ∷ ys) (zero, lt, e) = inl (sym e)
-in_contains x (y ∷ ys) (suc k, lt, e) = inr (in_contains x ys (k, omega arith, e))
-
-pub contains_in : {X : Type 0} (x : X) (xs : List X) → In x xs → Contains xs x
-contains_in x [] listed = absurd listed
-contains_in x (y ∷ ys) (inl e) = (0, omega arith, sym e)
-contains_in x (y ∷ ys) (inr later) = let c = contains_in x ys later in (suc c.0, (let lt = c.1 in omega arith), c.2)
 
 pub its_station : (limits : FaceLimits) (h : History) (stations : List SurveyedStation) (name : List ℕ) (s : SurveyedStation)
     → IsWithoutFault limits h → AreStations limits h stations

@@ -74,16 +74,20 @@ two_i_missing limits a b = (no_two_i limits.two_i a b, back (cases_Bool (has_no_
 -- twice the direction of face I and 2c, on the circle of half units
 pub a_two_face : (limit : ℕ) → limit ≤ 1_000_000 → (a b : Sight) (d : ℤ) → IsTwoC limit a b d → (p : ℕ) × IsTwoFace limit a b p
 a_two_face limit small a b (pos n) t =
-    let e = t.congruent.equal in let l = t.within.low in let h = t.within.high in
-    ((2 * a.hz + n) % 80_000_000, record {
-      below = omega arith;
-      congruent = record { turns = t.congruent.turns -ℤ pos (2 * ((2 * a.hz + n) / 80_000_000)); equal = omega (arith, ints) };
-      near = record { turns = pos 0 -ℤ pos ((2 * a.hz + n) / 80_000_000); within = record { low = omega (arith, ints); high = omega (arith, ints) } };
-    })
+    let e = t.congruent.equal in let l = t.within.low in let h = t.within.high in (
+      (2 * a.hz + n) % 80_000_000,
+      record {
+        below = omega arith;
+        congruent = record { turns = t.congruent.turns -ℤ pos (2 * ((2 * a.hz + n) / 80_000_000)); equal = omega (arith, ints) };
+        near = record { turns = pos 0 -ℤ pos ((2 * a.hz + n) / 80_000_000); within = record { low = omega (arith, ints); high = omega (arith, ints) } };
+      },
+    )
 a_two_face limit small a b (negsuc n) t =
-    let e = t.congruent.equal in let l = t.within.low in let h = t.within.high in
-    (((2 * a.hz + 79_999_999) - n) % 80_000_000, record {
-      below = omega arith;
-      congruent = record { turns = (t.congruent.turns +ℤ pos 2) -ℤ pos (2 * (((2 * a.hz + 79_999_999) - n) / 80_000_000)); equal = omega (arith, ints) };
-      near = record { turns = pos 1 -ℤ pos (((2 * a.hz + 79_999_999) - n) / 80_000_000); within = record { low = omega (arith, ints); high = omega (arith, ints) } };
-    })
+    let e = t.congruent.equal in let l = t.within.low in let h = t.within.high in (
+      ((2 * a.hz + 79_999_999) - n) % 80_000_000,
+      record {
+        below = omega arith;
+        congruent = record { turns = (t.congruent.turns +ℤ pos 2) -ℤ pos (2 * (((2 * a.hz + 79_999_999) - n) / 80_000_000)); equal = omega (arith, ints) };
+        near = record { turns = pos 1 -ℤ pos (((2 * a.hz + 79_999_999) - n) / 80_000_000); within = record { low = omega (arith, ints); high = omega (arith, ints) } };
+      },
+    )

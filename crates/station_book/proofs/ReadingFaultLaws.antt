@@ -17,14 +17,14 @@ use Rattle.station_book.specs.declared.stage.Stage.TheVariants.{Outside, Station
 use Rattle.station_book.specs.Faults.{when, first_of, has_no_two_c, has_no_two_i, open_readings, face, by_faces, end_faults, station_faults, set_faults, reading_faults, fault_after, IsWithoutFault}
 use Rattle.station_book.specs.Kept.{then_fault}
 use Rattle.station_book.specs.Roles.{role_of}
-use Rattle.station_book.specs.Readings as blocks
+use Rattle.station_book.specs.Readings as said
 use Rattle.station_book.specs.Slots.{side, is_apart, slot_at}
 use Rattle.station_book.specs.Entries as entries
 use Rattle.station_book.specs.Entries.{EntryValue, place_of}
 use Rattle.station_book.specs.Shelves.{ShelfValue, last_of}
 use Rattle.station_book.specs.Kept as kept
 use Rattle.gsi_word.specs.Blocks.{GsiBlock}
-use Rattle.station_book.specs.Blocks.{has_two, lacks, angle_fault, is_of_face, sight, target, found, is_absent, is_twice}
+use Rattle.station_book.specs.Blocks.{has_two, lacks, angle_fault, is_of_face, sight, target}
 use Rattle.station_book.specs.Places.{History, Place, is_among, is_open, reading_in}
 use Rattle.station_book.specs.Keeps.{sighted, slot_of, slots_of, Stand, IsStage, stations_in}
 use Rattle.station_book.specs.Standing.{StandsFor}
@@ -34,7 +34,7 @@ use Rattle.station_book.proofs.FaceLaws.{IsKept, one_face, unseen}
 use Rattle.station_book.proofs.KeptLaws.{open_kept}
 use Rattle.station_book.proofs.ReadingLaws.{slot_get}
 use Rattle.station_book.proofs.StandLaws.{open_has_set}
-use Rattle.station_book.proofs.TakeLaws.{station_as, set_as, close_as, sight_as, first_face, second_face, target_as, sight_is_as}
+use Rattle.station_book.proofs.TakeLaws.{station_as, set_as, close_as, sight_as, first_face, second_face}
 use Rattle.station_book.proofs.EndLaws.{slots_kept, some_sighted}
 use Rattle.station_book.proofs.FaultLaws.{first_append}
 use Rattle.station_book.proofs.SetFaultLaws.{open_entry}
@@ -71,42 +71,30 @@ two_faces true s = refl
 two_faces false true = refl
 two_faces false false = refl
 
-unclear_as : (b : GsiBlock) → not (is_of_face false b || is_of_face true b) ≡ is_none (blocks.face_of (blocks.angle 22 b))
+unclear_as : (b : GsiBlock) → not (is_of_face false b || is_of_face true b) ≡ is_none (said.face_of ((sight b).zenith))
 unclear_as b =
     (λ i. not (first_face b i || second_face b i))
-    ∙ two_faces (ltb 0 (blocks.angle 22 b) && ltb (blocks.angle 22 b) 20_000_000) (ltb 20_000_000 (blocks.angle 22 b) && ltb (blocks.angle 22 b) 40_000_000)
+    ∙ two_faces (ltb 0 ((sight b).zenith) && ltb ((sight b).zenith) 20_000_000) (ltb 20_000_000 ((sight b).zenith) && ltb ((sight b).zenith) 40_000_000)
 
-pub twice_as : (index : ℕ) (b : GsiBlock) → has_two index b ≡ is_twice (found index b)
-unfolding has_two
-twice_as index b = refl
-
-lacks_as : (index : ℕ) (b : GsiBlock) → lacks index b ≡ is_absent (found index b)
-unfolding lacks
-lacks_as index b = refl
-
-angle_as : (index : ℕ) (b : GsiBlock) → angle_fault index b ≡ blocks.angle_fault index b
-unfolding angle_fault
-angle_as index b = refl
-
-own_same : (b : GsiBlock) → own_faults b ≡ blocks.sighting_faults b
+own_same : (b : GsiBlock) → own_faults b ≡ said.sighting_faults b
 own_same b = λ i.
-    when (twice_as 21 b i) (kinds.WordTwice 21)
-    ∷ when (twice_as 22 b i) (kinds.WordTwice 22)
-    ∷ when (lacks_as 22 b i) kinds.NoZenith
-    ∷ option_map kinds.Hz (angle_as 21 b i)
-    ∷ option_map kinds.Zenith (angle_as 22 b i)
+    when (has_two 21 b) (kinds.WordTwice 21)
+    ∷ when (has_two 22 b) (kinds.WordTwice 22)
+    ∷ when (lacks 22 b) kinds.NoZenith
+    ∷ option_map kinds.Hz (angle_fault 21 b)
+    ∷ option_map kinds.Zenith (angle_fault 22 b)
     ∷ when (unclear_as b i) kinds.FaceUnclear
     ∷ []
 
 -- the face that is read is the face of the block
-second_of : (f s : Bool) → (f ≡ true → s ≡ false) → blocks.is_second (cond f (Some false) (cond s (Some true) None)) ≡ s
+second_of : (f s : Bool) → (f ≡ true → s ≡ false) → said.is_second (cond f (Some false) (cond s (Some true) None)) ≡ s
 second_of true s one = sym (one refl)
 second_of false true one = refl
 second_of false false one = refl
 
-face_as : (b : GsiBlock) → blocks.is_second (blocks.face_of (blocks.angle 22 b)) ≡ face b
+face_as : (b : GsiBlock) → said.is_second (said.face_of ((sight b).zenith)) ≡ face b
 face_as b =
-    second_of (ltb 0 (blocks.angle 22 b) && ltb (blocks.angle 22 b) 20_000_000) (ltb 20_000_000 (blocks.angle 22 b) && ltb (blocks.angle 22 b) 40_000_000)
+    second_of (ltb 0 ((sight b).zenith) && ltb ((sight b).zenith) 20_000_000) (ltb 20_000_000 ((sight b).zenith) && ltb ((sight b).zenith) 40_000_000)
     (λ e. sym (second_face b) ∙ one_face b (first_face b ∙ e))
     ∙ sym (second_face b)
 
@@ -114,8 +102,8 @@ face_as b =
 abbrev reading_of : GsiBlock → Sighting
 reading_of b = record { target = target b; sight = sight b; is_second = face b }
 
-sighting_as : (b : GsiBlock) → blocks.sighting b ≡ reading_of b
-sighting_as b = λ i. record { target = sym (target_as b) i; sight = sym (sight_is_as b) i; is_second = face_as b i }
+sighting_as : (b : GsiBlock) → said.sighting b ≡ reading_of b
+sighting_as b = λ i. record { target = target b; sight = sight b; is_second = face_as b i }
 
 side_sighted : (f : Bool) (rs : List Place) (name : List ℕ) → side f (slot_of rs name) ≡ sighted (reading_in f name rs)
 side_sighted false rs name = refl
@@ -166,21 +154,21 @@ same_later limits targets rs b e kept ts ss = split (place_of (target b) e.targe
 
 -- the same, in the open set
 same_later_open : (limits : FaceLimits) (es : ShelfValue) (past : History) (b : GsiBlock) → IsWithoutFault limits past → is_open past ≡ true → Stand past (stations_in past) es
-    → first_of (entries.reading_faults limits (last_of es) (blocks.sighting b)) ≡ first_of (later_faults limits (open_targets past) (open_readings past) b)
+    → first_of (entries.reading_faults limits (last_of es) (said.sighting b)) ≡ first_of (later_faults limits (open_targets past) (open_readings past) b)
 same_later_open limits es past b w now h =
     let e = open_entry es past (open_has_set past now) h in
     ap (λ s. first_of (entries.reading_faults limits (last_of es) s)) (sighting_as b)
     ∙ same_later limits (open_targets past) (open_readings past) b (last_of es) (open_kept limits past w) e.is.targets (slots_kept es past now h)
 
-measured_parts : (limits : FaceLimits) (es : ShelfValue) (o : Option BookKind) (s : Sighting) → kept.measured limits es (blocks.unless_fault o s) ≡ then_fault o (first_of (entries.reading_faults limits (last_of es) s))
+measured_parts : (limits : FaceLimits) (es : ShelfValue) (o : Option BookKind) (s : Sighting) → kept.measured limits es (said.unless_fault o s) ≡ then_fault o (first_of (entries.reading_faults limits (last_of es) s))
 measured_parts limits es None s = refl
 measured_parts limits es (Some k) s = refl
 
 -- a reading in the open set
 same_measured : (limits : FaceLimits) (es : ShelfValue) (past : History) (b : GsiBlock) → IsWithoutFault limits past → is_open past ≡ true → Stand past (stations_in past) es
-    → kept.measured limits es (blocks.unless_fault (first_of (blocks.sighting_faults b)) (blocks.sighting b)) ≡ first_of (reading_faults limits past b)
+    → kept.measured limits es (said.unless_fault (first_of (said.sighting_faults b)) (said.sighting b)) ≡ first_of (reading_faults limits past b)
 same_measured limits es past b w now h =
-    measured_parts limits es (first_of (blocks.sighting_faults b)) (blocks.sighting b)
+    measured_parts limits es (first_of (said.sighting_faults b)) (said.sighting b)
     ∙ (λ i. then_fault (first_of (sym (own_same b) i)) (same_later_open limits es past b w now h i))
     ∙ sym (first_append (own_faults b) (later_faults limits (open_targets past) (open_readings past) b))
 
@@ -190,12 +178,12 @@ not_open false now os e = refl
 
 -- a measurement, by where it stands
 by_stage : (limits : FaceLimits) (stage : Stage) (es : ShelfValue) (past : History) (b : GsiBlock) → IsWithoutFault limits past → IsStage stage past → Stand past (stations_in past) es
-    → cond (kept.is_open stage) (kept.measured limits es (blocks.read b)) None ≡ first_of (cond (not (is_absent (found 21 b)) && is_open past) (reading_faults limits past b) [])
-by_stage limits Outside es past b w g h = not_open (not (is_absent (found 21 b))) (is_open past) (reading_faults limits past b) g.1
-by_stage limits (Station name) es past b w g h = not_open (not (is_absent (found 21 b))) (is_open past) (reading_faults limits past b) g.3
-by_stage limits BetweenSets es past b w g h = not_open (not (is_absent (found 21 b))) (is_open past) (reading_faults limits past b) g.1
-by_stage limits InSet es past b w g h = by (is_absent (found 21 b)) where
-  by : (none : Bool) → kept.measured limits es (cond none (Ok None) (blocks.unless_fault (first_of (blocks.sighting_faults b)) (blocks.sighting b))) ≡ first_of (cond (not none && is_open past) (reading_faults limits past b) [])
+    → cond (kept.is_open stage) (kept.measured limits es (said.read b)) None ≡ first_of (cond (not (lacks 21 b) && is_open past) (reading_faults limits past b) [])
+by_stage limits Outside es past b w g h = not_open (not (lacks 21 b)) (is_open past) (reading_faults limits past b) g.1
+by_stage limits (Station name) es past b w g h = not_open (not (lacks 21 b)) (is_open past) (reading_faults limits past b) g.3
+by_stage limits BetweenSets es past b w g h = not_open (not (lacks 21 b)) (is_open past) (reading_faults limits past b) g.1
+by_stage limits InSet es past b w g h = by (lacks 21 b) where
+  by : (none : Bool) → kept.measured limits es (cond none (Ok None) (said.unless_fault (first_of (said.sighting_faults b)) (said.sighting b))) ≡ first_of (cond (not none && is_open past) (reading_faults limits past b) [])
   by true = refl
   by false = same_measured limits es past b w g h ∙ sym (ap (λ v. first_of (cond v (reading_faults limits past b) [])) g)
 

@@ -10,7 +10,7 @@ use Rattle.gsi_word.specs.Names.{name_of}
 use Rattle.station_book.specs.declared.role.Role.{Role}
 use Rattle.station_book.specs.declared.role.Role.TheVariants as roles
 use Rattle.station_book.specs.Roles.{role_of, is_station, is_set_code, is_close, is_measurement}
-use Rattle.station_book.specs.Blocks.{begins, opens_station, opens_set, closes_set, is_sight, found, is_absent}
+use Rattle.station_book.specs.Blocks.{begins, opens_station, opens_set, closes_set, is_sight, found, is_absent, lacks}
 
 -- the role of a block whose first word passes these tests
 abbrev by_tests : Bool → Bool → Bool → Bool → Bool → Role
@@ -91,6 +91,6 @@ measures_is b = by b.words where
   by [] = refl
   by (w ∷ ws) = measures_by (eqb w.index 11) (eqb w.index 41) (bytes_eq (name_of w.content) (codes "10")) (bytes_eq (name_of w.content) (codes "20")) (bytes_eq (name_of w.content) (codes "30"))
 
-pub sight_is : (b : GsiBlock) → is_sight b ≡ (is_measurement (role_of b) && not (is_absent (found 21 b)))
-unfolding is_sight
+pub sight_is : (b : GsiBlock) → is_sight b ≡ (is_measurement (role_of b) && not (lacks 21 b))
+unfolding is_sight lacks
 sight_is b = ap (λ v. v && not (is_absent (found 21 b))) (measures_is b)

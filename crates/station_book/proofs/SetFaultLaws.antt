@@ -27,11 +27,11 @@ use Rattle.station_book.proofs.Membership.{same_test}
 use Rattle.station_book.proofs.StepLaws.{sets-other}
 use Rattle.station_book.proofs.KeptLaws.{none_stands, none_when}
 use Rattle.station_book.proofs.StationLaws.{had_sets_by_names}
-use Rattle.station_book.proofs.StateLaws.{no_had_sets}
 use Rattle.station_book.proofs.StandLaws.{Parted, parted, open_has_set, are_done}
-use Rattle.station_book.proofs.TakeLaws.{station_as, set_as, number_as, then_second}
+use Rattle.station_book.proofs.TakeLaws.{station_as, set_as, then_second}
+use Rattle.station_book.proofs.OnceLaws.{no_had_sets}
 use Rattle.station_book.proofs.EndLaws.{same_end}
-use Rattle.station_book.proofs.FaultLaws.{first_append, two_as}
+use Rattle.station_book.proofs.FaultLaws.{first_append}
 
 -- what is kept of the open station, where it has a set
 pub record HasOpenEntry (past : History) (es : ShelfValue) : Type 0 where
@@ -227,7 +227,7 @@ set_tests past b = first_append (when (has_two 42 b) (kinds.WordTwice 42) ∷ []
 pub same_set_fault : (k : kept.Kept) (b : GsiBlock) (past : History) → role_of b ≡ roles.Set → StandsFor k.limits k past → kept.fault_as roles.Set k b ≡ fault_after k.limits past b
 same_set_fault k b past r h =
     let opens = same_opening k.limits k.stage k.shelf past (number b) h.clean h.stage h.stations in
-    (λ i. then_fault (same_end k past h i) (then_fault (when (sym (two_as b) i) (kinds.WordTwice 42)) (kept.opening k.stage k.shelf (sym (number_as b) i))))
+    (λ i. then_fault (same_end k past h i) (then_fault (when (has_two 42 b) (kinds.WordTwice 42)) (kept.opening k.stage k.shelf (number b))))
     ∙ (λ i. then_fault (fault_at_end past) (then_fault (when (has_two 42 b) (kinds.WordTwice 42)) (opens i)))
     ∙ (λ i. then_fault (fault_at_end past) (sym (set_tests past b) i))
     ∙ sym (set_fault_parts k.limits past b (station_as b roles.Set r) (set_as b roles.Set r))

@@ -1,9 +1,6 @@
 -- After a block without fault, what is kept stands for the blocks with it.
 use Rattle.std.proofs.Common.{◌≡◌, ℕ, ◌+◌, Bool, true, false, cond, not, ltb, ◌&&◌, ◌||◌, List, [], ◌∷◌, reverse, Option, Some, None, is_none, Result, Ok, Err, refl, sym, ap, ◌∙◌, subst, arith}
 use Rattle.std.specs.Option.{option_map}
-use Rattle.std.specs.Prelude.{slice_get}
-use Rattle.gsi_word.specs.Words.{GsiWord}
-use Rattle.gsi_word.specs.Words.{GsiWord}
 use Rattle.gsi_word.specs.Names.{name_of}
 use Rattle.gsi_word.specs.declared.found.Found.{Found}
 use Rattle.gsi_word.specs.declared.found.Found.TheVariants.{Absent, One, Twice}
@@ -14,17 +11,17 @@ use Rattle.station_book.specs.declared.role.Role.TheVariants as roles
 use Rattle.station_book.specs.declared.sight.Sighting.{Sighting}
 use Rattle.station_book.specs.declared.stage.Stage.{Stage}
 use Rattle.station_book.specs.declared.stage.Stage.TheVariants.{Outside, Station, BetweenSets, InSet}
-use Rattle.station_book.specs.Faults.{when, first_of, open_sets, fault_after, name_at}
+use Rattle.station_book.specs.Faults.{station_faults, when, first_of, open_sets, fault_after, name_at}
 use Rattle.station_book.specs.Kept.{then_fault}
 use Rattle.station_book.specs.Roles.{role_of, is_station, is_set_code, is_close, is_measurement}
-use Rattle.station_book.specs.Readings as blocks
 use Rattle.station_book.specs.Entries.{with_set, with_reading}
 use Rattle.station_book.specs.Shelves.{Last, ShelfValue, change_last}
 use Rattle.station_book.specs.Kept as kept
 use Rattle.gsi_word.specs.Blocks.{GsiBlock}
-use Rattle.station_book.specs.Blocks.{name_of_first, opens_station, opens_set, closes_set, is_opening, is_sight, named, number, target, sight, is_of_face, found, is_absent, is_twice, name_found}
+use Rattle.station_book.specs.Blocks.{opens_station, opens_set, closes_set, is_opening, is_sight, named, number, sight, is_of_face, found, is_absent, is_twice, name_found, has_two, lacks}
 use Rattle.station_book.specs.Places.{History, last, station, is_empty, is_open, is_reading}
 use Rattle.station_book.specs.Keeps.{IsStage, Stand, StandWith, stations_in}
+use Rattle.station_book.specs.Readings as said
 use Rattle.station_book.specs.Standing.{StandsFor}
 use Rattle.station_book.proofs.RoleLaws.{station_is, set_is, close_is, sight_is}
 use Rattle.station_book.proofs.StepLaws.{is_open-opening, is_open-other, sets-station, sets-other}
@@ -44,16 +41,8 @@ set_as b r e = set_is b ∙ ap is_set_code e
 pub close_as : (b : GsiBlock) (r : Role) → role_of b ≡ r → closes_set b ≡ is_close r
 close_as b r e = close_is b ∙ ap is_close e
 
-pub sight_as : (b : GsiBlock) (r : Role) → role_of b ≡ r → is_sight b ≡ (is_measurement r && not (is_absent (found 21 b)))
-sight_as b r e = sight_is b ∙ ap (λ q. is_measurement q && not (is_absent (found 21 b))) e
-
-pub named_as : (b : GsiBlock) → named b ≡ blocks.named b
-unfolding named
-named_as b = refl
-
-pub number_as : (b : GsiBlock) → number b ≡ blocks.number b
-unfolding number named
-number_as b = refl
+pub sight_as : (b : GsiBlock) (r : Role) → role_of b ≡ r → is_sight b ≡ (is_measurement r && not (lacks 21 b))
+sight_as b r e = sight_is b ∙ ap (λ q. is_measurement q && not (lacks 21 b)) e
 
 opening_as : (b : GsiBlock) (r : Role) → role_of b ≡ r → is_opening b ≡ (is_station r || (is_set_code r || is_close r))
 opening_as b r e = λ i. station_as b r e i || (set_as b r e i || close_as b r e i)
@@ -83,29 +72,33 @@ then_second None p e = e
 then_second (Some x) p e = cc
 
 -- where a block of code 10 has no fault it has a name
-name_of_station : (f : Found) → first_of (when (is_twice f) (kinds.WordTwice 42) ∷ when (is_absent f) kinds.StationName ∷ []) ≡ None → (name : List ℕ) × (name_found f ≡ Some name)
-name_of_station Absent e = absurd cc
-name_of_station (One w) e = (name_of w.content, refl)
-name_of_station Twice e = absurd cc
+name_found_in : (f : Found) → first_of (when (is_twice f) (kinds.WordTwice 42) ∷ when (is_absent f) kinds.StationName ∷ []) ≡ None → (name : List ℕ) × (name_found f ≡ Some name)
+name_found_in Absent e = absurd cc
+name_found_in (One w) e = (name_of w.content, refl)
+name_found_in Twice e = absurd cc
+
+name_of_station : (b : GsiBlock) → first_of (station_faults b) ≡ None → (name : List ℕ) × (named b ≡ Some name)
+unfolding has_two lacks named
+name_of_station b e = name_found_in (found 42 b) e
 
 is_set_block : (b : GsiBlock) → role_of b ≡ roles.Set → (opens_station b ≡ false) × (opens_set b ≡ true)
 is_set_block b e = (station_as b roles.Set e, set_as b roles.Set e)
 
 -- a further set of the last station
-further_taken : (es : ShelfValue) (b : GsiBlock) (past : History) (n : ℕ) → role_of b ≡ roles.Set → blocks.number b ≡ Some n → is_empty (open_sets past) ≡ false
+further_taken : (es : ShelfValue) (b : GsiBlock) (past : History) (n : ℕ) → role_of b ≡ roles.Set → number b ≡ Some n → is_empty (open_sets past) ≡ false
     → Stand past (stations_in past) es → Stand (b ∷ past) (stations_in (b ∷ past)) (change_last (with_set n) es)
 further_taken es b past n r e some h =
     let k = is_set_block b r in
     let (x, last) = last_there es past some h in
     subst (λ (o : Last). StandWith (b ∷ past) (stations_in (b ∷ past)) (option_map (λ p. (p.0, with_set n p.1)) o) (reverse es.done)) (sym last)
-    (stand_further x (reverse es.done) b past n k.0 k.1 some (number_as b ∙ e) (subst (λ (o : Last). StandWith past (stations_in past) o (reverse es.done)) last h))
+    (stand_further x (reverse es.done) b past n k.0 k.1 some e (subst (λ (o : Last). StandWith past (stations_in past) o (reverse es.done)) last h))
 
 -- a block of code 20
-pub set_taken : (es : ShelfValue) (b : GsiBlock) (past : History) (stage : Stage) (n : Option ℕ) → role_of b ≡ roles.Set → blocks.number b ≡ n → kept.opening stage es n ≡ None → IsStage stage past
+pub set_taken : (es : ShelfValue) (b : GsiBlock) (past : History) (stage : Stage) (n : Option ℕ) → role_of b ≡ roles.Set → number b ≡ n → kept.opening stage es n ≡ None → IsStage stage past
     → Stand past (stations_in past) es → Stand (b ∷ past) (stations_in (b ∷ past)) (kept.opened stage n es)
 set_taken es b past Outside n r e f g h = absurd cc
 set_taken es b past (Station name) None r e f g h = absurd cc
-set_taken es b past (Station name) (Some n) r e f g h = let k = is_set_block b r in stand_first es b past name n k.0 k.1 g.2 g.1 (number_as b ∙ e) h
+set_taken es b past (Station name) (Some n) r e f g h = let k = is_set_block b r in stand_first es b past name n k.0 k.1 g.2 g.1 e h
 set_taken es b past BetweenSets None r e f g h = absurd cc
 set_taken es b past BetweenSets (Some n) r e f g h = further_taken es b past n r e g.0 h
 set_taken es b past InSet None r e f g h = absurd cc
@@ -113,58 +106,47 @@ set_taken es b past InSet (Some n) r e f g h = further_taken es b past n r e (op
 
 -- what a measurement that was read says
 pub record WasRead (b : GsiBlock) (s : Sighting) : Type 0 where
-  pub has_direction : is_absent (found 21 b) ≡ false
-  pub clean : first_of (blocks.sighting_faults b) ≡ None
-  pub is : blocks.sighting b ≡ s
+  pub has_direction : lacks 21 b ≡ false
+  pub clean : first_of (said.sighting_faults b) ≡ None
+  pub is : said.sighting b ≡ s
 
-read_cases : (absent : Bool) (fault : Option BookKind) (s t : Sighting) → cond absent (Ok None) (blocks.unless_fault fault s) ≡ Ok (Some t) → (absent ≡ false) × (fault ≡ None) × (s ≡ t)
+read_cases : (absent : Bool) (fault : Option BookKind) (s t : Sighting) → cond absent (Ok None) (said.unless_fault fault s) ≡ Ok (Some t) → (absent ≡ false) × (fault ≡ None) × (s ≡ t)
 read_cases true fault s t e = absurd cc
 read_cases false None s t e = (refl, refl, cc)
 read_cases false (Some k) s t e = absurd cc
 
-pub was_read : (b : GsiBlock) (s : Sighting) → blocks.read b ≡ Ok (Some s) → WasRead b s
-was_read b s e = let p = read_cases (is_absent (found 21 b)) (first_of (blocks.sighting_faults b)) (blocks.sighting b) s e in record { has_direction = p.0; clean = p.1; is = p.2 }
+pub was_read : (b : GsiBlock) (s : Sighting) → said.read b ≡ Ok (Some s) → WasRead b s
+was_read b s e = let p = read_cases (lacks 21 b) (first_of (said.sighting_faults b)) (said.sighting b) s e in record { has_direction = p.0; clean = p.1; is = p.2 }
 
-none_cases : (absent : Bool) (fault : Option BookKind) (s : Sighting) → ◌≡◌ {A = Result (Option Sighting) BookKind} (cond absent (Ok None) (blocks.unless_fault fault s)) (Ok None) → absent ≡ true
+none_cases : (absent : Bool) (fault : Option BookKind) (s : Sighting) → ◌≡◌ {A = Result (Option Sighting) BookKind} (cond absent (Ok None) (said.unless_fault fault s)) (Ok None) → absent ≡ true
 none_cases true fault s e = refl
 none_cases false None s e = absurd cc
 none_cases false (Some k) s e = absurd cc
 
-pub first_face : (b : GsiBlock) → is_of_face false b ≡ (ltb 0 (blocks.angle 22 b) && ltb (blocks.angle 22 b) 20_000_000)
-unfolding is_of_face sight
+pub first_face : (b : GsiBlock) → is_of_face false b ≡ (ltb 0 ((sight b).zenith) && ltb ((sight b).zenith) 20_000_000)
+unfolding is_of_face
 first_face b = refl
 
-pub second_face : (b : GsiBlock) → is_of_face true b ≡ (ltb 20_000_000 (blocks.angle 22 b) && ltb (blocks.angle 22 b) 40_000_000)
-unfolding is_of_face sight
+pub second_face : (b : GsiBlock) → is_of_face true b ≡ (ltb 20_000_000 ((sight b).zenith) && ltb ((sight b).zenith) 40_000_000)
+unfolding is_of_face
 second_face b = refl
-
-pub target_as : (b : GsiBlock) → target b ≡ blocks.target b
-unfolding target
-target_as b = by b.words where
-  by : (ws : List GsiWord) → name_of_first ws ≡ blocks.name_at (slice_get ws 0)
-  by [] = refl
-  by (w ∷ ws) = refl
-
-pub sight_is_as : (b : GsiBlock) → sight b ≡ blocks.sight b
-unfolding sight
-sight_is_as b = refl
 
 abbrev HasFace : GsiBlock → Bool → Type 0
 HasFace b f = (is_of_face f b ≡ true) × (is_of_face (not f) b ≡ false)
 
-face_cases : (b : GsiBlock) (one two : Bool) → is_of_face false b ≡ one → is_of_face true b ≡ two → is_none (cond one (Some false) (cond two (Some true) None)) ≡ false → HasFace b (blocks.is_second (cond one (Some false) (cond two (Some true) None)))
+face_cases : (b : GsiBlock) (one two : Bool) → is_of_face false b ≡ one → is_of_face true b ≡ two → is_none (cond one (Some false) (cond two (Some true) None)) ≡ false → HasFace b (said.is_second (cond one (Some false) (cond two (Some true) None)))
 face_cases b true two e f g = (e, one_face b e)
 face_cases b false true e f g = (f, e)
 face_cases b false false e f g = absurd cc
 
 says : (b : GsiBlock) (past : History) (s : Sighting) → WasRead b s → Says s (b ∷ past)
 says b past s w =
-    let clear = none_when (is_none (blocks.face_of (blocks.angle 22 b))) kinds.FaceUnclear (none_stands (blocks.sighting_faults b) w.clean).1.1.1.1.1.0 in
-    let face : HasFace b (blocks.is_second (blocks.face_of (blocks.angle 22 b))) = face_cases b (ltb 0 (blocks.angle 22 b) && ltb (blocks.angle 22 b) 20_000_000) (ltb 20_000_000 (blocks.angle 22 b) && ltb (blocks.angle 22 b) 40_000_000) (first_face b) (second_face b) clear in
+    let clear = none_when (is_none (said.face_of ((sight b).zenith))) kinds.FaceUnclear (none_stands (said.sighting_faults b) w.clean).1.1.1.1.1.0 in
+    let face : HasFace b (said.is_second (said.face_of ((sight b).zenith))) = face_cases b (ltb 0 ((sight b).zenith) && ltb ((sight b).zenith) 20_000_000) (ltb 20_000_000 ((sight b).zenith) && ltb ((sight b).zenith) 40_000_000) (first_face b) (second_face b) clear in
     let here : HasFace b s.is_second = subst (λ (t : Sighting). HasFace b t.is_second) w.is face in
     record {
-      target_is = sym (ap (λ (t : Sighting). t.target) w.is) ∙ sym (target_as b);
-      sight_is = sym (ap (λ (t : Sighting). t.sight) w.is) ∙ sym (sight_is_as b);
+      target_is = sym (ap (λ (t : Sighting). t.target) w.is);
+      sight_is = sym (ap (λ (t : Sighting). t.sight) w.is);
       face_is = here.0;
       face_not = here.1;
     }
@@ -173,11 +155,11 @@ measures_nothing : (b : GsiBlock) → role_of b ≡ roles.Measurement → (opens
 measures_nothing b r = (station_as b roles.Measurement r, set_as b roles.Measurement r, opening_as b roles.Measurement r)
 
 -- a measurement in an open set, by what it says
-in_set_taken : (es : ShelfValue) (b : GsiBlock) (past : History) (o : Result (Option Sighting) BookKind) → role_of b ≡ roles.Measurement → blocks.read b ≡ o → is_open past ≡ true → (kind : (k : BookKind) → o ≡ Err k → ⊥)
+in_set_taken : (es : ShelfValue) (b : GsiBlock) (past : History) (o : Result (Option Sighting) BookKind) → role_of b ≡ roles.Measurement → said.read b ≡ o → is_open past ≡ true → (kind : (k : BookKind) → o ≡ Err k → ⊥)
     → Stand past (stations_in past) es → Stand (b ∷ past) (stations_in (b ∷ past)) (kept.with_measured o es)
 in_set_taken es b past (Err k) r e now kind h = absurd (kind k refl)
 in_set_taken es b past (Ok None) r e now kind h =
-    let absent : is_absent (found 21 b) ≡ true = none_cases (is_absent (found 21 b)) (first_of (blocks.sighting_faults b)) (blocks.sighting b) e in
+    let absent : lacks 21 b ≡ true = none_cases (lacks 21 b) (first_of (said.sighting_faults b)) (said.sighting b) e in
     let blind : is_sight b ≡ false = sight_as b roles.Measurement r ∙ ap not absent in
     stand_idle es b past (set_as b roles.Measurement r) (no_reading b past blind) h
 in_set_taken es b past (Ok (Some s)) r e now kind h =
@@ -199,19 +181,19 @@ closed_no_reading b past e = by (is_sight b) where
   by false = refl
 
 -- a measurement
-pub measurement_taken : (limits : FaceLimits) (es : ShelfValue) (stage : Stage) (b : GsiBlock) (past : History) → role_of b ≡ roles.Measurement → cond (kept.is_open stage) (kept.measured limits es (blocks.read b)) None ≡ None → IsStage stage past
-    → Stand past (stations_in past) es → Stand (b ∷ past) (stations_in (b ∷ past)) (cond (kept.is_open stage) (kept.with_measured (blocks.read b) es) es)
+pub measurement_taken : (limits : FaceLimits) (es : ShelfValue) (stage : Stage) (b : GsiBlock) (past : History) → role_of b ≡ roles.Measurement → cond (kept.is_open stage) (kept.measured limits es (said.read b)) None ≡ None → IsStage stage past
+    → Stand past (stations_in past) es → Stand (b ∷ past) (stations_in (b ∷ past)) (cond (kept.is_open stage) (kept.with_measured (said.read b) es) es)
 measurement_taken limits es Outside b past r f g h = stand_idle es b past (set_as b roles.Measurement r) (closed_no_reading b past g.1) h
 measurement_taken limits es (Station name) b past r f g h = stand_idle es b past (set_as b roles.Measurement r) (closed_no_reading b past g.3) h
 measurement_taken limits es BetweenSets b past r f g h = stand_idle es b past (set_as b roles.Measurement r) (closed_no_reading b past g.1) h
-measurement_taken limits es InSet b past r f g h = in_set_taken es b past (blocks.read b) r refl g (no_err limits es (blocks.read b) f) h
+measurement_taken limits es InSet b past r f g h = in_set_taken es b past (said.read b) r refl g (no_err limits es (said.read b) f) h
 
 -- THE LAW: after a block without fault, what is kept stands for the blocks with it
 pub taken_stands : (limits : FaceLimits) (taken : ℕ) (stage : Stage) (es : ShelfValue) (b : GsiBlock) (past : History) (r : Role) → role_of b ≡ r
     → kept.fault_as r (record { limits = limits; taken = taken; stage = stage; shelf = es }) b ≡ None → fault_after limits past b ≡ None
     → StandsFor limits (record { limits = limits; taken = taken; stage = stage; shelf = es }) past → StandsFor limits (kept.after_as r b (record { limits = limits; taken = taken + 1; stage = stage; shelf = es })) (b ∷ past)
 taken_stands limits taken stage es b past roles.Station r f clean h =
-    let (name, is) = name_of_station (found 42 b) (then_second (kept.ending stage es) (first_of (blocks.station_faults b)) f) in
+    let (name, is) = name_of_station b (then_second (kept.ending stage es) (first_of (station_faults b)) f) in
     let s = station_as b roles.Station r in
     let here : station (b ∷ past) ≡ b ∷ past = ap (λ v. cond v (b ∷ past) (last opens_station past)) s in
     record {
@@ -219,7 +201,7 @@ taken_stands limits taken stage es b past roles.Station r f clean h =
       clean = (clean, h.clean);
       counted = (let t = h.counted in omega (arith, t));
       stage = subst (λ (o : Option (List ℕ)). IsStage (kept.at_station o stage) (b ∷ past)) (sym is)
-          (ap is_empty here, ap (λ p. name_at p) here ∙ named_as b ∙ is, sets-station b past s, is_open-opening b past (opening_as b roles.Station r) ∙ set_as b roles.Station r);
+          (ap is_empty here, ap (λ p. name_at p) here ∙ is, sets-station b past s, is_open-opening b past (opening_as b roles.Station r) ∙ set_as b roles.Station r);
       stations = stand_idle es b past (set_as b roles.Station r) (no_reading b past (sight_as b roles.Station r)) h.stations;
     }
 taken_stands limits taken stage es b past roles.Set r f clean h = record {
@@ -227,8 +209,8 @@ taken_stands limits taken stage es b past roles.Set r f clean h = record {
   clean = (clean, h.clean);
   counted = (let t = h.counted in omega (arith, t));
   stage = is_open-opening b past (opening_as b roles.Set r) ∙ set_as b roles.Set r;
-  stations = set_taken es b past stage (blocks.number b) r refl
-      (then_second (when (is_twice (found 42 b)) (kinds.WordTwice 42)) (kept.opening stage es (blocks.number b)) (then_second (kept.ending stage es) _ f)) h.stage h.stations;
+  stations = set_taken es b past stage (number b) r refl
+      (then_second (when (has_two 42 b) (kinds.WordTwice 42)) (kept.opening stage es (number b)) (then_second (kept.ending stage es) _ f)) h.stage h.stations;
 }
 taken_stands limits taken stage es b past roles.Close r f clean h = record {
   limited = refl;

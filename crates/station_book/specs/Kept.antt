@@ -6,13 +6,13 @@ use Rattle.station_book.specs.Limits.{FaceLimits}
 use Rattle.station_book.specs.declared.sight.Sighting.{Sighting}
 use Rattle.station_book.specs.declared.stage.Stage.{Stage}
 use Rattle.station_book.specs.declared.stage.Stage.TheVariants.{Outside, Station, BetweenSets, InSet}
-use Rattle.station_book.specs.Faults.{when, first_of}
+use Rattle.station_book.specs.Faults.{when, first_of, station_faults}
 use Rattle.gsi_word.specs.Blocks.{GsiBlock}
 use Rattle.station_book.specs.declared.role.Role.{Role}
 use Rattle.station_book.specs.declared.role.Role.TheVariants.{Station as AsStation, Set, Close, Measurement, Other}
 use Rattle.station_book.specs.Roles.{role_of}
-use Rattle.station_book.specs.Blocks.{found, is_absent, is_twice}
-use Rattle.station_book.specs.Readings.{named, number, station_faults, read}
+use Rattle.station_book.specs.Blocks.{has_two, lacks, named, number}
+use Rattle.station_book.specs.Readings.{read}
 use Rattle.station_book.specs.Slots.{end_faults}
 use Rattle.station_book.specs.Entries.{with_set, reading_faults, with_reading}
 use Rattle.station_book.specs.Shelves.{ShelfValue, Last, last_of, LastMayEnd, change_last, with_station, first_set_faults, more_set_faults}
@@ -88,7 +88,7 @@ with_measured (Ok (Some s)) es = change_last (with_reading s) es
 -- the fault of a block with this role
 abbrev pub fault_as : Role → Kept → GsiBlock → Option BookKind
 fault_as AsStation k b = then_fault (ending k.stage k.shelf) (first_of (station_faults b))
-fault_as Set k b = then_fault (ending k.stage k.shelf) (then_fault (when (is_twice (found 42 b)) (kinds.WordTwice 42)) (opening k.stage k.shelf (number b)))
+fault_as Set k b = then_fault (ending k.stage k.shelf) (then_fault (when (has_two 42 b) (kinds.WordTwice 42)) (opening k.stage k.shelf (number b)))
 fault_as Close k b = ending k.stage k.shelf
 fault_as Measurement k b = if is_open k.stage then measured k.limits k.shelf (read b) else None
 fault_as Other k b = None
@@ -99,7 +99,7 @@ fault_of k b = fault_as (role_of b) k b
 
 -- a measurement that is a reading here
 abbrev pub is_read : Kept → GsiBlock → Bool
-is_read k b = is_open k.stage && not (is_absent (found 21 b))
+is_read k b = is_open k.stage && not (lacks 21 b)
 
 -- whether a book may need memory for a block of this role: a set, or a reading
 abbrev pub grows_as : Role → Kept → GsiBlock → Bool

@@ -12,9 +12,9 @@ ghost use Rattle.station_book.specs.Entries.{MayEnd, first_entry, with_set, plac
 ghost use Rattle.station_book.specs.declared.fault.BookKind.TheVariants as kinds;
 ghost use Rattle.station_book.specs.Refusals.{ExplainsRefusal};
 
+use crate::faces::Faces;
 use crate::fault::{BookKind, Refusal};
 use crate::limits::Limits;
-use crate::faces::Faces;
 use crate::sight::Sighting;
 use crate::slot::{Slot, empty_all, empty_slot, end_fault, push_pairs, slot_fault, with_side};
 use crate::surveyed::Surveyed;

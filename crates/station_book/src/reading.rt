@@ -4,9 +4,9 @@ ghost use Rattle.std.specs.Prelude.{◌≡◌, ◌<◌, None, Some, IfOk, IfErr,
 ghost use Rattle.gsi_word.specs.BlockViews.{block_of};
 ghost use Rattle.adjust_kernel.specs.Sheets.{IsSetNumber};
 ghost use Rattle.gsi_word.specs.Names.{name_of};
-ghost use Rattle.station_book.specs.Faults.{first_of};
-ghost use Rattle.station_book.specs.Blocks.{found, is_twice, number_of_name};
-ghost use Rattle.station_book.specs.Readings.{named, number, target, face_of, station_faults, read};
+ghost use Rattle.station_book.specs.Faults.{first_of, station_faults};
+ghost use Rattle.station_book.specs.Blocks.{has_two, named, number, number_of_name, target};
+ghost use Rattle.station_book.specs.Readings.{face_of, read};
 ghost use Rattle.station_book.specs.Sights.{AreOnCircle};
 
 use crate::bounds::{CIRCLE, HALF_CIRCLE};
@@ -35,6 +35,7 @@ fn name_in(word: &Word<'_>) -> Name
 }
 
 /// The name of the station that a block of code 10 opens.
+#[tactic(auto, unfolding(crate::specs::Blocks::named, crate::specs::Blocks::has_two, crate::specs::Blocks::lacks))]
 pub(crate) fn station_name(block: &Block<'_>) -> Result<Name, BookKind>
     ensures ok { IfOk result (λ name. named (block_of block.now) ≡ Some name) }
     ensures clean { OnOk result (first_of (station_faults (block_of block.now)) ≡ None) }
@@ -67,8 +68,9 @@ pub(crate) struct SetBlock {
 }
 
 /// What a block of code 20 says.
+#[tactic(auto, unfolding(crate::specs::Blocks::number, crate::specs::Blocks::named, crate::specs::Blocks::has_two))]
 pub(crate) fn set_block(block: &Block<'_>) -> SetBlock
-    ensures twice { result.twice ≡ is_twice (found 42 (block_of block.now)) }
+    ensures twice { result.twice ≡ has_two 42 (block_of block.now) }
     ensures number { result.number ≡ number (block_of block.now) }
     ensures valid { IfSome result.number IsSetNumber }
 {
@@ -102,6 +104,7 @@ fn face_of(zenith: u32) -> Option<bool>
 }
 
 /// The target of a reading.
+#[tactic(auto, unfolding(crate::specs::Blocks::target))]
 fn target(block: &Block<'_>) -> Name
     requires { 0 < length (block_of block.now).words }
     ensures { result ≡ target (block_of block.now) }
@@ -113,6 +116,7 @@ fn target(block: &Block<'_>) -> Name
 }
 
 /// What a measurement block says: nothing where it has no direction.
+#[tactic(auto, unfolding(crate::specs::Blocks::has_two, crate::specs::Blocks::lacks, crate::specs::Blocks::angle_fault, crate::specs::Blocks::sight, crate::specs::Blocks::target))]
 pub(crate) fn read(block: &Block<'_>) -> Result<Option<Sighting>, BookKind>
     ensures value { result ≡ read (block_of block.now) }
     ensures angles { IfOk result (λ o. IfSome o (λ s. AreOnCircle s.sight)) }

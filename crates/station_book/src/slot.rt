@@ -8,9 +8,9 @@ ghost use Rattle.station_book.specs.Faults.{first_of};
 ghost use Rattle.station_book.specs.Slots.{side, with_side, empty_slot, slot_faults, pair_fault, end_faults, is_unread, is_single, IsKeptSlot, obs_at, obs_of, faces_at, faces_of};
 ghost use Rattle.station_book.specs.Sights.{AreOnCircle};
 
+use crate::faces::Faces;
 use crate::fault::BookKind;
 use crate::limits::Limits;
-use crate::faces::Faces;
 use crate::pair::{direction_of, faces_of, has_no_two_c, has_no_two_i};
 use crate::sight::{Sight, Sighting};
 use adjust_kernel::Obs;

@@ -1,0 +1,5 @@
+use Rattle.station_book.proofs.SomeSurvey.{some_survey}
+use Rattle.station_book.proofs.laws.some_survey.Goals as goal
+
+pub returns : goal.returns
+returns c = some_survey

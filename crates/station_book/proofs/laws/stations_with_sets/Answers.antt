@@ -1,0 +1,5 @@
+use Rattle.station_book.proofs.RecordedLaws.{stations_with_sets}
+use Rattle.station_book.proofs.laws.stations_with_sets.Goals as goal
+
+pub returns : goal.returns
+returns c = stations_with_sets

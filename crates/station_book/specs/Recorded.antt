@@ -1,0 +1,46 @@
+-- What a field file recorded, in the words of its blocks alone.
+use Rattle.std.specs.Prelude.{◌≡◌, ℕ, Bool, true, false, IsTrue, List, Contains, Some, None}
+use Rattle.adjust_kernel.specs.Matching.{Key}
+use Rattle.station_book.specs.declared.faces.Faces.{Faces}
+use Rattle.station_book.specs.Limits.{FaceLimits}
+use Rattle.station_book.specs.Sights.{IsTwoC, IsTwoI, IsTwoFace}
+use Rattle.station_book.specs.Blocks.{number, is_of_face}
+use Rattle.station_book.specs.Places.{History, Place, places, at, before, opening, station, is_set, is_reading, target_at, stands}
+use Rattle.station_book.specs.Faults.{name_at, sight_at}
+
+-- The file has a reading at this place: of this station, named by its block with code 10, of the
+-- set that was opened at `set`, of this target, and of face I with `false`, face II with `true`.
+pub record IsReadingOf (h : History) (name : List ℕ) (set : Place) (target : List ℕ) (face : Bool) (r : Place)
+    : Type 0 where
+  pub placed : Contains (places h) r
+  pub reading : IsTrue (is_reading r)
+  pub of_station : name_at (station (before r)) ≡ Some name
+  pub of_set : opening (before r) ≡ set
+  pub of_target : target_at r ≡ target
+  pub of_face : IsTrue (stands (is_of_face face) r)
+
+-- The file has a set of the station of this name.
+pub record HasSetAt (h : History) (name : List ℕ) : Type 0 where
+  pub set : Place
+  pub placed : Contains (places h) set
+  pub opened : IsTrue (is_set set)
+  pub of_station : name_at (station (before set)) ≡ Some name
+
+-- The file recorded this two-face direction of a target, in a set of this number, of the station of
+-- this name: the set has a reading of the target in face I and one in face II, and the two give the
+-- direction within the limit.
+pub record IsRecorded (limits : FaceLimits) (h : History) (name : List ℕ) (k : Key) : Type 0 where
+  pub set : Place
+  pub numbered : at number None set ≡ Some k.set
+  pub first : Place
+  pub second : Place
+  pub face_one : IsReadingOf h name set k.target false first
+  pub face_two : IsReadingOf h name set k.target true second
+  pub direction : IsTwoFace limits.two_c (sight_at first) (sight_at second) k.value
+
+-- The same, with the face differences of the same two readings, each within its limit.
+pub record IsRecordedWith (limits : FaceLimits) (h : History) (name : List ℕ) (k : Key) (f : Faces)
+    : Type 0 where
+  pub recorded : IsRecorded limits h name k
+  pub two_c : IsTwoC limits.two_c (sight_at recorded.first) (sight_at recorded.second) f.two_c
+  pub two_i : IsTwoI limits.two_i (sight_at recorded.first) (sight_at recorded.second) f.two_i
