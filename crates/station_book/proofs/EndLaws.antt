@@ -72,8 +72,8 @@ empty_by_slots targets (r ∷ rs) kept =
     sym (not_all (r ∷ rs) name targets listed (seen (face_at r) (r ∷ rs) name (some_there (face_at r) name r (r ∷ rs) (inl refl) equal kept.0.has_face)))
 
 -- the slots of the set that is open
-pub slots_kept : (es : ShelfValue) (past : History) → is_open past ≡ true → Stand past (stations_in past) es → (last_of es).slots ≡ slots_of (open_targets past) (open_readings past)
-slots_kept es past now h = by (parted past) where
+pub slots_kept : (shelf : ShelfValue) (past : History) → is_open past ≡ true → Stand past (stations_in past) shelf → (last_of shelf).slots ≡ slots_of (open_targets past) (open_readings past)
+slots_kept shelf past now h = by (parted past) where
   set : HasOpenSet past
   set = open_set past now
 
@@ -82,13 +82,13 @@ slots_kept es past now h = by (parted past) where
       let e : IsEntryWith (station past) (opening past ∷ set.older) (station_readings (station past) past) x = subst (λ (ss : List Place). IsEntryWith (station past) ss (station_readings (station past) past) x) set.sets k in
       e.slots ∙ ap (slots_of (open_targets past)) (open_in_set past)
 
-  with_last : (sts : List Place) (last : Last) → StandWith past (station past ∷ sts) last (reverse es.done) → (entry_of last).slots ≡ slots_of (open_targets past) (open_readings past)
+  with_last : (sts : List Place) (last : Last) → StandWith past (station past ∷ sts) last (reverse shelf.done) → (entry_of last).slots ≡ slots_of (open_targets past) (open_readings past)
   with_last sts None k = absurd k
   with_last sts (Some y) k = head y k.0
 
-  by : Parted past → (last_of es).slots ≡ slots_of (open_targets past) (open_readings past)
+  by : Parted past → (last_of shelf).slots ≡ slots_of (open_targets past) (open_readings past)
   by (inl p) = let bad : is_empty (open_sets past) ≡ true = ap is_empty p.0 in absurd (false≢true (sym (open_has_set past now) ∙ bad))
-  by (inr p) = with_last p.rest es.last (subst (λ (sts : List Place). Stand past sts es) p.stations h)
+  by (inr p) = with_last p.rest shelf.last (subst (λ (sts : List Place). Stand past sts shelf) p.stations h)
 
 closed_end : (past : History) → is_open past ≡ false → fault_at_end past ≡ None
 unfolding fault_at_end

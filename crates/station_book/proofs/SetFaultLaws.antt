@@ -34,17 +34,17 @@ use Rattle.station_book.proofs.EndLaws.{same_end}
 use Rattle.station_book.proofs.FaultLaws.{first_append}
 
 -- what is kept of the open station, where it has a set
-pub record HasOpenEntry (past : History) (es : ShelfValue) : Type 0 where
+pub record HasOpenEntry (past : History) (shelf : ShelfValue) : Type 0 where
   pub newest : Place
   pub older : List Place
   pub sets : open_sets past ≡ newest ∷ older
   pub name : List ℕ
-  pub is : IsEntryOf (station past) newest older (station_readings (station past) past) name (last_of es)
+  pub is : IsEntryOf (station past) newest older (station_readings (station past) past) name (last_of shelf)
 
 -- Where the open station has a set, the last entry is its own.
-pub open_entry : (es : ShelfValue) (past : History) → is_empty (open_sets past) ≡ false → Stand past (stations_in past) es → HasOpenEntry past es
-open_entry es past some h = by (parted past) where
-  of_sets : (x : List ℕ × EntryValue) (sets : List Place) → open_sets past ≡ sets → last_of es ≡ x.1 → IsEntryWith (station past) sets (station_readings (station past) past) x → HasOpenEntry past es
+pub open_entry : (shelf : ShelfValue) (past : History) → is_empty (open_sets past) ≡ false → Stand past (stations_in past) shelf → HasOpenEntry past shelf
+open_entry shelf past some h = by (parted past) where
+  of_sets : (x : List ℕ × EntryValue) (sets : List Place) → open_sets past ≡ sets → last_of shelf ≡ x.1 → IsEntryWith (station past) sets (station_readings (station past) past) x → HasOpenEntry past shelf
   of_sets x [] s l k = absurd k
   of_sets x (set ∷ rest) s l k = record {
     newest = set;
@@ -54,13 +54,13 @@ open_entry es past some h = by (parted past) where
     is = subst (λ (e : EntryValue). IsEntryOf (station past) set rest (station_readings (station past) past) x.0 e) (sym l) k;
   }
 
-  of_last : (sts : List Place) (last : Last) → StandWith past (station past ∷ sts) last (reverse es.done) → es.last ≡ last → HasOpenEntry past es
+  of_last : (sts : List Place) (last : Last) → StandWith past (station past ∷ sts) last (reverse shelf.done) → shelf.last ≡ last → HasOpenEntry past shelf
   of_last sts None k e = absurd k
   of_last sts (Some y) k e = of_sets y (open_sets past) refl (ap (λ (o : Last). entry_of o) e) k.0
 
-  by : Parted past → HasOpenEntry past es
+  by : Parted past → HasOpenEntry past shelf
   by (inl p) = let bad : is_empty (open_sets past) ≡ true = ap is_empty p.0 in absurd (false≢true (sym some ∙ bad))
-  by (inr p) = of_last p.rest es.last (subst (λ (sts : List Place). Stand past sts es) p.stations h) refl
+  by (inr p) = of_last p.rest shelf.last (subst (λ (sts : List Place). Stand past sts shelf) p.stations h) refl
 
 -- the faults of a block of code 20, in two parts
 pub set_fault_parts : (limits : FaceLimits) (past : History) (b : GsiBlock) → opens_station b ≡ false → opens_set b ≡ true → fault_after limits past b ≡ then_fault (fault_at_end past) (first_of (set_faults past b))
@@ -121,17 +121,17 @@ one_each past (st ∷ sts) [] h = absurd h
 one_each past (st ∷ sts) (e ∷ es) h = ap suc (one_each past sts es h.1)
 
 -- as many stations have sets as are kept
-count_stations : (es : ShelfValue) (past : History) → Stand past (stations_in past) es → length (first_sets past) ≡ length (all_done es)
-count_stations es past h = sym (length-map (first_sets past) (λ s. station (before s))) ∙ one_each past (stations_in past) (reverse (all_done es)) (are_done past (stations_in past) es h) ∙ length-reverse (all_done es)
+count_stations : (shelf : ShelfValue) (past : History) → Stand past (stations_in past) shelf → length (first_sets past) ≡ length (all_done shelf)
+count_stations shelf past h = sym (length-map (first_sets past) (λ s. station (before s))) ∙ one_each past (stations_in past) (reverse (all_done shelf)) (are_done past (stations_in past) shelf h) ∙ length-reverse (all_done shelf)
 
 -- StationTwice before the first set of a station
-known_station : (es : ShelfValue) (past : History) (name : List ℕ) → open_sets past ≡ [] → name_at (station past) ≡ Some name → Stand past (stations_in past) es → had_sets past ≡ is_known name es
-known_station es past name none is h =
+known_station : (shelf : ShelfValue) (past : History) (name : List ℕ) → open_sets past ≡ [] → name_at (station past) ≡ Some name → Stand past (stations_in past) shelf → had_sets past ≡ is_known name shelf
+known_station shelf past name none is h =
     had_sets_by_names past none
     ∙ (λ i. list_any (λ s. same_name (name_at (station (before s))) (is i)) (first_sets past))
     ∙ sym (any_map (λ st. same_name (name_at st) (Some name)) (λ s. station (before s)) (first_sets past))
-    ∙ known_names past name (stations_in past) (reverse (all_done es)) (are_done past (stations_in past) es h)
-    ∙ any_reverse (λ e. bytes_eq name e.0) (all_done es)
+    ∙ known_names past name (stations_in past) (reverse (all_done shelf)) (are_done past (stations_in past) shelf h)
+    ∙ any_reverse (λ e. bytes_eq name e.0) (all_done shelf)
 
 -- the numbers of a station's sets
 any_numbers : (n : ℕ) (sets : List Place) → list_any (λ s. same_number (number_at s) (Some n)) sets ≡ list_any (λ m. same_number m (Some n)) (numbers_in sets)
@@ -142,16 +142,16 @@ count_numbers : (sets : List Place) → length (numbers_in sets) ≡ length sets
 count_numbers [] = refl
 count_numbers (s ∷ older) = let l = length-append (numbers_in older) (number_at s ∷ []) in let m = count_numbers older in omega (arith, l, m)
 
-kept_numbers : (past : History) (es : ShelfValue) (e : HasOpenEntry past es) → numbers_in (open_sets past) ≡ map (λ n. Some n) (last_of es).sets
-kept_numbers past es e = ap numbers_in e.sets ∙ sym e.is.numbers
+kept_numbers : (past : History) (shelf : ShelfValue) (e : HasOpenEntry past shelf) → numbers_in (open_sets past) ≡ map (λ n. Some n) (last_of shelf).sets
+kept_numbers past shelf e = ap numbers_in e.sets ∙ sym e.is.numbers
 
-known_number : (past : History) (es : ShelfValue) (n : ℕ) → HasOpenEntry past es → has_set_number (Some n) past ≡ list_any (λ m. eqb m n) (last_of es).sets
-known_number past es n e =
-    any_numbers n (open_sets past) ∙ ap (list_any (λ m. same_number m (Some n))) (kept_numbers past es e)
-    ∙ any_map (λ m. same_number m (Some n)) (λ m. Some m) (last_of es).sets
+known_number : (past : History) (shelf : ShelfValue) (n : ℕ) → HasOpenEntry past shelf → has_set_number (Some n) past ≡ list_any (λ m. eqb m n) (last_of shelf).sets
+known_number past shelf n e =
+    any_numbers n (open_sets past) ∙ ap (list_any (λ m. same_number m (Some n))) (kept_numbers past shelf e)
+    ∙ any_map (λ m. same_number m (Some n)) (λ m. Some m) (last_of shelf).sets
 
-count_sets : (past : History) (es : ShelfValue) → HasOpenEntry past es → length (open_sets past) ≡ length (last_of es).sets
-count_sets past es e = sym (count_numbers (open_sets past)) ∙ ap length (kept_numbers past es e) ∙ length-map (last_of es).sets (λ n. Some n)
+count_sets : (past : History) (shelf : ShelfValue) → HasOpenEntry past shelf → length (open_sets past) ≡ length (last_of shelf).sets
+count_sets past shelf e = sym (count_numbers (open_sets past)) ∙ ap length (kept_numbers past shelf e) ∙ length-map (last_of shelf).sets (λ n. Some n)
 
 -- the tests of a block of code 20, but for that of its word 42
 abbrev tests : Bool → Bool → Bool → Bool → Bool → Bool → List (Option BookKind)
@@ -180,24 +180,24 @@ opening_tests n past =
     (is_empty (open_sets past) && leb 1000 (length (first_sets past))) (leb 40 (length (open_sets past)))
 
 -- the first set of a station
-first_opening : (es : ShelfValue) (past : History) (name : List ℕ) (n : ℕ) → is_empty (station past) ≡ false → name_at (station past) ≡ Some name → open_sets past ≡ [] → Stand past (stations_in past) es
-    → first_of (first_set_faults name es) ≡ first_of (opening_tests (Some n) past)
-first_opening es past name n inside is none h =
-    let had = known_station es past name none is h in
-    let count = count_stations es past h in
-    first_set_tests (is_known name es) (leb 1000 (length (all_done es)))
+first_opening : (shelf : ShelfValue) (past : History) (name : List ℕ) (n : ℕ) → is_empty (station past) ≡ false → name_at (station past) ≡ Some name → open_sets past ≡ [] → Stand past (stations_in past) shelf
+    → first_of (first_set_faults name shelf) ≡ first_of (opening_tests (Some n) past)
+first_opening shelf past name n inside is none h =
+    let had = known_station shelf past name none is h in
+    let count = count_stations shelf past h in
+    first_set_tests (is_known name shelf) (leb 1000 (length (all_done shelf)))
     ∙ sym (λ i. first_of (tests (inside i) false (had i) (list_any (λ s. same_number (number_at s) (Some n)) (none i)) (is_empty (none i) && leb 1000 (count i)) (leb 40 (length (none i)))))
 
 -- a further set of a station
-further_opening : (limits : FaceLimits) (es : ShelfValue) (past : History) (n : ℕ) → IsWithoutFault limits past → is_empty (open_sets past) ≡ false → Stand past (stations_in past) es
-    → first_of (more_set_faults (last_of es) n) ≡ first_of (opening_tests (Some n) past)
-further_opening limits es past n w some h =
-    let e = open_entry es past some h in
+further_opening : (limits : FaceLimits) (shelf : ShelfValue) (past : History) (n : ℕ) → IsWithoutFault limits past → is_empty (open_sets past) ≡ false → Stand past (stations_in past) shelf
+    → first_of (more_set_faults (last_of shelf) n) ≡ first_of (opening_tests (Some n) past)
+further_opening limits shelf past n w some h =
+    let e = open_entry shelf past some h in
     let inside = set_has_station limits past w some in
     let had = no_had_sets limits past w some in
-    let same = known_number past es n e in
-    let count = count_sets past es e in
-    more_set_tests (list_any (λ m. eqb m n) (last_of es).sets) (leb 40 (length (last_of es).sets))
+    let same = known_number past shelf n e in
+    let count = count_sets past shelf e in
+    more_set_tests (list_any (λ m. eqb m n) (last_of shelf).sets) (leb 40 (length (last_of shelf).sets))
     ∙ sym (λ i. first_of (tests (inside i) false (had i) (same i) (some i && leb 1000 (length (first_sets past))) (leb 40 (count i))))
 
 -- no number
@@ -206,15 +206,15 @@ no_number past inside =
     sym (λ i. first_of (tests (inside i) true (had_sets past) (has_set_number None past) (is_empty (open_sets past) && leb 1000 (length (first_sets past))) (leb 40 (length (open_sets past)))))
 
 -- a set, by where it opens
-same_opening : (limits : FaceLimits) (stage : Stage) (es : ShelfValue) (past : History) (n : Option ℕ) → IsWithoutFault limits past → IsStage stage past → Stand past (stations_in past) es → kept.opening stage es n ≡ first_of (opening_tests n past)
-same_opening limits Outside es past n w g h =
+same_opening : (limits : FaceLimits) (stage : Stage) (shelf : ShelfValue) (past : History) (n : Option ℕ) → IsWithoutFault limits past → IsStage stage past → Stand past (stations_in past) shelf → kept.opening stage shelf n ≡ first_of (opening_tests n past)
+same_opening limits Outside shelf past n w g h =
     sym (λ i. first_of (tests (is_empty (g.0 i)) (is_none n) (had_sets past) (has_set_number n past) (is_empty (open_sets past) && leb 1000 (length (first_sets past))) (leb 40 (length (open_sets past)))))
-same_opening limits (Station name) es past None w g h = no_number past g.0
-same_opening limits (Station name) es past (Some n) w g h = first_opening es past name n g.0 g.1 g.2 h
-same_opening limits BetweenSets es past None w g h = no_number past (set_has_station limits past w g.0)
-same_opening limits BetweenSets es past (Some n) w g h = further_opening limits es past n w g.0 h
-same_opening limits InSet es past None w g h = no_number past (set_has_station limits past w (open_has_set past g))
-same_opening limits InSet es past (Some n) w g h = further_opening limits es past n w (open_has_set past g) h
+same_opening limits (Station name) shelf past None w g h = no_number past g.0
+same_opening limits (Station name) shelf past (Some n) w g h = first_opening shelf past name n g.0 g.1 g.2 h
+same_opening limits BetweenSets shelf past None w g h = no_number past (set_has_station limits past w g.0)
+same_opening limits BetweenSets shelf past (Some n) w g h = further_opening limits shelf past n w g.0 h
+same_opening limits InSet shelf past None w g h = no_number past (set_has_station limits past w (open_has_set past g))
+same_opening limits InSet shelf past (Some n) w g h = further_opening limits shelf past n w (open_has_set past g) h
 
 -- the faults of a set, its word 42 first
 set_tests : (past : History) (b : GsiBlock) → first_of (set_faults past b) ≡ then_fault (when (has_two 42 b) (kinds.WordTwice 42)) (first_of (opening_tests (number b) past))

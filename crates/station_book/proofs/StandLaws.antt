@@ -78,14 +78,16 @@ survey_is h st e k = by (sets_of st h) refl k where
   by [] s k = absurd k
   by (newest ∷ older) s k =
       let count : length e.1.sets ≡ suc (length older) = sym (length_map (λ n. Some n) e.1.sets) ∙ ap length k.numbers ∙ length_numbers (newest ∷ older) in
-      let last : length e.1.sets - 1 ≡ length older = omega (arith, count) in
-      (k.named_so, record {
-        named_so = k.named_so;
-        targets = k.targets;
-        numbers = k.numbers ∙ ap numbers_in (sym s);
-        obs = (λ i. k.obs i ++ obs_of (last i) (k.slots i)) ∙ ap (obs_in (targets_in (station_readings st h)) (station_readings st h)) (sym s);
-        faces = (λ i. k.faces i ++ faces_of (k.slots i)) ∙ ap (faces_in (targets_in (station_readings st h)) (station_readings st h)) (sym s);
-      })
+      let last : length e.1.sets - 1 ≡ length older = omega (arith, count) in (
+        k.named_so,
+        record {
+          named_so = k.named_so;
+          targets = k.targets;
+          numbers = k.numbers ∙ ap numbers_in (sym s);
+          obs = (λ i. k.obs i ++ obs_of (last i) (k.slots i)) ∙ ap (obs_in (targets_in (station_readings st h)) (station_readings st h)) (sym s);
+          faces = (λ i. k.faces i ++ faces_of (k.slots i)) ∙ ap (faces_in (targets_in (station_readings st h)) (station_readings st h)) (sym s);
+        },
+      )
 
 with_done : (h : History) (sts : List Place) (last : Last) (es : Surveys) → StandWith h sts last es → AreDone h sts (last_done last ++ es)
 with_done h [] None es k = k

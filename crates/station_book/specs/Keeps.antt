@@ -69,7 +69,8 @@ StandsAt h st e = IsEntryWith st (sets_of st h) (station_readings st h) e
 abbrev pub stations_in : History → List Place
 stations_in h = map (λ s. station (before s)) (first_sets h)
 
--- what will be answered of a station that another one followed, and that has these sets and readings
+-- what will be answered of a station that another one followed, and that has these sets and
+-- readings, the newest first
 pub record IsComputed (st : Place) (sets readings : List Place) (s : SurveyedStation) : Type 0 where
   pub named_so : name_at st ≡ Some s.station.name
   pub targets : s.station.targets ≡ targets_in readings
@@ -77,18 +78,19 @@ pub record IsComputed (st : Place) (sets readings : List Place) (s : SurveyedSta
   pub obs : s.station.obs ≡ obs_in (targets_in readings) readings sets
   pub faces : s.faces ≡ faces_in (targets_in readings) readings sets
 
--- the same, of the station that this block with code 10 opens, kept by its name
+-- what will be answered of the station that this block with code 10 opens, kept by its name
 abbrev pub DoneAt : History → Place → List ℕ × SurveyedStation → Type 0
 DoneAt h st e = (name_at st ≡ Some e.0) × IsComputed st (sets_of st h) (station_readings st h) e.1
 
--- both lists come the newest first
+-- the same for stations that were followed; both lists come the newest first
 abbrev pub AreDone : History → List Place → Surveys → Type 0
 AreDone h [] [] = Unit {0}
 AreDone h [] (e ∷ es) = ⊥
 AreDone h (st ∷ sts) [] = ⊥
 AreDone h (st ∷ sts) (e ∷ es) = DoneAt h st e × AreDone h sts es
 
--- The newest station is kept as the last, the others as what will be answered; all come the newest first.
+-- The newest station is kept as the last, the others as what will be answered; all come the
+-- newest first.
 abbrev pub StandWith : History → List Place → Last → Surveys → Type 0
 StandWith h [] None es = AreDone h [] es
 StandWith h [] (Some e) es = ⊥

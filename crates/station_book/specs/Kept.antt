@@ -17,7 +17,8 @@ use Rattle.station_book.specs.Slots.{end_faults}
 use Rattle.station_book.specs.Entries.{with_set, reading_faults, with_reading}
 use Rattle.station_book.specs.Shelves.{ShelfValue, Last, last_of, LastMayEnd, change_last, with_station, first_set_faults, more_set_faults}
 
--- what a book keeps: its limits, how many blocks it took, where it stands, and its stations with sets
+-- what a book keeps: its limits, how many blocks it took, where it stands, and its stations with
+-- sets
 pub record Kept : Type 0 where
   pub limits : FaceLimits
   pub taken : ℕ
@@ -38,28 +39,28 @@ is_open InSet = true
 
 -- the fault of the end of a set, where one is open
 abbrev pub ending : Stage → ShelfValue → Option BookKind
-ending Outside es = None
-ending (Station name) es = None
-ending BetweenSets es = None
-ending InSet es = first_of (end_faults (last_of es).slots)
+ending Outside shelf = None
+ending (Station name) shelf = None
+ending BetweenSets shelf = None
+ending InSet shelf = first_of (end_faults (last_of shelf).slots)
 
 -- the fault of a set that opens here
 abbrev pub opening : Stage → ShelfValue → Option ℕ → Option BookKind
-opening Outside es n = Some kinds.SetOutside
-opening (Station name) es None = Some kinds.SetNumber
-opening (Station name) es (Some n) = first_of (first_set_faults name es)
-opening BetweenSets es None = Some kinds.SetNumber
-opening BetweenSets es (Some n) = first_of (more_set_faults (last_of es) n)
-opening InSet es None = Some kinds.SetNumber
-opening InSet es (Some n) = first_of (more_set_faults (last_of es) n)
+opening Outside shelf n = Some kinds.SetOutside
+opening (Station name) shelf None = Some kinds.SetNumber
+opening (Station name) shelf (Some n) = first_of (first_set_faults name shelf)
+opening BetweenSets shelf None = Some kinds.SetNumber
+opening BetweenSets shelf (Some n) = first_of (more_set_faults (last_of shelf) n)
+opening InSet shelf None = Some kinds.SetNumber
+opening InSet shelf (Some n) = first_of (more_set_faults (last_of shelf) n)
 
 -- the stations after a set of this number
 abbrev pub opened : Stage → Option ℕ → ShelfValue → ShelfValue
-opened stage None es = es
-opened Outside (Some n) es = es
-opened (Station name) (Some n) es = with_station name n es
-opened BetweenSets (Some n) es = change_last (with_set n) es
-opened InSet (Some n) es = change_last (with_set n) es
+opened stage None shelf = shelf
+opened Outside (Some n) shelf = shelf
+opened (Station name) (Some n) shelf = with_station name n shelf
+opened BetweenSets (Some n) shelf = change_last (with_set n) shelf
+opened InSet (Some n) shelf = change_last (with_set n) shelf
 
 -- after a block of code 10 with this name
 abbrev pub at_station : Option (List ℕ) → Stage → Stage
@@ -75,15 +76,15 @@ closed_stage InSet = BetweenSets
 
 -- the fault of a measurement that says this, in an open set
 abbrev pub measured : FaceLimits → ShelfValue → Result (Option Sighting) BookKind → Option BookKind
-measured limits es (Err k) = Some k
-measured limits es (Ok None) = None
-measured limits es (Ok (Some s)) = first_of (reading_faults limits (last_of es) s)
+measured limits shelf (Err k) = Some k
+measured limits shelf (Ok None) = None
+measured limits shelf (Ok (Some s)) = first_of (reading_faults limits (last_of shelf) s)
 
 -- the stations after a measurement that says this, in an open set
 abbrev pub with_measured : Result (Option Sighting) BookKind → ShelfValue → ShelfValue
-with_measured (Err k) es = es
-with_measured (Ok None) es = es
-with_measured (Ok (Some s)) es = change_last (with_reading s) es
+with_measured (Err k) shelf = shelf
+with_measured (Ok None) shelf = shelf
+with_measured (Ok (Some s)) shelf = change_last (with_reading s) shelf
 
 -- the fault of a block with this role
 abbrev pub fault_as : Role → Kept → GsiBlock → Option BookKind

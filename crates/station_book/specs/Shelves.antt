@@ -20,7 +20,8 @@ Surveys = List (List ℕ × SurveyedStation)
 abbrev pub Last : Type 0
 Last = Option (List ℕ × EntryValue)
 
--- The stations that have sets: of those that another one followed, what will be answered; and the last.
+-- The stations that have sets: of those that another one followed, what will be answered; and
+-- the last, to which blocks may still add.
 pub record ShelfValue : Type 0 where
   pub done : Surveys
   pub last : Last
@@ -31,7 +32,10 @@ empty_shelf = record { done = []; last = None }
 
 -- what a station gives once all its sets are closed
 abbrev pub survey_of : List ℕ × EntryValue → SurveyedStation
-survey_of e = record { station = station_of e.0 e.1.targets e.1.sets (closed e.1).obs; faces = (closed e.1).faces }
+survey_of e = record {
+  station = station_of e.0 e.1.targets e.1.sets (closed e.1).obs;
+  faces = (closed e.1).faces;
+}
 
 -- what the last station gives
 abbrev pub last_done : Last → Surveys
@@ -62,7 +66,7 @@ IsShelf s = IfSome s.last (λ e. list_any (λ d. bytes_eq e.0 d.0) s.done ≡ fa
 abbrev pub change_last : (EntryValue → EntryValue) → ShelfValue → ShelfValue
 change_last f s = record { done = s.done; last = option_map (λ e. (e.0, f e.1)) s.last }
 
--- a station more, with its first set; the readings of the one before it are given up
+-- a station more, with its first set; the readings by target of the one before it are given up
 abbrev pub with_station : List ℕ → ℕ → ShelfValue → ShelfValue
 with_station name n s = record { done = all_done s; last = Some (name, first_entry n) }
 

@@ -1,4 +1,4 @@
-//! A station that has sets.
+//! The last station that has sets.
 
 ghost use Rattle.std.specs.Prelude.{◌≡◌, ◌<◌, ◌≤◌, None, Some, length, IfOk, IfErr, OnOk, OnErr, IfSome, IfNone, false, nat_le, ◌==◌, [], ◌∷◌};
 ghost use Rattle.std.specs.List.{list_any};
@@ -22,8 +22,8 @@ use adjust_kernel::{MOST_SETS, MOST_TARGETS, Name, Obs, Station};
 use std::alloc::{AllocError, Global};
 use std::marker::Model;
 
-/// What a book keeps of a station that has sets. The readings of its last set are kept by target; those of all earlier
-/// sets have become observations.
+/// What a book keeps of the last station that has sets. The readings of its last set are kept by
+/// target; those of all earlier sets have become observations.
 #[derive(Drop)]
 pub(crate) struct Entry {
     targets: Vec<Name>,
@@ -190,8 +190,8 @@ impl Entry {
         self.slots = slots;
     }
 
-    /// The station with the observations of all its sets, and its list of readings, emptied. Where memory is wanting, it
-    /// comes back as it was.
+    /// The station with the observations of all its sets, and its list of readings, emptied. Where
+    /// memory is wanting, it comes back as it was.
     pub(crate) fn close(self, name: Name) -> Result<(Surveyed, Vec<Slot>), Entry>
         requires { MayEnd self }
         ensures station { IfOk result (λ r. r.0 ≡ survey_of (name, self)) }

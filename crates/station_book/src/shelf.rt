@@ -25,8 +25,9 @@ use indexmap::IndexMap;
 use std::alloc::{AllocError, Global};
 use std::marker::Model;
 
-/// The stations that have sets, in the order of their first sets: of those that another one followed, what will be
-/// answered; and the last, to which blocks may still add.
+/// The stations that have sets, in the order of their first sets: of those that another one
+/// followed, what will be answered; and the last, to which blocks may still add. So readings are
+/// kept by target for one set alone, in one list that is used again.
 #[derive(Drop)]
 pub(crate) struct Shelf {
     alloc: Global,
@@ -44,7 +45,7 @@ impl Model for Shelf {
     ghost invariant = { λ s. IsShelf (record { done = s.done.entries; last = s.last }) };
 }
 
-// Keeps what will be answered of a station more. There is room for it.
+/// Keeps what will be answered of a station more. There is room for it.
 fn keep(done: &mut IndexMap<Name, Surveyed>, name: Name, surveyed: Surveyed)
     requires room { 0 < spare done.old }
     requires new { list_any (λ e. bytes_eq name e.0) done.old.entries ≡ false }
@@ -78,14 +79,14 @@ impl Shelf {
         }
     }
 
-    // Whether a station that another one followed has this name.
+    /// Whether a station that another one followed has this name.
     fn has_done(&self, name: Name) -> bool
         ensures { result ≡ list_any (λ e. bytes_eq name e.0) self.now.done }
     {
         self.done.contains_key(&name)
     }
 
-    // Whether the last station has this name.
+    /// Whether the last station has this name.
     fn is_last(&self, name: Name) -> bool
         ensures { result ≡ list_any (λ e. bytes_eq name e.0) (last_done self.now.last) }
     {
@@ -95,7 +96,7 @@ impl Shelf {
         }
     }
 
-    // Whether a station has this name.
+    /// Whether a station has this name.
     fn knows(&self, name: Name) -> bool
         ensures { result ≡ is_known name self.now }
     {
@@ -124,8 +125,8 @@ impl Shelf {
         }
     }
 
-    // Closes the sets of the last station, which then is not the last, and gives its list of readings, emptied. All
-    // growths come first.
+    /// Closes the last station, so that there is none, and gives its list of readings, emptied. All
+    /// growths come first.
     fn close_last(&mut self) -> Result<Vec<Slot>, AllocError>
         requires { LastMayEnd self.old.last }
         ensures ok { OnOk result (self.new ≡ record { done = all_done self.old; last = None }) }
@@ -151,7 +152,8 @@ impl Shelf {
         }
     }
 
-    /// A station with its first set. The list of the readings of the one before it is used again.
+    /// A station with its first set, in the list of readings of the one before it. All growths come
+    /// first.
     fn add_station(&mut self, name: Name, number: u16) -> Result<(), AllocError>
         requires may_end { LastMayEnd self.old.last }
         requires new { is_known name self.old ≡ false }
