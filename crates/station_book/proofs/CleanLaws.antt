@@ -9,7 +9,7 @@ use Rattle.station_book.specs.declared.fault.BookKind.TheVariants as kinds
 use Rattle.station_book.specs.Limits.{FaceLimits}
 use Rattle.station_book.specs.Blocks.{opens_station, opens_set, closes_set, is_sight, has_two, lacks, number, angle_fault, is_of_face}
 use Rattle.station_book.specs.Places.{History, station, is_empty, is_open, is_reading}
-use Rattle.station_book.specs.Faults.{had_sets, is_face_taken, is_beyond, has_no_two_c, has_no_two_i, end_faults, station_faults, set_faults, reading_faults, faults, fault_after, first_of}
+use Rattle.station_book.specs.Faults.{had_sets, has_set_number, is_face_taken, is_beyond, has_no_two_c, has_no_two_i, end_faults, station_faults, set_faults, reading_faults, faults, fault_after, first_of}
 use Rattle.station_book.proofs.CodeLaws.{no_station_at_set}
 use Rattle.station_book.proofs.KeptLaws.{none_stands, none_when}
 use Rattle.station_book.proofs.StepLaws.{sight_opens_nothing}
@@ -51,6 +51,7 @@ pub record IsCleanSet (past : History) (b : GsiBlock) : Type 0 where
   pub of_station : is_empty (station past) ≡ false
   pub numbered : is_none (number b) ≡ false
   pub first_time : had_sets past ≡ false
+  pub new_number : has_set_number (number b) past ≡ false
 
 pub clean_set : (limits : FaceLimits) (past : History) (b : GsiBlock) → opens_set b ≡ true
     → fault_after limits past b ≡ None → IsCleanSet past b
@@ -64,6 +65,7 @@ clean_set limits past b e clean =
       of_station = none_when (is_empty (station past)) kinds.SetOutside none.0;
       numbered = none_when (is_none (number b)) kinds.SetNumber none.1.0;
       first_time = none_when (had_sets past) kinds.StationTwice none.1.1.0;
+      new_number = none_when (has_set_number (number b) past) kinds.SetTwice none.1.1.1.0;
     }
 
 -- a reading

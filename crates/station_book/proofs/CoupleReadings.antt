@@ -21,7 +21,7 @@ pub record IsRead (h : History) (st set : Place) (name : List ℕ) (f : Bool) (r
   pub of_station : station (before r) ≡ st
   pub is : IsOf set name f r
 
-abbrev readings_in : History → Place → Place → List Place
+abbrev pub readings_in : History → Place → Place → List Place
 readings_in h st set = in_set set (station_readings st h)
 
 -- what is found among the readings of a set is such a reading

@@ -36,7 +36,7 @@ module _ {X : Type 0} where
       subst (AllByRecursion P) (sym (reverse-append (x ∷ []) xs))
       (all_snoc P (reverse xs) x (all_reverse P xs all.1) all.0)
 
-  pairwise_snoc : (R : X → X → Type 0) (xs : List X) (z : X) → Pairwise R xs
+  pub pairwise_snoc : (R : X → X → Type 0) (xs : List X) (z : X) → Pairwise R xs
       → AllByRecursion (λ x. R x z) xs → Pairwise R (xs ++ z ∷ [])
   pairwise_snoc R [] z pairs all = (tt, tt)
   pairwise_snoc R (x ∷ xs) z pairs all =
@@ -121,7 +121,7 @@ two_names limits h (x ∷ xs) [] pairs zip = absurd zip
 two_names limits h (x ∷ xs) (y ∷ ys) pairs zip =
     (apart_from limits h x y xs ys zip.0 pairs.0 zip.1, two_names limits h xs ys pairs.1 zip.1)
 
-pairs_of : {X : Type 0} (R : X → X → Type 0) (xs : List X) → Pairwise R xs → AllPairs R xs
+pub pairs_of : {X : Type 0} (R : X → X → Type 0) (xs : List X) → Pairwise R xs → AllPairs R xs
 pairs_of R [] pairs = λ i j d before inside. absurd (omega arith)
 pairs_of R (x ∷ xs) pairs = AllPairs-cons R x xs (All-from_recursion (R x) xs pairs.0) (pairs_of R xs pairs.1)
 

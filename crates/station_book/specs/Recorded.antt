@@ -10,8 +10,8 @@ use Rattle.station_book.specs.Faults.{name_at, sight_at}
 
 -- The file has a reading at this place: of this station, named by its block with code 10, of the
 -- set that was opened at `set`, of this target, and of face I with `false`, face II with `true`.
-pub record IsReadingOf (h : History) (name : List ℕ) (set : Place) (target : List ℕ) (face : Bool) (r : Place)
-    : Type 0 where
+pub record IsReadingOf (h : History) (name : List ℕ) (set : Place) (target : List ℕ)
+    (face : Bool) (r : Place) : Type 0 where
   pub placed : Contains (places h) r
   pub reading : IsTrue (is_reading r)
   pub of_station : name_at (station (before r)) ≡ Some name

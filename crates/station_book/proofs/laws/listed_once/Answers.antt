@@ -1,0 +1,5 @@
+use Rattle.station_book.proofs.ListedOnce.{listed_once}
+use Rattle.station_book.proofs.laws.listed_once.Goals as goal
+
+pub returns : goal.returns
+returns c = listed_once
