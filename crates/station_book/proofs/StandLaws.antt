@@ -316,9 +316,6 @@ places_below : (past : History) (n : ℕ) → length past ≤ n → AllByRecursi
 places_below [] n le = tt
 places_below (b ∷ past) n le = (omega arith, places_below past n (omega arith))
 
-all_kept : {X : Type 0} (P : X → Type 0) (xs ys : List X) → xs ≡ ys → AllByRecursion P xs → AllByRecursion P ys
-all_kept P xs ys e all = subst (AllByRecursion P) e all
-
 pub open_set : (past : History) → is_open past ≡ true → HasOpenSet past
 open_set [] e = cc
 open_set (b ∷ past) e = split (cases_Bool (opens_station b)) (cases_Bool (opens_set b)) (cases_Bool (is_opening b)) (open_set past) where
