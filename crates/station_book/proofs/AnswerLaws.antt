@@ -15,16 +15,16 @@ use Rattle.station_book.specs.Faults.{fault_at_end, sight_at, IsWithoutFault}
 use Rattle.station_book.specs.Stations.{Couple, joined, couples_in, in_set, SurveyedStation, IsObserved, HasFaces, IsSurveyed, AreStations}
 use Rattle.station_book.specs.Slots as slots
 use Rattle.station_book.specs.Slots.{obs_at, obs_of, faces_at, faces_of}
-use Rattle.station_book.specs.Shelves.{survey_of}
+use Rattle.station_book.specs.Shelves.{empty_shelf, surveys_of}
 use Rattle.station_book.specs.Refusals.{ExplainsFault}
 use Rattle.station_book.specs.Kept.{Kept, ending}
-use Rattle.station_book.specs.Keeps.{sighted, slots_of, obs_in, faces_in, numbers_in, number_at, stations_in}
+use Rattle.station_book.specs.Keeps.{sighted, slots_of, obs_in, faces_in, numbers_in, number_at, IsComputed, stations_in}
 use Rattle.station_book.specs.Standing.{StandsFor, ExplainsEnd}
 use Rattle.station_book.proofs.SlotLaws.{enumerate-append}
 use Rattle.station_book.proofs.ComputedLaws.{computed_two_c, computed_two_i, computed_direction}
 use Rattle.station_book.proofs.WithinLaws.{AreWithin, AllWithin, within_limits, place_on_circle}
 use Rattle.station_book.proofs.TakeLaws.{at_own}
-use Rattle.station_book.proofs.EndLaws.{IsComputed, AreComputed, same_end, same_stations, map_reverse}
+use Rattle.station_book.proofs.EndLaws.{AreComputed, same_end, same_stations, map_reverse}
 
 zip_append : {A B : Type 0} (R : A → B → Type 0) (xs zs : List A) (ys ws : List B) → AllZip R xs ys → AllZip R zs ws → AllZip R (xs ++ zs) (ys ++ ws)
 zip_append R [] zs [] ws h k = k
@@ -111,7 +111,7 @@ module _ (limits : FaceLimits) where
       ap (λ l. l ++ number_at s ∷ []) (numbers_are older) ∙ sym (map-append number_at (reverse older) (s ∷ [])) ∙ ap (map number_at) (sym (reverse-append (s ∷ []) older))
 
   -- a station as it is computed is the station as it was surveyed
-  surveyed : (h : History) → IsWithoutFault limits h → (st : Place) (s : SurveyedStation) → IsComputed h st s → IsSurveyed limits h st s
+  surveyed : (h : History) → IsWithoutFault limits h → (st : Place) (s : SurveyedStation) → IsComputed st (sets_of st h) (station_readings st h) s → IsSurveyed limits h st s
   surveyed h clean st s c =
       let couples = sym (over_sets (targets_of st h) (station_readings st h) (sets_of st h)) in
       let within : (set : Place) → AllWithin limits (in_set set (station_readings st h)) = λ set. within_limits limits h st set clean in
@@ -139,26 +139,26 @@ module _ (limits : FaceLimits) where
       (subst (λ (zs : List SurveyedStation). AllZip (IsSurveyed limits h) (reverse (stations_in h)) zs) (reverse-reverse ss) zip)
 
 -- a new book stands for no block
-pub stands_empty : (limits : FaceLimits) → StandsFor limits (record { limits = limits; taken = 0; stage = Outside; entries = [] }) []
-stands_empty limits = record { limited = refl; counted = refl; clean = tt; stage = (refl, refl); entries = tt }
+pub stands_empty : (limits : FaceLimits) → StandsFor limits (record { limits = limits; taken = 0; stage = Outside; shelf = empty_shelf }) []
+stands_empty limits = record { limited = refl; counted = refl; clean = tt; stage = (refl, refl); stations = tt }
 
 -- the fault of the end by the blocks, under any limits
-end_same : (limits : FaceLimits) (k : Kept) (h : History) → StandsFor limits k h → ending k.stage k.entries ≡ fault_at_end h
+end_same : (limits : FaceLimits) (k : Kept) (h : History) → StandsFor limits k h → ending k.stage k.shelf ≡ fault_at_end h
 end_same limits k h stands = same_end k h (at_own limits k h stands)
 
 -- the clauses of `finish`, by the blocks
-pub end_clean : {X E : Type 0} (k : Kept) (r : Result X E) → OnOk r (ending k.stage k.entries ≡ None) → OnOk r ((limits : FaceLimits) (h : History) → StandsFor limits k h → fault_at_end h ≡ None)
+pub end_clean : {X E : Type 0} (k : Kept) (r : Result X E) → OnOk r (ending k.stage k.shelf ≡ None) → OnOk r ((limits : FaceLimits) (h : History) → StandsFor limits k h → fault_at_end h ≡ None)
 end_clean k (Ok x) clean = λ limits h stands. sym (end_same limits k h stands) ∙ clean
 end_clean k (Err e) clean = clean
 
-pub end_stations : {E : Type 0} (k : Kept) (r : Result (List SurveyedStation) E) → IfOk r (λ s. s ≡ map survey_of k.entries)
+pub end_stations : {E : Type 0} (k : Kept) (r : Result (List SurveyedStation) E) → IfOk r (λ s. s ≡ surveys_of k.shelf)
     → IfOk r (λ s. (limits : FaceLimits) (h : History) → StandsFor limits k h → AreStations limits h s)
 end_stations k (Ok s) same = λ limits h stands.
     are_stations limits h s stands.clean
     (subst (λ (ss : List SurveyedStation). AreComputed h (stations_in h) (reverse ss)) (sym same) (same_stations k h (at_own limits k h stands)))
 end_stations k (Err e) same = same
 
-pub end_fault : {X : Type 0} (k : Kept) (r : Result X BookFault) → IfErr r (ExplainsFault (k.taken + 1) (ending k.stage k.entries))
+pub end_fault : {X : Type 0} (k : Kept) (r : Result X BookFault) → IfErr r (ExplainsFault (k.taken + 1) (ending k.stage k.shelf))
     → IfErr r (λ e. (limits : FaceLimits) (h : History) → StandsFor limits k h → ExplainsEnd h e)
 end_fault k (Ok x) why = why
 end_fault k (Err (At n kind)) why = λ limits h stands. (why.0 ∙ ap (λ (m : ℕ). m + 1) stands.counted, sym (end_same limits k h stands) ∙ why.1)

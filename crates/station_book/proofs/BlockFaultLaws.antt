@@ -68,7 +68,7 @@ take_taken k new b (Ok x) clean same = λ limits h stands.
     let own = at_own limits k h stands in
     subst (λ (l : FaceLimits). StandsFor l new (b ∷ h)) stands.limited
     (subst (λ (w : kept.Kept). StandsFor k.limits w (b ∷ h)) (sym same)
-    (taken_stands k.limits k.taken k.stage k.entries b h (role_of b) refl clean (sym (own_fault k b h own) ∙ clean) own))
+    (taken_stands k.limits k.taken k.stage k.shelf b h (role_of b) refl clean (sym (own_fault k b h own) ∙ clean) own))
 take_taken k new b (Err e) clean same = same
 
 pub take_fault : {X : Type 0} (k : kept.Kept) (b : GsiBlock) (r : Result X BookFault) → IfErr r (ExplainsFault (k.taken + 1) (kept.fault_of k b)) → IfErr r (WantsOnlyAt (kept.grows k b))

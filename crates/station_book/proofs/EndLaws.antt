@@ -1,21 +1,21 @@
 -- The end of a set and of the file: the faults and the stations by what is kept are those by the blocks.
-use Rattle.std.proofs.Common.{◌≡◌, ℕ, suc, ◌-◌, ◌++◌, Bool, true, false, ◌&&◌, ◌||◌, List, [], ◌∷◌, length, map, reverse, Option, Some, None, is_some, is_none, refl, sym, ap, ◌∙◌, inl, inr, subst, arith}
+use Rattle.std.proofs.Common.{◌≡◌, ℕ, ◌++◌, Bool, true, false, ◌&&◌, ◌||◌, List, [], ◌∷◌, map, reverse, Option, Some, None, is_some, is_none, refl, sym, ap, ◌∙◌, inl, inr, subst}
 use Rattle.std.specs.List.{list_any, list_all, AllByRecursion}
 use Rattle.std.specs.Str.{bytes_eq}
 use Rattle.std.proofs.lemmas.Bool.{false≢true}
-use Rattle.std.proofs.lemmas.List.{reverse-append, length-append}
+use Rattle.std.proofs.lemmas.List.{reverse-append}
 use Rattle.std.proofs.lemmas.Slice.Eq.{bytes_eq-Decides}
 use Rattle.station_book.specs.declared.fault.BookKind.TheVariants as kinds
 use Rattle.station_book.specs.declared.stage.Stage.{Stage}
 use Rattle.station_book.specs.declared.stage.Stage.TheVariants.{Outside, Station, BetweenSets, InSet}
-use Rattle.station_book.specs.Faults.{when, first_of, open_sets, open_readings, has_one_face, fault_at_end, face_at, name_at}
-use Rattle.station_book.specs.Slots.{is_unread, is_single, obs_of, faces_of}
+use Rattle.station_book.specs.Faults.{when, first_of, open_sets, open_readings, has_one_face, fault_at_end, face_at}
+use Rattle.station_book.specs.Slots.{is_unread, is_single}
 use Rattle.station_book.specs.Entries.{EntryValue}
-use Rattle.station_book.specs.Shelves.{Entries, last_of, survey_of}
+use Rattle.station_book.specs.Shelves.{Surveys, Last, ShelfValue, entry_of, last_of, all_done, surveys_of}
 use Rattle.station_book.specs.Stations.{SurveyedStation}
 use Rattle.station_book.specs.Kept.{Kept, ending}
 use Rattle.station_book.specs.Places.{History, Place, station, opening, is_empty, is_open, reading_in, sets_of, station_readings, target_at}
-use Rattle.station_book.specs.Keeps.{sighted, slot_of, slots_of, targets_in, obs_in, faces_in, numbers_in, IsEntryWith, StandsAt, Stand, stations_in, IsStage, number_at}
+use Rattle.station_book.specs.Keeps.{sighted, slot_of, slots_of, IsEntryWith, StandsAt, IsComputed, AreDone, StandWith, Stand, stations_in, IsStage}
 use Rattle.station_book.specs.Standing.{StandsFor}
 use Rattle.station_book.proofs.Membership.{In, any_to}
 use Rattle.station_book.proofs.StepLaws.{open_targets}
@@ -23,7 +23,7 @@ use Rattle.station_book.proofs.FaceLaws as faces
 use Rattle.station_book.proofs.FaceLaws.{IsKept, some_there}
 use Rattle.station_book.proofs.KeptLaws.{open_kept}
 use Rattle.station_book.proofs.CoupleLaws.{open_in_set}
-use Rattle.station_book.proofs.StandLaws.{Parted, parted, HasOpenSet, open_set, open_has_set, last_newest}
+use Rattle.station_book.proofs.StandLaws.{Parted, parted, HasOpenSet, open_set, open_has_set, are_done}
 
 pub some_sighted : (o : Option Place) → is_some (sighted o) ≡ is_some o
 some_sighted None = refl
@@ -72,8 +72,8 @@ empty_by_slots targets (r ∷ rs) kept =
     sym (not_all (r ∷ rs) name targets listed (seen (face_at r) (r ∷ rs) name (some_there (face_at r) name r (r ∷ rs) (inl refl) equal kept.0.has_face)))
 
 -- the slots of the set that is open
-pub slots_kept : (es : Entries) (past : History) → is_open past ≡ true → Stand past (stations_in past) (reverse es) → (last_of es).slots ≡ slots_of (open_targets past) (open_readings past)
-slots_kept es past now h = by (parted past) where
+pub slots_kept : (shelf : ShelfValue) (past : History) → is_open past ≡ true → Stand past (stations_in past) shelf → (last_of shelf).slots ≡ slots_of (open_targets past) (open_readings past)
+slots_kept shelf past now h = by (parted past) where
   set : HasOpenSet past
   set = open_set past now
 
@@ -82,28 +82,28 @@ slots_kept es past now h = by (parted past) where
       let e : IsEntryWith (station past) (opening past ∷ set.older) (station_readings (station past) past) x = subst (λ (ss : List Place). IsEntryWith (station past) ss (station_readings (station past) past) x) set.sets k in
       e.slots ∙ ap (slots_of (open_targets past)) (open_in_set past)
 
-  with_head : (sts : List Place) (ys : Entries) → Stand past (station past ∷ sts) ys → reverse es ≡ ys → (last_of es).slots ≡ slots_of (open_targets past) (open_readings past)
-  with_head sts [] k e = absurd k
-  with_head sts (y ∷ ys) k e = ap (λ (v : EntryValue). v.slots) (last_newest es y ys e) ∙ head y k.0
+  with_last : (sts : List Place) (last : Last) → StandWith past (station past ∷ sts) last (reverse shelf.done) → (entry_of last).slots ≡ slots_of (open_targets past) (open_readings past)
+  with_last sts None k = absurd k
+  with_last sts (Some y) k = head y k.0
 
-  by : Parted past → (last_of es).slots ≡ slots_of (open_targets past) (open_readings past)
+  by : Parted past → (last_of shelf).slots ≡ slots_of (open_targets past) (open_readings past)
   by (inl p) = let bad : is_empty (open_sets past) ≡ true = ap is_empty p.0 in absurd (false≢true (sym (open_has_set past now) ∙ bad))
-  by (inr p) = with_head p.rest (reverse es) (subst (λ (sts : List Place). Stand past sts (reverse es)) p.stations h) refl
+  by (inr p) = with_last p.rest shelf.last (subst (λ (sts : List Place). Stand past sts shelf) p.stations h)
 
 closed_end : (past : History) → is_open past ≡ false → fault_at_end past ≡ None
 unfolding fault_at_end
 closed_end past e = λ i. first_of (when (e i && is_empty (open_readings past)) kinds.EmptySet ∷ when (e i && has_one_face (open_readings past)) kinds.OneFace ∷ [])
 
 -- THE LAW of the end: the fault by what is kept is the fault by the blocks
-pub same_end : (k : Kept) (past : History) → StandsFor k.limits k past → ending k.stage k.entries ≡ fault_at_end past
+pub same_end : (k : Kept) (past : History) → StandsFor k.limits k past → ending k.stage k.shelf ≡ fault_at_end past
 unfolding fault_at_end
 same_end k past h = by k.stage h.stage where
-  by : (stage : Stage) → IsStage stage past → ending stage k.entries ≡ fault_at_end past
+  by : (stage : Stage) → IsStage stage past → ending stage k.shelf ≡ fault_at_end past
   by Outside g = sym (closed_end past g.1)
   by (Station name) g = sym (closed_end past g.3)
   by BetweenSets g = sym (closed_end past g.1)
   by InSet g =
-      let slots = slots_kept k.entries past g h.entries in
+      let slots = slots_kept k.shelf past g h.stations in
       let kept = open_kept k.limits past h.clean in
       let none = empty_by_slots (open_targets past) (open_readings past) kept in
       let one = faces.one_face_by_slots (open_targets past) (open_readings past) kept ∙ sym (singles_same (open_targets past) (open_readings past)) in
@@ -111,50 +111,18 @@ same_end k past h = by k.stage h.stage where
       ∙ (λ i. first_of (when (sym none i) kinds.EmptySet ∷ when (sym one i) kinds.OneFace ∷ []))
       ∙ (λ i. first_of (when (sym g i && is_empty (open_readings past)) kinds.EmptySet ∷ when (sym g i && has_one_face (open_readings past)) kinds.OneFace ∷ []))
 
-length_map : {X Y : Type 0} (f : X → Y) (xs : List X) → length (map f xs) ≡ length xs
-length_map f [] = refl
-length_map f (x ∷ xs) = ap suc (length_map f xs)
-
-length_numbers : (sets : List Place) → length (numbers_in sets) ≡ length sets
-length_numbers [] = refl
-length_numbers (s ∷ older) = let l = length-append (numbers_in older) (number_at s ∷ []) in let m = length_numbers older in omega (arith, l, m)
-
--- what is answered of the station that this block with code 10 opens, as it is computed
-pub record IsComputed (h : History) (st : Place) (s : SurveyedStation) : Type 0 where
-  pub named_so : name_at st ≡ Some s.station.name
-  pub targets : s.station.targets ≡ targets_in (station_readings st h)
-  pub numbers : map (λ n. Some n) s.station.sets ≡ numbers_in (sets_of st h)
-  pub obs : s.station.obs ≡ obs_in (targets_in (station_readings st h)) (station_readings st h) (sets_of st h)
-  pub faces : s.faces ≡ faces_in (targets_in (station_readings st h)) (station_readings st h) (sets_of st h)
-
--- both lists come the newest first
+-- what will be answered of these stations; both lists come the newest first
 abbrev pub AreComputed : History → List Place → List SurveyedStation → Type 0
 AreComputed h [] [] = Unit {0}
 AreComputed h [] (s ∷ ss) = ⊥
 AreComputed h (st ∷ sts) [] = ⊥
-AreComputed h (st ∷ sts) (s ∷ ss) = IsComputed h st s × AreComputed h sts ss
+AreComputed h (st ∷ sts) (s ∷ ss) = IsComputed st (sets_of st h) (station_readings st h) s × AreComputed h sts ss
 
--- what a station gives in the end
-survey_is : (h : History) (st : Place) (e : List ℕ × EntryValue) → StandsAt h st e → IsComputed h st (survey_of e)
-survey_is h st e k = by (sets_of st h) refl k where
-  by : (sets : List Place) → sets_of st h ≡ sets → IsEntryWith st sets (station_readings st h) e → IsComputed h st (survey_of e)
-  by [] s k = absurd k
-  by (newest ∷ older) s k =
-      let count : length e.1.sets ≡ suc (length older) = sym (length_map (λ n. Some n) e.1.sets) ∙ ap length k.numbers ∙ length_numbers (newest ∷ older) in
-      let last : length e.1.sets - 1 ≡ length older = omega (arith, count) in
-      record {
-        named_so = k.named_so;
-        targets = k.targets;
-        numbers = k.numbers ∙ ap numbers_in (sym s);
-        obs = (λ i. k.obs i ++ obs_of (last i) (k.slots i)) ∙ ap (obs_in (targets_in (station_readings st h)) (station_readings st h)) (sym s);
-        faces = (λ i. k.faces i ++ faces_of (k.slots i)) ∙ ap (faces_in (targets_in (station_readings st h)) (station_readings st h)) (sym s);
-      }
-
-answers : (h : History) (sts : List Place) (es : Entries) → Stand h sts es → AreComputed h sts (map survey_of es)
+answers : (h : History) (sts : List Place) (es : Surveys) → AreDone h sts es → AreComputed h sts (map (λ e. e.1) es)
 answers h [] [] k = tt
 answers h [] (e ∷ es) k = k
 answers h (st ∷ sts) [] k = k
-answers h (st ∷ sts) (e ∷ es) k = (survey_is h st e k.0, answers h sts es k.1)
+answers h (st ∷ sts) (e ∷ es) k = (k.0.1, answers h sts es k.1)
 
 map_snoc : {X Y : Type 0} (f : X → Y) (xs : List X) (x : X) → map f (xs ++ x ∷ []) ≡ map f xs ++ f x ∷ []
 map_snoc f [] x = refl
@@ -164,6 +132,8 @@ pub map_reverse : {X Y : Type 0} (f : X → Y) (xs : List X) → map f (reverse 
 map_reverse f [] = refl
 map_reverse f (x ∷ xs) = ap (map f) (reverse-append (x ∷ []) xs) ∙ map_snoc f (reverse xs) x ∙ ap (λ ys. ys ++ f x ∷ []) (map_reverse f xs) ∙ sym (reverse-append (f x ∷ []) (map f xs))
 
--- THE LAW of the answer: what the entries give are the stations of the blocks
-pub same_stations : (k : Kept) (past : History) → StandsFor k.limits k past → AreComputed past (stations_in past) (reverse (map survey_of k.entries))
-same_stations k past h = subst (λ (ss : List SurveyedStation). AreComputed past (stations_in past) ss) (map_reverse survey_of k.entries) (answers past (stations_in past) (reverse k.entries) h.entries)
+-- THE LAW of the answer: what is kept gives the stations of the blocks
+pub same_stations : (k : Kept) (past : History) → StandsFor k.limits k past → AreComputed past (stations_in past) (reverse (surveys_of k.shelf))
+same_stations k past h =
+    subst (λ (ss : List SurveyedStation). AreComputed past (stations_in past) ss) (map_reverse (λ e. e.1) (all_done k.shelf))
+    (answers past (stations_in past) (reverse (all_done k.shelf)) (are_done past (stations_in past) k.shelf h.stations))

@@ -10,7 +10,7 @@ use Rattle.gsi_word.specs.Names.{name_of}
 use Rattle.station_book.specs.declared.role.Role.{Role}
 use Rattle.station_book.specs.declared.role.Role.TheVariants as roles
 use Rattle.station_book.specs.Roles.{role_of, is_station, is_set_code, is_close, is_measurement}
-use Rattle.station_book.specs.Blocks.{begins, opens_station, opens_set, closes_set, is_sight, lacks, found, is_absent}
+use Rattle.station_book.specs.Blocks.{begins, opens_station, opens_set, closes_set, is_sight, found, is_absent, lacks}
 
 -- the role of a block whose first word passes these tests
 abbrev by_tests : Bool → Bool → Bool → Bool → Bool → Role

@@ -16,35 +16,35 @@ use Rattle.station_book.specs.Faults.{when, first_of, open_sets, had_sets, same_
 use Rattle.station_book.specs.Kept.{then_fault}
 use Rattle.station_book.specs.Roles.{role_of}
 use Rattle.station_book.specs.Entries.{EntryValue}
-use Rattle.station_book.specs.Shelves.{Entries, last_of, is_known, first_set_faults, more_set_faults}
+use Rattle.station_book.specs.Shelves.{Surveys, Last, ShelfValue, entry_of, last_of, all_done, is_known, first_set_faults, more_set_faults}
 use Rattle.station_book.specs.Kept as kept
 use Rattle.gsi_word.specs.Blocks.{GsiBlock}
 use Rattle.station_book.specs.Blocks.{opens_station, opens_set, closes_set, is_sight, has_two, number}
-use Rattle.station_book.specs.Places.{History, Place, last, before, station, is_empty, is_open, sets_of, first_sets, station_readings}
-use Rattle.station_book.specs.Keeps.{numbers_in, IsEntryOf, IsEntryWith, StandsAt, Stand, IsStage, stations_in, number_at}
+use Rattle.station_book.specs.Places.{History, Place, last, before, station, is_empty, is_open, first_sets, station_readings}
+use Rattle.station_book.specs.Keeps.{numbers_in, IsEntryOf, IsEntryWith, AreDone, StandWith, Stand, IsStage, stations_in, number_at}
 use Rattle.station_book.specs.Standing.{StandsFor}
 use Rattle.station_book.proofs.Membership.{same_test}
 use Rattle.station_book.proofs.StepLaws.{sets-other}
 use Rattle.station_book.proofs.KeptLaws.{none_stands, none_when}
 use Rattle.station_book.proofs.StationLaws.{had_sets_by_names}
-use Rattle.station_book.proofs.OnceLaws.{no_had_sets}
-use Rattle.station_book.proofs.StandLaws.{Parted, parted, open_has_set, last_newest}
+use Rattle.station_book.proofs.StandLaws.{Parted, parted, open_has_set, are_done}
 use Rattle.station_book.proofs.TakeLaws.{station_as, set_as, then_second}
+use Rattle.station_book.proofs.OnceLaws.{no_had_sets}
 use Rattle.station_book.proofs.EndLaws.{same_end}
 use Rattle.station_book.proofs.FaultLaws.{first_append}
 
 -- what is kept of the open station, where it has a set
-pub record HasOpenEntry (past : History) (es : Entries) : Type 0 where
+pub record HasOpenEntry (past : History) (shelf : ShelfValue) : Type 0 where
   pub newest : Place
   pub older : List Place
   pub sets : open_sets past ≡ newest ∷ older
   pub name : List ℕ
-  pub is : IsEntryOf (station past) newest older (station_readings (station past) past) name (last_of es)
+  pub is : IsEntryOf (station past) newest older (station_readings (station past) past) name (last_of shelf)
 
 -- Where the open station has a set, the last entry is its own.
-pub open_entry : (es : Entries) (past : History) → is_empty (open_sets past) ≡ false → Stand past (stations_in past) (reverse es) → HasOpenEntry past es
-open_entry es past some h = by (parted past) where
-  of_sets : (x : List ℕ × EntryValue) (sets : List Place) → open_sets past ≡ sets → last_of es ≡ x.1 → IsEntryWith (station past) sets (station_readings (station past) past) x → HasOpenEntry past es
+pub open_entry : (shelf : ShelfValue) (past : History) → is_empty (open_sets past) ≡ false → Stand past (stations_in past) shelf → HasOpenEntry past shelf
+open_entry shelf past some h = by (parted past) where
+  of_sets : (x : List ℕ × EntryValue) (sets : List Place) → open_sets past ≡ sets → last_of shelf ≡ x.1 → IsEntryWith (station past) sets (station_readings (station past) past) x → HasOpenEntry past shelf
   of_sets x [] s l k = absurd k
   of_sets x (set ∷ rest) s l k = record {
     newest = set;
@@ -54,13 +54,13 @@ open_entry es past some h = by (parted past) where
     is = subst (λ (e : EntryValue). IsEntryOf (station past) set rest (station_readings (station past) past) x.0 e) (sym l) k;
   }
 
-  head : (sts : List Place) (ys : Entries) → Stand past (station past ∷ sts) ys → reverse es ≡ ys → HasOpenEntry past es
-  head sts [] k e = absurd k
-  head sts (y ∷ ys) k e = of_sets y (open_sets past) refl (last_newest es y ys e) k.0
+  of_last : (sts : List Place) (last : Last) → StandWith past (station past ∷ sts) last (reverse shelf.done) → shelf.last ≡ last → HasOpenEntry past shelf
+  of_last sts None k e = absurd k
+  of_last sts (Some y) k e = of_sets y (open_sets past) refl (ap (λ (o : Last). entry_of o) e) k.0
 
-  by : Parted past → HasOpenEntry past es
+  by : Parted past → HasOpenEntry past shelf
   by (inl p) = let bad : is_empty (open_sets past) ≡ true = ap is_empty p.0 in absurd (false≢true (sym some ∙ bad))
-  by (inr p) = head p.rest (reverse es) (subst (λ (sts : List Place). Stand past sts (reverse es)) p.stations h) refl
+  by (inr p) = of_last p.rest shelf.last (subst (λ (sts : List Place). Stand past sts shelf) p.stations h) refl
 
 -- the faults of a block of code 20, in two parts
 pub set_fault_parts : (limits : FaceLimits) (past : History) (b : GsiBlock) → opens_station b ≡ false → opens_set b ≡ true → fault_after limits past b ≡ then_fault (fault_at_end past) (first_of (set_faults past b))
@@ -106,38 +106,32 @@ same_bytes a b = same_test (bytes_eq a b) (bytes_eq b a) (turned a b) (turned b 
   turned : (x y : List ℕ) → bytes_eq x y ≡ true → bytes_eq y x ≡ true
   turned x y e = (bytes_eq-Decides y x).1 (sym ((bytes_eq-Decides x y).0 e))
 
--- a station with sets has a name exactly where an entry has it
-known_names : (past : History) (name : List ℕ) (sts : List Place) (es : Entries) → Stand past sts es → list_any (λ st. same_name (name_at st) (Some name)) sts ≡ is_known name es
+-- a station with sets has a name exactly where one that is kept has it
+known_names : (past : History) (name : List ℕ) (sts : List Place) (es : Surveys) → AreDone past sts es → list_any (λ st. same_name (name_at st) (Some name)) sts ≡ list_any (λ e. bytes_eq name e.0) es
 known_names past name [] [] h = refl
 known_names past name [] (e ∷ es) h = absurd h
 known_names past name (st ∷ sts) [] h = absurd h
 known_names past name (st ∷ sts) (e ∷ es) h =
-    λ i. (ap (λ n. same_name n (Some name)) (its_name st e h.0) ∙ same_bytes e.0 name) i || known_names past name sts es h.1 i
-  where
-    its_name : (o : Place) (x : List ℕ × EntryValue) → StandsAt past o x → name_at o ≡ Some x.0
-    its_name o x k = of_sets (sets_of o past) k where
-      of_sets : (sets : List Place) → IsEntryWith o sets (station_readings o past) x → name_at o ≡ Some x.0
-      of_sets [] k = absurd k
-      of_sets (s ∷ rest) k = k.named_so
+    λ i. (ap (λ n. same_name n (Some name)) h.0.0 ∙ same_bytes e.0 name) i || known_names past name sts es h.1 i
 
-one_each : (past : History) (sts : List Place) (es : Entries) → Stand past sts es → length sts ≡ length es
+one_each : (past : History) (sts : List Place) (es : Surveys) → AreDone past sts es → length sts ≡ length es
 one_each past [] [] h = refl
 one_each past [] (e ∷ es) h = absurd h
 one_each past (st ∷ sts) [] h = absurd h
 one_each past (st ∷ sts) (e ∷ es) h = ap suc (one_each past sts es h.1)
 
--- as many stations have sets as there are entries
-count_stations : (es : Entries) (past : History) → Stand past (stations_in past) (reverse es) → length (first_sets past) ≡ length es
-count_stations es past h = sym (length-map (first_sets past) (λ s. station (before s))) ∙ one_each past (stations_in past) (reverse es) h ∙ length-reverse es
+-- as many stations have sets as are kept
+count_stations : (shelf : ShelfValue) (past : History) → Stand past (stations_in past) shelf → length (first_sets past) ≡ length (all_done shelf)
+count_stations shelf past h = sym (length-map (first_sets past) (λ s. station (before s))) ∙ one_each past (stations_in past) (reverse (all_done shelf)) (are_done past (stations_in past) shelf h) ∙ length-reverse (all_done shelf)
 
 -- StationTwice before the first set of a station
-known_station : (es : Entries) (past : History) (name : List ℕ) → open_sets past ≡ [] → name_at (station past) ≡ Some name → Stand past (stations_in past) (reverse es) → had_sets past ≡ is_known name es
-known_station es past name none is h =
+known_station : (shelf : ShelfValue) (past : History) (name : List ℕ) → open_sets past ≡ [] → name_at (station past) ≡ Some name → Stand past (stations_in past) shelf → had_sets past ≡ is_known name shelf
+known_station shelf past name none is h =
     had_sets_by_names past none
     ∙ (λ i. list_any (λ s. same_name (name_at (station (before s))) (is i)) (first_sets past))
     ∙ sym (any_map (λ st. same_name (name_at st) (Some name)) (λ s. station (before s)) (first_sets past))
-    ∙ known_names past name (stations_in past) (reverse es) h
-    ∙ any_reverse (λ e. bytes_eq name e.0) es
+    ∙ known_names past name (stations_in past) (reverse (all_done shelf)) (are_done past (stations_in past) shelf h)
+    ∙ any_reverse (λ e. bytes_eq name e.0) (all_done shelf)
 
 -- the numbers of a station's sets
 any_numbers : (n : ℕ) (sets : List Place) → list_any (λ s. same_number (number_at s) (Some n)) sets ≡ list_any (λ m. same_number m (Some n)) (numbers_in sets)
@@ -148,16 +142,16 @@ count_numbers : (sets : List Place) → length (numbers_in sets) ≡ length sets
 count_numbers [] = refl
 count_numbers (s ∷ older) = let l = length-append (numbers_in older) (number_at s ∷ []) in let m = count_numbers older in omega (arith, l, m)
 
-kept_numbers : (past : History) (es : Entries) (e : HasOpenEntry past es) → numbers_in (open_sets past) ≡ map (λ n. Some n) (last_of es).sets
-kept_numbers past es e = ap numbers_in e.sets ∙ sym e.is.numbers
+kept_numbers : (past : History) (shelf : ShelfValue) (e : HasOpenEntry past shelf) → numbers_in (open_sets past) ≡ map (λ n. Some n) (last_of shelf).sets
+kept_numbers past shelf e = ap numbers_in e.sets ∙ sym e.is.numbers
 
-known_number : (past : History) (es : Entries) (n : ℕ) → HasOpenEntry past es → has_set_number (Some n) past ≡ list_any (λ m. eqb m n) (last_of es).sets
-known_number past es n e =
-    any_numbers n (open_sets past) ∙ ap (list_any (λ m. same_number m (Some n))) (kept_numbers past es e)
-    ∙ any_map (λ m. same_number m (Some n)) (λ m. Some m) (last_of es).sets
+known_number : (past : History) (shelf : ShelfValue) (n : ℕ) → HasOpenEntry past shelf → has_set_number (Some n) past ≡ list_any (λ m. eqb m n) (last_of shelf).sets
+known_number past shelf n e =
+    any_numbers n (open_sets past) ∙ ap (list_any (λ m. same_number m (Some n))) (kept_numbers past shelf e)
+    ∙ any_map (λ m. same_number m (Some n)) (λ m. Some m) (last_of shelf).sets
 
-count_sets : (past : History) (es : Entries) → HasOpenEntry past es → length (open_sets past) ≡ length (last_of es).sets
-count_sets past es e = sym (count_numbers (open_sets past)) ∙ ap length (kept_numbers past es e) ∙ length-map (last_of es).sets (λ n. Some n)
+count_sets : (past : History) (shelf : ShelfValue) → HasOpenEntry past shelf → length (open_sets past) ≡ length (last_of shelf).sets
+count_sets past shelf e = sym (count_numbers (open_sets past)) ∙ ap length (kept_numbers past shelf e) ∙ length-map (last_of shelf).sets (λ n. Some n)
 
 -- the tests of a block of code 20, but for that of its word 42
 abbrev tests : Bool → Bool → Bool → Bool → Bool → Bool → List (Option BookKind)
@@ -186,24 +180,24 @@ opening_tests n past =
     (is_empty (open_sets past) && leb 1000 (length (first_sets past))) (leb 40 (length (open_sets past)))
 
 -- the first set of a station
-first_opening : (es : Entries) (past : History) (name : List ℕ) (n : ℕ) → is_empty (station past) ≡ false → name_at (station past) ≡ Some name → open_sets past ≡ [] → Stand past (stations_in past) (reverse es)
-    → first_of (first_set_faults name es) ≡ first_of (opening_tests (Some n) past)
-first_opening es past name n inside is none h =
-    let had = known_station es past name none is h in
-    let count = count_stations es past h in
-    first_set_tests (is_known name es) (leb 1000 (length es))
+first_opening : (shelf : ShelfValue) (past : History) (name : List ℕ) (n : ℕ) → is_empty (station past) ≡ false → name_at (station past) ≡ Some name → open_sets past ≡ [] → Stand past (stations_in past) shelf
+    → first_of (first_set_faults name shelf) ≡ first_of (opening_tests (Some n) past)
+first_opening shelf past name n inside is none h =
+    let had = known_station shelf past name none is h in
+    let count = count_stations shelf past h in
+    first_set_tests (is_known name shelf) (leb 1000 (length (all_done shelf)))
     ∙ sym (λ i. first_of (tests (inside i) false (had i) (list_any (λ s. same_number (number_at s) (Some n)) (none i)) (is_empty (none i) && leb 1000 (count i)) (leb 40 (length (none i)))))
 
 -- a further set of a station
-further_opening : (limits : FaceLimits) (es : Entries) (past : History) (n : ℕ) → IsWithoutFault limits past → is_empty (open_sets past) ≡ false → Stand past (stations_in past) (reverse es)
-    → first_of (more_set_faults (last_of es) n) ≡ first_of (opening_tests (Some n) past)
-further_opening limits es past n w some h =
-    let e = open_entry es past some h in
+further_opening : (limits : FaceLimits) (shelf : ShelfValue) (past : History) (n : ℕ) → IsWithoutFault limits past → is_empty (open_sets past) ≡ false → Stand past (stations_in past) shelf
+    → first_of (more_set_faults (last_of shelf) n) ≡ first_of (opening_tests (Some n) past)
+further_opening limits shelf past n w some h =
+    let e = open_entry shelf past some h in
     let inside = set_has_station limits past w some in
     let had = no_had_sets limits past w some in
-    let same = known_number past es n e in
-    let count = count_sets past es e in
-    more_set_tests (list_any (λ m. eqb m n) (last_of es).sets) (leb 40 (length (last_of es).sets))
+    let same = known_number past shelf n e in
+    let count = count_sets past shelf e in
+    more_set_tests (list_any (λ m. eqb m n) (last_of shelf).sets) (leb 40 (length (last_of shelf).sets))
     ∙ sym (λ i. first_of (tests (inside i) false (had i) (same i) (some i && leb 1000 (length (first_sets past))) (leb 40 (count i))))
 
 -- no number
@@ -212,15 +206,15 @@ no_number past inside =
     sym (λ i. first_of (tests (inside i) true (had_sets past) (has_set_number None past) (is_empty (open_sets past) && leb 1000 (length (first_sets past))) (leb 40 (length (open_sets past)))))
 
 -- a set, by where it opens
-same_opening : (limits : FaceLimits) (stage : Stage) (es : Entries) (past : History) (n : Option ℕ) → IsWithoutFault limits past → IsStage stage past → Stand past (stations_in past) (reverse es) → kept.opening stage es n ≡ first_of (opening_tests n past)
-same_opening limits Outside es past n w g h =
+same_opening : (limits : FaceLimits) (stage : Stage) (shelf : ShelfValue) (past : History) (n : Option ℕ) → IsWithoutFault limits past → IsStage stage past → Stand past (stations_in past) shelf → kept.opening stage shelf n ≡ first_of (opening_tests n past)
+same_opening limits Outside shelf past n w g h =
     sym (λ i. first_of (tests (is_empty (g.0 i)) (is_none n) (had_sets past) (has_set_number n past) (is_empty (open_sets past) && leb 1000 (length (first_sets past))) (leb 40 (length (open_sets past)))))
-same_opening limits (Station name) es past None w g h = no_number past g.0
-same_opening limits (Station name) es past (Some n) w g h = first_opening es past name n g.0 g.1 g.2 h
-same_opening limits BetweenSets es past None w g h = no_number past (set_has_station limits past w g.0)
-same_opening limits BetweenSets es past (Some n) w g h = further_opening limits es past n w g.0 h
-same_opening limits InSet es past None w g h = no_number past (set_has_station limits past w (open_has_set past g))
-same_opening limits InSet es past (Some n) w g h = further_opening limits es past n w (open_has_set past g) h
+same_opening limits (Station name) shelf past None w g h = no_number past g.0
+same_opening limits (Station name) shelf past (Some n) w g h = first_opening shelf past name n g.0 g.1 g.2 h
+same_opening limits BetweenSets shelf past None w g h = no_number past (set_has_station limits past w g.0)
+same_opening limits BetweenSets shelf past (Some n) w g h = further_opening limits shelf past n w g.0 h
+same_opening limits InSet shelf past None w g h = no_number past (set_has_station limits past w (open_has_set past g))
+same_opening limits InSet shelf past (Some n) w g h = further_opening limits shelf past n w (open_has_set past g) h
 
 -- the faults of a set, its word 42 first
 set_tests : (past : History) (b : GsiBlock) → first_of (set_faults past b) ≡ then_fault (when (has_two 42 b) (kinds.WordTwice 42)) (first_of (opening_tests (number b) past))
@@ -232,8 +226,8 @@ set_tests past b = first_append (when (has_two 42 b) (kinds.WordTwice 42) ∷ []
 -- THE LAW of code 20: the fault by what is kept is the fault by the blocks before
 pub same_set_fault : (k : kept.Kept) (b : GsiBlock) (past : History) → role_of b ≡ roles.Set → StandsFor k.limits k past → kept.fault_as roles.Set k b ≡ fault_after k.limits past b
 same_set_fault k b past r h =
-    let opens = same_opening k.limits k.stage k.entries past (number b) h.clean h.stage h.entries in
-    (λ i. then_fault (same_end k past h i) (then_fault (when (has_two 42 b) (kinds.WordTwice 42)) (kept.opening k.stage k.entries (number b))))
+    let opens = same_opening k.limits k.stage k.shelf past (number b) h.clean h.stage h.stations in
+    (λ i. then_fault (same_end k past h i) (then_fault (when (has_two 42 b) (kinds.WordTwice 42)) (kept.opening k.stage k.shelf (number b))))
     ∙ (λ i. then_fault (fault_at_end past) (then_fault (when (has_two 42 b) (kinds.WordTwice 42)) (opens i)))
     ∙ (λ i. then_fault (fault_at_end past) (sym (set_tests past b) i))
     ∙ sym (set_fault_parts k.limits past b (station_as b roles.Set r) (set_as b roles.Set r))

@@ -1,21 +1,21 @@
 -- What is kept of a station stands for it: after its first set, after a further set, and, where the station is closed,
 -- after any block.
-use Rattle.std.proofs.Common.{◌≡◌, ℕ, suc, ◌-◌, ◌<◌, ◌≤◌, Bool, true, false, cond, ◌&&◌, ◌||◌, List, [], ◌∷◌, ◌++◌, length, map, filter, reverse, replicate, Some, refl, sym, ap, ◌∙◌, inl, inr, ◌⊎◌, subst, arith}
+use Rattle.std.proofs.Common.{◌≡◌, ℕ, suc, ◌-◌, ◌<◌, ◌≤◌, Bool, true, false, cond, ◌&&◌, ◌||◌, List, [], ◌∷◌, ◌++◌, length, map, filter, reverse, replicate, Some, None, refl, sym, ap, ◌∙◌, inl, inr, ◌⊎◌, subst, arith}
 use Rattle.std.specs.List.{AllByRecursion}
 use Rattle.std.proofs.lemmas.Bool.{cases_Bool, false≢true, and_parts, ne_eqb, eq-eqb}
-use Rattle.std.proofs.lemmas.List.{length-append, reverse-append, reverse-reverse}
+use Rattle.std.proofs.lemmas.List.{append-nil, length-append, reverse-append}
 use Rattle.station_book.specs.Slots.{empty_slot, obs_of, faces_of}
 use Rattle.station_book.specs.Entries.{EntryValue, first_entry, with_set, with_reading}
 use Rattle.station_book.specs.declared.sight.Sighting.{Sighting}
 use Rattle.station_book.proofs.ReadingLaws.{Says, IsInNone, reading_stands}
-use Rattle.station_book.specs.Shelves.{Entries, last_of, change_last}
+use Rattle.station_book.specs.Shelves.{Surveys, Last, ShelfValue, survey_of, last_done, all_done, with_station}
 use Rattle.station_book.proofs.CoupleLaws.{none_in_later}
 use Rattle.gsi_word.specs.Blocks.{GsiBlock}
 use Rattle.station_book.specs.Blocks.{number, opens_station, opens_set, closes_set, is_opening, is_sight}
 use Rattle.station_book.specs.Places.{History, Place, places, last, before, station, opening, is_empty, is_open, is_set, is_reading, is_same, sets_of, station_readings, first_sets}
-use Rattle.station_book.specs.Stations.{in_set}
+use Rattle.station_book.specs.Stations.{SurveyedStation, in_set}
 use Rattle.station_book.specs.Faults.{open_sets, name_at}
-use Rattle.station_book.specs.Keeps.{slots_of, targets_in, numbers_in, IsEntryOf, IsEntryWith, StandsAt, stations_in, Stand, number_at}
+use Rattle.station_book.specs.Keeps.{slots_of, targets_in, obs_in, faces_in, numbers_in, IsEntryOf, IsEntryWith, StandsAt, IsComputed, DoneAt, AreDone, StandWith, stations_in, Stand, number_at}
 use Rattle.station_book.proofs.PlaceLaws.{length-last, belonging-more, belonging-same, belonging-fresh}
 use Rattle.station_book.proofs.OlderLaws.{belonging-older, owners_in_order}
 use Rattle.station_book.proofs.CodeLaws.{no_set_at_station}
@@ -71,27 +71,53 @@ set_stands st set newest older readings name n e numbered none h = record {
       ap (λ (k : ℕ). replicate k empty_slot) (ap length h.slots ∙ length_map _ (targets_in readings))
       ∙ sym (no_readings (targets_in readings)) ∙ ap (slots_of (targets_in readings)) (sym none)
 
--- A closed station: whatever block comes, what is kept of it stays as it is.
-pub older_stands : (st : Place) (e : List ℕ × EntryValue) (b : GsiBlock) (past : History) → length st < length (station past) → StandsAt past st e → StandsAt (b ∷ past) st e
-older_stands st e b past lt h =
-    subst (λ (sets : List Place). IsEntryWith st sets (station_readings st (b ∷ past)) e) (sym (belonging-older opens_station is_set st b past lt))
-    (subst (λ (rs : List Place). IsEntryWith st (sets_of st past) rs e) (sym (belonging-older opens_station is_reading st b past lt)) h)
+-- what the station gives once its last set is closed
+survey_is : (h : History) (st : Place) (e : List ℕ × EntryValue) → StandsAt h st e → DoneAt h st (e.0, survey_of e)
+survey_is h st e k = by (sets_of st h) refl k where
+  by : (sets : List Place) → sets_of st h ≡ sets → IsEntryWith st sets (station_readings st h) e → DoneAt h st (e.0, survey_of e)
+  by [] s k = absurd k
+  by (newest ∷ older) s k =
+      let count : length e.1.sets ≡ suc (length older) = sym (length_map (λ n. Some n) e.1.sets) ∙ ap length k.numbers ∙ length_numbers (newest ∷ older) in
+      let last : length e.1.sets - 1 ≡ length older = omega (arith, count) in (
+        k.named_so,
+        record {
+          named_so = k.named_so;
+          targets = k.targets;
+          numbers = k.numbers ∙ ap numbers_in (sym s);
+          obs = (λ i. k.obs i ++ obs_of (last i) (k.slots i)) ∙ ap (obs_in (targets_in (station_readings st h)) (station_readings st h)) (sym s);
+          faces = (λ i. k.faces i ++ faces_of (k.slots i)) ∙ ap (faces_in (targets_in (station_readings st h)) (station_readings st h)) (sym s);
+        },
+      )
 
--- the same, for a list of stations
-pub all_older_stand : (sts : List Place) (es : Entries) (b : GsiBlock) (past : History) → AllByRecursion (λ st. length st < length (station past)) sts → Stand past sts es → Stand (b ∷ past) sts es
-all_older_stand [] [] b past all h = tt
-all_older_stand [] (e ∷ es) b past all h = h
-all_older_stand (st ∷ sts) [] b past all h = h
-all_older_stand (st ∷ sts) (e ∷ es) b past all h = (older_stands st e b past all.0 h.0, all_older_stand sts es b past all.1 h.1)
+with_done : (h : History) (sts : List Place) (last : Last) (es : Surveys) → StandWith h sts last es → AreDone h sts (last_done last ++ es)
+with_done h [] None es k = k
+with_done h [] (Some e) es k = absurd k
+with_done h (st ∷ sts) None es k = absurd k
+with_done h (st ∷ sts) (Some e) es k = (survey_is h st e k.0, k.1)
 
--- A block that opens nothing and is no reading changes nothing of the open station.
-pub open_stands_other : (e : List ℕ × EntryValue) (b : GsiBlock) (past : History) → opens_station b ≡ false → opens_set b ≡ false → is_reading (b ∷ past) ≡ false → StandsAt past (station past) e → StandsAt (b ∷ past) (station past) e
-open_stands_other e b past s n r h =
-    let here : station (b ∷ past) ≡ station past = ap (λ v. cond v (b ∷ past) (last opens_station past)) s in
-    let sets : sets_of (station past) (b ∷ past) ≡ sets_of (station past) past = ap (λ (st : Place). sets_of st (b ∷ past)) (sym here) ∙ sets-other b past s n in
-    let readings : station_readings (station past) (b ∷ past) ≡ station_readings (station past) past = ap (λ (st : Place). station_readings st (b ∷ past)) (sym here) ∙ belonging-same opens_station is_reading b past s r in
-    subst (λ (ss : List Place). IsEntryWith (station past) ss (station_readings (station past) (b ∷ past)) e) (sym sets)
-    (subst (λ (rs : List Place). IsEntryWith (station past) (sets_of (station past) past) rs e) (sym readings) h)
+newest_done : (es : Surveys) (last : Last) → reverse (es ++ last_done last) ≡ last_done last ++ reverse es
+newest_done es None = ap reverse (append-nil es)
+newest_done es (Some e) = reverse-append es ((e.0, survey_of e) ∷ [])
+
+-- what all stations give once the last set is closed
+pub are_done : (h : History) (sts : List Place) (s : ShelfValue) → Stand h sts s → AreDone h sts (reverse (all_done s))
+are_done h sts s k = subst (λ (es : Surveys). AreDone h sts es) (sym (newest_done s.done s.last)) (with_done h sts s.last (reverse s.done) k)
+
+-- A closed station: a block by which its sets and readings stay as they are changes nothing of it.
+done_stays : (st : Place) (e : List ℕ × SurveyedStation) (b : GsiBlock) (past : History) → sets_of st (b ∷ past) ≡ sets_of st past → station_readings st (b ∷ past) ≡ station_readings st past → DoneAt past st e → DoneAt (b ∷ past) st e
+done_stays st e b past sets readings h = (h.0, is) where
+  is : IsComputed st (sets_of st (b ∷ past)) (station_readings st (b ∷ past)) e.1
+  is =
+      subst (λ (ss : List Place). IsComputed st ss (station_readings st (b ∷ past)) e.1) (sym sets)
+      (subst (λ (rs : List Place). IsComputed st (sets_of st past) rs e.1) (sym readings) h.1)
+
+-- Whatever block comes, what is kept of the stations before the open one stays as it is.
+pub older_stay : (sts : List Place) (es : Surveys) (b : GsiBlock) (past : History) → AllByRecursion (λ st. length st < length (station past)) sts → AreDone past sts es → AreDone (b ∷ past) sts es
+older_stay [] [] b past all h = tt
+older_stay [] (e ∷ es) b past all h = h
+older_stay (st ∷ sts) [] b past all h = h
+older_stay (st ∷ sts) (e ∷ es) b past all h =
+    (done_stays st e b past (belonging-older opens_station is_set st b past all.0) (belonging-older opens_station is_reading st b past all.0) h.0, older_stay sts es b past all.1 h.1)
 
 -- Where a set is open, the open station has a set.
 pub open_has_set : (past : History) → is_open past ≡ true → is_empty (open_sets past) ≡ false
@@ -132,18 +158,25 @@ idle_stands st e b past n r h =
     subst (λ (sets : List Place). IsEntryWith st sets (station_readings st (b ∷ past)) e) (sym (idle opens_station is_set st b past n))
     (subst (λ (rs : List Place). IsEntryWith st (sets_of st past) rs e) (sym (idle opens_station is_reading st b past r)) h)
 
-all_idle : (sts : List Place) (es : Entries) (b : GsiBlock) (past : History) → opens_set b ≡ false → is_reading (b ∷ past) ≡ false → Stand past sts es → Stand (b ∷ past) sts es
-all_idle [] [] b past n r h = tt
-all_idle [] (e ∷ es) b past n r h = h
-all_idle (st ∷ sts) [] b past n r h = h
-all_idle (st ∷ sts) (e ∷ es) b past n r h = (idle_stands st e b past n r h.0, all_idle sts es b past n r h.1)
+done_idle : (sts : List Place) (es : Surveys) (b : GsiBlock) (past : History) → opens_set b ≡ false → is_reading (b ∷ past) ≡ false → AreDone past sts es → AreDone (b ∷ past) sts es
+done_idle [] [] b past n r h = tt
+done_idle [] (e ∷ es) b past n r h = h
+done_idle (st ∷ sts) [] b past n r h = h
+done_idle (st ∷ sts) (e ∷ es) b past n r h =
+    (done_stays st e b past (idle opens_station is_set st b past n) (idle opens_station is_reading st b past r) h.0, done_idle sts es b past n r h.1)
+
+all_idle : (sts : List Place) (last : Last) (es : Surveys) (b : GsiBlock) (past : History) → opens_set b ≡ false → is_reading (b ∷ past) ≡ false → StandWith past sts last es → StandWith (b ∷ past) sts last es
+all_idle [] None es b past n r h = done_idle [] es b past n r h
+all_idle [] (Some e) es b past n r h = h
+all_idle (st ∷ sts) None es b past n r h = h
+all_idle (st ∷ sts) (Some e) es b past n r h = (idle_stands st e b past n r h.0, done_idle sts es b past n r h.1)
 
 same_stations : (b : GsiBlock) (past : History) → opens_set b ≡ false → stations_in (b ∷ past) ≡ stations_in past
 same_stations b past n = ap (map (λ s. station (before s))) (ap (λ v. cond (v && is_empty (open_sets past)) ((b ∷ past) ∷ first_sets past) (first_sets past)) n)
 
 -- all stations after a block of code 10 or 30, another code, or a measurement that is no reading
-pub stand_idle : (es : Entries) (b : GsiBlock) (past : History) → opens_set b ≡ false → is_reading (b ∷ past) ≡ false → Stand past (stations_in past) es → Stand (b ∷ past) (stations_in (b ∷ past)) es
-stand_idle es b past n r h = subst (λ (sts : List Place). Stand (b ∷ past) sts es) (sym (same_stations b past n)) (all_idle (stations_in past) es b past n r h)
+pub stand_idle : (s : ShelfValue) (b : GsiBlock) (past : History) → opens_set b ≡ false → is_reading (b ∷ past) ≡ false → Stand past (stations_in past) s → Stand (b ∷ past) (stations_in (b ∷ past)) s
+stand_idle s b past n r h = subst (λ (sts : List Place). Stand (b ∷ past) sts s) (sym (same_stations b past n)) (all_idle (stations_in past) s.last (reverse s.done) b past n r h)
 
 -- the stations with sets: those before the open one, and the open one where it has a set
 pub record HasOpenLast (past : History) : Type 0 where
@@ -210,10 +243,11 @@ set_is_no_reading b past n = split (cases_Bool (is_sight b)) where
     or_second false false c e = cc
 
 -- all stations after the first set of the open one
-pub stand_first : (es : Entries) (b : GsiBlock) (past : History) (name : List ℕ) (n : ℕ) → opens_station b ≡ false → opens_set b ≡ true → open_sets past ≡ [] → name_at (station past) ≡ Some name → number b ≡ Some n
-    → Stand past (stations_in past) es → Stand (b ∷ past) (stations_in (b ∷ past)) ((name, first_entry n) ∷ es)
-stand_first es b past name n s set none named_so numbered h =
-    subst (λ (sts : List Place). Stand (b ∷ past) sts ((name, first_entry n) ∷ es)) (sym stations) (head, all_older_stand (stations_in past) es b past older h)
+pub stand_first : (shelf : ShelfValue) (b : GsiBlock) (past : History) (name : List ℕ) (n : ℕ) → opens_station b ≡ false → opens_set b ≡ true → open_sets past ≡ [] → name_at (station past) ≡ Some name → number b ≡ Some n
+    → Stand past (stations_in past) shelf → Stand (b ∷ past) (stations_in (b ∷ past)) (with_station name n shelf)
+stand_first shelf b past name n s set none named_so numbered h =
+    subst (λ (sts : List Place). Stand (b ∷ past) sts (with_station name n shelf)) (sym stations)
+    (head, older_stay (stations_in past) (reverse (all_done shelf)) b past older (are_done past (stations_in past) shelf h))
   where
     stations : stations_in (b ∷ past) ≡ station past ∷ stations_in past
     stations = ap (λ v. map (λ t. station (before t)) (cond v ((b ∷ past) ∷ first_sets past) (first_sets past))) (λ i. set i && is_empty (none i))
@@ -240,8 +274,8 @@ none_to_come : (b : GsiBlock) (past : History) (st : Place) → in_set (b ∷ pa
 none_to_come b past st = none_in_later (λ place. is_reading place && is_same (station (before place)) st) (b ∷ past) past (omega arith)
 
 -- all stations after a further set of the open one
-pub stand_further : (x : List ℕ × EntryValue) (es : Entries) (b : GsiBlock) (past : History) (n : ℕ) → opens_station b ≡ false → opens_set b ≡ true → is_empty (open_sets past) ≡ false → number b ≡ Some n
-    → Stand past (stations_in past) (x ∷ es) → Stand (b ∷ past) (stations_in (b ∷ past)) ((x.0, with_set n x.1) ∷ es)
+pub stand_further : (x : List ℕ × EntryValue) (es : Surveys) (b : GsiBlock) (past : History) (n : ℕ) → opens_station b ≡ false → opens_set b ≡ true → is_empty (open_sets past) ≡ false → number b ≡ Some n
+    → StandWith past (stations_in past) (Some x) es → StandWith (b ∷ past) (stations_in (b ∷ past)) (Some (x.0, with_set n x.1)) es
 stand_further x es b past n s set some numbered h = by (parted past) where
   further : (sets : List Place) → IsEntryWith (station past) sets (station_readings (station past) past) x → IsEntryWith (station past) ((b ∷ past) ∷ sets) (station_readings (station past) past) (x.0, with_set n x.1)
   further [] k = absurd k
@@ -254,34 +288,23 @@ stand_further x es b past n s set some numbered h = by (parted past) where
       subst (λ (ss : List Place). IsEntryWith (station past) ss (station_readings (station past) (b ∷ past)) (x.0, with_set n x.1)) (sym sets)
       (subst (λ (rs : List Place). IsEntryWith (station past) ((b ∷ past) ∷ open_sets past) rs (x.0, with_set n x.1)) (sym readings) (further (open_sets past) k))
 
-  by : Parted past → Stand (b ∷ past) (stations_in (b ∷ past)) ((x.0, with_set n x.1) ∷ es)
+  by : Parted past → StandWith (b ∷ past) (stations_in (b ∷ past)) (Some (x.0, with_set n x.1)) es
   by (inl p) = let bad : is_empty (open_sets past) ≡ true = ap is_empty p.0 in absurd (false≢true (sym some ∙ bad))
   by (inr p) =
       let same : stations_in (b ∷ past) ≡ stations_in past = ap (λ v. map (λ t. station (before t)) (cond v ((b ∷ past) ∷ first_sets past) (first_sets past))) (λ i. set i && some i) in
-      let k = subst (λ (sts : List Place). Stand past sts (x ∷ es)) p.stations h in
-      subst (λ (sts : List Place). Stand (b ∷ past) sts ((x.0, with_set n x.1) ∷ es)) (sym (same ∙ p.stations)) (head k.0, all_older_stand p.rest es b past p.older k.1)
+      let k = subst (λ (sts : List Place). StandWith past sts (Some x) es) p.stations h in
+      subst (λ (sts : List Place). StandWith (b ∷ past) sts (Some (x.0, with_set n x.1)) es) (sym (same ∙ p.stations)) (head k.0, older_stay p.rest es b past p.older k.1)
 
-change_snoc : (f : EntryValue → EntryValue) (xs : Entries) (x : List ℕ × EntryValue) → change_last f (xs ++ x ∷ []) ≡ xs ++ (x.0, f x.1) ∷ []
-change_snoc f [] x = refl
-change_snoc f (y ∷ []) x = refl
-change_snoc f (y ∷ z ∷ xs) x = ap (λ r. y ∷ r) (change_snoc f (z ∷ xs) x)
+-- Where the open station has a set, there is a last station.
+pub last_there : (s : ShelfValue) (past : History) → is_empty (open_sets past) ≡ false → Stand past (stations_in past) s → (x : List ℕ × EntryValue) × (s.last ≡ Some x)
+last_there s past some h = by (parted past) where
+  of_last : (st : Place) (sts : List Place) (last : Last) → StandWith past (st ∷ sts) last (reverse s.done) → s.last ≡ last → (x : List ℕ × EntryValue) × (s.last ≡ Some x)
+  of_last st sts None k e = absurd k
+  of_last st sts (Some x) k e = (x, e)
 
-last_snoc : (xs : Entries) (x : List ℕ × EntryValue) → last_of (xs ++ x ∷ []) ≡ x.1
-last_snoc [] x = refl
-last_snoc (y ∷ []) x = refl
-last_snoc (y ∷ z ∷ xs) x = last_snoc (z ∷ xs) x
-
-snoc_of : (es : Entries) (x : List ℕ × EntryValue) (r : Entries) → reverse es ≡ x ∷ r → es ≡ reverse r ++ x ∷ []
-snoc_of es x r e = sym (reverse-reverse es) ∙ ap reverse e ∙ reverse-append (x ∷ []) r
-
--- the last entry is the first of the newest first
-pub changed_newest : (f : EntryValue → EntryValue) (es : Entries) (x : List ℕ × EntryValue) (r : Entries) → reverse es ≡ x ∷ r → reverse (change_last f es) ≡ (x.0, f x.1) ∷ r
-changed_newest f es x r e =
-    ap (λ ys. reverse (change_last f ys)) (snoc_of es x r e) ∙ ap reverse (change_snoc f (reverse r) x)
-    ∙ reverse-append (reverse r) ((x.0, f x.1) ∷ []) ∙ ap (λ ys. (x.0, f x.1) ∷ ys) (reverse-reverse r)
-
-pub last_newest : (es : Entries) (x : List ℕ × EntryValue) (r : Entries) → reverse es ≡ x ∷ r → last_of es ≡ x.1
-last_newest es x r e = ap last_of (snoc_of es x r e) ∙ last_snoc (reverse r) x
+  by : Parted past → (x : List ℕ × EntryValue) × (s.last ≡ Some x)
+  by (inl p) = let bad : is_empty (open_sets past) ≡ true = ap is_empty p.0 in absurd (false≢true (sym some ∙ bad))
+  by (inr p) = of_last (station past) p.rest s.last (subst (λ (sts : List Place). Stand past sts s) p.stations h) refl
 
 -- The sets of the open station, where a set is open: the open one and those before it.
 pub record HasOpenSet (past : History) : Type 0 where
@@ -292,9 +315,6 @@ pub record HasOpenSet (past : History) : Type 0 where
 places_below : (past : History) (n : ℕ) → length past ≤ n → AllByRecursion (λ s. length s < suc n) (places past)
 places_below [] n le = tt
 places_below (b ∷ past) n le = (omega arith, places_below past n (omega arith))
-
-all_kept : {X : Type 0} (P : X → Type 0) (xs ys : List X) → xs ≡ ys → AllByRecursion P xs → AllByRecursion P ys
-all_kept P xs ys e all = subst (AllByRecursion P) e all
 
 pub open_set : (past : History) → is_open past ≡ true → HasOpenSet past
 open_set [] e = cc
@@ -333,8 +353,8 @@ in_none b past readings (s ∷ older) all =
     (ap (λ v. cond v ((b ∷ past) ∷ in_set s readings) (in_set s readings)) (ne_eqb (length (opening past)) (length s) (λ e. let a = all.0 in absurd (omega (arith, a, e)))), in_none b past readings older all.1)
 
 -- all stations after a reading
-pub stand_reading : (x : List ℕ × EntryValue) (es : Entries) (b : GsiBlock) (past : History) (s : Sighting) → is_opening b ≡ false → is_reading (b ∷ past) ≡ true → is_open past ≡ true → Says s (b ∷ past)
-    → Stand past (stations_in past) (x ∷ es) → Stand (b ∷ past) (stations_in (b ∷ past)) ((x.0, with_reading s x.1) ∷ es)
+pub stand_reading : (x : List ℕ × EntryValue) (es : Surveys) (b : GsiBlock) (past : History) (s : Sighting) → is_opening b ≡ false → is_reading (b ∷ past) ≡ true → is_open past ≡ true → Says s (b ∷ past)
+    → StandWith past (stations_in past) (Some x) es → StandWith (b ∷ past) (stations_in (b ∷ past)) (Some (x.0, with_reading s x.1)) es
 stand_reading x es b past s o reading now says h = by (parted past) where
   no_station : opens_station b ≡ false
   no_station = sight_opens_no_station b o
@@ -361,8 +381,8 @@ stand_reading x es b past s o reading now says h = by (parted past) where
       (subst (λ (rs : List Place). IsEntryWith (station past) (opening past ∷ set.older) rs (x.0, with_reading s x.1)) (sym readings)
       (reading_stands (station past) (opening past) set.older (station_readings (station past) past) (b ∷ past) x.0 x.1 s says (mine (station_readings (station past) past)) (in_none b past (station_readings (station past) past) set.older set.before_it) old))
 
-  by : Parted past → Stand (b ∷ past) (stations_in (b ∷ past)) ((x.0, with_reading s x.1) ∷ es)
+  by : Parted past → StandWith (b ∷ past) (stations_in (b ∷ past)) (Some (x.0, with_reading s x.1)) es
   by (inl p) = let bad : is_empty (open_sets past) ≡ true = ap is_empty p.0 in absurd (false≢true (sym (open_has_set past now) ∙ bad))
   by (inr p) =
-      let k = subst (λ (sts : List Place). Stand past sts (x ∷ es)) p.stations h in
-      subst (λ (sts : List Place). Stand (b ∷ past) sts ((x.0, with_reading s x.1) ∷ es)) (sym (same_stations b past no_set ∙ p.stations)) (head k.0, all_older_stand p.rest es b past p.older k.1)
+      let k = subst (λ (sts : List Place). StandWith past sts (Some x) es) p.stations h in
+      subst (λ (sts : List Place). StandWith (b ∷ past) sts (Some (x.0, with_reading s x.1)) es) (sym (same_stations b past no_set ∙ p.stations)) (head k.0, older_stay p.rest es b past p.older k.1)

@@ -1,7 +1,6 @@
 -- After a block without fault, what is kept stands for the blocks with it.
-use Rattle.std.proofs.Common.{◌≡◌, ℕ, ◌+◌, Bool, true, false, cond, not, ltb, ◌&&◌, ◌||◌, List, [], ◌∷◌, reverse, Option, Some, None, is_none, Result, Ok, Err, refl, sym, ap, ◌∙◌, inl, inr, subst, arith}
-use Rattle.std.proofs.lemmas.Bool.{false≢true}
-use Rattle.std.proofs.lemmas.List.{reverse-append}
+use Rattle.std.proofs.Common.{◌≡◌, ℕ, ◌+◌, Bool, true, false, cond, not, ltb, ◌&&◌, ◌||◌, List, [], ◌∷◌, reverse, Option, Some, None, is_none, Result, Ok, Err, refl, sym, ap, ◌∙◌, subst, arith}
+use Rattle.std.specs.Option.{option_map}
 use Rattle.gsi_word.specs.Names.{name_of}
 use Rattle.gsi_word.specs.declared.found.Found.{Found}
 use Rattle.gsi_word.specs.declared.found.Found.TheVariants.{Absent, One, Twice}
@@ -15,14 +14,14 @@ use Rattle.station_book.specs.declared.stage.Stage.TheVariants.{Outside, Station
 use Rattle.station_book.specs.Faults.{station_faults, when, first_of, open_sets, fault_after, name_at}
 use Rattle.station_book.specs.Kept.{then_fault}
 use Rattle.station_book.specs.Roles.{role_of, is_station, is_set_code, is_close, is_measurement}
-use Rattle.station_book.specs.Readings as said
-use Rattle.station_book.specs.Entries.{EntryValue, first_entry, with_set, with_reading}
-use Rattle.station_book.specs.Shelves.{Entries}
+use Rattle.station_book.specs.Entries.{with_set, with_reading}
+use Rattle.station_book.specs.Shelves.{Last, ShelfValue, change_last}
 use Rattle.station_book.specs.Kept as kept
 use Rattle.gsi_word.specs.Blocks.{GsiBlock}
 use Rattle.station_book.specs.Blocks.{opens_station, opens_set, closes_set, is_opening, is_sight, named, number, sight, is_of_face, found, is_absent, is_twice, name_found, has_two, lacks}
-use Rattle.station_book.specs.Places.{History, Place, last, station, is_empty, is_open, is_reading}
-use Rattle.station_book.specs.Keeps.{IsStage, Stand, stations_in}
+use Rattle.station_book.specs.Places.{History, last, station, is_empty, is_open, is_reading}
+use Rattle.station_book.specs.Keeps.{IsStage, Stand, StandWith, stations_in}
+use Rattle.station_book.specs.Readings as said
 use Rattle.station_book.specs.Standing.{StandsFor}
 use Rattle.station_book.proofs.RoleLaws.{station_is, set_is, close_is, sight_is}
 use Rattle.station_book.proofs.StepLaws.{is_open-opening, is_open-other, sets-station, sets-other}
@@ -30,7 +29,7 @@ use Rattle.station_book.specs.Limits.{FaceLimits}
 use Rattle.station_book.proofs.FaceLaws.{one_face}
 use Rattle.station_book.proofs.KeptLaws.{none_stands, none_when}
 use Rattle.station_book.proofs.ReadingLaws.{Says}
-use Rattle.station_book.proofs.StandLaws.{stand_idle, stand_first, stand_further, stand_reading, open_has_set, Parted, parted, changed_newest}
+use Rattle.station_book.proofs.StandLaws.{stand_idle, stand_first, stand_further, stand_reading, open_has_set, last_there}
 
 -- what a role says of the tests
 pub station_as : (b : GsiBlock) (r : Role) → role_of b ≡ r → opens_station b ≡ is_station r
@@ -82,41 +81,28 @@ name_of_station : (b : GsiBlock) → first_of (station_faults b) ≡ None → (n
 unfolding has_two lacks named
 name_of_station b e = name_found_in (found 42 b) e
 
--- the newest entry of an open station that has a set
-newest_of : (es : Entries) (past : History) → is_empty (open_sets past) ≡ false → Stand past (stations_in past) (reverse es) → (x : List ℕ × EntryValue) × (r : Entries) × (reverse es ≡ x ∷ r)
-newest_of es past some h = by (parted past) where
-  head : (st : Place) (sts : List Place) (ys : Entries) → Stand past (st ∷ sts) ys → reverse es ≡ ys → (x : List ℕ × EntryValue) × (r : Entries) × (reverse es ≡ x ∷ r)
-  head st sts [] k e = absurd k
-  head st sts (y ∷ ys) k e = (y, ys, e)
-
-  by : Parted past → (x : List ℕ × EntryValue) × (r : Entries) × (reverse es ≡ x ∷ r)
-  by (inl p) = let bad : is_empty (open_sets past) ≡ true = ap is_empty p.0 in absurd (false≢true (sym some ∙ bad))
-  by (inr p) = head (station past) p.rest (reverse es) (subst (λ (sts : List Place). Stand past sts (reverse es)) p.stations h) refl
-
 is_set_block : (b : GsiBlock) → role_of b ≡ roles.Set → (opens_station b ≡ false) × (opens_set b ≡ true)
 is_set_block b e = (station_as b roles.Set e, set_as b roles.Set e)
 
+-- a further set of the last station
+further_taken : (shelf : ShelfValue) (b : GsiBlock) (past : History) (n : ℕ) → role_of b ≡ roles.Set → number b ≡ Some n → is_empty (open_sets past) ≡ false
+    → Stand past (stations_in past) shelf → Stand (b ∷ past) (stations_in (b ∷ past)) (change_last (with_set n) shelf)
+further_taken shelf b past n r e some h =
+    let k = is_set_block b r in
+    let (x, last) = last_there shelf past some h in
+    subst (λ (o : Last). StandWith (b ∷ past) (stations_in (b ∷ past)) (option_map (λ p. (p.0, with_set n p.1)) o) (reverse shelf.done)) (sym last)
+    (stand_further x (reverse shelf.done) b past n k.0 k.1 some e (subst (λ (o : Last). StandWith past (stations_in past) o (reverse shelf.done)) last h))
+
 -- a block of code 20
-pub set_taken : (es : Entries) (b : GsiBlock) (past : History) (stage : Stage) (n : Option ℕ) → role_of b ≡ roles.Set → number b ≡ n → kept.opening stage es n ≡ None → IsStage stage past
-    → Stand past (stations_in past) (reverse es) → Stand (b ∷ past) (stations_in (b ∷ past)) (reverse (kept.opened stage n es))
-set_taken es b past Outside n r e f g h = absurd cc
-set_taken es b past (Station name) None r e f g h = absurd cc
-set_taken es b past (Station name) (Some n) r e f g h =
-    let k = is_set_block b r in
-    subst (λ (ys : Entries). Stand (b ∷ past) (stations_in (b ∷ past)) ys) (sym (reverse-append es ((name, first_entry n) ∷ []))) (stand_first (reverse es) b past name n k.0 k.1 g.2 g.1 (e) h)
-set_taken es b past BetweenSets None r e f g h = absurd cc
-set_taken es b past BetweenSets (Some n) r e f g h =
-    let k = is_set_block b r in
-    let (x, ys, newest) = newest_of es past g.0 h in
-    subst (λ (zs : Entries). Stand (b ∷ past) (stations_in (b ∷ past)) zs) (sym (changed_newest (with_set n) es x ys newest))
-    (stand_further x ys b past n k.0 k.1 g.0 (e) (subst (λ (zs : Entries). Stand past (stations_in past) zs) newest h))
-set_taken es b past InSet None r e f g h = absurd cc
-set_taken es b past InSet (Some n) r e f g h =
-    let k = is_set_block b r in
-    let some = open_has_set past g in
-    let (x, ys, newest) = newest_of es past some h in
-    subst (λ (zs : Entries). Stand (b ∷ past) (stations_in (b ∷ past)) zs) (sym (changed_newest (with_set n) es x ys newest))
-    (stand_further x ys b past n k.0 k.1 some (e) (subst (λ (zs : Entries). Stand past (stations_in past) zs) newest h))
+pub set_taken : (shelf : ShelfValue) (b : GsiBlock) (past : History) (stage : Stage) (n : Option ℕ) → role_of b ≡ roles.Set → number b ≡ n → kept.opening stage shelf n ≡ None → IsStage stage past
+    → Stand past (stations_in past) shelf → Stand (b ∷ past) (stations_in (b ∷ past)) (kept.opened stage n shelf)
+set_taken shelf b past Outside n r e f g h = absurd cc
+set_taken shelf b past (Station name) None r e f g h = absurd cc
+set_taken shelf b past (Station name) (Some n) r e f g h = let k = is_set_block b r in stand_first shelf b past name n k.0 k.1 g.2 g.1 e h
+set_taken shelf b past BetweenSets None r e f g h = absurd cc
+set_taken shelf b past BetweenSets (Some n) r e f g h = further_taken shelf b past n r e g.0 h
+set_taken shelf b past InSet None r e f g h = absurd cc
+set_taken shelf b past InSet (Some n) r e f g h = further_taken shelf b past n r e (open_has_set past g) h
 
 -- what a measurement that was read says
 pub record WasRead (b : GsiBlock) (s : Sighting) : Type 0 where
@@ -169,24 +155,24 @@ measures_nothing : (b : GsiBlock) → role_of b ≡ roles.Measurement → (opens
 measures_nothing b r = (station_as b roles.Measurement r, set_as b roles.Measurement r, opening_as b roles.Measurement r)
 
 -- a measurement in an open set, by what it says
-in_set_taken : (es : Entries) (b : GsiBlock) (past : History) (o : Result (Option Sighting) BookKind) → role_of b ≡ roles.Measurement → said.read b ≡ o → is_open past ≡ true → (kind : (k : BookKind) → o ≡ Err k → ⊥)
-    → Stand past (stations_in past) (reverse es) → Stand (b ∷ past) (stations_in (b ∷ past)) (reverse (kept.with_measured o es))
-in_set_taken es b past (Err k) r e now kind h = absurd (kind k refl)
-in_set_taken es b past (Ok None) r e now kind h =
+in_set_taken : (shelf : ShelfValue) (b : GsiBlock) (past : History) (o : Result (Option Sighting) BookKind) → role_of b ≡ roles.Measurement → said.read b ≡ o → is_open past ≡ true → (kind : (k : BookKind) → o ≡ Err k → ⊥)
+    → Stand past (stations_in past) shelf → Stand (b ∷ past) (stations_in (b ∷ past)) (kept.with_measured o shelf)
+in_set_taken shelf b past (Err k) r e now kind h = absurd (kind k refl)
+in_set_taken shelf b past (Ok None) r e now kind h =
     let absent : lacks 21 b ≡ true = none_cases (lacks 21 b) (first_of (said.sighting_faults b)) (said.sighting b) e in
     let blind : is_sight b ≡ false = sight_as b roles.Measurement r ∙ ap not absent in
-    stand_idle (reverse es) b past (set_as b roles.Measurement r) (no_reading b past blind) h
-in_set_taken es b past (Ok (Some s)) r e now kind h =
+    stand_idle shelf b past (set_as b roles.Measurement r) (no_reading b past blind) h
+in_set_taken shelf b past (Ok (Some s)) r e now kind h =
     let w = was_read b s e in
     let seen : is_sight b ≡ true = sight_as b roles.Measurement r ∙ ap not w.has_direction in
     let reading : is_reading (b ∷ past) ≡ true = (λ i. seen i && now i) in
-    let (x, ys, newest) = newest_of es past (open_has_set past now) h in
-    subst (λ (zs : Entries). Stand (b ∷ past) (stations_in (b ∷ past)) zs) (sym (changed_newest (with_reading s) es x ys newest))
-    (stand_reading x ys b past s (opening_as b roles.Measurement r) reading now (says b past s w) (subst (λ (zs : Entries). Stand past (stations_in past) zs) newest h))
+    let (x, last) = last_there shelf past (open_has_set past now) h in
+    subst (λ (o : Last). StandWith (b ∷ past) (stations_in (b ∷ past)) (option_map (λ p. (p.0, with_reading s p.1)) o) (reverse shelf.done)) (sym last)
+    (stand_reading x (reverse shelf.done) b past s (opening_as b roles.Measurement r) reading now (says b past s w) (subst (λ (o : Last). StandWith past (stations_in past) o (reverse shelf.done)) last h))
 
-no_err : (limits : FaceLimits) (es : Entries) (o : Result (Option Sighting) BookKind) → kept.measured limits es o ≡ None → (k : BookKind) → o ≡ Err k → ⊥
-no_err limits es (Err j) f k e = absurd cc
-no_err limits es (Ok o) f k e = cc
+no_err : (limits : FaceLimits) (shelf : ShelfValue) (o : Result (Option Sighting) BookKind) → kept.measured limits shelf o ≡ None → (k : BookKind) → o ≡ Err k → ⊥
+no_err limits shelf (Err j) f k e = absurd cc
+no_err limits shelf (Ok o) f k e = cc
 
 closed_no_reading : (b : GsiBlock) (past : History) → is_open past ≡ false → is_reading (b ∷ past) ≡ false
 closed_no_reading b past e = by (is_sight b) where
@@ -195,19 +181,19 @@ closed_no_reading b past e = by (is_sight b) where
   by false = refl
 
 -- a measurement
-pub measurement_taken : (limits : FaceLimits) (es : Entries) (stage : Stage) (b : GsiBlock) (past : History) → role_of b ≡ roles.Measurement → cond (kept.is_open stage) (kept.measured limits es (said.read b)) None ≡ None → IsStage stage past
-    → Stand past (stations_in past) (reverse es) → Stand (b ∷ past) (stations_in (b ∷ past)) (reverse (cond (kept.is_open stage) (kept.with_measured (said.read b) es) es))
-measurement_taken limits es Outside b past r f g h = stand_idle (reverse es) b past (set_as b roles.Measurement r) (closed_no_reading b past g.1) h
-measurement_taken limits es (Station name) b past r f g h = stand_idle (reverse es) b past (set_as b roles.Measurement r) (closed_no_reading b past g.3) h
-measurement_taken limits es BetweenSets b past r f g h = stand_idle (reverse es) b past (set_as b roles.Measurement r) (closed_no_reading b past g.1) h
-measurement_taken limits es InSet b past r f g h = in_set_taken es b past (said.read b) r refl g (no_err limits es (said.read b) f) h
+pub measurement_taken : (limits : FaceLimits) (shelf : ShelfValue) (stage : Stage) (b : GsiBlock) (past : History) → role_of b ≡ roles.Measurement → cond (kept.is_open stage) (kept.measured limits shelf (said.read b)) None ≡ None → IsStage stage past
+    → Stand past (stations_in past) shelf → Stand (b ∷ past) (stations_in (b ∷ past)) (cond (kept.is_open stage) (kept.with_measured (said.read b) shelf) shelf)
+measurement_taken limits shelf Outside b past r f g h = stand_idle shelf b past (set_as b roles.Measurement r) (closed_no_reading b past g.1) h
+measurement_taken limits shelf (Station name) b past r f g h = stand_idle shelf b past (set_as b roles.Measurement r) (closed_no_reading b past g.3) h
+measurement_taken limits shelf BetweenSets b past r f g h = stand_idle shelf b past (set_as b roles.Measurement r) (closed_no_reading b past g.1) h
+measurement_taken limits shelf InSet b past r f g h = in_set_taken shelf b past (said.read b) r refl g (no_err limits shelf (said.read b) f) h
 
 -- THE LAW: after a block without fault, what is kept stands for the blocks with it
-pub taken_stands : (limits : FaceLimits) (taken : ℕ) (stage : Stage) (es : Entries) (b : GsiBlock) (past : History) (r : Role) → role_of b ≡ r
-    → kept.fault_as r (record { limits = limits; taken = taken; stage = stage; entries = es }) b ≡ None → fault_after limits past b ≡ None
-    → StandsFor limits (record { limits = limits; taken = taken; stage = stage; entries = es }) past → StandsFor limits (kept.after_as r b (record { limits = limits; taken = taken + 1; stage = stage; entries = es })) (b ∷ past)
-taken_stands limits taken stage es b past roles.Station r f clean h =
-    let (name, is) = name_of_station b (then_second (kept.ending stage es) (first_of (station_faults b)) f) in
+pub taken_stands : (limits : FaceLimits) (taken : ℕ) (stage : Stage) (shelf : ShelfValue) (b : GsiBlock) (past : History) (r : Role) → role_of b ≡ r
+    → kept.fault_as r (record { limits = limits; taken = taken; stage = stage; shelf = shelf }) b ≡ None → fault_after limits past b ≡ None
+    → StandsFor limits (record { limits = limits; taken = taken; stage = stage; shelf = shelf }) past → StandsFor limits (kept.after_as r b (record { limits = limits; taken = taken + 1; stage = stage; shelf = shelf })) (b ∷ past)
+taken_stands limits taken stage shelf b past roles.Station r f clean h =
+    let (name, is) = name_of_station b (then_second (kept.ending stage shelf) (first_of (station_faults b)) f) in
     let s = station_as b roles.Station r in
     let here : station (b ∷ past) ≡ b ∷ past = ap (λ v. cond v (b ∷ past) (last opens_station past)) s in
     record {
@@ -216,38 +202,38 @@ taken_stands limits taken stage es b past roles.Station r f clean h =
       counted = (let t = h.counted in omega (arith, t));
       stage = subst (λ (o : Option (List ℕ)). IsStage (kept.at_station o stage) (b ∷ past)) (sym is)
           (ap is_empty here, ap (λ p. name_at p) here ∙ is, sets-station b past s, is_open-opening b past (opening_as b roles.Station r) ∙ set_as b roles.Station r);
-      entries = stand_idle (reverse es) b past (set_as b roles.Station r) (no_reading b past (sight_as b roles.Station r)) h.entries;
+      stations = stand_idle shelf b past (set_as b roles.Station r) (no_reading b past (sight_as b roles.Station r)) h.stations;
     }
-taken_stands limits taken stage es b past roles.Set r f clean h = record {
+taken_stands limits taken stage shelf b past roles.Set r f clean h = record {
   limited = refl;
   clean = (clean, h.clean);
   counted = (let t = h.counted in omega (arith, t));
   stage = is_open-opening b past (opening_as b roles.Set r) ∙ set_as b roles.Set r;
-  entries = set_taken es b past stage (number b) r refl
-      (then_second (when (has_two 42 b) (kinds.WordTwice 42)) (kept.opening stage es (number b)) (then_second (kept.ending stage es) _ f)) h.stage h.entries;
+  stations = set_taken shelf b past stage (number b) r refl
+      (then_second (when (has_two 42 b) (kinds.WordTwice 42)) (kept.opening stage shelf (number b)) (then_second (kept.ending stage shelf) _ f)) h.stage h.stations;
 }
-taken_stands limits taken stage es b past roles.Close r f clean h = record {
+taken_stands limits taken stage shelf b past roles.Close r f clean h = record {
   limited = refl;
   clean = (clean, h.clean);
   counted = (let t = h.counted in omega (arith, t));
   stage = stage_closes stage b past (station_as b roles.Close r) (set_as b roles.Close r) (opening_as b roles.Close r) h.stage;
-  entries = stand_idle (reverse es) b past (set_as b roles.Close r) (no_reading b past (sight_as b roles.Close r)) h.entries;
+  stations = stand_idle shelf b past (set_as b roles.Close r) (no_reading b past (sight_as b roles.Close r)) h.stations;
 }
-taken_stands limits taken stage es b past roles.Measurement r f clean h =
+taken_stands limits taken stage shelf b past roles.Measurement r f clean h =
     let m = measures_nothing b r in
     record {
       limited = refl;
       clean = (clean, h.clean);
       counted = (let t = h.counted in omega (arith, t));
       stage = stage_stays stage b past m.0 m.1 m.2 h.stage;
-      entries = measurement_taken limits es stage b past r f h.stage h.entries;
+      stations = measurement_taken limits shelf stage b past r f h.stage h.stations;
     }
-taken_stands limits taken stage es b past roles.Other r f clean h = record {
+taken_stands limits taken stage shelf b past roles.Other r f clean h = record {
   limited = refl;
   clean = (clean, h.clean);
   counted = (let t = h.counted in omega (arith, t));
   stage = stage_stays stage b past (station_as b roles.Other r) (set_as b roles.Other r) (opening_as b roles.Other r) h.stage;
-  entries = stand_idle (reverse es) b past (set_as b roles.Other r) (no_reading b past (sight_as b roles.Other r)) h.entries;
+  stations = stand_idle shelf b past (set_as b roles.Other r) (no_reading b past (sight_as b roles.Other r)) h.stations;
 }
 
 -- the same book under its own limits

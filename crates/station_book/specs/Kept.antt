@@ -1,5 +1,5 @@
 -- What a book keeps, and what each kind of block does to it.
-use Rattle.std.specs.Prelude.{ℕ, ◌+◌, ◌<◌, Bool, true, false, ◌&&◌, not, if◌then◌else◌, Result, Ok, Err, List, [], ◌∷◌, ◌++◌, length, Option, Some, None}
+use Rattle.std.specs.Prelude.{ℕ, ◌+◌, Bool, true, false, ◌&&◌, not, if◌then◌else◌, Result, Ok, Err, List, Option, Some, None, IsSome}
 use Rattle.station_book.specs.declared.fault.BookKind.{BookKind}
 use Rattle.station_book.specs.declared.fault.BookKind.TheVariants as kinds
 use Rattle.station_book.specs.Limits.{FaceLimits}
@@ -14,15 +14,16 @@ use Rattle.station_book.specs.Roles.{role_of}
 use Rattle.station_book.specs.Blocks.{has_two, lacks, named, number}
 use Rattle.station_book.specs.Readings.{read}
 use Rattle.station_book.specs.Slots.{end_faults}
-use Rattle.station_book.specs.Entries.{first_entry, with_set, reading_faults, with_reading}
-use Rattle.station_book.specs.Shelves.{Entries, last_of, front, AllMayEnd, change_last, first_set_faults, more_set_faults}
+use Rattle.station_book.specs.Entries.{with_set, reading_faults, with_reading}
+use Rattle.station_book.specs.Shelves.{ShelfValue, Last, last_of, LastMayEnd, change_last, with_station, first_set_faults, more_set_faults}
 
--- what a book keeps: its limits, how many blocks it took, where it stands, and its stations with sets
+-- what a book keeps: its limits, how many blocks it took, where it stands, and its stations with
+-- sets
 pub record Kept : Type 0 where
   pub limits : FaceLimits
   pub taken : ℕ
   pub stage : Stage
-  pub entries : Entries
+  pub shelf : ShelfValue
 
 -- the first of two that stands
 abbrev pub then_fault : {X : Type 0} → Option X → Option X → Option X
@@ -37,29 +38,29 @@ is_open BetweenSets = false
 is_open InSet = true
 
 -- the fault of the end of a set, where one is open
-abbrev pub ending : Stage → Entries → Option BookKind
-ending Outside es = None
-ending (Station name) es = None
-ending BetweenSets es = None
-ending InSet es = first_of (end_faults (last_of es).slots)
+abbrev pub ending : Stage → ShelfValue → Option BookKind
+ending Outside shelf = None
+ending (Station name) shelf = None
+ending BetweenSets shelf = None
+ending InSet shelf = first_of (end_faults (last_of shelf).slots)
 
 -- the fault of a set that opens here
-abbrev pub opening : Stage → Entries → Option ℕ → Option BookKind
-opening Outside es n = Some kinds.SetOutside
-opening (Station name) es None = Some kinds.SetNumber
-opening (Station name) es (Some n) = first_of (first_set_faults name es)
-opening BetweenSets es None = Some kinds.SetNumber
-opening BetweenSets es (Some n) = first_of (more_set_faults (last_of es) n)
-opening InSet es None = Some kinds.SetNumber
-opening InSet es (Some n) = first_of (more_set_faults (last_of es) n)
+abbrev pub opening : Stage → ShelfValue → Option ℕ → Option BookKind
+opening Outside shelf n = Some kinds.SetOutside
+opening (Station name) shelf None = Some kinds.SetNumber
+opening (Station name) shelf (Some n) = first_of (first_set_faults name shelf)
+opening BetweenSets shelf None = Some kinds.SetNumber
+opening BetweenSets shelf (Some n) = first_of (more_set_faults (last_of shelf) n)
+opening InSet shelf None = Some kinds.SetNumber
+opening InSet shelf (Some n) = first_of (more_set_faults (last_of shelf) n)
 
 -- the stations after a set of this number
-abbrev pub opened : Stage → Option ℕ → Entries → Entries
-opened stage None es = es
-opened Outside (Some n) es = es
-opened (Station name) (Some n) es = es ++ (name, first_entry n) ∷ []
-opened BetweenSets (Some n) es = change_last (with_set n) es
-opened InSet (Some n) es = change_last (with_set n) es
+abbrev pub opened : Stage → Option ℕ → ShelfValue → ShelfValue
+opened stage None shelf = shelf
+opened Outside (Some n) shelf = shelf
+opened (Station name) (Some n) shelf = with_station name n shelf
+opened BetweenSets (Some n) shelf = change_last (with_set n) shelf
+opened InSet (Some n) shelf = change_last (with_set n) shelf
 
 -- after a block of code 10 with this name
 abbrev pub at_station : Option (List ℕ) → Stage → Stage
@@ -74,23 +75,23 @@ closed_stage BetweenSets = BetweenSets
 closed_stage InSet = BetweenSets
 
 -- the fault of a measurement that says this, in an open set
-abbrev pub measured : FaceLimits → Entries → Result (Option Sighting) BookKind → Option BookKind
-measured limits es (Err k) = Some k
-measured limits es (Ok None) = None
-measured limits es (Ok (Some s)) = first_of (reading_faults limits (last_of es) s)
+abbrev pub measured : FaceLimits → ShelfValue → Result (Option Sighting) BookKind → Option BookKind
+measured limits shelf (Err k) = Some k
+measured limits shelf (Ok None) = None
+measured limits shelf (Ok (Some s)) = first_of (reading_faults limits (last_of shelf) s)
 
 -- the stations after a measurement that says this, in an open set
-abbrev pub with_measured : Result (Option Sighting) BookKind → Entries → Entries
-with_measured (Err k) es = es
-with_measured (Ok None) es = es
-with_measured (Ok (Some s)) es = change_last (with_reading s) es
+abbrev pub with_measured : Result (Option Sighting) BookKind → ShelfValue → ShelfValue
+with_measured (Err k) shelf = shelf
+with_measured (Ok None) shelf = shelf
+with_measured (Ok (Some s)) shelf = change_last (with_reading s) shelf
 
 -- the fault of a block with this role
 abbrev pub fault_as : Role → Kept → GsiBlock → Option BookKind
-fault_as AsStation k b = then_fault (ending k.stage k.entries) (first_of (station_faults b))
-fault_as Set k b = then_fault (ending k.stage k.entries) (then_fault (when (has_two 42 b) (kinds.WordTwice 42)) (opening k.stage k.entries (number b)))
-fault_as Close k b = ending k.stage k.entries
-fault_as Measurement k b = if is_open k.stage then measured k.limits k.entries (read b) else None
+fault_as AsStation k b = then_fault (ending k.stage k.shelf) (first_of (station_faults b))
+fault_as Set k b = then_fault (ending k.stage k.shelf) (then_fault (when (has_two 42 b) (kinds.WordTwice 42)) (opening k.stage k.shelf (number b)))
+fault_as Close k b = ending k.stage k.shelf
+fault_as Measurement k b = if is_open k.stage then measured k.limits k.shelf (read b) else None
 fault_as Other k b = None
 
 -- the fault of a block
@@ -116,30 +117,30 @@ grows k b = grows_as (role_of b) k b
 -- what is kept after a block with this role
 abbrev pub after_as : Role → GsiBlock → Kept → Kept
 after_as AsStation b k = record k { stage = at_station (named b) k.stage }
-after_as Set b k = record k { stage = InSet; entries = opened k.stage (number b) k.entries }
+after_as Set b k = record k { stage = InSet; shelf = opened k.stage (number b) k.shelf }
 after_as Close b k = record k { stage = closed_stage k.stage }
-after_as Measurement b k = record k { entries = if is_open k.stage then with_measured (read b) k.entries else k.entries }
+after_as Measurement b k = record k { shelf = if is_open k.stage then with_measured (read b) k.shelf else k.shelf }
 after_as Other b k = k
 
 -- what is kept after a block
 abbrev pub after : GsiBlock → Kept → Kept
 after b k = after_as (role_of b) b (record k { taken = k.taken + 1 })
 
--- Where a station has a set, the last entry is its own.
-abbrev pub HasEntry : Stage → ℕ → Type 0
-HasEntry Outside n = Unit {0}
-HasEntry (Station name) n = Unit {0}
-HasEntry BetweenSets n = 0 < n
-HasEntry InSet n = 0 < n
+-- Where a station has a set, there is a last one.
+abbrev pub HasLast : Stage → Last → Type 0
+HasLast Outside last = Unit {0}
+HasLast (Station name) last = Unit {0}
+HasLast BetweenSets last = IsSome last
+HasLast InSet last = IsSome last
 
--- the stations of which no set is open
-abbrev pub resting : Stage → Entries → Entries
-resting Outside es = es
-resting (Station name) es = es
-resting BetweenSets es = es
-resting InSet es = front es
+-- Where no set is open, the last one may end.
+abbrev pub RestMayEnd : Stage → Last → Type 0
+RestMayEnd Outside last = LastMayEnd last
+RestMayEnd (Station name) last = LastMayEnd last
+RestMayEnd BetweenSets last = LastMayEnd last
+RestMayEnd InSet last = Unit {0}
 
 -- what always holds of a book's stage and stations
-pub record IsBook (stage : Stage) (es : Entries) : Type 0 where
-  pub has_entry : HasEntry stage (length es)
-  pub rest : AllMayEnd (resting stage es)
+pub record IsBook (stage : Stage) (s : ShelfValue) : Type 0 where
+  pub has_last : HasLast stage s.last
+  pub rest : RestMayEnd stage s.last

@@ -1,4 +1,4 @@
-//! A station that has sets.
+//! The last station that has sets.
 
 ghost use Rattle.std.specs.Prelude.{◌≡◌, ◌<◌, ◌≤◌, None, Some, length, IfOk, IfErr, OnOk, OnErr, IfSome, IfNone, false, nat_le, ◌==◌, [], ◌∷◌};
 ghost use Rattle.std.specs.List.{list_any};
@@ -22,8 +22,8 @@ use adjust_kernel::{MOST_SETS, MOST_TARGETS, Name, Obs, Station};
 use std::alloc::{AllocError, Global};
 use std::marker::Model;
 
-/// What a book keeps of a station that has sets. The readings of its last set are kept by target; those of all earlier
-/// sets have become observations.
+/// What a book keeps of the last station that has sets. The readings of its last set are kept by
+/// target; those of all earlier sets have become observations.
 #[derive(Drop)]
 pub(crate) struct Entry {
     targets: Vec<Name>,
@@ -44,7 +44,7 @@ impl Model for Entry {
 }
 
 /// Whether two names are one.
-fn is_same(a: &Name, b: &Name) -> bool
+pub(crate) fn is_same(a: &Name, b: &Name) -> bool
     ensures { result ≡ bytes_eq a.now b.now }
 {
     a.bytes() == b.bytes()
@@ -181,15 +181,27 @@ impl Entry {
         }
     }
 
-    /// The station with the observations of all its sets.
-    pub(crate) fn finish(self, name: Name) -> Result<Surveyed, AllocError>
+    /// Takes this list, which is empty, for the readings.
+    pub(crate) fn use_list(&mut self, slots: Vec<Slot>)
+        requires unread { self.old.slots ≡ [] }
+        requires empty { slots.items ≡ [] }
+        ensures { self.new ≡ self.old }
+    {
+        self.slots = slots;
+    }
+
+    /// The station with the observations of all its sets, and its list of readings, emptied. Where
+    /// memory is wanting, it comes back as it was.
+    pub(crate) fn close(self, name: Name) -> Result<(Surveyed, Vec<Slot>), Entry>
         requires { MayEnd self }
-        ensures { IfOk result (λ s. s ≡ survey_of (name, self)) }
+        ensures station { IfOk result (λ r. r.0 ≡ survey_of (name, self)) }
+        ensures list { IfOk result (λ r. r.1.items ≡ []) }
+        ensures err { IfErr result (λ e. e ≡ self) }
     {
         let _name = name.bytes();
         let Entry {
             targets,
-            slots,
+            mut slots,
             sets,
             mut obs,
             mut faces,
@@ -197,10 +209,19 @@ impl Entry {
         let last = sets.len() as u32 - 1;
         match push_pairs(last, &slots, &mut obs, &mut faces) {
             Ok(()) => {}
-            Err(_) => return Err(AllocError),
+            Err(_) => {
+                return Err(Entry {
+                    targets,
+                    slots,
+                    sets,
+                    obs,
+                    faces,
+                });
+            }
         }
+        slots.clear();
         match Station::new(name, targets, sets, obs) {
-            Some(station) => Ok(Surveyed { station, faces }),
+            Some(station) => Ok((Surveyed { station, faces }, slots)),
             None => unreachable!(),
         }
     }
