@@ -1,17 +1,25 @@
 //! The angle that a word holds: its faults, and the bytes that say how it is written.
 
+use thiserror::Error;
+
 /// Why a word holds no angle in gon: the first of these that stands, in this order.
-#[derive(Clone, Copy, Debug, PartialEq, Eq)]
+#[derive(Clone, Copy, Debug, PartialEq, Eq, Error)]
 pub enum AngleFault {
-    /// The fourth byte of the information is not `2`, for gon with five decimals.
+    /// The fourth byte of the information is not `2`, for gon with five decimals: set the
+    /// instrument to that unit.
+    #[error("the angle is not in gon with five decimals: set the instrument to that unit")]
     Unit,
-    /// The third byte of the information is not `.`, `0`, `2` or `3`.
+    /// The third byte of the information is not `.`, `0`, `2` or `3`: measure the angle.
+    #[error("the input mode of the angle is none of ., 0, 2 and 3: measure the angle")]
     InputMode,
-    /// The sign is minus.
+    /// The sign is minus: set the instrument to angles from 0 to 400 gon.
+    #[error("the angle is negative: set the instrument to angles from 0 to 400 gon")]
     Sign,
-    /// The content is not digits alone.
+    /// The content is not digits alone: transfer the file from the instrument again.
+    #[error("the angle is not digits alone: transfer the file again")]
     Digits,
-    /// The number is a full turn or more.
+    /// The number is a full turn or more: set the instrument to angles from 0 to 400 gon.
+    #[error("the angle is a full turn or more: set the instrument to angles from 0 to 400 gon")]
     Range,
 }
 

@@ -5,6 +5,7 @@ use crate::{
     POINT_NUMBER, VERTICAL_ANGLE, Word, decimal_number, laws, read_block,
 };
 use std::process::Abort;
+use std::test::Fail;
 
 /// The word at a place of a line that is a block.
 fn word_at<'a>(rt: &impl Abort, line: &'a [u8], place: usize) -> Word<'a> {
@@ -318,6 +319,58 @@ fn digits_alone_are_a_number(rt: HostRuntime) {
     for (bytes, number) in &rows {
         assert_eq!(rt; decimal_number(bytes), *number);
     }
+}
+
+#[test]
+fn a_fault_of_a_line_is_told_in_words(rt: HostRuntime) -> Result<(), Fail> {
+    let rows = [
+        (
+            LineFault::Byte(16),
+            "byte 16 is no blank and no visible character of ASCII: transfer the file again",
+        ),
+        (
+            LineFault::Word(2),
+            "word 2 is missing, cut short or not written as GSI: transfer the file again",
+        ),
+        (
+            LineFault::FirstWord,
+            "the first word is neither a point number nor a code number: write one of them first",
+        ),
+    ];
+    for (fault, text) in rows {
+        assert_eq!(rt; format!(in rt.alloc(); "{fault}")?.as_str(), text);
+    }
+    Ok(())
+}
+
+#[test]
+fn a_fault_of_an_angle_is_told_in_words(rt: HostRuntime) -> Result<(), Fail> {
+    let rows = [
+        (
+            AngleFault::Unit,
+            "the angle is not in gon with five decimals: set the instrument to that unit",
+        ),
+        (
+            AngleFault::InputMode,
+            "the input mode of the angle is none of ., 0, 2 and 3: measure the angle",
+        ),
+        (
+            AngleFault::Sign,
+            "the angle is negative: set the instrument to angles from 0 to 400 gon",
+        ),
+        (
+            AngleFault::Digits,
+            "the angle is not digits alone: transfer the file again",
+        ),
+        (
+            AngleFault::Range,
+            "the angle is a full turn or more: set the instrument to angles from 0 to 400 gon",
+        ),
+    ];
+    for (fault, text) in rows {
+        assert_eq!(rt; format!(in rt.alloc(); "{fault}")?.as_str(), text);
+    }
+    Ok(())
 }
 
 #[test]

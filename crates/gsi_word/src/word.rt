@@ -35,7 +35,7 @@ impl<'a> Model for Word<'a> {
 }
 
 impl<'a> Word<'a> {
-    ghost use Rattle.std.specs.Prelude.{◌≡◌, ◌<◌, ◌≤◌, length, All, IfOk, ◌⊎◌};
+    ghost use Rattle.std.specs.Prelude.{◌≡◌, ◌<◌, ◌≤◌, ◌+◌, ◌/◌, ◌%◌, length, All, IfOk, ◌⊎◌};
     ghost use Rattle.gsi_word.specs.Words.{IsGraphic, IsPrintable};
     ghost use Rattle.gsi_word.specs.Names.{name_of};
     ghost use Rattle.gsi_word.specs.Angles.{angle_of};
@@ -47,6 +47,23 @@ impl<'a> Word<'a> {
         ensures two_digits { result < 100 }
     {
         index_of(self.bytes)
+    }
+
+    /// The first digit of the index, as it stands.
+    #[inline(always)]
+    pub fn tens(&self) -> u8
+        ensures value { result ≡ 48 + self.now.index / 10 }
+        ensures two_digits { self.now.index < 100 }
+    {
+        self.bytes[0]
+    }
+
+    /// The second digit of the index, as it stands.
+    #[inline(always)]
+    pub fn ones(&self) -> u8
+        ensures { result ≡ 48 + self.now.index % 10 }
+    {
+        self.bytes[1]
     }
 
     /// The four bytes of information. In the first word of a block they are the number that the

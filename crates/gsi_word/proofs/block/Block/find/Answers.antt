@@ -1,4 +1,4 @@
-use Rattle.std.proofs.Common.{◌<◌, length, sym, ◌∙◌, arith}
+use Rattle.std.proofs.Common.{sym, ◌∙◌, arith}
 use Rattle.gsi_word.specs.Layout.{words_from}
 use Rattle.gsi_word.proofs.RunLaws.{length_words_from}
 use Rattle.gsi_word.proofs.FoundLaws.{below, found_all}

@@ -1,7 +1,5 @@
-use Rattle.std.proofs.Common.{sym, ap, subst, ◌∙◌, List, ℕ, ◌≡◌, ◌+◌, take}
-use Rattle.gsi_word.specs.Words.{GsiWord}
-use Rattle.gsi_word.specs.FoundWords.{found}
-use Rattle.gsi_word.specs.declared.found.Found.TheVariants.{Absent, One}
+use Rattle.std.proofs.Common.{sym, ap, ◌∙◌}
+use Rattle.gsi_word.specs.declared.found.Found.TheVariants.{One}
 use Rattle.gsi_word.proofs.FoundLaws.{found_first, found_further, found_other}
 use Rattle.gsi_word.proofs.found.Found.count.Goals as goal
 
