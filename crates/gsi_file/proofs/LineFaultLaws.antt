@@ -4,8 +4,6 @@ use Rattle.gsi_word.specs.Blocks.{GsiBlock, IsBlock}
 use Rattle.gsi_word.specs.LineFaults.{IsLineFault}
 use Rattle.gsi_word.specs.declared.line_fault.LineFault.{LineFault}
 use Rattle.gsi_word.specs.declared.line_fault.LineFault.TheVariants as line
-use Rattle.gsi_word.proofs.LineLaws.{same_fault, no_fault}
-use Rattle.gsi_word.proofs.LineCases as cases
 use Rattle.gsi_file.specs.ToCome.{IsFileFault}
 use Rattle.gsi_file.specs.declared.file_fault.FileKind.{FileKind}
 use Rattle.gsi_file.specs.declared.file_fault.FileKind.TheVariants.{Read, FileTooLong, LineTooLong, Byte, Word, FirstWord}
@@ -29,17 +27,20 @@ as_line_fault l (Byte at) h = (line.Byte at, h, refl)
 as_line_fault l (Word nth) h = (line.Word nth, h, refl)
 as_line_fault l FirstWord h = (line.FirstWord, h, refl)
 
-pub one_kind : (l : List ℕ) (a b : FileKind) → IsFileFault l a → IsFileFault l b → a ≡ b
-one_kind l a b h k =
+pub one_kind : ((l : List ℕ) (a b : LineFault) → IsLineFault l a → IsLineFault l b → a ≡ b)
+    → (l : List ℕ) (a b : FileKind) → IsFileFault l a → IsFileFault l b → a ≡ b
+one_kind one l a b h k =
     let x = as_line_fault l a h in
     let y = as_line_fault l b k in
-    x.2 ∙ ap kind_of (same_fault l x.0 y.0 x.1 y.1) ∙ sym y.2
+    x.2 ∙ ap kind_of (one l x.0 y.0 x.1 y.1) ∙ sym y.2
 
-pub no_kind : (l : List ℕ) (a : FileKind) (b : GsiBlock) → IsFileFault l a → ¬ IsBlock l b
-no_kind l a b h k = let x = as_line_fault l a h in no_fault l b x.0 k x.1
+pub no_kind : ((l : List ℕ) (b : GsiBlock) (a : LineFault) → IsBlock l b → ¬ IsLineFault l a)
+    → (l : List ℕ) (a : FileKind) (b : GsiBlock) → IsFileFault l a → ¬ IsBlock l b
+no_kind none l a b h k = let x = as_line_fault l a h in none l b x.0 k x.1
 
-pub block_or_kind : (l : List ℕ) → ((b : GsiBlock) × IsBlock l b) ⊎ ((kind : FileKind) × IsFileFault l kind)
-block_or_kind l = elim (cases.block_or_fault l) [
+pub block_or_kind : ((l : List ℕ) → ((b : GsiBlock) × IsBlock l b) ⊎ ((a : LineFault) × IsLineFault l a))
+    → (l : List ℕ) → ((b : GsiBlock) × IsBlock l b) ⊎ ((kind : FileKind) × IsFileFault l kind)
+block_or_kind either l = elim (either l) [
   | inl block ↦ inl block
   | inr fault ↦ inr (kind_of fault.0, as_file_fault l fault.0 fault.1)
 ]

@@ -4,22 +4,34 @@ ghost use Rattle.std.specs.Prelude.{List, ℕ};
 ghost use Rattle.gsi_word.specs.LineFaults.{IsLineFault};
 ghost use Rattle.gsi_file.specs.ToCome.{IsFileFault};
 
+use crate::limits::{LONGEST_FILE, LONGEST_LINE};
 use gsi_word::LineFault;
+use thiserror::Error;
 
 /// What is wrong with a field file.
-#[derive(Clone, Copy, Debug, PartialEq, Eq)]
+#[derive(Clone, Copy, Debug, PartialEq, Eq, Error)]
 pub enum FileKind {
-    /// A read failed. The lines that the bytes before it had ended were given first.
+    /// A read failed. The lines that the bytes before it had ended were given first. See whether
+    /// the file can be read to its end.
+    #[error("a read of the field file failed: see whether it can be read to its end")]
     Read,
-    /// The file has more than 16,777,216 bytes.
+    /// The file has more than 16,777,216 bytes: cut it in two where a station begins.
+    #[error("the file has more than {LONGEST_FILE} bytes: cut it in two where a station begins")]
     FileTooLong,
-    /// The line has more than 1,024 bytes, blank or not.
+    /// The line has more than 1,024 bytes, blank or not: see whether the file is a GSI file.
+    #[error("the line has more than {LONGEST_LINE} bytes: see whether the file is a GSI file")]
     LineTooLong,
-    /// The byte at this place of the line, from 1, is no blank and no visible character of ASCII.
+    /// The byte at this place of the line, from 1, is no blank and no visible character of ASCII:
+    /// transfer the file from the instrument again.
+    #[error("{}", LineFault::Byte(*.0))]
     Byte(usize),
-    /// The word at this place of the line, from 1, is no GSI word, or the line holds none.
+    /// The word at this place of the line, from 1, is no GSI word, or the line holds none: transfer
+    /// the file from the instrument again.
+    #[error("{}", LineFault::Word(*.0))]
     Word(usize),
-    /// The first word is neither a point number nor a code number.
+    /// The first word is neither a point number nor a code number: have the instrument write one of
+    /// them first.
+    #[error("{}", LineFault::FirstWord)]
     FirstWord,
 }
 
@@ -36,10 +48,12 @@ impl From<LineFault> for FileKind {
 }
 
 /// Why there is no next line.
-#[derive(Clone, Copy, Debug, PartialEq, Eq)]
+#[derive(Clone, Copy, Debug, PartialEq, Eq, Error)]
 pub enum FileFault {
     /// The line of this number is at fault, or the file is where this line would be next.
+    #[error("block {0}: {1}")]
     At(u32, FileKind),
-    /// There was no memory. No call answers it.
+    /// There was no memory. No call answers it. Run it again with more.
+    #[error("out of memory: run it again with more")]
     Memory,
 }

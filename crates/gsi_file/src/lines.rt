@@ -46,6 +46,7 @@ pub struct Lines<R> {
 }
 
 /// The shape of the block that a line is, or the line's fault.
+#[inline(always)]
 fn check_line(line: &[u8]) -> Result<Shape, FileKind>
     ensures shape { IfOk result (λ s. IsShape s line.now) }
     ensures fault { IfErr result (IsFileFault line.now) }

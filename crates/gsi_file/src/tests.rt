@@ -4,7 +4,7 @@
 
 ghost use Rattle.std.specs.Prelude.{◌<◌};
 
-use crate::{FileFault, FileKind, LONGEST_FILE, LONGEST_LINE, Lines, laws};
+use crate::{FileFault, FileKind, LONGEST_FILE, LONGEST_LINE, Lines, OutOfMemory, laws};
 use byte_ends::{OfRead, Script, Source};
 use gsi_word::{LineFault, read_block};
 use std::alloc::Global;
@@ -435,6 +435,46 @@ fn lines_of_both_widths_may_stand_in_one_file(rt: HostRuntime) -> Result<(), Fai
         }
     }
     expect_end(&rt, &mut lines);
+    Ok(())
+}
+
+#[test]
+fn a_fault_is_told_in_words(rt: HostRuntime) -> Result<(), Fail> {
+    let rows = [
+        (
+            FileKind::Read,
+            "a read of the field file failed: see whether it can be read to its end",
+        ),
+        (
+            FileKind::FileTooLong,
+            "the file has more than 16777216 bytes: cut it in two where a station begins",
+        ),
+        (
+            FileKind::LineTooLong,
+            "the line has more than 1024 bytes: see whether the file is a GSI file",
+        ),
+        (
+            FileKind::Byte(16),
+            "byte 16 is no blank and no visible character of ASCII: transfer the file again",
+        ),
+        (
+            FileKind::Word(2),
+            "word 2 is missing, cut short or not written as GSI: transfer the file again",
+        ),
+        (
+            FileKind::FirstWord,
+            "the first word is neither a point number nor a code number: write one of them first",
+        ),
+    ];
+    for (kind, text) in rows {
+        assert_eq!(rt; format!(in rt.alloc(); "{kind}")?.as_str(), text);
+        let fault = format!(in rt.alloc(); "{}", FileFault::At(7, kind))?;
+        assert_eq!(rt; fault.as_str().strip_prefix("block 7: "), Some(text));
+    }
+    let memory = "out of memory: run it again with more";
+    let fault = FileFault::Memory;
+    assert_eq!(rt; format!(in rt.alloc(); "{fault}")?.as_str(), memory);
+    assert_eq!(rt; format!(in rt.alloc(); "{OutOfMemory}")?.as_str(), memory);
     Ok(())
 }
 
