@@ -1,6 +1,9 @@
--- Lists that agree at each place.
-use Rattle.std.proofs.Common.{◌≡◌, ℕ, suc, zero, ◌+◌, List, [], ◌∷◌, take, ap, refl, add-one}
+-- Lists that agree at each place, or differ at a first one.
+use Rattle.std.proofs.Common.{◌≡◌, ◌≢◌, ℕ, suc, zero, ◌+◌, ◌≤◌, ◌<◌, List, [], ◌∷◌, length, take, Option, Some, None, MatchOption, arith, ap, refl, sym, ◌∙◌, add-one}
+use Rattle.std.specs.Prelude.{IfNone, IfSome}
 use Rattle.std.specs.List.{slice_get}
+use Rattle.std.proofs.lemmas.List.{take_all}
+use Rattle.adjust_kernel.specs.Firsts.{IsFirstDifference}
 
 module _ {X : Type 0} where
   agree_suc : (xs ys : List X) (i : ℕ) → take i xs ≡ take i ys → slice_get xs i ≡ slice_get ys i → take (suc i) xs ≡ take (suc i) ys
@@ -17,3 +20,14 @@ module _ {X : Type 0} where
 
   pub agree_more : (xs ys : List X) (i : ℕ) → take i xs ≡ take i ys → slice_get xs i ≡ slice_get ys i → take (i + 1) xs ≡ take (i + 1) ys
   agree_more xs ys i e f = rw (add-one i) (agree_suc xs ys i e f)
+
+  agree_to : (xs ys : List X) (n : ℕ) → ((k : ℕ) → k < n → slice_get xs k ≡ slice_get ys k) → take n xs ≡ take n ys
+  agree_to xs ys zero h = refl
+  agree_to xs ys (suc n) h = agree_suc xs ys n (agree_to xs ys n (λ k below. h k (omega arith))) (h n (omega arith))
+
+  -- what a search from 0 on finds, up to where both have ended
+  pub first_difference : (xs ys : List X) (n : ℕ) (r : Option ℕ) → length xs ≤ n → length ys ≤ n
+      → MatchOption r ((k : ℕ) → 0 ≤ k → k < n → slice_get xs k ≡ slice_get ys k) (λ i. (0 ≤ i) × (i < n) × (slice_get xs i ≢ slice_get ys i) × ((k : ℕ) → 0 ≤ k → k < i → slice_get xs k ≡ slice_get ys k))
+      → IfNone r (xs ≡ ys) × IfSome r (IsFirstDifference xs ys)
+  first_difference xs ys n None a b h = (sym (take_all n xs a) ∙ agree_to xs ys n (λ k below. h k (omega arith) below) ∙ take_all n ys b, tt)
+  first_difference xs ys n (Some i) a b h = (tt, record { before = agree_to xs ys i (λ k below. h.3 k (omega arith) below); differ = h.2 })

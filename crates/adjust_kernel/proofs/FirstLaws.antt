@@ -38,7 +38,7 @@ pub one_first : (P : ℕ → Type 0) (count m n : ℕ) → IsFirstWhere P count 
 one_first P count m n f g = same_place m n (λ below. g.before m below f.here) (λ below. f.before n below g.here)
 
 -- the lists are the same, or differ at a first place
-same_or_first : {X : Type 0} → ((x y : X) → Dec (x ≡ y)) → (xs ys : List X) → (xs ≡ ys) ⊎ ((n : ℕ) × IsFirstDifference xs ys n)
+pub same_or_first : {X : Type 0} → ((x y : X) → Dec (x ≡ y)) → (xs ys : List X) → (xs ≡ ys) ⊎ ((n : ℕ) × IsFirstDifference xs ys n)
 same_or_first same [] [] = inl refl
 same_or_first same [] (y ∷ ys) = inr (0, record { before = refl; differ = λ e. cc })
 same_or_first same (x ∷ xs) [] = inr (0, record { before = refl; differ = λ e. cc })
@@ -48,15 +48,8 @@ same_or_first {X} same (x ∷ xs) (y ∷ ys) = by (same x y) (same_or_first same
   by (yes e) (inr (n, f)) = inr (suc n, record { before = λ i. e i ∷ f.before i; differ = f.differ })
   by (no g) rest = inr (0, record { before = refl; differ = λ e. let h : x ≡ y = cc in g h })
 
--- lists with no first difference are the same
-pub same_where_none_differ : {X : Type 0} → ((x y : X) → Dec (x ≡ y)) → (xs ys : List X) → ((n : ℕ) → IsFirstDifference xs ys n → ⊥) → xs ≡ ys
-same_where_none_differ same xs ys none = by (same_or_first same xs ys) where
-  by : (xs ≡ ys) ⊎ ((n : ℕ) × IsFirstDifference xs ys n) → xs ≡ ys
-  by (inl e) = e
-  by (inr (n, f)) = absurd (none n f)
-
 -- it holds of no place below the count, or of a first one
-none_or_first : (P : ℕ → Type 0) → ((n : ℕ) → Dec (P n)) → (count : ℕ) → ((n : ℕ) → n < count → P n → ⊥) ⊎ ((n : ℕ) × IsFirstWhere P count n)
+pub none_or_first : (P : ℕ → Type 0) → ((n : ℕ) → Dec (P n)) → (count : ℕ) → ((n : ℕ) → n < count → P n → ⊥) ⊎ ((n : ℕ) × IsFirstWhere P count n)
 none_or_first P holds zero = inl (λ n h p. absurd (omega arith))
 none_or_first P holds (suc count) = by (none_or_first P holds count) (holds count) where
   last : ((n : ℕ) → n < count → P n → ⊥) → (P count → ⊥) → (n : ℕ) → n < suc count → P n → ⊥
@@ -69,13 +62,6 @@ none_or_first P holds (suc count) = by (none_or_first P holds count) (holds coun
   by (inr (n, f)) here = inr (n, record { inside = omega (arith, f.inside); here = f.here; before = f.before })
   by (inl none) (yes p) = inr (count, record { inside = omega arith; here = p; before = none })
   by (inl none) (no f) = inl (last none f)
-
--- where there is no first place, it holds of none
-pub none_where_no_first : (P : ℕ → Type 0) → ((n : ℕ) → Dec (P n)) → (count : ℕ) → ((n : ℕ) → IsFirstWhere P count n → ⊥) → (n : ℕ) → n < count → P n → ⊥
-none_where_no_first P holds count none = by (none_or_first P holds count) where
-  by : ((n : ℕ) → n < count → P n → ⊥) ⊎ ((n : ℕ) × IsFirstWhere P count n) → (n : ℕ) → n < count → P n → ⊥
-  by (inl h) = h
-  by (inr (n, f)) = absurd (none n f)
 
 pub dec_by : {P : Type 0} (b : Bool) → Decides b P → Dec P
 dec_by true d = yes (d.0 refl)

@@ -1,19 +1,19 @@
--- Verdicts: at most one stands for a station, a sheet and a limit; what holds where a fault of a
--- kind does not stand; and the verdicts of each test, in their order.
-use Rattle.std.proofs.Common.{◌≡◌, ◌≢◌, ℕ, ◌+◌, ◌*◌, ◌<◌, ◌≤◌, List, length, pos, Option, Some, None, Result, Ok, Err, arith, ap, refl, sym, ◌∙◌, subst, get_or}
+-- Verdicts: just one stands for a station, a sheet and a limit; what holds where a fault of a kind
+-- does not stand; and the verdicts of each test, in their order.
+use Rattle.std.proofs.Common.{◌≡◌, ◌≢◌, ◌⊎◌, inl, inr, ℕ, ◌+◌, ◌*◌, ◌<◌, ◌≤◌, List, length, pos, Option, Some, None, Result, Ok, Err, arith, ap, refl, sym, ◌∙◌, subst, get_or}
 use Rattle.std.specs.Prelude.{map, slice_index_or, IfSome}
 use Rattle.std.specs.Int.RustNames.{unsigned_abs}
 use Rattle.std.specs.Str.{bytes_eq}
 use Rattle.std.proofs.Math.IntN.{ℤ_discrete}
-use Rattle.std.proofs.lemmas.List.{get_or-map}
+use Rattle.std.proofs.lemmas.List.{get_or-map, length-map}
 use Rattle.std.proofs.lemmas.Slice.Eq.{bytes_eq-Decides}
 use native.Mathlib.Decide.{dec_lt, ℕ_discrete}
 use Rattle.adjust_kernel.specs.declared.accepted.Accepted.{Accepted}
 use Rattle.adjust_kernel.specs.declared.kernel_fault.KernelFault.{KernelFault}
 use Rattle.adjust_kernel.specs.declared.kernel_fault.KernelFault.TheVariants.{Name, TargetRow, SetRow, ObsRow, Datum, TargetSum, SetSum, NotConnected, Residual}
 use Rattle.adjust_kernel.specs.Connected.{IsDivided}
-use Rattle.adjust_kernel.specs.Firsts.{IsFirstWhere}
-use Rattle.adjust_kernel.specs.Matching.{Key, Matches, names_of, numbers_of, keys_of, observed}
+use Rattle.adjust_kernel.specs.Firsts.{IsFirstDifference, IsFirstWhere}
+use Rattle.adjust_kernel.specs.Matching.{Key, Matches, key_of_row, key_of_obs, names_of, numbers_of, keys_of, observed}
 use Rattle.adjust_kernel.specs.Pairs.{choice_stated_by}
 use Rattle.adjust_kernel.specs.Readings.{Reading}
 use Rattle.adjust_kernel.specs.Residuals.{residual, target_sum, set_sum}
@@ -22,8 +22,10 @@ use Rattle.adjust_kernel.specs.Stations.{StationValue}
 use Rattle.adjust_kernel.specs.Turns.{IsAbove}
 use Rattle.adjust_kernel.specs.Within.{IsWithin}
 use Rattle.adjust_kernel.specs.Verdict.{AtNth, Stands, IsAcceptance, IsAcceptedSheet, IsFault, IsVerdict, TargetsAddUp, SetsAddUp, HoldsTogether, KeepsLimit, order_of, readings}
-use Rattle.adjust_kernel.proofs.FirstLaws.{one_difference, no_difference, one_first, same_where_none_differ, none_where_no_first, dec_by, dec_not, by_not_not}
+use Rattle.adjust_kernel.proofs.ConnectionLaws.{connected_or_divided}
+use Rattle.adjust_kernel.proofs.FirstLaws.{one_difference, no_difference, one_first, same_or_first, none_or_first, dec_by, dec_not, by_not_not}
 use Rattle.adjust_kernel.proofs.GreatestLaws.{size_within, within_size, greatest_size, greatest_is, one_greatest}
+use Rattle.adjust_kernel.proofs.ReadingLaws.{length-readings_of}
 
 -- No fault of this kind stands, whatever its number: what holds in its place.
 abbrev pub IsClearOf : StationValue → SheetValue → Option ℕ → KernelFault → Type 0
@@ -120,25 +122,51 @@ module _ (station : StationValue) (sheet : SheetValue) where
     by (no e) (yes d) = absurd (v.1 g d w.0)
     by (no e) (no d) = one_fault limit f g (omega arith) v.0 w.0
 
+  -- no fault of this kind stands, or one does
+  abbrev IsClearOrStanding : Option ℕ → KernelFault → Type 0
+  IsClearOrStanding limit fault = IsClearOf station sheet limit fault ⊎ ((found : KernelFault) × (order_of found ≡ order_of fault) × Stands station sheet limit found)
+
+  by_test : (limit : Option ℕ) (fault : KernelFault) {P : Type 0} → Dec P → (P → IsClearOf station sheet limit fault) → ((P → ⊥) → Stands station sheet limit fault) → IsClearOrStanding limit fault
+  by_test limit fault (yes p) clear stands = inl (clear p)
+  by_test limit fault (no f) clear stands = inr (fault, refl, stands f)
+
+  by_first : (limit : Option ℕ) (kind : ℕ → KernelFault) (n : ℕ) (P : ℕ → Type 0) {C : Type 0} → ((k : ℕ) → order_of (kind k) ≡ order_of (kind n)) → ((k : ℕ) → AtNth P k → Stands station sheet limit (kind k)) → (C → IsClearOf station sheet limit (kind n))
+      → C ⊎ ((k : ℕ) × P k) → IsClearOrStanding limit (kind n)
+  by_first limit kind n P same stands clear (inl c) = inl (clear c)
+  by_first limit kind n P same stands clear (inr (k, p)) = inr (kind (k + 1), same (k + 1), stands (k + 1) (k, refl, p))
+
+  clear_or_standing : (limit : Option ℕ) (fault : KernelFault) → IsClearOrStanding limit fault
+  clear_or_standing limit Name = by_test limit Name (same_bytes sheet.name station.name) (λ e. e) (λ f. f)
+  clear_or_standing limit (TargetRow n) = by_first limit TargetRow n (IsFirstDifference (names_of sheet) station.targets) (λ k. refl) (λ k s. s) (λ e. e) (same_or_first same_bytes (names_of sheet) station.targets)
+  clear_or_standing limit (SetRow n) = by_first limit SetRow n (IsFirstDifference (numbers_of sheet) station.sets) (λ k. refl) (λ k s. s) (λ e. e) (same_or_first ℕ_discrete (numbers_of sheet) station.sets)
+  clear_or_standing limit (ObsRow n) = by_first limit ObsRow n (IsFirstDifference (keys_of sheet) (observed station)) (λ k. refl) (λ k s. s) (λ e. e) (same_or_first same_key (keys_of sheet) (observed station))
+  clear_or_standing limit Datum = by_test limit Datum (ℤ_discrete ((choice_stated_by sheet).direction 0) (pos 0)) (λ e. e) (λ f. f)
+  clear_or_standing limit (TargetSum n) =
+      let sum = target_sum (choice_stated_by sheet) (readings station sheet) in
+      by_first limit TargetSum n (IsFirstWhere (λ t. sum t ≢ pos 0) (length station.targets)) (λ k. refl) (λ k s. s)
+      (λ (f : (t : ℕ) → t < length station.targets → sum t ≢ pos 0 → ⊥) t h. by_not_not (ℤ_discrete (sum t) (pos 0)) (f t h))
+      (none_or_first (λ t. sum t ≢ pos 0) (λ t. dec_not (ℤ_discrete (sum t) (pos 0))) (length station.targets))
+  clear_or_standing limit (SetSum n) =
+      let sum = set_sum (choice_stated_by sheet) (readings station sheet) in
+      by_first limit SetSum n (IsFirstWhere (λ s. sum s ≢ pos 0) (length station.sets)) (λ k. refl) (λ k s. s)
+      (λ (f : (s : ℕ) → s < length station.sets → sum s ≢ pos 0 → ⊥) s h. by_not_not (ℤ_discrete (sum s) (pos 0)) (f s h))
+      (none_or_first (λ s. sum s ≢ pos 0) (λ s. dec_not (ℤ_discrete (sum s) (pos 0))) (length station.sets))
+  clear_or_standing limit NotConnected = by (connected_or_divided (length station.sets) (length station.targets) (readings station sheet)) where
+    by : HoldsTogether station sheet ⊎ IsDivided (length station.sets) (length station.targets) (readings station sheet) → IsClearOrStanding limit NotConnected
+    by (inl whole) = inl whole
+    by (inr divided) = inr (NotConnected, refl, divided)
+  clear_or_standing None (Residual n) = inl tt
+  clear_or_standing (Some most) (Residual n) =
+      let rs = readings station sheet in
+      by_first (Some most) Residual n (IsFirstWhere (IsAbove most (choice_stated_by sheet) rs) (length rs)) (λ k. refl) (λ k s. s) (keeps_limit most)
+      (none_or_first (IsAbove most (choice_stated_by sheet) rs) (λ k. dec_lt (most * sheet.denominator) (unsigned_abs (slice_index_or (map (residual (choice_stated_by sheet)) rs) k (pos 0)))) (length rs))
+
   -- what holds where no fault of a kind stands, whatever its number
   clear_where_none_stands : (limit : Option ℕ) (fault : KernelFault) → ((other : KernelFault) → order_of other ≡ order_of fault → Stands station sheet limit other → ⊥) → IsClearOf station sheet limit fault
-  clear_where_none_stands limit Name none = by_not_not (same_bytes sheet.name station.name) (none Name refl)
-  clear_where_none_stands limit (TargetRow n) none = same_where_none_differ same_bytes (names_of sheet) station.targets (λ k f. none (TargetRow (k + 1)) refl (k, refl, f))
-  clear_where_none_stands limit (SetRow n) none = same_where_none_differ ℕ_discrete (numbers_of sheet) station.sets (λ k f. none (SetRow (k + 1)) refl (k, refl, f))
-  clear_where_none_stands limit (ObsRow n) none = same_where_none_differ same_key (keys_of sheet) (observed station) (λ k f. none (ObsRow (k + 1)) refl (k, refl, f))
-  clear_where_none_stands limit Datum none = by_not_not (ℤ_discrete ((choice_stated_by sheet).direction 0) (pos 0)) (none Datum refl)
-  clear_where_none_stands limit (TargetSum n) none = λ t h.
-      let sum = target_sum (choice_stated_by sheet) (readings station sheet) in
-      by_not_not (ℤ_discrete (sum t) (pos 0)) (none_where_no_first (λ t. sum t ≢ pos 0) (λ t. dec_not (ℤ_discrete (sum t) (pos 0))) (length station.targets) (λ k f. none (TargetSum (k + 1)) refl (k, refl, f)) t h)
-  clear_where_none_stands limit (SetSum n) none = λ s h.
-      let sum = set_sum (choice_stated_by sheet) (readings station sheet) in
-      by_not_not (ℤ_discrete (sum s) (pos 0)) (none_where_no_first (λ s. sum s ≢ pos 0) (λ s. dec_not (ℤ_discrete (sum s) (pos 0))) (length station.sets) (λ k f. none (SetSum (k + 1)) refl (k, refl, f)) s h)
-  clear_where_none_stands limit NotConnected none = none NotConnected refl
-  clear_where_none_stands None (Residual n) none = tt
-  clear_where_none_stands (Some most) (Residual n) none =
-      let v = residual (choice_stated_by sheet) in
-      let rs = readings station sheet in
-      keeps_limit most (none_where_no_first (IsAbove most (choice_stated_by sheet) rs) (λ k. dec_lt (most * sheet.denominator) (unsigned_abs (slice_index_or (map v rs) k (pos 0)))) (length rs) (λ k f. none (Residual (k + 1)) refl (k, refl, f)))
+  clear_where_none_stands limit fault none = by (clear_or_standing limit fault) where
+    by : IsClearOrStanding limit fault → IsClearOf station sheet limit fault
+    by (inl clear) = clear
+    by (inr (found, same, stands)) = absurd (none found same stands)
 
   -- what holds of an accepted sheet
   pub clear_where_accepted : (limit : Option ℕ) (accepted : Accepted) → IsVerdict station sheet limit (Ok accepted) → (fault : KernelFault) → IsClearOf station sheet limit fault
@@ -215,6 +243,52 @@ module _ (station : StationValue) (sheet : SheetValue) where
   -- the verdict of a fault that stands, where what is looked for before it is as it has to be
   refused : (limit : Option ℕ) (fault : KernelFault) → Stands station sheet limit fault → ((other : KernelFault) → order_of other < order_of fault → IsClearOf station sheet limit other) → IsVerdict station sheet limit (Err fault)
   refused limit fault stands clear = (stands, λ other h. not_standing limit other (clear other h))
+
+  -- what holds of a kind of fault holds whatever the number
+  clear_as : (limit : Option ℕ) (a b : KernelFault) → order_of a ≡ order_of b → IsClearOf station sheet limit a → IsClearOf station sheet limit b
+  clear_as limit Name Name e clear = clear
+  clear_as limit (TargetRow m) (TargetRow n) e clear = clear
+  clear_as limit (SetRow m) (SetRow n) e clear = clear
+  clear_as limit (ObsRow m) (ObsRow n) e clear = clear
+  clear_as limit Datum Datum e clear = clear
+  clear_as limit (TargetSum m) (TargetSum n) e clear = clear
+  clear_as limit (SetSum m) (SetSum n) e clear = clear
+  clear_as limit NotConnected NotConnected e clear = clear
+  clear_as limit (Residual m) (Residual n) e clear = clear
+  clear_as limit a b e clear = absurd (omega arith)
+
+  -- some verdict stands, or no fault that is looked for before this place in the order
+  abbrev IsToldBefore : Option ℕ → ℕ → Type 0
+  IsToldBefore limit n = ((verdict : Result Accepted KernelFault) × IsVerdict station sheet limit verdict) ⊎ ((other : KernelFault) → order_of other < n → IsClearOf station sheet limit other)
+
+  none_before : (limit : Option ℕ) (other : KernelFault) → order_of other < 1 → IsClearOf station sheet limit other
+  none_before limit Name h = absurd (omega arith)
+  none_before limit other h = absurd (omega arith)
+
+  -- one kind of fault more
+  told_more : (limit : Option ℕ) (fault : KernelFault) → IsToldBefore limit (order_of fault) → IsToldBefore limit (order_of fault + 1)
+  told_more limit fault (inl told) = inl told
+  told_more limit fault (inr before) = by (clear_or_standing limit fault) where
+    by : IsClearOrStanding limit fault → IsToldBefore limit (order_of fault + 1)
+    by (inr (found, same, stands)) = inl (Err found, refused limit found stands (λ other h. before other (omega (arith, h, same))))
+    by (inl clear) = inr (λ other h. at other h (ℕ_discrete (order_of fault) (order_of other))) where
+      at : (other : KernelFault) → order_of other < order_of fault + 1 → Dec (order_of fault ≡ order_of other) → IsClearOf station sheet limit other
+      at other h (yes e) = clear_as limit fault other e clear
+      at other h (no f) = before other (omega arith)
+
+  -- there is a verdict, where something was observed
+  pub some_verdict : (limit : Option ℕ) → 1 ≤ length station.obs → (verdict : Result Accepted KernelFault) × IsVerdict station sheet limit verdict
+  some_verdict limit some =
+      by (told_more limit (Residual 0) (told_more limit NotConnected (told_more limit (SetSum 0) (told_more limit (TargetSum 0) (told_more limit Datum (told_more limit (ObsRow 0) (told_more limit (SetRow 0) (told_more limit (TargetRow 0) (told_more limit Name (inr (none_before limit)))))))))))
+    where
+      by : IsToldBefore limit 10 → (verdict : Result Accepted KernelFault) × IsVerdict station sheet limit verdict
+      by (inl told) = told
+      by (inr clear) =
+          let matches = matches_where_clear limit (λ fault h. clear fault (omega (arith, h))) in
+          let same_length = sym (length-map station.obs (key_of_obs station.sets station.targets)) ∙ ap length (sym matches.rows) ∙ length-map sheet.rows key_of_row in
+          let long = length-readings_of station.obs sheet.rows same_length in
+          let (accepted, verdict) = accepted_sheet limit matches (clear (TargetSum 0) (omega arith)) (clear (SetSum 0) (omega arith)) (clear NotConnected (omega arith)) (clear (Residual 0) (omega arith)) (omega (arith, long, some)) in
+          (Ok accepted, verdict)
 
   pub target_sum_fault : (n : ℕ) → Matches station sheet → IsFirstWhere (λ t. target_sum (choice_stated_by sheet) (readings station sheet) t ≢ pos 0) (length station.targets) n → IsFault station sheet (TargetSum (n + 1))
   target_sum_fault n matches first limit = refused limit (TargetSum (n + 1)) (n, refl, first) (kept matches limit)

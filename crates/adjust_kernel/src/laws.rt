@@ -17,6 +17,14 @@ pub fn one_verdict()
         → IsVerdict station sheet limit a → IsVerdict station sheet limit b → a ≡ b }
 {}
 
+/// A station with an observation, a sheet and a residual limit have a verdict: so what is said of
+/// verdicts is never said of nothing.
+pub fn some_verdict()
+    ensures { (station : StationValue) (sheet : SheetValue) (limit : Option ℕ)
+        → 1 ≤ length station.obs
+        → (verdict : Result Accepted KernelFault) × IsVerdict station sheet limit verdict }
+{}
+
 /// A sheet is accepted just where it is of the station, the residuals add up, the observations hold
 /// all together and the residuals keep the limit, if one is stated.
 pub fn acceptance()

@@ -71,12 +71,8 @@ fn first_other_target(station: &Station, sheet: &Sheet) -> Option<usize>
         IsFirstDifference (names_of sheet.now) station.now.targets place) }
     ensures bound { IfSome result (λ place. place ≤ MOST_TARGETS) }
 {
-    for place in 0..sheet.directions().len().max(station.targets().len()) {
-        if !is_same_target_at(station, sheet, place) {
-            return Some(place);
-        }
-    }
-    None
+    let places = sheet.directions().len().max(station.targets().len());
+    (0..places).find(|&place| !is_same_target_at(station, sheet, place))
 }
 
 /// The first place at which sheet and station have different sets, or one of them has ended.
@@ -86,12 +82,8 @@ fn first_other_set(station: &Station, sheet: &Sheet) -> Option<usize>
         IsFirstDifference (numbers_of sheet.now) station.now.sets place) }
     ensures bound { IfSome result (λ place. place ≤ MOST_SETS) }
 {
-    for place in 0..sheet.orientations().len().max(station.sets().len()) {
-        if !is_same_set_at(station, sheet, place) {
-            return Some(place);
-        }
-    }
-    None
+    let places = sheet.orientations().len().max(station.sets().len());
+    (0..places).find(|&place| !is_same_set_at(station, sheet, place))
 }
 
 /// The first place at which sheet and station have different observations, or one of them has
@@ -102,12 +94,8 @@ fn first_other_row(station: &Station, sheet: &Sheet) -> Option<usize>
         IsFirstDifference (keys_of sheet.now) (observed station.now) place) }
     ensures bound { IfSome result (λ place. place ≤ MOST_ROWS) }
 {
-    for place in 0..sheet.rows().len().max(station.obs().len()) {
-        if !is_same_row_at(station, sheet, place) {
-            return Some(place);
-        }
-    }
-    None
+    let places = sheet.rows().len().max(station.obs().len());
+    (0..places).find(|&place| !is_same_row_at(station, sheet, place))
 }
 
 /// Whether the direction of the first target is 0.

@@ -554,6 +554,7 @@ fn faults_are_told_in_words(rt: HostRuntime) -> Result<(), Fail> {
 #[test]
 fn the_laws_are_calls(_rt: HostRuntime) {
     laws::one_verdict();
+    laws::some_verdict();
     laws::acceptance();
     laws::refusal();
     laws::limits();
