@@ -1,5 +1,6 @@
 pub mod Bounds
 pub mod CanonicalDecimals
+pub mod ShortNumbers
 pub mod WrittenNumbers
 pub mod OneForm
 pub mod RecordFacts

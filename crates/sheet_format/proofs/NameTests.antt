@@ -1,5 +1,5 @@
 -- The test of a name, and what it says.
-use Rattle.std.proofs.Common.{◌≡◌, ℕ, Bool, true, List, [], ◌∷◌, All, refl, arith}
+use Rattle.std.proofs.Common.{◌≡◌, ℕ, Bool, true, List, [], ◌∷◌, All, Option, None, Some, IfSome, OnSome, refl, subst, arith}
 use Rattle.std.specs.Int.{is_in_range}
 use Rattle.std.specs.List.{list_all}
 use Rattle.std.proofs.lemmas.Bool.{and_from, and_parts, leb-true, le-leb}
@@ -36,3 +36,8 @@ name-found bs e =
 
 pub name-test : (bs : List ℕ) → IsName bs → is_name bs ≡ true
 name-test bs h = and_from _ _ (and_from _ _ (le-leb _ _ h.some) (le-leb _ _ h.short)) (all-test bs h.printable)
+
+-- a name that was made of bytes says that they pass the test
+pub test-of-some : (bs : List ℕ) (name : Option (List ℕ)) → IfSome name (λ n. n ≡ bs) → IfSome name IsName → OnSome name (is_name bs ≡ true)
+test-of-some bs None e h = tt
+test-of-some bs (Some n) e h = name-test bs (subst IsName e h)

@@ -167,13 +167,9 @@ impl Draft {
             (faults.columns_fault (spec.said_by_draft self.old) kind.Sheet
             (columns_view columns.now))) }
     {
-        match header_of(columns) {
-            Ok(header) => {
-                self.header = Some(header);
-                Ok(())
-            }
-            Err(kind) => Err(Refusal::Fault(kind)),
-        }
+        let header = header_of(columns).map_err(Refusal::Fault)?;
+        self.header = Some(header);
+        Ok(())
     }
 
     fn take_target(&mut self, columns: &Columns<'_>) -> Result<(), Refusal>
@@ -187,10 +183,7 @@ impl Draft {
             (faults.columns_fault (spec.said_by_draft self.old) kind.Target
             (columns_view columns.now))) }
     {
-        let direction = match direction_of(columns, self.version()) {
-            Ok(direction) => direction,
-            Err(kind) => return Err(Refusal::Fault(kind)),
-        };
+        let direction = direction_of(columns, self.version()).map_err(Refusal::Fault)?;
         if self.directions.len() >= MOST_TARGETS {
             return Err(Refusal::Fault(RowKind::TooMany));
         }
@@ -208,10 +201,7 @@ impl Draft {
             (faults.columns_fault (spec.said_by_draft self.old) kind.Set
             (columns_view columns.now))) }
     {
-        let orientation = match orientation_of(columns, self.version()) {
-            Ok(orientation) => orientation,
-            Err(kind) => return Err(Refusal::Fault(kind)),
-        };
+        let orientation = orientation_of(columns, self.version()).map_err(Refusal::Fault)?;
         if self.orientations.len() >= MOST_SETS {
             return Err(Refusal::Fault(RowKind::TooMany));
         }
@@ -231,10 +221,7 @@ impl Draft {
             (faults.columns_fault (spec.said_by_draft self.old) kind.Obs
             (columns_view columns.now))) }
     {
-        let row = match obs_row_of(columns) {
-            Ok(row) => row,
-            Err(kind) => return Err(Refusal::Fault(kind)),
-        };
+        let row = obs_row_of(columns).map_err(Refusal::Fault)?;
         if self.rows.len() >= MOST_ROWS {
             return Err(Refusal::Fault(RowKind::TooMany));
         }

@@ -20,55 +20,43 @@ pub(crate) struct Header {
     pub(crate) denominator: u64,
 }
 
-// The name of a field.
+/// The name of a field.
 fn name_of(field: &[u8]) -> Option<Name>
     ensures value { IfSome result (λ name. name ≡ field.now) }
     ensures some { OnSome result (faults.is_name field.now ≡ true) }
     ensures none { IfNone result (faults.is_name field.now ≡ false) }
 {
-    match Name::new(field) {
-        Some(name) => Some(name),
-        None => None,
-    }
+    Name::new(field)
 }
 
-// The number of a set.
+/// The number of a set.
 fn set_number(field: &[u8]) -> Option<u16>
     requires { is_canonical field.now ≡ true }
     ensures value { IfSome result (λ number. number ≡ natural_of (value_of field.now)) }
     ensures within { OnSome result (faults.is_set_number (value_of field.now) ≡ true) }
     ensures outside { IfNone result (faults.is_set_number (value_of field.now) ≡ false) }
 {
-    match natural_within(field, 1, u64::from(LARGEST_SET_NUMBER)) {
-        Some(number) => Some(number as u16),
-        None => None,
-    }
+    natural_within(field, 1, u64::from(LARGEST_SET_NUMBER)).map(|number| number as u16)
 }
 
-// A direction on the circle, in half units.
+/// A direction on the circle, in half units.
 fn circle_value(field: &[u8]) -> Option<u32>
     requires { is_canonical field.now ≡ true }
     ensures value { IfSome result (λ number. number ≡ natural_of (value_of field.now)) }
     ensures within { OnSome result (faults.is_circle_value (value_of field.now) ≡ true) }
     ensures outside { IfNone result (faults.is_circle_value (value_of field.now) ≡ false) }
 {
-    match natural_within(field, 0, u64::from(TURN - 1)) {
-        Some(value) => Some(value as u32),
-        None => None,
-    }
+    natural_within(field, 0, u64::from(TURN - 1)).map(|value| value as u32)
 }
 
-// The full turns of an observation.
+/// The full turns of an observation.
 fn full_turns(field: &[u8]) -> Option<i8>
     requires { is_canonical field.now ≡ true }
     ensures value { IfSome result (λ number. number ≡ value_of field.now) }
     ensures within { OnSome result (is_at_most LARGEST_TURN (value_of field.now) ≡ true) }
     ensures outside { IfNone result (is_at_most LARGEST_TURN (value_of field.now) ≡ false) }
 {
-    match number_at_most(field, i128::from(LARGEST_TURN)) {
-        Some(turns) => Some(turns as i8),
-        None => None,
-    }
+    number_at_most(field, i128::from(LARGEST_TURN)).map(|turns| turns as i8)
 }
 
 /// What the columns of the first row state, or their first fault.
@@ -78,26 +66,22 @@ pub(crate) fn header_of(columns: &Columns<'_>) -> Result<Header, RowKind>
     ensures err { IfErr result
         (λ kind. faults.sheet_row_fault (columns_view columns.now) ≡ Some kind) }
 {
-    let Some(version) = Version::of(columns.number) else {
-        return Err(RowKind::Version);
-    };
+    let version = Version::of(columns.number).ok_or(RowKind::Version)?;
     if !columns.turn.is_empty() {
         return Err(RowKind::NotEmpty);
     }
-    let Some(name) = name_of(columns.name) else {
-        return Err(RowKind::Name);
-    };
+    let name = name_of(columns.name).ok_or(RowKind::Name)?;
     if !is_canonical(columns.value) {
         return Err(RowKind::Number);
     }
-    match natural_within(columns.value, 1, version.largest_denominator()) {
-        Some(denominator) => Ok(Header {
-            version,
-            name,
-            denominator,
-        }),
-        None => Err(RowKind::Range),
-    }
+    let denominator = natural_within(columns.value, 1, version.largest_denominator()).ok_or(
+        RowKind::Range,
+    )?;
+    Ok(Header {
+        version,
+        name,
+        denominator,
+    })
 }
 
 /// The direction that the columns of a target's row state, or their first fault.
@@ -112,16 +96,12 @@ pub(crate) fn direction_of(columns: &Columns<'_>, version: Version) -> Result<Di
     if !columns.number.is_empty() || !columns.turn.is_empty() {
         return Err(RowKind::NotEmpty);
     }
-    let Some(name) = name_of(columns.name) else {
-        return Err(RowKind::Name);
-    };
+    let name = name_of(columns.name).ok_or(RowKind::Name)?;
     if !is_canonical(columns.value) {
         return Err(RowKind::Number);
     }
-    match number_at_most(columns.value, version.largest_angle()) {
-        Some(value) => Ok(Direction { name, value }),
-        None => Err(RowKind::Range),
-    }
+    let value = number_at_most(columns.value, version.largest_angle()).ok_or(RowKind::Range)?;
+    Ok(Direction { name, value })
 }
 
 /// The orientation that the columns of a set's row state, or their first fault.
@@ -141,13 +121,9 @@ pub(crate) fn orientation_of(
     if !is_canonical(columns.number) || !is_canonical(columns.value) {
         return Err(RowKind::Number);
     }
-    let Some(set) = set_number(columns.number) else {
-        return Err(RowKind::Range);
-    };
-    match number_at_most(columns.value, version.largest_angle()) {
-        Some(value) => Ok(Orientation { set, value }),
-        None => Err(RowKind::Range),
-    }
+    let set = set_number(columns.number).ok_or(RowKind::Range)?;
+    let value = number_at_most(columns.value, version.largest_angle()).ok_or(RowKind::Range)?;
+    Ok(Orientation { set, value })
 }
 
 /// The row that the columns of an observation's row state, or their first fault.
@@ -156,28 +132,20 @@ pub(crate) fn obs_row_of(columns: &Columns<'_>) -> Result<Row, RowKind>
     ensures value { IfOk result (λ row. row ≡ spec.obs_row_of (columns_view columns.now)) }
     ensures err { IfErr result (λ kind. faults.obs_fault (columns_view columns.now) ≡ Some kind) }
 {
-    let Some(target) = name_of(columns.name) else {
-        return Err(RowKind::Name);
-    };
+    let target = name_of(columns.name).ok_or(RowKind::Name)?;
     if !is_canonical(columns.number)
         || !is_canonical(columns.value)
         || !is_canonical(columns.turn)
     {
         return Err(RowKind::Number);
     }
-    let Some(set) = set_number(columns.number) else {
-        return Err(RowKind::Range);
-    };
-    let Some(value) = circle_value(columns.value) else {
-        return Err(RowKind::Range);
-    };
-    match full_turns(columns.turn) {
-        Some(turn) => Ok(Row {
-            set,
-            target,
-            value,
-            turn,
-        }),
-        None => Err(RowKind::Range),
-    }
+    let set = set_number(columns.number).ok_or(RowKind::Range)?;
+    let value = circle_value(columns.value).ok_or(RowKind::Range)?;
+    let turn = full_turns(columns.turn).ok_or(RowKind::Range)?;
+    Ok(Row {
+        set,
+        target,
+        value,
+        turn,
+    })
 }

@@ -1,6 +1,10 @@
 //! What no clause says: that the definitions are those of the worked sheets, that calls succeed,
 //! and what the bytes are.
 
+mod faults;
+mod memory;
+mod sizes;
+
 use crate::{WriteFault, read_sheet, write_sheet};
 use adjust_kernel::{Direction, Name, Orientation, Row, Sheet};
 use byte_ends::{Failed, Held, Sink};

@@ -28,11 +28,6 @@ pub fn write_sheet<W: Sink>(alloc: Global, sheet: &Sheet, writer: &mut W) -> Res
     ensures failed { result ≡ Err fault.Write → W.failed writer.new ≡ true }
 {
     let text = sheet_text(alloc, sheet)?;
-    if writer.write_all(&text).is_err() {
-        return Err(WriteFault::Write);
-    }
-    match writer.flush() {
-        Ok(()) => Ok(()),
-        Err(_) => Err(WriteFault::Write),
-    }
+    writer.write_all(&text).map_err(|_| WriteFault::Write)?;
+    writer.flush().map_err(|_| WriteFault::Write)
 }

@@ -1,7 +1,5 @@
-use Rattle.std.proofs.Common.{subst}
-use Rattle.adjust_kernel.specs.Names.{IsName}
-use Rattle.sheet_format.proofs.NameTests.{name-test}
+use Rattle.sheet_format.proofs.NameTests.{test-of-some}
 use Rattle.sheet_format.proofs.entry.name_of.Goals as goal
 
-pub returns-in-Some-clause-some : goal.returns-in-Some-clause-some
-returns-in-Some-clause-some c = name-test c.args.field.now (subst IsName c.in-Some.ensures.some c.in-Some.ensures.valid)
+pub returns-clause-some : goal.returns-clause-some
+returns-clause-some c = test-of-some c.args.field.now c.new.result c.new.ensures.some c.new.ensures.valid

@@ -1,6 +1,6 @@
 use Rattle.std.proofs.lemmas.Str.{IsUtf8-from_ascii}
 use Rattle.sheet_format.proofs.CanonicalDecimals.{canonical-numeral, outside}
-use Rattle.sheet_format.proofs.number.number_within.Goals as goal
+use Rattle.sheet_format.proofs.number.long_within.Goals as goal
 
 pub returns-in-Err : goal.returns-in-Err
 returns-in-Err c = absurd (c.in-Err.ensures.cases.0 (IsUtf8-from_ascii _ (canonical-numeral _ c.requires).1))
