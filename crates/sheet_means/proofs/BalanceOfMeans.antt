@@ -3,7 +3,7 @@ use Rattle.std.proofs.Common.{◌≡◌, ℕ, ◌*◌, ◌<◌, List, ℤ, pos, 
 use Rattle.std.proofs.Math.IntN.{◌*ℤ◌, ◌-ℤ◌}
 use Rattle.adjust_kernel.specs.Readings.{Reading}
 use Rattle.adjust_kernel.specs.Residuals.{Choice, residual, unrolled, target_sum, set_sum}
-use Rattle.adjust_kernel.proofs.Ring.{num, ◌⊖◌, ◌⊗◌, same_value}
+use Rattle.sheet_means.proofs.Ring.{num, ◌⊖◌, ◌⊗◌, same_value}
 use Rattle.sheet_means.specs.Totals.{target_total, set_total, whole_total}
 use Rattle.sheet_means.specs.Means.{AreMeans}
 use Rattle.sheet_means.proofs.GridLaws.{sum_below, sum_below-same, sum_below-sub, sum_below-scale, sum_below-const, sum_below-swap, AreGrid, at, sum_of_all, sum_of_target, sum_of_set, whole_by_sets}

@@ -10,8 +10,8 @@ use Rattle.adjust_kernel.specs.Sums.{int_sum_by, int_sum_where}
 use Rattle.adjust_kernel.specs.Readings.{Reading}
 use Rattle.adjust_kernel.specs.Residuals.{unrolled}
 use Rattle.sheet_means.specs.Totals.{reading_at, set_total, whole_total}
-use Rattle.adjust_kernel.proofs.Ring.{num, ◌⊕◌, ◌⊗◌, same_value}
-use Rattle.adjust_kernel.proofs.SumLaws.{int_sum_by_more}
+use Rattle.sheet_means.proofs.Ring.{num, ◌⊕◌, ◌⊗◌, same_value}
+use Rattle.sheet_means.proofs.PlaceLaws.{int_sum_by_more}
 use native.Mathlib.Decide.{ℕ_discrete}
 
 -- f 0 + .. + f (n - 1)

@@ -1,3 +1,5 @@
+pub mod Ring
+pub mod PlaceLaws
 pub mod CompleteLaws
 pub mod GridLaws
 pub mod BalanceOfMeans

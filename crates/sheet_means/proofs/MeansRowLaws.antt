@@ -10,7 +10,7 @@ use Rattle.adjust_kernel.specs.Pairs.{reading_of, readings_of}
 use Rattle.adjust_kernel.specs.Readings.{Reading}
 use Rattle.adjust_kernel.specs.Residuals.{unrolled}
 use Rattle.adjust_kernel.specs.Stations.{StationValue, IsStation}
-use Rattle.adjust_kernel.proofs.ReadingLaws.{length-readings_of, get_or-readings_of}
+use Rattle.sheet_means.proofs.PlaceLaws.{length-readings_of, get_or-readings_of}
 use Rattle.sheet_means.specs.Complete.{IsComplete}
 use Rattle.sheet_means.specs.Parts.{AreMeansRows}
 use Rattle.sheet_means.proofs.CompleteLaws.{any_obs, at_place, full_where_complete}

@@ -12,7 +12,7 @@ use Rattle.adjust_kernel.specs.Matching.{Key, key_of_row, key_of_obs}
 use Rattle.adjust_kernel.specs.Pairs.{readings_of}
 use Rattle.adjust_kernel.specs.Sheets.{SheetValue}
 use Rattle.adjust_kernel.specs.Stations.{StationValue}
-use Rattle.adjust_kernel.proofs.ReadingLaws.{length-readings_of, get_or-readings_of}
+use Rattle.sheet_means.proofs.PlaceLaws.{length-readings_of, get_or-readings_of}
 use Rattle.sheet_means.specs.Means.{IsMeansSheet}
 use Rattle.sheet_means.specs.Totals.{target_total, set_total, whole_total}
 use Rattle.sheet_means.specs.Turning.{IsInHalfCircle, IsTurned, angle_difference}

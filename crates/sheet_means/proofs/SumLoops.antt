@@ -3,7 +3,7 @@ use Rattle.std.proofs.Common.{◌≡◌, ℕ, suc, ◌+◌, ℤ, pos, ◌+ℤ◌
 use lib.IntN.{◌*ℤ◌}
 use Rattle.std.proofs.lemmas.Int.{ints}
 use Rattle.adjust_kernel.specs.Within.{IsWithin}
-use Rattle.adjust_kernel.proofs.Ring.{num, ◌⊕◌, ◌⊗◌, same_value}
+use Rattle.sheet_means.proofs.Ring.{num, ◌⊕◌, ◌⊗◌, same_value}
 use Rattle.sheet_means.proofs.GridLaws.{sum_below}
 
 -- the sum of f at the numbers below n, each within the bound

@@ -143,27 +143,95 @@ fn complete_sets_have_the_sheet_of_their_means(rt: HostRuntime) -> Result<(), Fa
     Ok(())
 }
 
-#[test]
-fn the_largest_station_has_even_means(rt: HostRuntime) -> Result<(), Fail> {
-    let mut observed = Vec::new(rt.alloc());
-    for set in 0..40 {
-        for target in 0..100 {
+// The same directions in each set: target by target 2,000 half units more.
+fn even_station(rt: &impl Abort, alloc: Global, sets: u8, targets: u8) -> Result<Station, Fail> {
+    let mut observed = Vec::new(alloc);
+    for set in 0..u32::from(sets) {
+        for target in 0..u32::from(targets) {
             observed.push((set, target, 2_000 * (target + 1)))?;
         }
     }
-    let station = station_of(&rt, rt.alloc(), 40, 100, &observed)?;
-    let sheet = means(rt.alloc(), &station).expect(&rt, "a sheet");
-    assert_eq!(rt; sheet.denominator(), 4_000);
-    assert_eq!(rt; sheet.rows().len(), 4_000);
-    for target in 0..100 {
-        let direction = sheet.directions().get(target).expect(&rt, "a direction");
-        assert_eq!(rt; direction.value, 8_000_000 * target as i128);
+    station_of(rt, alloc, u16::from(sets), u32::from(targets), &observed)
+}
+
+// The sheet has no residual, so that its directions and orientations are those that were observed.
+fn assert_even(rt: &impl Abort, station: &Station, sheet: &Sheet, sets: u8, targets: u8) {
+    let accepted = check(station, sheet, None).expect(rt, "accepted");
+    assert_eq!(rt; accepted.sets, u32::from(sets));
+    assert_eq!(rt; accepted.targets, u32::from(targets));
+    assert_eq!(rt; accepted.directions as usize, station.obs().len());
+    assert_eq!(rt; accepted.denominator, u64::from(accepted.directions));
+    assert_eq!(rt; accepted.greatest, 0);
+}
+
+/// With memory there is a sheet of every size: of 1 to 40 sets, of 1 to 100 targets, and of 40 sets
+/// of 100 targets in the end.
+#[test]
+fn stations_of_every_size_have_even_means(rt: HostRuntime) -> Result<(), Fail> {
+    for targets in 1..=100u8 {
+        let sets = 40 - (100 - targets) % 40;
+        let station = even_station(&rt, rt.alloc(), sets, targets)?;
+        let sheet = means(rt.alloc(), &station).expect(&rt, "a sheet");
+        assert_even(&rt, &station, &sheet, sets, targets);
     }
-    for orientation in sheet.orientations() {
-        assert_eq!(rt; orientation.value, -8_000_000);
+    Ok(())
+}
+
+/// How many blocks of memory are held at most.
+const BLOCKS: usize = 60_000;
+
+/// How many sizes of blocks are tried, each half of the one before: from 2^40 bytes down to 16.
+const SIZES: usize = 37;
+
+/// The bytes by which the memory that is left grows from try to try: fewer than any of the sheet's
+/// lists takes, so that each list is refused in turn.
+const STEP: usize = 16;
+
+// Holds all memory that there is, but for a spare block that it gives back at the end.
+fn hoard_of_all_but(alloc: Global, spare: Vec<u8>) -> Vec<Vec<u8>> {
+    let mut hoard: Vec<Vec<u8>> = Vec::new(alloc);
+    if hoard.reserve(BLOCKS).is_err() {
+        return hoard;
     }
-    let accepted = check(&station, &sheet, None).expect(&rt, "accepted");
-    assert_eq!(rt; (accepted.greatest, accepted.denominator), (0, 4_000));
+    let mut size: usize = 1 << 40;
+    for _ in 0..SIZES {
+        for _ in 0..BLOCKS {
+            match Vec::<u8>::with_capacity(alloc, size) {
+                Ok(block) => {
+                    if hoard.push(block).is_err() {
+                        return hoard;
+                    }
+                }
+                Err(_) => break,
+            }
+        }
+        size /= 2;
+    }
+    drop(spare);
+    hoard
+}
+
+/// `rt test` runs it. `rt try --test` watches over memory itself, and ends the test in place of
+/// refusing.
+#[test]
+fn each_refused_growth_is_want_of_memory(rt: HostRuntime) -> Result<(), Fail> {
+    let (sets, targets) = (3u8, 5u8);
+    let station = even_station(&rt, rt.alloc(), sets, targets)?;
+    for tries in 0..200usize {
+        let spare = Vec::<u8>::with_capacity(rt.alloc(), STEP * tries)?;
+        let held = hoard_of_all_but(rt.alloc(), spare);
+        let answer = means(rt.alloc(), &station);
+        drop(held);
+        match answer {
+            Err(fault) => assert_eq!(rt; fault, MeansFault::Memory),
+            Ok(sheet) => {
+                assert_even(&rt, &station, &sheet, sets, targets);
+                assert!(rt; tries > 3);
+                return Ok(());
+            }
+        }
+    }
+    assert!(rt; false, "refused however much memory there was");
     Ok(())
 }
 
