@@ -26,13 +26,15 @@ use Rattle.station_book.proofs.WithinLaws.{AreWithin, AllWithin, within_limits, 
 use Rattle.station_book.proofs.TakeLaws.{at_own}
 use Rattle.station_book.proofs.EndLaws.{AreComputed, same_end, same_stations, map_reverse}
 
-zip_append : {A B : Type 0} (R : A → B → Type 0) (xs zs : List A) (ys ws : List B) → AllZip R xs ys → AllZip R zs ws → AllZip R (xs ++ zs) (ys ++ ws)
+zip_append : {A B : Type 0} (R : A → B → Type 0) (xs zs : List A) (ys ws : List B) → AllZip R xs ys
+    → AllZip R zs ws → AllZip R (xs ++ zs) (ys ++ ws)
 zip_append R [] zs [] ws h k = k
 zip_append R [] zs (y ∷ ys) ws h k = absurd h
 zip_append R (x ∷ xs) zs [] ws h k = absurd h
 zip_append R (x ∷ xs) zs (y ∷ ys) ws h k = (h.0, zip_append R xs zs ys ws h.1 k)
 
-zip_reverse : {A B : Type 0} (R : A → B → Type 0) (xs : List A) (ys : List B) → AllZip R xs ys → AllZip R (reverse xs) (reverse ys)
+zip_reverse : {A B : Type 0} (R : A → B → Type 0) (xs : List A) (ys : List B) → AllZip R xs ys
+    → AllZip R (reverse xs) (reverse ys)
 zip_reverse R [] [] h = tt
 zip_reverse R [] (y ∷ ys) h = absurd h
 zip_reverse R (x ∷ xs) [] h = absurd h
@@ -46,24 +48,40 @@ module _ (limits : FaceLimits) where
   abbrev Beside : Option Place → Option Place → Type 0
   Beside o p = (a b : Place) → o ≡ Some a → p ≡ Some b → AreWithin limits (sight_at a) (sight_at b)
 
-  one_observed : (s n : ℕ) (o p : Option Place) (cs : List Couple) (os : List Obs) → Beside o p → AllZip (IsObserved limits) cs os
-      → AllZip (IsObserved limits) (cons_option (joined s n o p) cs) (cons_option (slots.joined s n (sighted o) (sighted p)) os)
-  one_observed s n (Some a) (Some b) cs os w h =
-      (record { set = refl; target = refl; direction = computed_direction limits.two_c (sight_at a) (sight_at b) (place_on_circle a) (place_on_circle b) (w a b refl refl).two_c }, h)
+  one_observed : (s n : ℕ) (o p : Option Place) (cs : List Couple) (os : List Obs) → Beside o p
+      → AllZip (IsObserved limits) cs os
+      → AllZip (IsObserved limits) (cons_option (joined s n o p) cs)
+      (cons_option (slots.observation_of s n (sighted o) (sighted p)) os)
+  one_observed s n (Some a) (Some b) cs os w h = (
+    record {
+      set = refl;
+      target = refl;
+      direction = computed_direction limits.two_c (sight_at a)
+          (sight_at b) (place_on_circle a) (place_on_circle b) (w a b refl refl).two_c;
+    },
+    h,
+  )
   one_observed s n (Some a) None cs os w h = h
   one_observed s n None p cs os w h = h
 
   set_observed : (s n : ℕ) (targets : List (List ℕ)) (rs : List Place) → AllWithin limits rs
-      → AllZip (IsObserved limits) (filter_map (λ t. joined s t.0 (reading_in false t.1 rs) (reading_in true t.1 rs)) (enumerate_from n targets)) (filter_map (obs_at s) (enumerate_from n (slots_of targets rs)))
+      → AllZip (IsObserved limits)
+      (filter_map (λ t. joined s t.0 (reading_in false t.1 rs) (reading_in true t.1 rs))
+      (enumerate_from n targets))
+      (filter_map (obs_at s) (enumerate_from n (slots_of targets rs)))
   set_observed s n [] rs w = tt
-  set_observed s n (t ∷ ts) rs w = one_observed s n (reading_in false t rs) (reading_in true t rs) _ _ (w t) (set_observed s (n + 1) ts rs w)
+  set_observed s n (t ∷ ts) rs w = one_observed s n (reading_in false t rs)
+      (reading_in true t rs) _ _ (w t) (set_observed s (n + 1) ts rs w)
 
-  one_compared : (s n : ℕ) (o p : Option Place) (cs : List Couple) (fs : List Faces) → Beside o p → AllZip (HasFaces limits) cs fs
-      → AllZip (HasFaces limits) (cons_option (joined s n o p) cs) (cons_option (slots.compared (sighted o) (sighted p)) fs)
+  one_compared : (s n : ℕ) (o p : Option Place) (cs : List Couple) (fs : List Faces) → Beside o p
+      → AllZip (HasFaces limits) cs fs
+      → AllZip (HasFaces limits) (cons_option (joined s n o p) cs)
+      (cons_option (slots.compared (sighted o) (sighted p)) fs)
   one_compared s n (Some a) (Some b) cs fs w h =
       let within = w a b refl refl in (
         record {
-          two_c = computed_two_c limits.two_c (sight_at a) (sight_at b) (place_on_circle a) (place_on_circle b) within.two_c;
+          two_c = computed_two_c limits.two_c (sight_at a) (sight_at b) (place_on_circle a)
+              (place_on_circle b) within.two_c;
           two_i = computed_two_i limits.two_i (sight_at a) (sight_at b) within.two_i;
         },
         h,
@@ -72,35 +90,55 @@ module _ (limits : FaceLimits) where
   one_compared s n None p cs fs w h = h
 
   set_compared : (s n : ℕ) (targets : List (List ℕ)) (rs : List Place) → AllWithin limits rs
-      → AllZip (HasFaces limits) (filter_map (λ t. joined s t.0 (reading_in false t.1 rs) (reading_in true t.1 rs)) (enumerate_from n targets)) (filter_map faces_at (slots_of targets rs))
+      → AllZip (HasFaces limits)
+      (filter_map (λ t. joined s t.0 (reading_in false t.1 rs) (reading_in true t.1 rs))
+      (enumerate_from n targets)) (filter_map faces_at (slots_of targets rs))
   set_compared s n [] rs w = tt
-  set_compared s n (t ∷ ts) rs w = one_compared s n (reading_in false t rs) (reading_in true t rs) _ _ (w t) (set_compared s (n + 1) ts rs w)
+  set_compared s n (t ∷ ts) rs w = one_compared s n (reading_in false t rs)
+      (reading_in true t rs) _ _ (w t) (set_compared s (n + 1) ts rs w)
 
   -- the couples of these sets, which come the newest first
   abbrev couples_over : List (List ℕ) → List Place → List Place → List Couple
   couples_over targets readings [] = []
-  couples_over targets readings (s ∷ older) = couples_over targets readings older ++ couples_in (length older) targets (in_set s readings)
+  couples_over targets readings (s ∷ older) = couples_over targets readings older ++ couples_in
+      (length older) targets (in_set s readings)
 
-  all_observed : (targets : List (List ℕ)) (readings sets : List Place) → ((s : Place) → AllWithin limits (in_set s readings)) → AllZip (IsObserved limits) (couples_over targets readings sets) (obs_in targets readings sets)
+  all_observed : (targets : List (List ℕ)) (readings sets : List Place)
+      → ((s : Place) → AllWithin limits (in_set s readings))
+      → AllZip (IsObserved limits) (couples_over targets readings sets)
+      (obs_in targets readings sets)
   all_observed targets readings [] w = tt
-  all_observed targets readings (s ∷ older) w = zip_append (IsObserved limits) (couples_over targets readings older) _ (obs_in targets readings older) _ (all_observed targets readings older w) (set_observed (length older) 0 targets (in_set s readings) (w s))
+  all_observed targets readings (s ∷ older) w = zip_append (IsObserved limits)
+      (couples_over targets readings older) _ (obs_in targets readings older) _
+      (all_observed targets readings older w)
+      (set_observed (length older) 0 targets (in_set s readings) (w s))
 
-  all_compared : (targets : List (List ℕ)) (readings sets : List Place) → ((s : Place) → AllWithin limits (in_set s readings)) → AllZip (HasFaces limits) (couples_over targets readings sets) (faces_in targets readings sets)
+  all_compared : (targets : List (List ℕ)) (readings sets : List Place)
+      → ((s : Place) → AllWithin limits (in_set s readings))
+      → AllZip (HasFaces limits) (couples_over targets readings sets)
+      (faces_in targets readings sets)
   all_compared targets readings [] w = tt
-  all_compared targets readings (s ∷ older) w = zip_append (HasFaces limits) (couples_over targets readings older) _ (faces_in targets readings older) _ (all_compared targets readings older w) (set_compared (length older) 0 targets (in_set s readings) (w s))
+  all_compared targets readings (s ∷ older) w = zip_append (HasFaces limits)
+      (couples_over targets readings older) _ (faces_in targets readings older) _
+      (all_compared targets readings older w)
+      (set_compared (length older) 0 targets (in_set s readings) (w s))
 
   -- by set from the oldest, each with its place
   over_sets : (targets : List (List ℕ)) (readings sets : List Place)
-      → flat_map (λ s. couples_in s.0 targets (in_set s.1 readings)) (enumerate_from 0 (reverse sets)) ≡ couples_over targets readings sets
+      → flat_map (λ s. couples_in s.0 targets (in_set s.1 readings))
+      (enumerate_from 0 (reverse sets)) ≡ couples_over targets readings sets
   over_sets targets readings [] = refl
   over_sets targets readings (s ∷ older) =
       let l = length-reverse older in
       let place : 0 + length (reverse older) ≡ length older = omega (arith, l) in
       ap (λ l. flat_map each (enumerate_from 0 l)) (reverse-append (s ∷ []) older)
       ∙ ap (flat_map each) (enumerate-append 0 (reverse older) (s ∷ []))
-      ∙ flat_map-append each (enumerate_from 0 (reverse older)) (enumerate_from (0 + length (reverse older)) (s ∷ []))
-      ∙ (λ i. over_sets targets readings older i ++ append-nil (couples_in (0 + length (reverse older)) targets (in_set s readings)) i)
-      ∙ ap (λ (n : ℕ). couples_over targets readings older ++ couples_in n targets (in_set s readings)) place
+      ∙ flat_map-append each (enumerate_from 0 (reverse older))
+      (enumerate_from (0 + length (reverse older)) (s ∷ []))
+      ∙ (λ i. over_sets targets readings older i ++ append-nil
+      (couples_in (0 + length (reverse older)) targets (in_set s readings)) i)
+      ∙ ap (λ (n : ℕ). couples_over targets readings older ++ couples_in n targets
+      (in_set s readings)) place
     where
       each : ℕ × Place → List Couple
       each p = couples_in p.0 targets (in_set p.1 readings)
@@ -108,58 +146,87 @@ module _ (limits : FaceLimits) where
   numbers_are : (sets : List Place) → numbers_in sets ≡ map number_at (reverse sets)
   numbers_are [] = refl
   numbers_are (s ∷ older) =
-      ap (λ l. l ++ number_at s ∷ []) (numbers_are older) ∙ sym (map-append number_at (reverse older) (s ∷ [])) ∙ ap (map number_at) (sym (reverse-append (s ∷ []) older))
+      ap (λ l. l ++ number_at s ∷ []) (numbers_are older)
+      ∙ sym (map-append number_at (reverse older) (s ∷ []))
+      ∙ ap (map number_at) (sym (reverse-append (s ∷ []) older))
 
   -- a station as it is computed is the station as it was surveyed
-  surveyed : (h : History) → IsWithoutFault limits h → (st : Place) (s : SurveyedStation) → IsComputed st (sets_of st h) (station_readings st h) s → IsSurveyed limits h st s
+  surveyed : (h : History) → IsWithoutFault limits h → (st : Place) (s : SurveyedStation)
+      → IsComputed st (sets_of st h) (station_readings st h) s → IsSurveyed limits h st s
   surveyed h clean st s c =
       let couples = sym (over_sets (targets_of st h) (station_readings st h) (sets_of st h)) in
-      let within : (set : Place) → AllWithin limits (in_set set (station_readings st h)) = λ set. within_limits limits h st set clean in
+      let within : (set : Place)
+      → AllWithin limits (in_set set (station_readings st h)) = λ set. within_limits limits h st
+      set clean in
       record {
         name = c.named_so;
         targets = c.targets;
         sets = sym (c.numbers ∙ numbers_are (sets_of st h));
-        directions = subst (λ (cs : List Couple). AllZip (IsObserved limits) cs s.station.obs) couples
-            (subst (λ (os : List Obs). AllZip (IsObserved limits) (couples_over (targets_of st h) (station_readings st h) (sets_of st h)) os) (sym c.obs) (all_observed (targets_of st h) (station_readings st h) (sets_of st h) within));
+        directions = subst (λ (cs : List Couple). AllZip (IsObserved limits) cs s.station.obs)
+            couples
+            (subst (λ (os : List Obs). AllZip (IsObserved limits)
+            (couples_over (targets_of st h) (station_readings st h) (sets_of st h)) os)
+            (sym c.obs) (all_observed (targets_of st h) (station_readings st h)
+            (sets_of st h) within));
         differences = subst (λ (cs : List Couple). AllZip (HasFaces limits) cs s.faces) couples
-            (subst (λ (fs : List Faces). AllZip (HasFaces limits) (couples_over (targets_of st h) (station_readings st h) (sets_of st h)) fs) (sym c.faces) (all_compared (targets_of st h) (station_readings st h) (sets_of st h) within));
+            (subst (λ (fs : List Faces). AllZip (HasFaces limits)
+            (couples_over (targets_of st h) (station_readings st h) (sets_of st h)) fs)
+            (sym c.faces) (all_compared (targets_of st h) (station_readings st h)
+            (sets_of st h) within));
       }
 
-  all_surveyed : (h : History) → IsWithoutFault limits h → (sts : List Place) (ss : List SurveyedStation) → AreComputed h sts ss → AllZip (IsSurveyed limits h) sts ss
+  all_surveyed : (h : History) → IsWithoutFault limits h
+      → (sts : List Place) (ss : List SurveyedStation) → AreComputed h sts ss
+      → AllZip (IsSurveyed limits h) sts ss
   all_surveyed h clean [] [] c = tt
   all_surveyed h clean [] (s ∷ ss) c = absurd c
   all_surveyed h clean (st ∷ sts) [] c = absurd c
-  all_surveyed h clean (st ∷ sts) (s ∷ ss) c = (surveyed h clean st s c.0, all_surveyed h clean sts ss c.1)
+  all_surveyed h clean (st ∷ sts) (s ∷ ss) c =
+      (surveyed h clean st s c.0, all_surveyed h clean sts ss c.1)
 
-  pub are_stations : (h : History) (ss : List SurveyedStation) → IsWithoutFault limits h → AreComputed h (stations_in h) (reverse ss) → AreStations limits h ss
+  pub are_stations : (h : History) (ss : List SurveyedStation) → IsWithoutFault limits h
+      → AreComputed h (stations_in h) (reverse ss) → AreStations limits h ss
   unfolding AreStations
   are_stations h ss clean c =
-      let zip = zip_reverse (IsSurveyed limits h) (stations_in h) (reverse ss) (all_surveyed h clean (stations_in h) (reverse ss) c) in
-      subst (λ (sts : List Place). AllZip (IsSurveyed limits h) sts ss) (sym (map_reverse (λ s. station (before s)) (first_sets h)))
-      (subst (λ (zs : List SurveyedStation). AllZip (IsSurveyed limits h) (reverse (stations_in h)) zs) (reverse-reverse ss) zip)
+      let zip = zip_reverse (IsSurveyed limits h) (stations_in h) (reverse ss)
+      (all_surveyed h clean (stations_in h) (reverse ss) c) in
+      subst (λ (sts : List Place). AllZip (IsSurveyed limits h) sts ss)
+      (sym (map_reverse (λ s. station (before s)) (first_sets h)))
+      (subst (λ (zs : List SurveyedStation). AllZip (IsSurveyed limits h)
+      (reverse (stations_in h)) zs) (reverse-reverse ss) zip)
 
 -- a new book stands for no block
-pub stands_empty : (limits : FaceLimits) → StandsFor limits (record { limits = limits; taken = 0; stage = Outside; shelf = empty_shelf }) []
-stands_empty limits = record { limited = refl; counted = refl; clean = tt; stage = (refl, refl); stations = tt }
+pub stands_empty : (limits : FaceLimits)
+    → StandsFor limits (record { limits = limits; taken = 0; stage = Outside; shelf = empty_shelf })
+    []
+stands_empty limits =
+    record { limited = refl; counted = refl; clean = tt; stage = (refl, refl); stations = tt }
 
 -- the fault of the end by the blocks, under any limits
-end_same : (limits : FaceLimits) (k : Kept) (h : History) → StandsFor limits k h → ending k.stage k.shelf ≡ fault_at_end h
+end_same : (limits : FaceLimits) (k : Kept) (h : History) → StandsFor limits k h
+    → ending k.stage k.shelf ≡ fault_at_end h
 end_same limits k h stands = same_end k h (at_own limits k h stands)
 
 -- the clauses of `finish`, by the blocks
-pub end_clean : {X E : Type 0} (k : Kept) (r : Result X E) → OnOk r (ending k.stage k.shelf ≡ None) → OnOk r ((limits : FaceLimits) (h : History) → StandsFor limits k h → fault_at_end h ≡ None)
+pub end_clean : {X E : Type 0} (k : Kept) (r : Result X E) → OnOk r (ending k.stage k.shelf ≡ None)
+    → OnOk r ((limits : FaceLimits) (h : History) → StandsFor limits k h → fault_at_end h ≡ None)
 end_clean k (Ok x) clean = λ limits h stands. sym (end_same limits k h stands) ∙ clean
 end_clean k (Err e) clean = clean
 
-pub end_stations : {E : Type 0} (k : Kept) (r : Result (List SurveyedStation) E) → IfOk r (λ s. s ≡ surveys_of k.shelf)
-    → IfOk r (λ s. (limits : FaceLimits) (h : History) → StandsFor limits k h → AreStations limits h s)
+pub end_stations : {E : Type 0} (k : Kept) (r : Result (List SurveyedStation) E)
+    → IfOk r (λ s. s ≡ surveys_of k.shelf)
+    → IfOk r (λ s. (limits : FaceLimits) (h : History) → StandsFor limits k h
+    → AreStations limits h s)
 end_stations k (Ok s) same = λ limits h stands.
     are_stations limits h s stands.clean
-    (subst (λ (ss : List SurveyedStation). AreComputed h (stations_in h) (reverse ss)) (sym same) (same_stations k h (at_own limits k h stands)))
+    (subst (λ (ss : List SurveyedStation). AreComputed h (stations_in h) (reverse ss)) (sym same)
+    (same_stations k h (at_own limits k h stands)))
 end_stations k (Err e) same = same
 
-pub end_fault : {X : Type 0} (k : Kept) (r : Result X BookFault) → IfErr r (ExplainsFault (k.taken + 1) (ending k.stage k.shelf))
+pub end_fault : {X : Type 0} (k : Kept) (r : Result X BookFault)
+    → IfErr r (ExplainsFault (k.taken + 1) (ending k.stage k.shelf))
     → IfErr r (λ e. (limits : FaceLimits) (h : History) → StandsFor limits k h → ExplainsEnd h e)
 end_fault k (Ok x) why = why
-end_fault k (Err (At n kind)) why = λ limits h stands. (why.0 ∙ ap (λ (m : ℕ). m + 1) stands.counted, sym (end_same limits k h stands) ∙ why.1)
+end_fault k (Err (At n kind)) why = λ limits h stands.
+    (why.0 ∙ ap (λ (m : ℕ). m + 1) stands.counted, sym (end_same limits k h stands) ∙ why.1)
 end_fault k (Err Memory) why = λ limits h stands. sym (end_same limits k h stands) ∙ why

@@ -1,30 +1,41 @@
--- The fault of a block by what is kept is its fault by the blocks before it; and where memory is wanted.
-use Rattle.std.proofs.Common.{◌≡◌, ◌+◌, ℕ, true, ◌&&◌, ◌⊎◌, inl, inr, ◌∷◌, None, Result, Ok, Err, not, sym, ap, ◌∙◌, subst, refl}
+-- The fault of a block by what is kept is its fault by the blocks before it; and where memory is
+-- wanted.
+use Rattle.std.proofs.Common.{◌≡◌, ◌+◌, ℕ, true, ◌&&◌, ◌⊎◌, inl, inr, ◌∷◌, Option, Some, None, is_none, Result, Ok, Err, not, sym, ap, ◌∙◌, subst, refl}
 use Rattle.std.specs.Prelude.{OnOk, IfErr}
+use Rattle.std.specs.Str.{bytes_eq}
 use Rattle.std.proofs.lemmas.Bool.{false≢true, and_parts}
 use Rattle.gsi_word.specs.Blocks.{GsiBlock}
 use Rattle.station_book.specs.declared.fault.BookFault.{BookFault}
 use Rattle.station_book.specs.declared.fault.BookFault.TheVariants.{At, Memory}
+use Rattle.station_book.specs.declared.fault.BookKind.{BookKind}
 use Rattle.station_book.specs.declared.role.Role.{Role}
 use Rattle.station_book.specs.declared.role.Role.TheVariants as roles
+use Rattle.station_book.specs.declared.sight.Sighting.{Sighting}
 use Rattle.station_book.specs.declared.stage.Stage.{Stage}
 use Rattle.station_book.specs.declared.stage.Stage.TheVariants.{Outside, Station, BetweenSets, InSet}
 use Rattle.station_book.specs.Limits.{FaceLimits}
 use Rattle.station_book.specs.Roles.{role_of}
+use Rattle.station_book.specs.Readings as said
+use Rattle.station_book.specs.Entries.{place_of}
+use Rattle.station_book.specs.Shelves.{ShelfValue, last_of}
 use Rattle.station_book.specs.Kept as kept
 use Rattle.station_book.specs.Refusals.{ExplainsFault, WantsOnlyAt}
-use Rattle.station_book.specs.Blocks.{opens_set, lacks}
+use Rattle.station_book.specs.Blocks.{opens_set, is_sight, target}
 use Rattle.station_book.specs.Places.{History, is_open, is_reading}
-use Rattle.station_book.specs.Faults.{fault_after}
-use Rattle.station_book.specs.Keeps.{IsStage}
+use Rattle.station_book.specs.Faults.{fault_after, is_new_target}
+use Rattle.station_book.specs.Keeps.{IsStage, Stand, stations_in}
 use Rattle.station_book.specs.Standing.{StandsFor, ExplainsBlock}
-use Rattle.station_book.proofs.TakeLaws.{set_as, sight_as, at_own, taken_stands}
+use Rattle.station_book.proofs.ListLaws.{absent}
+use Rattle.station_book.proofs.StepLaws.{open_targets}
+use Rattle.station_book.proofs.StandLaws.{open_has_set}
+use Rattle.station_book.proofs.TakeLaws.{set_as, sight_as, was_read, at_own, taken_stands}
 use Rattle.station_book.proofs.FaultLaws.{same_station_fault, same_close_fault, same_other_fault}
-use Rattle.station_book.proofs.SetFaultLaws.{same_set_fault}
+use Rattle.station_book.proofs.SetFaultLaws.{open_entry, same_set_fault}
 use Rattle.station_book.proofs.ReadingFaultLaws.{same_measurement_fault}
 
 -- THE LAW of faults: a block's fault by what is kept is its fault by the blocks before
-own_fault : (k : kept.Kept) (b : GsiBlock) (past : History) → StandsFor k.limits k past → kept.fault_of k b ≡ fault_after k.limits past b
+own_fault : (k : kept.Kept) (b : GsiBlock) (past : History) → StandsFor k.limits k past
+    → kept.fault_of k b ≡ fault_after k.limits past b
 own_fault k b past h = by (role_of b) refl where
   by : (r : Role) → role_of b ≡ r → kept.fault_as r k b ≡ fault_after k.limits past b
   by roles.Station e = same_station_fault k b past e h
@@ -33,46 +44,90 @@ own_fault k b past h = by (role_of b) refl where
   by roles.Measurement e = same_measurement_fault k b past e h
   by roles.Other e = same_other_fault k b past e
 
-pub same_fault : (limits : FaceLimits) (k : kept.Kept) (b : GsiBlock) (past : History) → StandsFor limits k past → kept.fault_of k b ≡ fault_after limits past b
-same_fault limits k b past h = own_fault k b past (at_own limits k past h) ∙ ap (λ (l : FaceLimits). fault_after l past b) h.limited
+pub same_fault : (limits : FaceLimits) (k : kept.Kept) (b : GsiBlock) (past : History)
+    → StandsFor limits k past → kept.fault_of k b ≡ fault_after limits past b
+same_fault limits k b past h = own_fault k b past (at_own limits k past h)
+    ∙ ap (λ (l : FaceLimits). fault_after l past b) h.limited
 
 -- A set is open where the stage says so.
-open_stage : (stage : Stage) (past : History) → IsStage stage past → kept.is_open stage ≡ true → is_open past ≡ true
+open_stage : (stage : Stage) (past : History) → IsStage stage past → kept.has_open_set stage ≡ true
+    → is_open past ≡ true
 open_stage Outside past g e = absurd (false≢true e)
 open_stage (Station name) past g e = absurd (false≢true e)
 open_stage BetweenSets past g e = absurd (false≢true e)
 open_stage InSet past g e = g
 
--- Memory is wanted by sets and readings alone.
-pub may_grow : (limits : FaceLimits) (k : kept.Kept) (b : GsiBlock) (past : History) → StandsFor limits k past → kept.grows k b ≡ true → (opens_set b ≡ true) ⊎ (is_reading (b ∷ past) ≡ true)
+none_is : {X : Type 0} (o : Option X) → is_none o ≡ true → o ≡ None
+none_is None e = refl
+none_is (Some x) e = absurd (false≢true e)
+
+-- the first reading of a target of its station
+abbrev IsFirstOfTarget : GsiBlock → History → Type 0
+IsFirstOfTarget b past = (is_reading (b ∷ past) ≡ true) × (is_new_target b past ≡ true)
+
+-- A target that is new to what is kept is new to the station.
+new_target : (shelf : ShelfValue) (b : GsiBlock) (past : History)
+    (o : Result (Option Sighting) BookKind)
+    → role_of b ≡ roles.Measurement → said.read b ≡ o → is_open past ≡ true
+    → Stand past (stations_in past) shelf
+    → kept.is_first_of_target shelf o ≡ true → IsFirstOfTarget b past
+new_target shelf b past (Err k) r e now h t = absurd (false≢true t)
+new_target shelf b past (Ok None) r e now h t = absurd (false≢true t)
+new_target shelf b past (Ok (Some s)) r e now h t =
+    let w = was_read b s e in
+    let seen : is_sight b ≡ true = sight_as b roles.Measurement r ∙ ap not w.has_direction in
+    let own : target b ≡ s.target = ap (λ (q : Sighting). q.target) w.is in
+    let targets : (last_of shelf).targets ≡ open_targets past =
+    (open_entry shelf past (open_has_set past now) h).is.targets in
+    let none : place_of (target b) (open_targets past) ≡ None =
+    (λ i. place_of (own i) (sym targets i))
+    ∙ none_is (place_of s.target (last_of shelf).targets) t in
+    ((λ i. seen i && now i), ap not (absent (λ x. bytes_eq x (target b)) (open_targets past) none))
+
+-- Memory is wanted by sets and by first readings of a target alone.
+pub may_grow : (limits : FaceLimits) (k : kept.Kept) (b : GsiBlock) (past : History)
+    → StandsFor limits k past → kept.grows k b ≡ true
+    → (opens_set b ≡ true) ⊎ IsFirstOfTarget b past
 may_grow limits k b past h = by (role_of b) refl where
-  by : (r : Role) → role_of b ≡ r → kept.grows_as r k b ≡ true → (opens_set b ≡ true) ⊎ (is_reading (b ∷ past) ≡ true)
+  by : (r : Role) → role_of b ≡ r → kept.grows_as r k b ≡ true
+      → (opens_set b ≡ true) ⊎ IsFirstOfTarget b past
   by roles.Station e t = absurd (false≢true t)
   by roles.Set e t = inl (set_as b roles.Set e)
   by roles.Close e t = absurd (false≢true t)
   by roles.Measurement e t =
-      let p = and_parts (kept.is_open k.stage) (not (lacks 21 b)) t in
-      let now = open_stage k.stage past h.stage p.0 in
-      inr (λ i. (sight_as b roles.Measurement e ∙ p.1) i && now i)
+      let p = and_parts (kept.has_open_set k.stage)
+      (kept.is_first_of_target k.shelf (said.read b)) t in
+      inr (new_target k.shelf b past (said.read b) e refl
+      (open_stage k.stage past h.stage p.0) h.stations p.1)
   by roles.Other e t = absurd (false≢true t)
 
 -- the clauses of `take`, by the blocks
-pub take_clean : {X E : Type 0} (k : kept.Kept) (b : GsiBlock) (r : Result X E) → OnOk r (kept.fault_of k b ≡ None)
-    → OnOk r ((limits : FaceLimits) (h : History) → StandsFor limits k h → fault_after limits h b ≡ None)
+pub take_clean : {X E : Type 0} (k : kept.Kept) (b : GsiBlock) (r : Result X E)
+    → OnOk r (kept.fault_of k b ≡ None)
+    → OnOk r ((limits : FaceLimits) (h : History) → StandsFor limits k h
+    → fault_after limits h b ≡ None)
 take_clean k b (Ok x) clean = λ limits h stands. sym (same_fault limits k b h stands) ∙ clean
 take_clean k b (Err e) clean = clean
 
-pub take_taken : {X E : Type 0} (k new : kept.Kept) (b : GsiBlock) (r : Result X E) → OnOk r (kept.fault_of k b ≡ None) → OnOk r (new ≡ kept.after b k)
-    → OnOk r ((limits : FaceLimits) (h : History) → StandsFor limits k h → StandsFor limits new (b ∷ h))
+pub take_taken : {X E : Type 0} (k new : kept.Kept) (b : GsiBlock) (r : Result X E)
+    → OnOk r (kept.fault_of k b ≡ None) → OnOk r (new ≡ kept.after b k)
+    → OnOk r ((limits : FaceLimits) (h : History) → StandsFor limits k h
+    → StandsFor limits new (b ∷ h))
 take_taken k new b (Ok x) clean same = λ limits h stands.
     let own = at_own limits k h stands in
     subst (λ (l : FaceLimits). StandsFor l new (b ∷ h)) stands.limited
     (subst (λ (w : kept.Kept). StandsFor k.limits w (b ∷ h)) (sym same)
-    (taken_stands k.limits k.taken k.stage k.shelf b h (role_of b) refl clean (sym (own_fault k b h own) ∙ clean) own))
+    (taken_stands k.limits k.taken k.stage k.shelf b h (role_of b) refl clean
+    (sym (own_fault k b h own) ∙ clean) own))
 take_taken k new b (Err e) clean same = same
 
-pub take_fault : {X : Type 0} (k : kept.Kept) (b : GsiBlock) (r : Result X BookFault) → IfErr r (ExplainsFault (k.taken + 1) (kept.fault_of k b)) → IfErr r (WantsOnlyAt (kept.grows k b))
-    → IfErr r (λ e. (limits : FaceLimits) (h : History) → StandsFor limits k h → ExplainsBlock limits h b e)
+pub take_fault : {X : Type 0} (k : kept.Kept) (b : GsiBlock) (r : Result X BookFault)
+    → IfErr r (ExplainsFault (k.taken + 1) (kept.fault_of k b))
+    → IfErr r (WantsOnlyAt (kept.grows k b))
+    → IfErr r (λ e. (limits : FaceLimits) (h : History) → StandsFor limits k h
+    → ExplainsBlock limits h b e)
 take_fault k b (Ok x) why only = why
-take_fault k b (Err (At n kind)) why only = λ limits h stands. (why.0 ∙ ap (λ (m : ℕ). m + 1) stands.counted, sym (same_fault limits k b h stands) ∙ why.1)
-take_fault k b (Err Memory) why only = λ limits h stands. (sym (same_fault limits k b h stands) ∙ why, may_grow limits k b h stands only)
+take_fault k b (Err (At n kind)) why only = λ limits h stands.
+    (why.0 ∙ ap (λ (m : ℕ). m + 1) stands.counted, sym (same_fault limits k b h stands) ∙ why.1)
+take_fault k b (Err Memory) why only = λ limits h stands.
+    (sym (same_fault limits k b h stands) ∙ why, may_grow limits k b h stands only)

@@ -21,7 +21,8 @@ second false true whole a b c w f g = w
 second false false whole a b c w f g = cc
 
 fourth : {X : Type 0} (x y z r : Bool) (whole a b c d e : X)
-    → whole ≡ cond x a (cond y b (cond z c (cond r d e))) → (x || (y || z)) ≡ false → r ≡ true → whole ≡ d
+    → whole ≡ cond x a (cond y b (cond z c (cond r d e))) → (x || (y || z)) ≡ false → r ≡ true
+    → whole ≡ d
 fourth true y z r whole a b c d e w f g = cc
 fourth false true z r whole a b c d e w f g = cc
 fourth false false true r whole a b c d e w f g = cc
@@ -38,9 +39,12 @@ pub clean_station : (limits : FaceLimits) (past : History) (b : GsiBlock) → op
 unfolding fault_after
 clean_station limits past b e clean =
     let whole : faults limits past b ≡ end_faults past ++ station_faults b =
-    ap (λ v. cond v (end_faults past ++ station_faults b) (cond (opens_set b) (end_faults past ++ set_faults past b)
-    (cond (closes_set b) (end_faults past) (cond (is_sight b && is_open past) (reading_faults limits past b) [])))) e in
-    let none = (none_stands (end_faults past ++ station_faults b) (sym (ap first_of whole) ∙ clean)).1.1 in
+    ap (λ v. cond v (end_faults past ++ station_faults b)
+    (cond (opens_set b) (end_faults past ++ set_faults past b)
+    (cond (closes_set b) (end_faults past)
+    (cond (is_sight b && is_open past) (reading_faults limits past b) [])))) e in
+    let none = (none_stands (end_faults past ++ station_faults b)
+    (sym (ap first_of whole) ∙ clean)).1.1 in
     record {
       one_name = none_when (has_two 42 b) (kinds.WordTwice 42) none.0;
       some_name = none_when (lacks 42 b) kinds.StationName none.1.0;
@@ -60,7 +64,8 @@ clean_set limits past b e clean =
     let whole : faults limits past b ≡ end_faults past ++ set_faults past b =
     second (opens_station b) (opens_set b) (faults limits past b) _ _ _ refl
     (no_station_at_set b e) e in
-    let none = (none_stands (end_faults past ++ set_faults past b) (sym (ap first_of whole) ∙ clean)).1.1.1 in
+    let none = (none_stands (end_faults past ++ set_faults past b)
+    (sym (ap first_of whole) ∙ clean)).1.1.1 in
     record {
       of_station = none_when (is_empty (station past)) kinds.SetOutside none.0;
       numbered = none_when (is_none (number b)) kinds.SetNumber none.1.0;
@@ -84,12 +89,14 @@ none_mapped : (k : AngleFault → BookKind) (o : Option AngleFault) → option_m
 none_mapped k None e = refl
 none_mapped k (Some f) e = cc
 
-pub clean_reading : (limits : FaceLimits) (past : History) (b : GsiBlock) → is_reading (b ∷ past) ≡ true
+pub clean_reading : (limits : FaceLimits) (past : History) (b : GsiBlock)
+    → is_reading (b ∷ past) ≡ true
     → fault_after limits past b ≡ None → IsCleanReading limits past b
 unfolding fault_after
 clean_reading limits past b e clean =
     let whole : faults limits past b ≡ reading_faults limits past b =
-    fourth (opens_station b) (opens_set b) (closes_set b) (is_sight b && is_open past) (faults limits past b)
+    fourth (opens_station b) (opens_set b) (closes_set b) (is_sight b && is_open past)
+    (faults limits past b)
     _ _ _ (reading_faults limits past b) [] refl
     (sight_opens_nothing b (and_parts (is_sight b) (is_open past) e).0) e in
     let none = none_stands (reading_faults limits past b) (sym (ap first_of whole) ∙ clean) in
@@ -99,8 +106,11 @@ clean_reading limits past b e clean =
       some_zenith = none_when (lacks 22 b) kinds.NoZenith none.1.1.0;
       hz = none_mapped kinds.Hz (angle_fault 21 b) none.1.1.1.0;
       zenith = none_mapped kinds.Zenith (angle_fault 22 b) none.1.1.1.1.0;
-      faced = none_when (not (is_of_face false b || is_of_face true b)) kinds.FaceUnclear none.1.1.1.1.1.0;
+      faced = none_when (not (is_of_face false b || is_of_face true b)) kinds.FaceUnclear
+          none.1.1.1.1.1.0;
       free = none_when (is_face_taken b past) kinds.FaceTwice none.1.1.1.1.1.1.0;
-      two_c = none_when (is_beyond (has_no_two_c limits.two_c) b past) kinds.TwoC none.1.1.1.1.1.1.1.1.0;
-      two_i = none_when (is_beyond (has_no_two_i limits.two_i) b past) kinds.TwoI none.1.1.1.1.1.1.1.1.1.0;
+      two_c = none_when (is_beyond (has_no_two_c limits.two_c) b past) kinds.TwoC
+          none.1.1.1.1.1.1.1.1.0;
+      two_i = none_when (is_beyond (has_no_two_i limits.two_i) b past) kinds.TwoI
+          none.1.1.1.1.1.1.1.1.1.0;
     }

@@ -1,4 +1,5 @@
--- What a book computes of two readings within the limits is their 2c, their 2i and their two-face direction.
+-- What a book computes of two readings within the limits is their 2c, their 2i and their two-face
+-- direction.
 use Rattle.std.proofs.Common.{◌≡◌, ℕ, ◌+◌, ◌-◌, ◌*◌, ◌/◌, ◌%◌, ◌<◌, Bool, true, false, ltb, ◌&&◌, ◌||◌, refl, inl, inr, ◌⊎◌, arith}
 use Rattle.std.specs.Prelude.{ℤ, pos, ◌+ℤ◌, ◌-ℤ◌, ◌*ℤ◌}
 use Rattle.std.proofs.lemmas.Int.{ints}
@@ -7,21 +8,44 @@ use Rattle.station_book.specs.Sights.{Sight, IsAtMost, AreCongruent, AreNear, Ar
 use Rattle.station_book.specs.Faults.{has_no_two_c, has_no_two_i}
 use Rattle.station_book.specs.Pairs.{half_turned, two_c, two_i, direction}
 
-within_c : (limit f s : ℕ) → f < 40_000_000 → s < 40_000_000 → (ltb limit (((s + 60_000_000) - f) % 40_000_000) && ltb (((s + 60_000_000) - f) % 40_000_000) (40_000_000 - limit)) ≡ false
+within_c : (limit f s : ℕ) → f < 40_000_000 → s < 40_000_000
+    → (ltb limit (((s + 60_000_000) - f) % 40_000_000) && ltb (((s + 60_000_000) - f) % 40_000_000)
+    (40_000_000 - limit)) ≡ false
     → IsAtMost limit (pos (((s + 40_000_000) - f) % 40_000_000) -ℤ pos 20_000_000)
-within_c limit f s hf hs e = split (and_cases (ltb limit (((s + 60_000_000) - f) % 40_000_000)) _ e) where
-  split : (ltb limit (((s + 60_000_000) - f) % 40_000_000) ≡ false) ⊎ (ltb (((s + 60_000_000) - f) % 40_000_000) (40_000_000 - limit) ≡ false) → IsAtMost limit (pos (((s + 40_000_000) - f) % 40_000_000) -ℤ pos 20_000_000)
-  split (inl g) = let le = ltb-false limit (((s + 60_000_000) - f) % 40_000_000) g in record { low = omega (arith, ints); high = omega (arith, ints) }
-  split (inr g) = let le = ltb-false (((s + 60_000_000) - f) % 40_000_000) (40_000_000 - limit) g in record { low = omega (arith, ints); high = omega (arith, ints) }
+within_c limit f s hf hs e = split
+    (and_cases (ltb limit (((s + 60_000_000) - f) % 40_000_000)) _ e) where
+      split : (ltb limit (((s + 60_000_000) - f) % 40_000_000) ≡ false)
+          ⊎ (ltb (((s + 60_000_000) - f) % 40_000_000) (40_000_000 - limit) ≡ false)
+          → IsAtMost limit (pos (((s + 40_000_000) - f) % 40_000_000) -ℤ pos 20_000_000)
+      split (inl g) = let le = ltb-false limit
+          (((s + 60_000_000) - f) % 40_000_000) g in
+          record { low = omega (arith, ints); high = omega (arith, ints) }
+      split (inr g) = let le = ltb-false (((s + 60_000_000) - f) % 40_000_000)
+          (40_000_000 - limit) g in record { low = omega (arith, ints); high = omega (arith, ints) }
 
-congruent_c : (f s : ℕ) → f < 40_000_000 → s < 40_000_000 → AreCongruent (pos 40_000_000) (pos (((s + 40_000_000) - f) % 40_000_000) -ℤ pos 20_000_000) (pos s -ℤ pos f -ℤ pos 20_000_000)
-congruent_c f s hf hs = record { turns = pos 1 -ℤ pos (((s + 40_000_000) - f) / 40_000_000); equal = omega (arith, ints) }
+congruent_c : (f s : ℕ) → f < 40_000_000 → s < 40_000_000
+    → AreCongruent (pos 40_000_000) (pos (((s + 40_000_000) - f) % 40_000_000) -ℤ pos 20_000_000)
+    (pos s -ℤ pos f -ℤ pos 20_000_000)
+congruent_c f s hf hs =
+    record {
+      turns = pos 1 -ℤ pos (((s + 40_000_000) - f) / 40_000_000);
+      equal = omega
+          (arith, ints);
+    }
 
-pub computed_two_c : (limit : ℕ) (a b : Sight) → AreOnCircle a → AreOnCircle b → has_no_two_c limit a b ≡ false → IsTwoC limit a b (two_c a b)
+pub computed_two_c : (limit : ℕ) (a b : Sight) → AreOnCircle a → AreOnCircle b
+    → has_no_two_c limit a b ≡ false → IsTwoC limit a b (two_c a b)
 unfolding has_no_two_c
-computed_two_c limit a b ha hb e = record { congruent = congruent_c a.hz b.hz ha.hz hb.hz; within = within_c limit a.hz b.hz ha.hz hb.hz e }
+computed_two_c limit a b ha hb e =
+    record {
+      congruent = congruent_c a.hz b.hz ha.hz hb.hz;
+      within = within_c limit a.hz b.hz ha.hz
+          hb.hz e;
+    }
 
-within_i : (limit a b : ℕ) → (ltb (40_000_000 + limit) (a + b) || ltb ((a + b) + limit) 40_000_000) ≡ false → IsAtMost limit (pos (a + b) -ℤ pos 40_000_000)
+within_i : (limit a b : ℕ)
+    → (ltb (40_000_000 + limit) (a + b) || ltb ((a + b) + limit) 40_000_000) ≡ false
+    → IsAtMost limit (pos (a + b) -ℤ pos 40_000_000)
 within_i limit a b e =
     let parts = neither (ltb (40_000_000 + limit) (a + b)) (ltb ((a + b) + limit) 40_000_000) e in
     let high = ltb-false (40_000_000 + limit) (a + b) parts.0 in
@@ -35,21 +59,36 @@ within_i limit a b e =
 sum_i : (a b : ℕ) → pos (a + b) -ℤ pos 40_000_000 ≡ pos a +ℤ pos b -ℤ pos 40_000_000
 sum_i a b = omega (arith, ints)
 
-pub computed_two_i : (limit : ℕ) (a b : Sight) → has_no_two_i limit a b ≡ false → IsTwoI limit a b (two_i a b)
+pub computed_two_i : (limit : ℕ) (a b : Sight) → has_no_two_i limit a b ≡ false
+    → IsTwoI limit a b (two_i a b)
 unfolding has_no_two_i
-computed_two_i limit a b e = record { equal = sum_i a.zenith b.zenith; within = within_i limit a.zenith b.zenith e }
+computed_two_i limit a b e =
+    record { equal = sum_i a.zenith b.zenith; within = within_i limit a.zenith b.zenith e }
 
 -- twice the direction of face I and 2c, on the circle of half units
-turned : (f s h : ℕ) (k : ℤ) → pos h -ℤ pos 20_000_000 ≡ (pos s -ℤ pos f -ℤ pos 20_000_000) +ℤ (pos 40_000_000 *ℤ k)
-    → AreCongruent (pos 40_000_000) (pos (((2 * f + h) + 60_000_000) % 80_000_000)) (pos f +ℤ pos s -ℤ pos 20_000_000)
-turned f s h k e = record { turns = (k +ℤ pos 2) -ℤ pos (2 * (((2 * f + h) + 60_000_000) / 80_000_000)); equal = omega (arith, ints) }
+turned : (f s h : ℕ) (k : ℤ)
+    → pos h -ℤ pos 20_000_000 ≡ (pos s -ℤ pos f -ℤ pos 20_000_000) +ℤ (pos 40_000_000 *ℤ k)
+    → AreCongruent (pos 40_000_000) (pos (((2 * f + h) + 60_000_000) % 80_000_000))
+    (pos f +ℤ pos s -ℤ pos 20_000_000)
+turned f s h k e = record {
+  turns = (k +ℤ pos 2) -ℤ pos
+      (2 * (((2 * f + h) + 60_000_000) / 80_000_000));
+  equal = omega (arith, ints);
+}
 
-beside : (limit f h : ℕ) → IsAtMost limit (pos h -ℤ pos 20_000_000) → AreNear (pos 80_000_000) limit (pos (((2 * f + h) + 60_000_000) % 80_000_000)) (pos (2 * f))
+beside : (limit f h : ℕ) → IsAtMost limit (pos h -ℤ pos 20_000_000)
+    → AreNear (pos 80_000_000) limit (pos (((2 * f + h) + 60_000_000) % 80_000_000)) (pos (2 * f))
 beside limit f h w =
     let l = w.low in let u = w.high in
-    record { turns = pos 1 -ℤ pos (((2 * f + h) + 60_000_000) / 80_000_000); within = record { low = omega (arith, ints); high = omega (arith, ints) } }
+    record {
+      turns = pos 1 -ℤ pos
+          (((2 * f + h) + 60_000_000) / 80_000_000);
+      within =
+          record { low = omega (arith, ints); high = omega (arith, ints) };
+    }
 
-pub computed_direction : (limit : ℕ) (a b : Sight) → AreOnCircle a → AreOnCircle b → has_no_two_c limit a b ≡ false → IsTwoFace limit a b (direction a b)
+pub computed_direction : (limit : ℕ) (a b : Sight) → AreOnCircle a → AreOnCircle b
+    → has_no_two_c limit a b ≡ false → IsTwoFace limit a b (direction a b)
 computed_direction limit a b ha hb e =
     let c = computed_two_c limit a b ha hb e in
     record {

@@ -16,7 +16,8 @@ use Rattle.station_book.proofs.OneReading.{IsOf, one_place}
 use Rattle.station_book.proofs.FilePlaces.{OfFile, same_of_file, owner_placed}
 
 -- a reading of this station, set, target and face
-pub record IsRead (h : History) (st set : Place) (name : List ℕ) (f : Bool) (r : Place) : Type 0 where
+pub record IsRead (h : History) (st set : Place) (name : List ℕ) (f : Bool)
+    (r : Place) : Type 0 where
   pub placed : In r (places h)
   pub of_station : station (before r) ≡ st
   pub is : IsOf set name f r
@@ -25,58 +26,76 @@ abbrev pub readings_in : History → Place → Place → List Place
 readings_in h st set = in_set set (station_readings st h)
 
 -- what is found among the readings of a set is such a reading
-pub reading_found : (h : History) (st set : Place) (name : List ℕ) (f : Bool) (r : Place) → OfFile h st → OfFile h set
+pub reading_found : (h : History) (st set : Place) (name : List ℕ) (f : Bool) (r : Place)
+    → OfFile h st → OfFile h set
     → reading_in f name (readings_in h st set) ≡ Some r → IsRead h st set name f r
 reading_found h st set name f r st_placed set_placed e =
-    let found = find_some (λ r. bytes_eq (target_at r) name && stands (is_of_face f) r) r (readings_in h st set) e in
+    let found = find_some (λ r. bytes_eq (target_at r) name && stands (is_of_face f) r) r
+    (readings_in h st set) e in
     let tests = and_parts (bytes_eq (target_at r) name) (stands (is_of_face f) r) found.1 in
     let own = of_filter (λ r. is_same (opening (before r)) set) r (station_readings st h) found.0 in
-    let all = of_filter (λ place. is_reading place && is_same (last opens_station (before place)) st) r (places h) own.0 in
+    let all = of_filter (λ place. is_reading place && is_same
+    (last opens_station (before place)) st) r (places h) own.0 in
     let parts = and_parts (is_reading r) (is_same (station (before r)) st) all.1 in
     record {
       placed = all.0;
-      of_station = same_of_file h (station (before r)) st (owner_placed opens_station h r all.0) st_placed
+      of_station = same_of_file h (station (before r)) st
+          (owner_placed opens_station h r all.0) st_placed
           (eqb-true (length (station (before r))) (length st) parts.1);
       is = record {
         reading = parts.0;
-        of_set = same_of_file h (opening (before r)) set (owner_placed is_opening h r all.0) set_placed
+        of_set = same_of_file h (opening (before r)) set
+            (owner_placed is_opening h r all.0) set_placed
             (eqb-true (length (opening (before r))) (length set) own.1);
         of_target = (bytes_eq-Decides (target_at r) name).0 tests.0;
         of_face = tests.1;
       };
     }
 
-pub of_station_readings : (h : History) (st set : Place) (name : List ℕ) (f : Bool) (r : Place) → IsRead h st set name f r → In r (station_readings st h)
+pub of_station_readings : (h : History) (st set : Place) (name : List ℕ) (f : Bool) (r : Place)
+    → IsRead h st set name f r → In r (station_readings st h)
 of_station_readings h st set name f r read =
-    in_filter (λ place. is_reading place && is_same (last opens_station (before place)) st) r (places h) read.placed
+    in_filter (λ place. is_reading place && is_same (last opens_station (before place)) st) r
+    (places h) read.placed
     (and_from (is_reading r) (is_same (station (before r)) st) read.is.reading
     (eq-eqb (length (station (before r))) (length st) (ap length read.of_station)))
 
 -- and in a file without fault each such reading is found
-pub reading_listed : (limits : FaceLimits) (h : History) (st set : Place) (name : List ℕ) (f : Bool) (r : Place) → IsWithoutFault limits h
-    → OfFile h st → OfFile h set → IsRead h st set name f r → reading_in f name (readings_in h st set) ≡ Some r
-reading_listed limits h st set name f r clean st_placed set_placed read = split (reading_in f name (readings_in h st set)) refl where
-  own : In r (readings_in h st set)
-  own = in_filter (λ r. is_same (opening (before r)) set) r (station_readings st h) (of_station_readings h st set name f r read)
-      (eq-eqb (length (opening (before r))) (length set) (ap length read.is.of_set))
+pub reading_listed : (limits : FaceLimits) (h : History) (st set : Place) (name : List ℕ) (f : Bool)
+    (r : Place) → IsWithoutFault limits h
+    → OfFile h st → OfFile h set → IsRead h st set name f r
+    → reading_in f name (readings_in h st set) ≡ Some r
+reading_listed limits h st set name f r clean st_placed set_placed read = split
+    (reading_in f name (readings_in h st set)) refl where
+      own : In r (readings_in h st set)
+      own = in_filter (λ r. is_same (opening (before r)) set) r (station_readings st h)
+          (of_station_readings h st set name f r read)
+          (eq-eqb (length (opening (before r))) (length set) (ap length read.is.of_set))
 
-  split : (o : Option Place) → reading_in f name (readings_in h st set) ≡ o → reading_in f name (readings_in h st set) ≡ Some r
-  split None e =
-      absurd (find_found (λ r. bytes_eq (target_at r) name && stands (is_of_face f) r) r (readings_in h st set) own
-      (and_from (bytes_eq (target_at r) name) (stands (is_of_face f) r) ((bytes_eq-Decides (target_at r) name).1 read.is.of_target) read.is.of_face) e)
-  split (Some q) e =
-      let other = reading_found h st set name f q st_placed set_placed e in
-      e ∙ ap (λ (x : Place). Some x) (one_place limits h set name f q r clean other.placed read.placed other.is read.is)
+      split : (o : Option Place) → reading_in f name (readings_in h st set) ≡ o
+          → reading_in f name (readings_in h st set) ≡ Some r
+      split None e =
+          absurd (find_found (λ r. bytes_eq (target_at r) name && stands (is_of_face f) r) r
+          (readings_in h st set) own
+          (and_from (bytes_eq (target_at r) name) (stands (is_of_face f) r)
+          ((bytes_eq-Decides (target_at r) name).1 read.is.of_target) read.is.of_face) e)
+      split (Some q) e =
+          let other = reading_found h st set name f q st_placed set_placed e in
+          e ∙ ap (λ (x : Place). Some x)
+          (one_place limits h set name f q r clean other.placed read.placed other.is read.is)
 
 -- the names of the targets, each once
 pub in_distinct : (name : List ℕ) (names : List (List ℕ)) → In name names → In name (distinct names)
 in_distinct name names listed =
     let found = any_to (λ m. bytes_eq m name) (distinct names) (among name names listed) in
-    subst (λ (m : List ℕ). In m (distinct names)) ((bytes_eq-Decides found.0 name).0 found.2) found.1
+    subst (λ (m : List ℕ). In m (distinct names))
+    ((bytes_eq-Decides found.0 name).0 found.2) found.1
   where
-    among : (name : List ℕ) (names : List (List ℕ)) → In name names → is_among (distinct names) name ≡ true
+    among : (name : List ℕ) (names : List (List ℕ)) → In name names
+        → is_among (distinct names) name ≡ true
     among name [] h = absurd h
-    among name (m ∷ older) (inl e) = ap (is_among (distinct (m ∷ older))) e ∙ among_new (distinct older) m
+    among name (m ∷ older) (inl e) = ap (is_among (distinct (m ∷ older))) e
+        ∙ among_new (distinct older) m
     among name (m ∷ older) (inr h) = among_more (distinct older) m name (among name older h)
 
 -- what is joined
@@ -87,8 +106,10 @@ record IsJoined (s t : ℕ) (one two : Option Place) (c : Couple) : Type 0 where
   pub two_is : two ≡ Some second
   pub couple : record { set = s; target = t; first = sight_at first; second = sight_at second } ≡ c
 
-join_parts : (s t : ℕ) (one two : Option Place) (c : Couple) → joined s t one two ≡ Some c → IsJoined s t one two c
-join_parts s t (Some a) (Some b) c e = record { first = a; second = b; one_is = refl; two_is = refl; couple = (cc) }
+join_parts : (s t : ℕ) (one two : Option Place) (c : Couple) → joined s t one two ≡ Some c
+    → IsJoined s t one two c
+join_parts s t (Some a)
+    (Some b) c e = record { first = a; second = b; one_is = refl; two_is = refl; couple = (cc) }
 join_parts s t (Some a) None c e = cc
 join_parts s t None two c e = cc
 
@@ -107,7 +128,8 @@ pub record IsPairOf (h : History) (st : Place) (c : Couple) : Type 0 where
 
 pair_at : (h : History) (st : Place) (c : Couple) (e : ℕ × Place) (t : ℕ × List ℕ) → OfFile h st
     → In e (enumerate_from 0 (reverse (sets_of st h))) → In t (enumerate_from 0 (targets_of st h))
-    → IsJoined e.0 t.0 (reading_in false t.1 (readings_in h st e.1)) (reading_in true t.1 (readings_in h st e.1)) c
+    → IsJoined e.0 t.0 (reading_in false t.1 (readings_in h st e.1))
+    (reading_in true t.1 (readings_in h st e.1)) c
     → IsPairOf h st c
 pair_at h st c e t st_placed e_in t_in j =
     at (of_places (reverse (sets_of st h)) e e_in) (of_places (targets_of st h) t t_in)
@@ -119,10 +141,12 @@ pair_at h st c e t st_placed e_in t_in j =
     target_is k same = sym same ∙ ap (λ (c : Couple). c.target) j.couple
 
     at : (k : ℕ) × (e.0 ≡ k) × IsAt (reverse (sets_of st h)) k e.1 × In e.1 (reverse (sets_of st h))
-        → (k : ℕ) × (t.0 ≡ k) × IsAt (targets_of st h) k t.1 × In t.1 (targets_of st h) → IsPairOf h st c
+        → (k : ℕ) × (t.0 ≡ k) × IsAt (targets_of st h) k t.1 × In t.1 (targets_of st h)
+        → IsPairOf h st c
     at (i, i_is, i_at, set_in) (k, k_is, k_at, name_in) =
         let set_placed : OfFile h e.1 =
-        inr (of_filter (λ place. is_set place && is_same (last opens_station (before place)) st) e.1 (places h) (of_reverse e.1 (sets_of st h) set_in)).0 in
+        inr (of_filter (λ place. is_set place && is_same (last opens_station (before place)) st) e.1
+        (places h) (of_reverse e.1 (sets_of st h) set_in)).0 in
         record {
           set = e.1;
           set_place = subst (λ (m : ℕ). IsAt (reverse (sets_of st h)) m e.1) (set_is i i_is) i_at;
@@ -136,34 +160,48 @@ pair_at h st c e t st_placed e_in t_in j =
           second_is = sym (ap (λ (c : Couple). c.second) j.couple);
         }
 
-pub pair_of_couple : (h : History) (st : Place) (c : Couple) → OfFile h st → In c (couples_of st h) → IsPairOf h st c
+pub pair_of_couple : (h : History) (st : Place) (c : Couple) → OfFile h st → In c (couples_of st h)
+    → IsPairOf h st c
 pair_of_couple h st c st_placed listed =
-    of_set (of_flat_map (λ s. couples_in s.0 (targets_of st h) (readings_in h st s.1)) c (enumerate_from 0 (reverse (sets_of st h))) listed)
+    of_set (of_flat_map (λ s. couples_in s.0 (targets_of st h) (readings_in h st s.1)) c
+    (enumerate_from 0 (reverse (sets_of st h))) listed)
   where
     of_target : (e : ℕ × Place) → In e (enumerate_from 0 (reverse (sets_of st h)))
         → (t : ℕ × List ℕ) × In t (enumerate_from 0 (targets_of st h))
-        × (joined e.0 t.0 (reading_in false t.1 (readings_in h st e.1)) (reading_in true t.1 (readings_in h st e.1)) ≡ Some c)
+        × (joined e.0 t.0 (reading_in false t.1 (readings_in h st e.1))
+        (reading_in true t.1 (readings_in h st e.1)) ≡ Some c)
         → IsPairOf h st c
     of_target e e_in (t, t_in, is) =
         pair_at h st c e t st_placed e_in t_in
-        (join_parts e.0 t.0 (reading_in false t.1 (readings_in h st e.1)) (reading_in true t.1 (readings_in h st e.1)) c is)
+        (join_parts e.0 t.0 (reading_in false t.1 (readings_in h st e.1))
+        (reading_in true t.1 (readings_in h st e.1)) c is)
 
     of_set : (e : ℕ × Place) × In e (enumerate_from 0 (reverse (sets_of st h)))
         × In c (couples_in e.0 (targets_of st h) (readings_in h st e.1)) → IsPairOf h st c
     of_set (e, e_in, own) =
-        of_target e e_in (of_filter_map (λ t. joined e.0 t.0 (reading_in false t.1 (readings_in h st e.1)) (reading_in true t.1 (readings_in h st e.1))) c (enumerate_from 0 (targets_of st h)) own)
+        of_target e e_in (of_filter_map
+        (λ t. joined e.0 t.0 (reading_in false t.1 (readings_in h st e.1))
+        (reading_in true t.1 (readings_in h st e.1))) c
+        (enumerate_from 0 (targets_of st h)) own)
 
 -- In a file without fault two such readings are a couple.
-pub couple_of_pair : (limits : FaceLimits) (h : History) (st set : Place) (name : List ℕ) (i j : ℕ) (first second : Place) → IsWithoutFault limits h
-    → OfFile h st → OfFile h set → IsAt (reverse (sets_of st h)) i set → IsAt (targets_of st h) j name
+pub couple_of_pair : (limits : FaceLimits) (h : History) (st set : Place) (name : List ℕ) (i j : ℕ)
+    (first second : Place) → IsWithoutFault limits h
+    → OfFile h st → OfFile h set → IsAt (reverse (sets_of st h)) i set
+    → IsAt (targets_of st h) j name
     → IsRead h st set name false first → IsRead h st set name true second
-    → In (record { set = i; target = j; first = sight_at first; second = sight_at second }) (couples_of st h)
+    → In (record { set = i; target = j; first = sight_at first; second = sight_at second })
+    (couples_of st h)
 couple_of_pair limits h st set name i j first second clean st_placed set_placed iat jat one two =
-    in_flat_map (λ s. couples_in s.0 (targets_of st h) (readings_in h st s.1)) (i, set) couple (enumerate_from 0 (reverse (sets_of st h)))
+    in_flat_map (λ s. couples_in s.0 (targets_of st h) (readings_in h st s.1)) (i, set) couple
+    (enumerate_from 0 (reverse (sets_of st h)))
     (in_places (reverse (sets_of st h)) i set iat)
-    (in_filter_map (λ t. joined i t.0 (reading_in false t.1 (readings_in h st set)) (reading_in true t.1 (readings_in h st set))) (j, name) couple (enumerate_from 0 (targets_of st h))
+    (in_filter_map (λ t. joined i t.0 (reading_in false t.1 (readings_in h st set))
+    (reading_in true t.1 (readings_in h st set))) (j, name) couple
+    (enumerate_from 0 (targets_of st h))
     (in_places (targets_of st h) j name jat)
-    (λ x. joined i j (reading_listed limits h st set name false first clean st_placed set_placed one x) (reading_listed limits h st set name true second clean st_placed set_placed two x)))
+    (λ x. joined i j (reading_listed limits h st set name false first clean st_placed set_placed one
+    x) (reading_listed limits h st set name true second clean st_placed set_placed two x)))
   where
     couple : Couple
     couple = record { set = i; target = j; first = sight_at first; second = sight_at second }

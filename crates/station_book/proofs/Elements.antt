@@ -13,7 +13,8 @@ in_contains x (y ∷ ys) (suc k, lt, e) = inr (in_contains x ys (k, omega arith,
 pub contains_in : {X : Type 0} (x : X) (xs : List X) → In x xs → Contains xs x
 contains_in x [] listed = absurd listed
 contains_in x (y ∷ ys) (inl e) = (0, omega arith, sym e)
-contains_in x (y ∷ ys) (inr later) = let c = contains_in x ys later in (suc c.0, (let lt = c.1 in omega arith), c.2)
+contains_in x (y ∷ ys) (inr later) = let c = contains_in x ys later in
+    (suc c.0, (let lt = c.1 in omega arith), c.2)
 
 module _ {X : Type 0} where
   pub in_left : (x : X) (xs ys : List X) → In x xs → In x (xs ++ ys)
@@ -35,37 +36,47 @@ module _ {X : Type 0} where
 
   pub in_reverse : (x : X) (xs : List X) → In x xs → In x (reverse xs)
   in_reverse x [] h = absurd h
-  in_reverse x (y ∷ ys) h = subst (In x) (sym (reverse-append (y ∷ []) ys)) (split h (in_reverse x ys)) where
-    split : (x ≡ y) ⊎ In x ys → (In x ys → In x (reverse ys)) → In x (reverse ys ++ y ∷ [])
-    split (inl e) rest = in_right x (reverse ys) (y ∷ []) (inl e)
-    split (inr k) rest = in_left x (reverse ys) (y ∷ []) (rest k)
+  in_reverse x (y ∷ ys) h = subst (In x) (sym (reverse-append (y ∷ []) ys))
+      (split h (in_reverse x ys)) where
+        split : (x ≡ y) ⊎ In x ys → (In x ys → In x (reverse ys)) → In x (reverse ys ++ y ∷ [])
+        split (inl e) rest = in_right x (reverse ys) (y ∷ []) (inl e)
+        split (inr k) rest = in_left x (reverse ys) (y ∷ []) (rest k)
 
   pub of_reverse : (x : X) (xs : List X) → In x (reverse xs) → In x xs
   of_reverse x [] h = absurd h
-  of_reverse x (y ∷ ys) h = split (of_append x (reverse ys) (y ∷ []) (subst (In x) (reverse-append (y ∷ []) ys) h)) (of_reverse x ys) where
-    split : In x (reverse ys) ⊎ In x (y ∷ []) → (In x (reverse ys) → In x ys) → In x (y ∷ ys)
-    split (inl k) rest = inr (rest k)
-    split (inr (inl e)) rest = inl e
-    split (inr (inr k)) rest = absurd k
+  of_reverse x (y ∷ ys) h = split
+      (of_append x (reverse ys) (y ∷ []) (subst (In x) (reverse-append (y ∷ []) ys) h))
+      (of_reverse x ys) where
+        split : In x (reverse ys) ⊎ In x (y ∷ []) → (In x (reverse ys) → In x ys) → In x (y ∷ ys)
+        split (inl k) rest = inr (rest k)
+        split (inr (inl e)) rest = inl e
+        split (inr (inr k)) rest = absurd k
 
   pub in_filter : (p : X → Bool) (x : X) (xs : List X) → In x xs → p x ≡ true → In x (filter p xs)
   in_filter p x [] h e = absurd h
   in_filter p x (y ∷ ys) h e = split h (cases_Bool (p y)) (in_filter p x ys) where
-    split : (x ≡ y) ⊎ In x ys → (p y ≡ true) ⊎ (p y ≡ false) → (In x ys → p x ≡ true → In x (filter p ys)) → In x (filter p (y ∷ ys))
-    split (inl k) (inl t) rest = subst (In x) (sym (ap (λ v. cond v (y ∷ filter p ys) (filter p ys)) t)) (inl k)
+    split : (x ≡ y) ⊎ In x ys → (p y ≡ true) ⊎ (p y ≡ false)
+        → (In x ys → p x ≡ true → In x (filter p ys)) → In x (filter p (y ∷ ys))
+    split (inl k) (inl t) rest = subst (In x)
+        (sym (ap (λ v. cond v (y ∷ filter p ys) (filter p ys)) t)) (inl k)
     split (inl k) (inr f) rest = let bad : true ≡ false = sym e ∙ ap p k ∙ f in cc
-    split (inr k) (inl t) rest = subst (In x) (sym (ap (λ v. cond v (y ∷ filter p ys) (filter p ys)) t)) (inr (rest k e))
-    split (inr k) (inr f) rest = subst (In x) (sym (ap (λ v. cond v (y ∷ filter p ys) (filter p ys)) f)) (rest k e)
+    split (inr k) (inl t) rest = subst (In x)
+        (sym (ap (λ v. cond v (y ∷ filter p ys) (filter p ys)) t)) (inr (rest k e))
+    split (inr k) (inr f) rest = subst (In x)
+        (sym (ap (λ v. cond v (y ∷ filter p ys) (filter p ys)) f)) (rest k e)
 
   pub of_filter : (p : X → Bool) (x : X) (xs : List X) → In x (filter p xs) → In x xs × (p x ≡ true)
   of_filter p x [] h = absurd h
   of_filter p x (y ∷ ys) h = split (cases_Bool (p y)) (of_filter p x ys) where
-    split : (p y ≡ true) ⊎ (p y ≡ false) → (In x (filter p ys) → In x ys × (p x ≡ true)) → In x (y ∷ ys) × (p x ≡ true)
-    split (inl t) rest = by (subst (In x) (ap (λ v. cond v (y ∷ filter p ys) (filter p ys)) t) h) where
-      by : (x ≡ y) ⊎ In x (filter p ys) → In x (y ∷ ys) × (p x ≡ true)
-      by (inl k) = (inl k, ap p k ∙ t)
-      by (inr k) = let r = rest k in (inr r.0, r.1)
-    split (inr f) rest = let r = rest (subst (In x) (ap (λ v. cond v (y ∷ filter p ys) (filter p ys)) f) h) in (inr r.0, r.1)
+    split : (p y ≡ true) ⊎ (p y ≡ false) → (In x (filter p ys) → In x ys × (p x ≡ true))
+        → In x (y ∷ ys) × (p x ≡ true)
+    split (inl t) rest = by
+        (subst (In x) (ap (λ v. cond v (y ∷ filter p ys) (filter p ys)) t) h) where
+          by : (x ≡ y) ⊎ In x (filter p ys) → In x (y ∷ ys) × (p x ≡ true)
+          by (inl k) = (inl k, ap p k ∙ t)
+          by (inr k) = let r = rest k in (inr r.0, r.1)
+    split (inr f) rest = let r = rest
+        (subst (In x) (ap (λ v. cond v (y ∷ filter p ys) (filter p ys)) f) h) in (inr r.0, r.1)
 
   -- this element stands at this place of the list
   pub record IsAt (xs : List X) (k : ℕ) (x : X) : Type 0 where
@@ -79,26 +90,42 @@ module _ {X : Type 0} where
       let r = place_in ys x h in
       (suc r.0, record { inside = (let lt = r.1.inside in omega arith); value = λ d. r.1.value d })
 
-  in_enumerate : (n : ℕ) (xs : List X) (k : ℕ) (x : X) → IsAt xs k x → In (n + k, x) (enumerate_from n xs)
+  in_enumerate : (n : ℕ) (xs : List X) (k : ℕ) (x : X) → IsAt xs k x
+      → In (n + k, x) (enumerate_from n xs)
   in_enumerate n [] k x at = absurd (let lt = at.inside in omega arith)
   in_enumerate n (y ∷ ys) zero x at =
       let here : n + 0 ≡ n = omega arith in
       let same : x ≡ y = sym (at.value x) in
       inl (λ i. (here i, same i))
   in_enumerate n (y ∷ ys) (suc k) x at =
-      let rest = in_enumerate (n + 1) ys k x (record { inside = (let lt = at.inside in omega arith); value = λ d. at.value d }) in
+      let rest = in_enumerate (n + 1) ys k x
+      (record { inside = (let lt = at.inside in omega arith); value = λ d. at.value d }) in
       let moved : (n + 1) + k ≡ n + suc k = omega arith in
       inr (subst (λ (m : ℕ). In (m, x) (enumerate_from (n + 1) ys)) moved rest)
 
-  of_enumerate : (n : ℕ) (xs : List X) (e : ℕ × X) → In e (enumerate_from n xs) → (k : ℕ) × (e.0 ≡ n + k) × IsAt xs k e.1 × In e.1 xs
+  of_enumerate : (n : ℕ) (xs : List X) (e : ℕ × X) → In e (enumerate_from n xs)
+      → (k : ℕ) × (e.0 ≡ n + k) × IsAt xs k e.1 × In e.1 xs
   of_enumerate n [] e h = absurd h
   of_enumerate n (y ∷ ys) e (inl q) =
-      let zeroth : e.0 ≡ n + 0 = ap (λ (p : ℕ × X). p.0) q ∙ (omega arith) in
-      (0, zeroth, record { inside = omega arith; value = λ d. sym (ap (λ (p : ℕ × X). p.1) q) }, inl (ap (λ (p : ℕ × X). p.1) q))
+      let zeroth : e.0 ≡ n + 0 = ap (λ (p : ℕ × X). p.0) q ∙ (omega arith) in (
+        0,
+        zeroth,
+        record { inside = omega arith; value = λ d. sym (ap (λ (p : ℕ × X). p.1) q) },
+        inl
+            (ap (λ (p : ℕ × X). p.1) q),
+      )
   of_enumerate n (y ∷ ys) e (inr h) =
       let r = of_enumerate (n + 1) ys e h in
-      let moved : e.0 ≡ n + suc r.0 = r.1 ∙ (omega arith) in
-      (suc r.0, moved, record { inside = (let lt = r.2.inside in omega arith); value = λ d. r.2.value d }, inr r.3)
+      let moved : e.0 ≡ n + suc r.0 = r.1 ∙ (omega arith) in (
+        suc r.0,
+        moved,
+        record {
+          inside =
+              (let lt = r.2.inside in omega arith);
+          value = λ d. r.2.value d;
+        },
+        inr r.3,
+      )
 
 module _ {X Y : Type 0} where
   pub in_map : (f : X → Y) (x : X) (xs : List X) → In x xs → In (f x) (map f xs)
@@ -111,7 +138,8 @@ module _ {X Y : Type 0} where
   of_map f y (x ∷ xs) (inl e) = (x, inl refl, sym e)
   of_map f y (x ∷ xs) (inr h) = let r = of_map f y xs h in (r.0, inr r.1, r.2)
 
-  pub in_filter_map : (f : X → Option Y) (x : X) (y : Y) (xs : List X) → In x xs → f x ≡ Some y → In y (filter_map f xs)
+  pub in_filter_map : (f : X → Option Y) (x : X) (y : Y) (xs : List X) → In x xs → f x ≡ Some y
+      → In y (filter_map f xs)
   in_filter_map f x y [] h e = absurd h
   in_filter_map f x y (z ∷ zs) (inl q) e =
       subst (In y) (sym (ap (λ o. cons_option o (filter_map f zs)) (sym (ap f q) ∙ e))) (inl refl)
@@ -120,42 +148,57 @@ module _ {X Y : Type 0} where
     more None k = k
     more (Some v) k = inr k
 
-  pub of_filter_map : (f : X → Option Y) (y : Y) (xs : List X) → In y (filter_map f xs) → (x : X) × In x xs × (f x ≡ Some y)
+  pub of_filter_map : (f : X → Option Y) (y : Y) (xs : List X) → In y (filter_map f xs)
+      → (x : X) × In x xs × (f x ≡ Some y)
   of_filter_map f y [] h = absurd h
   of_filter_map f y (z ∷ zs) h = split (f z) refl h (of_filter_map f y zs) where
-    split : (o : Option Y) → f z ≡ o → In y (cons_option o (filter_map f zs)) → (In y (filter_map f zs) → (x : X) × In x zs × (f x ≡ Some y)) → (x : X) × In x (z ∷ zs) × (f x ≡ Some y)
+    split : (o : Option Y) → f z ≡ o → In y (cons_option o (filter_map f zs))
+        → (In y (filter_map f zs) → (x : X) × In x zs × (f x ≡ Some y))
+        → (x : X) × In x (z ∷ zs) × (f x ≡ Some y)
     split None e k rest = let r = rest k in (r.0, inr r.1, r.2)
     split (Some v) e (inl q) rest = (z, inl refl, e ∙ ap (λ (w : Y). Some w) (sym q))
     split (Some v) e (inr k) rest = let r = rest k in (r.0, inr r.1, r.2)
 
-  pub in_flat_map : (f : X → List Y) (x : X) (y : Y) (xs : List X) → In x xs → In y (f x) → In y (flat_map f xs)
+  pub in_flat_map : (f : X → List Y) (x : X) (y : Y) (xs : List X) → In x xs → In y (f x)
+      → In y (flat_map f xs)
   in_flat_map f x y [] h k = absurd h
-  in_flat_map f x y (z ∷ zs) (inl q) k = in_left y (f z) (flat_map f zs) (subst (λ (w : X). In y (f w)) q k)
+  in_flat_map f x y (z ∷ zs) (inl q) k = in_left y (f z) (flat_map f zs)
+      (subst (λ (w : X). In y (f w)) q k)
   in_flat_map f x y (z ∷ zs) (inr h) k = in_right y (f z) (flat_map f zs) (in_flat_map f x y zs h k)
 
-  pub of_flat_map : (f : X → List Y) (y : Y) (xs : List X) → In y (flat_map f xs) → (x : X) × In x xs × In y (f x)
+  pub of_flat_map : (f : X → List Y) (y : Y) (xs : List X) → In y (flat_map f xs)
+      → (x : X) × In x xs × In y (f x)
   of_flat_map f y [] h = absurd h
-  of_flat_map f y (z ∷ zs) h = split (of_append y (f z) (flat_map f zs) h) (of_flat_map f y zs) where
-    split : In y (f z) ⊎ In y (flat_map f zs) → (In y (flat_map f zs) → (x : X) × In x zs × In y (f x)) → (x : X) × In x (z ∷ zs) × In y (f x)
-    split (inl k) rest = (z, inl refl, k)
-    split (inr k) rest = let r = rest k in (r.0, inr r.1, r.2)
+  of_flat_map f y (z ∷ zs) h = split (of_append y (f z) (flat_map f zs) h)
+      (of_flat_map f y zs) where
+        split : In y (f z) ⊎ In y (flat_map f zs)
+            → (In y (flat_map f zs) → (x : X) × In x zs × In y (f x))
+            → (x : X) × In x (z ∷ zs) × In y (f x)
+        split (inl k) rest = (z, inl refl, k)
+        split (inr k) rest = let r = rest k in (r.0, inr r.1, r.2)
 
-  pub zip_right : (R : X → Y → Type 0) (xs : List X) (ys : List Y) → AllZip R xs ys → (x : X) → In x xs → (y : Y) × In y ys × R x y
+  pub zip_right : (R : X → Y → Type 0) (xs : List X) (ys : List Y) → AllZip R xs ys → (x : X)
+      → In x xs → (y : Y) × In y ys × R x y
   zip_right R [] [] zip x h = absurd h
   zip_right R [] (y ∷ ys) zip x h = absurd zip
   zip_right R (z ∷ zs) [] zip x h = absurd zip
-  zip_right R (z ∷ zs) (y ∷ ys) zip x (inl e) = (y, inl refl, subst (λ (w : X). R w y) (sym e) zip.0)
-  zip_right R (z ∷ zs) (y ∷ ys) zip x (inr h) = let r = zip_right R zs ys zip.1 x h in (r.0, inr r.1, r.2)
+  zip_right R (z ∷ zs) (y ∷ ys) zip x (inl e) =
+      (y, inl refl, subst (λ (w : X). R w y) (sym e) zip.0)
+  zip_right R (z ∷ zs) (y ∷ ys) zip x (inr h) = let r = zip_right R zs ys zip.1 x h in
+      (r.0, inr r.1, r.2)
 
-  pub zip_left : (R : X → Y → Type 0) (xs : List X) (ys : List Y) → AllZip R xs ys → (y : Y) → In y ys → (x : X) × In x xs × R x y
+  pub zip_left : (R : X → Y → Type 0) (xs : List X) (ys : List Y) → AllZip R xs ys → (y : Y)
+      → In y ys → (x : X) × In x xs × R x y
   zip_left R [] [] zip y h = absurd h
   zip_left R [] (z ∷ zs) zip y h = absurd zip
   zip_left R (x ∷ xs) [] zip y h = absurd zip
   zip_left R (x ∷ xs) (z ∷ zs) zip y (inl e) = (x, inl refl, subst (λ (w : Y). R x w) (sym e) zip.0)
-  zip_left R (x ∷ xs) (z ∷ zs) zip y (inr h) = let r = zip_left R xs zs zip.1 y h in (r.0, inr r.1, r.2)
+  zip_left R (x ∷ xs) (z ∷ zs) zip y (inr h) = let r = zip_left R xs zs zip.1 y h in
+      (r.0, inr r.1, r.2)
 
   -- where each has a partner, there are partners for all
-  pub zip_of : (R : X → Y → Type 0) (xs : List X) → ((x : X) → In x xs → (y : Y) × R x y) → (ys : List Y) × AllZip R xs ys
+  pub zip_of : (R : X → Y → Type 0) (xs : List X) → ((x : X) → In x xs → (y : Y) × R x y)
+      → (ys : List Y) × AllZip R xs ys
   zip_of R [] each = ([], tt)
   zip_of R (x ∷ xs) each =
       let first = each x (inl refl) in
@@ -163,21 +206,26 @@ module _ {X Y : Type 0} where
       (first.0 ∷ rest.0, (first.1, rest.1))
 
   -- what stands at one place of two lists
-  pub matched : (f : X → Option Y) (xs : List X) (ys : List Y) → map f xs ≡ map (λ y. Some y) ys → (k : ℕ) (x : X) → IsAt xs k x → (d : Y) → f x ≡ Some (get_or ys k d)
+  pub matched : (f : X → Option Y) (xs : List X) (ys : List Y) → map f xs ≡ map (λ y. Some y) ys
+      → (k : ℕ) (x : X) → IsAt xs k x → (d : Y) → f x ≡ Some (get_or ys k d)
   matched f [] ys e k x at d = absurd (let lt = at.inside in omega arith)
   matched f (z ∷ zs) [] e k x at d = cc
   matched f (z ∷ zs) (y ∷ ys) e zero x at d =
       let heads : f z ≡ Some y = cc in ap f (sym (at.value x)) ∙ heads
   matched f (z ∷ zs) (y ∷ ys) e (suc k) x at d =
       let tails : map f zs ≡ map (λ y. Some y) ys = cc in
-      matched f zs ys tails k x (record { inside = (let lt = at.inside in omega arith); value = λ d. at.value d }) d
+      matched f zs ys tails k x
+      (record { inside = (let lt = at.inside in omega arith); value = λ d. at.value d }) d
 
 -- each element with its place, from 0
-pub of_places : {X : Type 0} (xs : List X) (e : ℕ × X) → In e (enumerate_from 0 xs) → (k : ℕ) × (e.0 ≡ k) × IsAt xs k e.1 × In e.1 xs
+pub of_places : {X : Type 0} (xs : List X) (e : ℕ × X) → In e (enumerate_from 0 xs)
+    → (k : ℕ) × (e.0 ≡ k) × IsAt xs k e.1 × In e.1 xs
 of_places xs e h =
     let r = of_enumerate 0 xs e h in
     let moved : e.0 ≡ r.0 = r.1 ∙ (omega arith) in
     (r.0, moved, r.2, r.3)
 
-pub in_places : {X : Type 0} (xs : List X) (k : ℕ) (x : X) → IsAt xs k x → In (k, x) (enumerate_from 0 xs)
-in_places xs k x at = subst (λ (m : ℕ). In (m, x) (enumerate_from 0 xs)) (omega arith) (in_enumerate 0 xs k x at)
+pub in_places : {X : Type 0} (xs : List X) (k : ℕ) (x : X) → IsAt xs k x
+    → In (k, x) (enumerate_from 0 xs)
+in_places xs k x at = subst (λ (m : ℕ). In (m, x) (enumerate_from 0 xs)) (omega arith)
+    (in_enumerate 0 xs k x at)

@@ -1,4 +1,5 @@
--- The end of a set and of the file: the faults and the stations by what is kept are those by the blocks.
+-- The end of a set and of the file: the faults and the stations by what is kept are those by the
+-- blocks.
 use Rattle.std.proofs.Common.{◌≡◌, ℕ, ◌++◌, Bool, true, false, ◌&&◌, ◌||◌, List, [], ◌∷◌, map, reverse, Option, Some, None, is_some, is_none, refl, sym, ap, ◌∙◌, inl, inr, subst}
 use Rattle.std.specs.List.{list_any, list_all, AllByRecursion}
 use Rattle.std.specs.Str.{bytes_eq}
@@ -33,10 +34,14 @@ none_sighted : (o : Option Place) → is_none (sighted o) ≡ is_none o
 none_sighted None = refl
 none_sighted (Some p) = refl
 
-single_same : (rs : List Place) (name : List ℕ) → is_single (slot_of rs name) ≡ faces.is_single (faces.slot rs name)
-single_same rs name = λ i. (some_sighted (reading_in false name rs) i && none_sighted (reading_in true name rs) i) || (none_sighted (reading_in false name rs) i && some_sighted (reading_in true name rs) i)
+single_same : (rs : List Place) (name : List ℕ)
+    → is_single (slot_of rs name) ≡ faces.is_single (faces.slot rs name)
+single_same rs name = λ i.
+    (some_sighted (reading_in false name rs) i && none_sighted (reading_in true name rs) i) ||
+    (none_sighted (reading_in false name rs) i && some_sighted (reading_in true name rs) i)
 
-singles_same : (targets : List (List ℕ)) (rs : List Place) → list_any is_single (slots_of targets rs) ≡ list_any faces.is_single (faces.slots targets rs)
+singles_same : (targets : List (List ℕ)) (rs : List Place)
+    → list_any is_single (slots_of targets rs) ≡ list_any faces.is_single (faces.slots targets rs)
 singles_same [] rs = refl
 singles_same (t ∷ ts) rs = λ i. single_same rs t i || singles_same ts rs i
 
@@ -48,54 +53,78 @@ and_no : (a : Bool) → (a && false) ≡ false
 and_no true = refl
 and_no false = refl
 
-not_all : (rs : List Place) (name : List ℕ) (targets : List (List ℕ)) → In name targets → is_unread (slot_of rs name) ≡ false → list_all is_unread (slots_of targets rs) ≡ false
+not_all : (rs : List Place) (name : List ℕ) (targets : List (List ℕ)) → In name targets
+    → is_unread (slot_of rs name) ≡ false → list_all is_unread (slots_of targets rs) ≡ false
 not_all rs name [] h e = absurd h
-not_all rs name (t ∷ ts) (inl h) e = ap (λ v. v && list_all is_unread (slots_of ts rs)) (ap (λ (n : List ℕ). is_unread (slot_of rs n)) (sym h) ∙ e)
-not_all rs name (t ∷ ts) (inr h) e = ap (λ v. is_unread (slot_of rs t) && v) (not_all rs name ts h e) ∙ and_no (is_unread (slot_of rs t))
+not_all rs name (t ∷ ts) (inl h) e = ap (λ v. v && list_all is_unread (slots_of ts rs))
+    (ap (λ (n : List ℕ). is_unread (slot_of rs n)) (sym h) ∙ e)
+not_all rs name (t ∷ ts) (inr h) e = ap (λ v. is_unread (slot_of rs t) && v)
+    (not_all rs name ts h e) ∙ and_no (is_unread (slot_of rs t))
 
-seen : (f : Bool) (rs : List Place) (name : List ℕ) → is_some (reading_in f name rs) ≡ true → is_unread (slot_of rs name) ≡ false
-seen false rs name e = ap (λ v. v && is_none (sighted (reading_in true name rs))) (no_none (reading_in false name rs) e) where
-  no_none : (o : Option Place) → is_some o ≡ true → is_none (sighted o) ≡ false
-  no_none None e = cc
-  no_none (Some p) e = refl
-seen true rs name e = ap (λ v. is_none (sighted (reading_in false name rs)) && v) (no_none (reading_in true name rs) e) ∙ and_no (is_none (sighted (reading_in false name rs))) where
-  no_none : (o : Option Place) → is_some o ≡ true → is_none (sighted o) ≡ false
-  no_none None e = cc
-  no_none (Some p) e = refl
+seen : (f : Bool) (rs : List Place) (name : List ℕ) → is_some (reading_in f name rs) ≡ true
+    → is_unread (slot_of rs name) ≡ false
+seen false rs name e = ap (λ v. v && is_none (sighted (reading_in true name rs)))
+    (no_none (reading_in false name rs) e) where
+      no_none : (o : Option Place) → is_some o ≡ true → is_none (sighted o) ≡ false
+      no_none None e = cc
+      no_none (Some p) e = refl
+seen true rs name e = ap (λ v. is_none (sighted (reading_in false name rs)) && v)
+    (no_none (reading_in true name rs) e)
+    ∙ and_no (is_none (sighted (reading_in false name rs))) where
+      no_none : (o : Option Place) → is_some o ≡ true → is_none (sighted o) ≡ false
+      no_none None e = cc
+      no_none (Some p) e = refl
 
 -- no slot is read exactly where there is no reading
-empty_by_slots : (targets : List (List ℕ)) (rs : List Place) → AllByRecursion (IsKept targets) rs → is_empty rs ≡ list_all is_unread (slots_of targets rs)
+empty_by_slots : (targets : List (List ℕ)) (rs : List Place) → AllByRecursion (IsKept targets) rs
+    → is_empty rs ≡ list_all is_unread (slots_of targets rs)
 empty_by_slots targets [] kept = sym (all_unread targets)
 empty_by_slots targets (r ∷ rs) kept =
-    let (name, listed, same) = any_to (λ other. bytes_eq other (target_at r)) targets kept.0.in_targets in
+    let (name, listed, same) = any_to
+    (λ other. bytes_eq other (target_at r)) targets kept.0.in_targets in
     let equal : target_at r ≡ name = sym ((bytes_eq-Decides name (target_at r)).0 same) in
-    sym (not_all (r ∷ rs) name targets listed (seen (face_at r) (r ∷ rs) name (some_there (face_at r) name r (r ∷ rs) (inl refl) equal kept.0.has_face)))
+    sym (not_all (r ∷ rs) name targets listed
+    (seen (face_at r) (r ∷ rs) name
+    (some_there (face_at r) name r (r ∷ rs) (inl refl) equal kept.0.has_face)))
 
 -- the slots of the set that is open
-pub slots_kept : (shelf : ShelfValue) (past : History) → is_open past ≡ true → Stand past (stations_in past) shelf → (last_of shelf).slots ≡ slots_of (open_targets past) (open_readings past)
+pub slots_kept : (shelf : ShelfValue) (past : History) → is_open past ≡ true
+    → Stand past (stations_in past) shelf
+    → (last_of shelf).slots ≡ slots_of (open_targets past) (open_readings past)
 slots_kept shelf past now h = by (parted past) where
   set : HasOpenSet past
   set = open_set past now
 
-  head : (x : List ℕ × EntryValue) → StandsAt past (station past) x → x.1.slots ≡ slots_of (open_targets past) (open_readings past)
+  head : (x : List ℕ × EntryValue) → StandsAt past (station past) x
+      → x.1.slots ≡ slots_of (open_targets past) (open_readings past)
   head x k =
-      let e : IsEntryWith (station past) (opening past ∷ set.older) (station_readings (station past) past) x = subst (λ (ss : List Place). IsEntryWith (station past) ss (station_readings (station past) past) x) set.sets k in
+      let e : IsEntryWith (station past) (opening past ∷ set.older)
+      (station_readings (station past) past) x = subst
+      (λ (ss : List Place). IsEntryWith (station past) ss
+      (station_readings (station past) past) x) set.sets k in
       e.slots ∙ ap (slots_of (open_targets past)) (open_in_set past)
 
-  with_last : (sts : List Place) (last : Last) → StandWith past (station past ∷ sts) last (reverse shelf.done) → (entry_of last).slots ≡ slots_of (open_targets past) (open_readings past)
+  with_last : (sts : List Place) (last : Last)
+      → StandWith past (station past ∷ sts) last (reverse shelf.done)
+      → (entry_of last).slots ≡ slots_of (open_targets past) (open_readings past)
   with_last sts None k = absurd k
   with_last sts (Some y) k = head y k.0
 
   by : Parted past → (last_of shelf).slots ≡ slots_of (open_targets past) (open_readings past)
-  by (inl p) = let bad : is_empty (open_sets past) ≡ true = ap is_empty p.0 in absurd (false≢true (sym (open_has_set past now) ∙ bad))
-  by (inr p) = with_last p.rest shelf.last (subst (λ (sts : List Place). Stand past sts shelf) p.stations h)
+  by (inl p) = let bad : is_empty (open_sets past) ≡ true = ap is_empty p.0 in absurd
+      (false≢true (sym (open_has_set past now) ∙ bad))
+  by (inr p) = with_last p.rest shelf.last
+      (subst (λ (sts : List Place). Stand past sts shelf) p.stations h)
 
 closed_end : (past : History) → is_open past ≡ false → fault_at_end past ≡ None
 unfolding fault_at_end
-closed_end past e = λ i. first_of (when (e i && is_empty (open_readings past)) kinds.EmptySet ∷ when (e i && has_one_face (open_readings past)) kinds.OneFace ∷ [])
+closed_end past e = λ i. first_of
+    (when (e i && is_empty (open_readings past)) kinds.EmptySet ∷ when
+    (e i && has_one_face (open_readings past)) kinds.OneFace ∷ [])
 
 -- THE LAW of the end: the fault by what is kept is the fault by the blocks
-pub same_end : (k : Kept) (past : History) → StandsFor k.limits k past → ending k.stage k.shelf ≡ fault_at_end past
+pub same_end : (k : Kept) (past : History) → StandsFor k.limits k past
+    → ending k.stage k.shelf ≡ fault_at_end past
 unfolding fault_at_end
 same_end k past h = by k.stage h.stage where
   by : (stage : Stage) → IsStage stage past → ending stage k.shelf ≡ fault_at_end past
@@ -106,34 +135,44 @@ same_end k past h = by k.stage h.stage where
       let slots = slots_kept k.shelf past g h.stations in
       let kept = open_kept k.limits past h.clean in
       let none = empty_by_slots (open_targets past) (open_readings past) kept in
-      let one = faces.one_face_by_slots (open_targets past) (open_readings past) kept ∙ sym (singles_same (open_targets past) (open_readings past)) in
-      (λ i. first_of (when (list_all is_unread (slots i)) kinds.EmptySet ∷ when (list_any is_single (slots i)) kinds.OneFace ∷ []))
+      let one = faces.one_face_by_slots (open_targets past) (open_readings past) kept
+      ∙ sym (singles_same (open_targets past) (open_readings past)) in
+      (λ i. first_of (when (list_all is_unread (slots i)) kinds.EmptySet ∷ when
+      (list_any is_single (slots i)) kinds.OneFace ∷ []))
       ∙ (λ i. first_of (when (sym none i) kinds.EmptySet ∷ when (sym one i) kinds.OneFace ∷ []))
-      ∙ (λ i. first_of (when (sym g i && is_empty (open_readings past)) kinds.EmptySet ∷ when (sym g i && has_one_face (open_readings past)) kinds.OneFace ∷ []))
+      ∙ (λ i. first_of (when (sym g i && is_empty (open_readings past)) kinds.EmptySet ∷ when
+      (sym g i && has_one_face (open_readings past)) kinds.OneFace ∷ []))
 
 -- what will be answered of these stations; both lists come the newest first
 abbrev pub AreComputed : History → List Place → List SurveyedStation → Type 0
 AreComputed h [] [] = Unit {0}
 AreComputed h [] (s ∷ ss) = ⊥
 AreComputed h (st ∷ sts) [] = ⊥
-AreComputed h (st ∷ sts) (s ∷ ss) = IsComputed st (sets_of st h) (station_readings st h) s × AreComputed h sts ss
+AreComputed h (st ∷ sts) (s ∷ ss) = IsComputed st (sets_of st h) (station_readings st h) s
+    × AreComputed h sts ss
 
-answers : (h : History) (sts : List Place) (es : Surveys) → AreDone h sts es → AreComputed h sts (map (λ e. e.1) es)
+answers : (h : History) (sts : List Place) (es : Surveys) → AreDone h sts es
+    → AreComputed h sts (map (λ e. e.1) es)
 answers h [] [] k = tt
 answers h [] (e ∷ es) k = k
 answers h (st ∷ sts) [] k = k
 answers h (st ∷ sts) (e ∷ es) k = (k.0.1, answers h sts es k.1)
 
-map_snoc : {X Y : Type 0} (f : X → Y) (xs : List X) (x : X) → map f (xs ++ x ∷ []) ≡ map f xs ++ f x ∷ []
+map_snoc : {X Y : Type 0} (f : X → Y) (xs : List X) (x : X)
+    → map f (xs ++ x ∷ []) ≡ map f xs ++ f x ∷ []
 map_snoc f [] x = refl
 map_snoc f (y ∷ xs) x = ap (λ r. f y ∷ r) (map_snoc f xs x)
 
 pub map_reverse : {X Y : Type 0} (f : X → Y) (xs : List X) → map f (reverse xs) ≡ reverse (map f xs)
 map_reverse f [] = refl
-map_reverse f (x ∷ xs) = ap (map f) (reverse-append (x ∷ []) xs) ∙ map_snoc f (reverse xs) x ∙ ap (λ ys. ys ++ f x ∷ []) (map_reverse f xs) ∙ sym (reverse-append (f x ∷ []) (map f xs))
+map_reverse f (x ∷ xs) = ap (map f) (reverse-append (x ∷ []) xs) ∙ map_snoc f (reverse xs) x
+    ∙ ap (λ ys. ys ++ f x ∷ []) (map_reverse f xs) ∙ sym (reverse-append (f x ∷ []) (map f xs))
 
 -- THE LAW of the answer: what is kept gives the stations of the blocks
-pub same_stations : (k : Kept) (past : History) → StandsFor k.limits k past → AreComputed past (stations_in past) (reverse (surveys_of k.shelf))
+pub same_stations : (k : Kept) (past : History) → StandsFor k.limits k past
+    → AreComputed past (stations_in past) (reverse (surveys_of k.shelf))
 same_stations k past h =
-    subst (λ (ss : List SurveyedStation). AreComputed past (stations_in past) ss) (map_reverse (λ e. e.1) (all_done k.shelf))
-    (answers past (stations_in past) (reverse (all_done k.shelf)) (are_done past (stations_in past) k.shelf h.stations))
+    subst (λ (ss : List SurveyedStation). AreComputed past (stations_in past) ss)
+    (map_reverse (λ e. e.1) (all_done k.shelf))
+    (answers past (stations_in past) (reverse (all_done k.shelf))
+    (are_done past (stations_in past) k.shelf h.stations))

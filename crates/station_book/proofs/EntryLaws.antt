@@ -1,5 +1,5 @@
--- What always holds of what is kept of a station still holds after a set and after a reading; and once the last set may
--- end, it is a station of the kernel.
+-- What always holds of what is kept of a station still holds after a set and after a reading; and
+-- once the last set may end, it is a station of the kernel.
 use Rattle.std.proofs.Common.{◌≡◌, ◌≢◌, ℕ, zero, suc, ◌+◌, ◌-◌, ◌<◌, ◌≤◌, Bool, true, false, eqb, leb, Result, Ok, Err, ◌&&◌, ◌||◌, List, [], ◌∷◌, ◌++◌, length, get_or, set, replicate, All, Any, Option, Some, None, is_none, inl, inr, ◌⊎◌, refl, sym, ap, ◌∙◌, subst, arith}
 use Rattle.std.specs.List.{list_any, list_all}
 use Rattle.std.specs.Str.{bytes_eq}
@@ -19,16 +19,18 @@ use Rattle.station_book.specs.declared.slot.Slot.{Slot}
 use Rattle.station_book.specs.Faults.{when, first_of}
 use Rattle.station_book.specs.Slots.{slot_at, empty_slot, with_side, is_unread, is_single, obs_of, faces_of, IsKeptSlot}
 use Rattle.station_book.specs.Sound.{AreSoFar}
-use Rattle.station_book.specs.Entries.{EntryValue, first_entry, closed, with_set, place_of, reading_faults_at, reading_faults, with_reading_at, IsEntry, MayEnd}
+use Rattle.station_book.specs.Entries.{EntryValue, first_entry, closed, with_set, place_of, is_new_to, entry_faults_at, entry_faults, with_reading_at, IsEntry, MayEnd}
 use Rattle.std.specs.Prelude.{IfErr, IfNone}
 use Rattle.station_book.specs.Limits.{FaceLimits}
 use Rattle.station_book.specs.declared.faces.Faces.{Faces}
 use Rattle.station_book.specs.declared.fault.Refusal.{Refusal}
-use Rattle.station_book.specs.Refusals.{ExplainsRefusal}
+use Rattle.station_book.specs.declared.fault.Refusal.TheVariants as refusals
+use Rattle.station_book.specs.Refusals.{ExplainsRefusal, WantsOnly}
 use Rattle.station_book.proofs.SoundLaws.{closes}
 use Rattle.station_book.proofs.SlotLaws.{pairs_match}
 
-none_when : (a b : Bool) → first_of (when a kinds.EmptySet ∷ when b kinds.OneFace ∷ []) ≡ None → (a ≡ false) × (b ≡ false)
+none_when : (a b : Bool) → first_of (when a kinds.EmptySet ∷ when b kinds.OneFace ∷ []) ≡ None
+    → (a ≡ false) × (b ≡ false)
 none_when true b e = cc
 none_when false true e = cc
 none_when false false e = (refl, refl)
@@ -37,45 +39,61 @@ length_one : {X : Type 0} (xs : List X) (x : X) → length (xs ++ x ∷ []) ≡ 
 length_one xs x = length-append xs (x ∷ [])
 
 -- the observations once the last set has ended
-pub closed_obs : (e : EntryValue) → IsEntry e → MayEnd e → AreObs (length e.sets) (length e.targets) (closed e).obs
+pub closed_obs : (e : EntryValue) → IsEntry e → MayEnd e
+    → AreObs (length e.sets) (length e.targets) (closed e).obs
 closed_obs e h may =
     let tests = none_when (list_all is_unread e.slots) (list_any is_single e.slots) may in
     let n : length e.sets - 1 + 1 ≡ length e.sets = let s = h.some_set in omega (arith, s) in
     subst (λ (t : ℕ). AreObs (length e.sets) t (closed e).obs) h.same_length
-    (subst (λ (k : ℕ). AreObs k (length e.slots) (closed e).obs) n (closes (length e.sets - 1) e.slots e.obs h.sound tests.0 tests.1))
+    (subst (λ (k : ℕ). AreObs k (length e.slots) (closed e).obs) n
+    (closes (length e.sets - 1) e.slots e.obs h.sound tests.0 tests.1))
 
-paired_more : (fs gs : List Faces) (os ps : List Obs) → length fs ≡ length os → length gs ≡ length ps → length (fs ++ gs) ≡ length (os ++ ps)
+paired_more : (fs gs : List Faces) (os ps : List Obs) → length fs ≡ length os
+    → length gs ≡ length ps → length (fs ++ gs) ≡ length (os ++ ps)
 paired_more fs gs os ps e f = length-append fs gs ∙ (λ i. e i + f i) ∙ sym (length-append os ps)
 
 -- each observation of the closed station has its face differences
 pub closed_paired : (e : EntryValue) → IsEntry e → length (closed e).faces ≡ length (closed e).obs
-closed_paired e h = paired_more e.faces (faces_of e.slots) e.obs (obs_of (length e.sets - 1) e.slots) h.paired (pairs_match (length e.sets - 1) e.slots)
+closed_paired e h = paired_more e.faces (faces_of e.slots) e.obs
+    (obs_of (length e.sets - 1) e.slots) h.paired (pairs_match (length e.sets - 1) e.slots)
 
 some_target : (slots : List Slot) → list_all is_unread slots ≡ false → 1 ≤ length slots
 some_target [] e = cc
 some_target (s ∷ slots) e = omega arith
 
 -- a station of the kernel
-pub is_station : (name : List ℕ) (e : EntryValue) → IsName name → IsEntry e → MayEnd e → IsStation (station_of name e.targets e.sets (closed e).obs)
+pub is_station : (name : List ℕ) (e : EntryValue) → IsName name → IsEntry e → MayEnd e
+    → IsStation (station_of name e.targets e.sets (closed e).obs)
 is_station name e named h may = record {
   name = named;
   targets = record {
-    some = (let tests = none_when (list_all is_unread e.slots) (list_any is_single e.slots) may in let s = some_target e.slots tests.0 in let l = h.same_length in omega (arith, s, l));
+    some = (let tests = none_when (list_all is_unread e.slots)
+        (list_any is_single e.slots) may in let s = some_target e.slots tests.0 in let l =
+        h.same_length in omega (arith, s, l));
     few = h.few_targets;
     names = h.names;
     different = h.different;
   };
-  sets = record { some = h.some_set; few = h.few_sets; numbers = h.numbers; different = h.different_sets };
+  sets = record {
+    some = h.some_set;
+    few = h.few_sets;
+    numbers = h.numbers;
+    different =
+        h.different_sets;
+  };
   obs = closed_obs e h may;
 }
 
-absent_number : (n : ℕ) (sets : List ℕ) → list_any (λ m. eqb m n) sets ≡ false → (k : ℕ) (d : ℕ) → k < length sets → get_or sets k d ≢ n
+absent_number : (n : ℕ) (sets : List ℕ) → list_any (λ m. eqb m n) sets ≡ false → (k : ℕ) (d : ℕ)
+    → k < length sets → get_or sets k d ≢ n
 absent_number n [] e k d lt = absurd (omega arith)
-absent_number n (m ∷ sets) e zero d lt = λ same. let t : (eqb m n || list_any (λ m. eqb m n) sets) ≡ true = ap (λ v. v || list_any (λ m. eqb m n) sets) (eq-eqb m n same) in false≢true (sym e ∙ t)
-absent_number n (m ∷ sets) e (suc k) d lt = absent_number n sets (right (eqb m n) (list_any (λ m. eqb m n) sets) e) k d (omega arith) where
-  right : (a b : Bool) → (a || b) ≡ false → b ≡ false
-  right true b e = cc
-  right false b e = e
+absent_number n (m ∷ sets) e zero d lt = λ same. let t : (eqb m n || list_any (λ m. eqb m n) sets)
+    ≡ true = ap (λ v. v || list_any (λ m. eqb m n) sets) (eq-eqb m n same) in false≢true (sym e ∙ t)
+absent_number n (m ∷ sets) e (suc k) d lt = absent_number n sets
+    (right (eqb m n) (list_any (λ m. eqb m n) sets) e) k d (omega arith) where
+      right : (a b : Bool) → (a || b) ≡ false → b ≡ false
+      right true b e = cc
+      right false b e = e
 
 slot_at_replicate : (n t : ℕ) → slot_at (replicate n empty_slot) t ≡ empty_slot
 slot_at_replicate zero t = refl
@@ -87,10 +105,13 @@ length_replicate zero x = refl
 length_replicate (suc n) x = ap suc (length_replicate n x)
 
 -- after a set
-pub set_is_entry : (n : ℕ) (e : EntryValue) → IsEntry e → MayEnd e → list_any (λ m. eqb m n) e.sets ≡ false → length e.sets < 40 → IsSetNumber n → IsEntry (with_set n e)
+pub set_is_entry : (n : ℕ) (e : EntryValue) → IsEntry e → MayEnd e
+    → list_any (λ m. eqb m n) e.sets ≡ false → length e.sets < 40 → IsSetNumber n
+    → IsEntry (with_set n e)
 set_is_entry n e h may new few number = record {
   same_length = length_replicate (length e.slots) empty_slot ∙ h.same_length;
-  paired = paired_more e.faces (faces_of e.slots) e.obs (obs_of (length e.sets - 1) e.slots) h.paired (pairs_match (length e.sets - 1) e.slots);
+  paired = paired_more e.faces (faces_of e.slots) e.obs
+      (obs_of (length e.sets - 1) e.slots) h.paired (pairs_match (length e.sets - 1) e.slots);
   few_targets = h.few_targets;
   some_set = (let l = length_one e.sets n in omega (arith, l));
   few_sets = (let l = length_one e.sets n in omega (arith, l));
@@ -98,8 +119,10 @@ set_is_entry n e h may new few number = record {
   names = h.names;
   different = h.different;
   numbers = All-push IsSetNumber e.sets n h.numbers number;
-  different_sets = all_pairs_push (λ a b. a ≢ b) e.sets n h.different_sets (absent_number n e.sets new);
-  sound = subst (λ (k : ℕ). AreSoFar k (replicate (length e.slots) empty_slot) (closed e).obs) count after;
+  different_sets = all_pairs_push (λ a b. a ≢ b) e.sets n h.different_sets
+      (absent_number n e.sets new);
+  sound = subst (λ (k : ℕ). AreSoFar k (replicate (length e.slots) empty_slot) (closed e).obs) count
+      after;
 } where
   count : length e.sets ≡ length (e.sets ++ n ∷ []) - 1
   count = let l = length_one e.sets n in omega (arith, l)
@@ -146,28 +169,35 @@ read_now true v s = second (is_none s.first) where
   second true = refl
   second false = refl
 
-kept_side : (f : Bool) (v : Sight) (s : Slot) → AreOnCircle v → IsKeptSlot s → IsKeptSlot (with_side f v s)
+kept_side : (f : Bool) (v : Sight) (s : Slot) → AreOnCircle v → IsKeptSlot s
+    → IsKeptSlot (with_side f v s)
 kept_side false v s lt h = (lt, h.1)
 kept_side true v s lt h = (h.0, lt)
 
 -- after a further reading of a target
-pub reading_is_entry : (s : Sighting) (e : EntryValue) (i : ℕ) → IsEntry e → i < length e.slots → AreOnCircle s.sight → IsEntry (with_reading_at s e (Some i))
+pub reading_is_entry : (s : Sighting) (e : EntryValue) (i : ℕ) → IsEntry e → i < length e.slots
+    → AreOnCircle s.sight → IsEntry (with_reading_at s e (Some i))
 reading_is_entry s e i h inside low = record {
   same_length = length-set e.slots i new ∙ h.same_length;
   paired = h.paired;
   few_targets = h.few_targets;
   some_set = h.some_set;
   few_sets = h.few_sets;
-  angles = All-set IsKeptSlot e.slots i new (kept_side s.is_second s.sight (slot_at e.slots i) low (h.angles i empty_slot inside)) h.angles;
+  angles = All-set IsKeptSlot e.slots i new
+      (kept_side s.is_second s.sight (slot_at e.slots i) low (h.angles i empty_slot inside))
+      h.angles;
   names = h.names;
   different = h.different;
   numbers = h.numbers;
   different_sets = h.different_sets;
   sound = record {
-    within = subst (λ (t : ℕ). All (IsObs (length e.sets - 1) t) e.obs) (sym (length-set e.slots i new)) h.sound.within;
+    within = subst (λ (t : ℕ). All (IsObs (length e.sets - 1) t) e.obs)
+        (sym (length-set e.slots i new)) h.sound.within;
     ordered = h.sound.ordered;
     each_set = h.sound.each_set;
-    each_target = λ t lt. by t (h.sound.each_target t (let l = length-set e.slots i new in omega (arith, l, lt))) (apart t);
+    each_target = λ t lt. by t
+        (h.sound.each_target t (let l = length-set e.slots i new in omega (arith, l, lt)))
+        (apart t);
   };
 } where
   new : Slot
@@ -176,35 +206,58 @@ reading_is_entry s e i h inside low = record {
   apart : (t : ℕ) → (t ≡ i) ⊎ (t ≢ i)
   apart t = cases_eq t i
 
-  by : (t : ℕ) → Any (λ o. o.target ≡ t) e.obs ⊎ (is_unread (slot_at e.slots t) ≡ false) → (t ≡ i) ⊎ (t ≢ i) → Any (λ o. o.target ≡ t) e.obs ⊎ (is_unread (slot_at (set e.slots i new) t) ≡ false)
+  by : (t : ℕ) → Any (λ o. o.target ≡ t) e.obs ⊎ (is_unread (slot_at e.slots t) ≡ false)
+      → (t ≡ i) ⊎ (t ≢ i) → Any (λ o. o.target ≡ t) e.obs
+      ⊎ (is_unread (slot_at (set e.slots i new) t) ≡ false)
   by t (inl a) c = inl a
-  by t (inr r) (inl c) = inr (ap (λ (k : ℕ). is_unread (slot_at (set e.slots i new) k)) c ∙ ap is_unread (get_or-set_same e.slots i new empty_slot inside) ∙ read_now s.is_second s.sight (slot_at e.slots i))
+  by t (inr r) (inl c) = inr
+      (ap (λ (k : ℕ). is_unread (slot_at (set e.slots i new) k)) c
+      ∙ ap is_unread (get_or-set_same e.slots i new empty_slot inside)
+      ∙ read_now s.is_second s.sight (slot_at e.slots i))
   by t (inr r) (inr c) = inr (ap is_unread (get_or-set_other e.slots i t new empty_slot c) ∙ r)
 
-pub absent_name : (name : List ℕ) (targets : List (List ℕ)) → list_any (λ t. bytes_eq t name) targets ≡ false → (k : ℕ) (d : List ℕ) → k < length targets → get_or targets k d ≢ name
+pub absent_name : (name : List ℕ) (targets : List (List ℕ))
+    → list_any (λ t. bytes_eq t name) targets ≡ false → (k : ℕ) (d : List ℕ) → k < length targets
+    → get_or targets k d ≢ name
 absent_name name [] e k d lt = absurd (omega arith)
-absent_name name (t ∷ targets) e zero d lt = λ same. let u : (bytes_eq t name || list_any (λ t. bytes_eq t name) targets) ≡ true = ap (λ v. v || list_any (λ t. bytes_eq t name) targets) ((bytes_eq-Decides t name).1 same) in false≢true (sym e ∙ u)
-absent_name name (t ∷ targets) e (suc k) d lt = absent_name name targets (right (bytes_eq t name) (list_any (λ t. bytes_eq t name) targets) e) k d (omega arith) where
-  right : (a b : Bool) → (a || b) ≡ false → b ≡ false
-  right true b e = cc
-  right false b e = e
+absent_name name (t ∷ targets) e zero d lt = λ same. let u :
+    (bytes_eq t name || list_any (λ t. bytes_eq t name) targets) ≡ true = ap
+    (λ v. v || list_any (λ t. bytes_eq t name) targets)
+    ((bytes_eq-Decides t name).1 same) in false≢true (sym e ∙ u)
+absent_name name (t ∷ targets) e (suc k) d lt = absent_name name targets
+    (right (bytes_eq t name) (list_any (λ t. bytes_eq t name) targets) e) k d (omega arith) where
+      right : (a b : Bool) → (a || b) ≡ false → b ≡ false
+      right true b e = cc
+      right false b e = e
 
 -- after the first reading of a target
-pub target_is_entry : (s : Sighting) (e : EntryValue) → IsEntry e → list_any (λ t. bytes_eq t s.target) e.targets ≡ false → length e.targets < 100 → IsName s.target → AreOnCircle s.sight → IsEntry (with_reading_at s e None)
+pub target_is_entry : (s : Sighting) (e : EntryValue) → IsEntry e
+    → list_any (λ t. bytes_eq t s.target) e.targets ≡ false → length e.targets < 100
+    → IsName s.target → AreOnCircle s.sight → IsEntry (with_reading_at s e None)
 target_is_entry s e h new few named low = record {
-  same_length = (let l = length_one e.slots slot in let m = length_one e.targets s.target in let n = h.same_length in omega (arith, l, m, n));
+  same_length = (let l = length_one e.slots slot in let m = length_one e.targets s.target in let n =
+      h.same_length in omega (arith, l, m, n));
   paired = h.paired;
   few_targets = (let m = length_one e.targets s.target in omega (arith, m));
   some_set = h.some_set;
   few_sets = h.few_sets;
-  angles = All-push IsKeptSlot e.slots slot h.angles (kept_side s.is_second s.sight empty_slot low (tt, tt));
+  angles = All-push IsKeptSlot e.slots slot h.angles
+      (kept_side s.is_second s.sight empty_slot low (tt, tt));
   names = All-push IsName e.targets s.target h.names named;
-  different = all_pairs_push (λ a b. a ≢ b) e.targets s.target h.different (absent_name s.target e.targets new);
+  different = all_pairs_push (λ a b. a ≢ b) e.targets s.target h.different
+      (absent_name s.target e.targets new);
   numbers = h.numbers;
   different_sets = h.different_sets;
   sound = record {
-    within = All-weaker (IsObs (length e.sets - 1) (length e.slots)) (IsObs (length e.sets - 1) (length (e.slots ++ slot ∷ [])))
-        (λ o k. record { set = k.set; target = (let t = k.target in let l = length_one e.slots slot in omega (arith, t, l)); value = k.value }) e.obs h.sound.within;
+    within = All-weaker (IsObs (length e.sets - 1) (length e.slots))
+        (IsObs (length e.sets - 1) (length (e.slots ++ slot ∷ [])))
+        (λ o k. record {
+          set = k.set;
+          target =
+              (let t = k.target in let l = length_one e.slots slot in omega (arith, t, l));
+          value =
+              k.value;
+        }) e.obs h.sound.within;
     ordered = h.sound.ordered;
     each_set = h.sound.each_set;
     each_target = λ t lt. by t (cases t (let l = length_one e.slots slot in omega (arith, l, lt)));
@@ -215,34 +268,75 @@ target_is_entry s e h new few named low = record {
 
   cases : (t : ℕ) → t < length e.slots + 1 → (t < length e.slots) ⊎ (t ≡ length e.slots + 0)
   cases t lt = by_order (cases_lt t (length e.slots)) where
-    by_order : (t < length e.slots) ⊎ (length e.slots ≤ t) → (t < length e.slots) ⊎ (t ≡ length e.slots + 0)
+    by_order : (t < length e.slots) ⊎ (length e.slots ≤ t)
+        → (t < length e.slots) ⊎ (t ≡ length e.slots + 0)
     by_order (inl l) = inl l
     by_order (inr l) = inr (omega arith)
 
-  old : (t : ℕ) → t < length e.slots → Any (λ o. o.target ≡ t) e.obs ⊎ (is_unread (slot_at e.slots t) ≡ false) → Any (λ o. o.target ≡ t) e.obs ⊎ (is_unread (slot_at (e.slots ++ slot ∷ []) t) ≡ false)
+  old : (t : ℕ) → t < length e.slots
+      → Any (λ o. o.target ≡ t) e.obs ⊎ (is_unread (slot_at e.slots t) ≡ false)
+      → Any (λ o. o.target ≡ t) e.obs ⊎ (is_unread (slot_at (e.slots ++ slot ∷ []) t) ≡ false)
   old t lt (inl a) = inl a
   old t lt (inr r) = inr (ap is_unread (get_or_append_left e.slots (slot ∷ []) empty_slot t lt) ∙ r)
 
-  by : (t : ℕ) → (t < length e.slots) ⊎ (t ≡ length e.slots + 0) → Any (λ o. o.target ≡ t) e.obs ⊎ (is_unread (slot_at (e.slots ++ slot ∷ []) t) ≡ false)
+  by : (t : ℕ) → (t < length e.slots) ⊎ (t ≡ length e.slots + 0)
+      → Any (λ o. o.target ≡ t) e.obs ⊎ (is_unread (slot_at (e.slots ++ slot ∷ []) t) ≡ false)
   by t (inl lt) = old t lt (h.sound.each_target t lt)
-  by t (inr c) = inr (ap (λ (k : ℕ). is_unread (slot_at (e.slots ++ slot ∷ []) k)) c ∙ ap is_unread (get_or-append-add e.slots (slot ∷ []) 0 empty_slot) ∙ read_now s.is_second s.sight empty_slot)
+  by t (inr c) = inr (ap (λ (k : ℕ). is_unread (slot_at (e.slots ++ slot ∷ []) k)) c
+      ∙ ap is_unread (get_or-append-add e.slots (slot ∷ []) 0 empty_slot)
+      ∙ read_now s.is_second s.sight empty_slot)
 
 -- the same, with the lists as the code has them
-pub target_kept : (s : Sighting) (e : EntryValue) (targets : List (List ℕ)) (slots : List Slot) → targets ≡ e.targets ++ s.target ∷ [] → slots ≡ e.slots ++ with_side s.is_second s.sight empty_slot ∷ []
-    → IsEntry e → list_any (λ t. bytes_eq t s.target) e.targets ≡ false → length e.targets < 100 → IsName s.target → AreOnCircle s.sight
-    → IsEntry (record { targets = targets; slots = slots; sets = e.sets; obs = e.obs; faces = e.faces })
+pub target_kept : (s : Sighting) (e : EntryValue) (targets : List (List ℕ)) (slots : List Slot)
+    → targets ≡ e.targets ++ s.target ∷ []
+    → slots ≡ e.slots ++ with_side s.is_second s.sight empty_slot ∷ []
+    → IsEntry e → list_any (λ t. bytes_eq t s.target) e.targets ≡ false → length e.targets < 100
+    → IsName s.target → AreOnCircle s.sight
+    → IsEntry (record {
+      targets = targets;
+      slots = slots;
+      sets = e.sets;
+      obs = e.obs;
+      faces =
+          e.faces;
+    })
 target_kept s e targets slots et es h new few named low =
-    subst (λ (ts : List (List ℕ)). IsEntry (record { targets = ts; slots = slots; sets = e.sets; obs = e.obs; faces = e.faces })) (sym et)
-    (subst (λ (ss : List Slot). IsEntry (record { targets = e.targets ++ s.target ∷ []; slots = ss; sets = e.sets; obs = e.obs; faces = e.faces })) (sym es) (target_is_entry s e h new few named low))
+    subst (λ (ts : List (List ℕ)). IsEntry
+    (record { targets = ts; slots = slots; sets = e.sets; obs = e.obs; faces = e.faces }))
+    (sym et)
+    (subst (λ (ss : List Slot). IsEntry
+    (record {
+      targets = e.targets ++ s.target ∷ [];
+      slots = ss;
+      sets = e.sets;
+      obs = e.obs;
+      faces = e.faces;
+    })) (sym es) (target_is_entry s e h new few named low))
 
-pub reading_kept : (s : Sighting) (e : EntryValue) (i : ℕ) (new : Slot) → new ≡ with_side s.is_second s.sight (slot_at e.slots i) → IsEntry e → i < length e.slots → AreOnCircle s.sight → IsEntry (record e { slots = set e.slots i new })
-reading_kept s e i new same h inside low = subst (λ (n : Slot). IsEntry (record e { slots = set e.slots i n })) (sym same) (reading_is_entry s e i h inside low)
+pub reading_kept : (s : Sighting) (e : EntryValue) (i : ℕ) (new : Slot)
+    → new ≡ with_side s.is_second s.sight (slot_at e.slots i) → IsEntry e → i < length e.slots
+    → AreOnCircle s.sight → IsEntry (record e { slots = set e.slots i new })
+reading_kept s e i new same h inside low = subst
+    (λ (n : Slot). IsEntry (record e { slots = set e.slots i n })) (sym same)
+    (reading_is_entry s e i h inside low)
 
-pub set_kept : (n : ℕ) (e : EntryValue) (slots : List Slot) (sets : List ℕ) (obs : List Obs) (faces : List Faces) → slots ≡ replicate (length e.slots) empty_slot → sets ≡ e.sets ++ n ∷ [] → obs ≡ (closed e).obs → faces ≡ (closed e).faces
-    → IsEntry e → MayEnd e → list_any (λ m. eqb m n) e.sets ≡ false → length e.sets < 40 → IsSetNumber n → IsEntry (record { targets = e.targets; slots = slots; sets = sets; obs = obs; faces = faces })
+pub set_kept : (n : ℕ) (e : EntryValue) (slots : List Slot) (sets : List ℕ) (obs : List Obs)
+    (faces : List Faces) → slots ≡ replicate (length e.slots) empty_slot → sets ≡ e.sets ++ n ∷ []
+    → obs ≡ (closed e).obs → faces ≡ (closed e).faces
+    → IsEntry e → MayEnd e → list_any (λ m. eqb m n) e.sets ≡ false → length e.sets < 40
+    → IsSetNumber n → IsEntry
+    (record { targets = e.targets; slots = slots; sets = sets; obs = obs; faces = faces })
 set_kept n e slots sets obs faces el es eo ef h may new few number =
     let k = set_is_entry n e h may new few number in
-    let whole : IsEntry (record { targets = e.targets; slots = replicate (length e.slots) empty_slot; sets = e.sets ++ n ∷ []; obs = (closed e).obs; faces = (closed e).faces }) = record {
+    let whole : IsEntry (record {
+      targets = e.targets;
+      slots = replicate
+          (length e.slots) empty_slot;
+      sets = e.sets ++ n ∷ [];
+      obs = (closed e).obs;
+      faces =
+          (closed e).faces;
+    }) = record {
       same_length = k.same_length;
       paired = k.paired;
       few_targets = k.few_targets;
@@ -255,18 +349,57 @@ set_kept n e slots sets obs faces el es eo ef h may new few number =
       different_sets = k.different_sets;
       sound = k.sound;
     } in
-    subst (λ (ss : List Slot). IsEntry (record { targets = e.targets; slots = ss; sets = sets; obs = obs; faces = faces })) (sym el)
-    (subst (λ (ns : List ℕ). IsEntry (record { targets = e.targets; slots = replicate (length e.slots) empty_slot; sets = ns; obs = obs; faces = faces })) (sym es)
-    (subst (λ (os : List Obs). IsEntry (record { targets = e.targets; slots = replicate (length e.slots) empty_slot; sets = e.sets ++ n ∷ []; obs = os; faces = faces })) (sym eo)
-    (subst (λ (fs : List Faces). IsEntry (record { targets = e.targets; slots = replicate (length e.slots) empty_slot; sets = e.sets ++ n ∷ []; obs = (closed e).obs; faces = fs })) (sym ef) whole)))
+    subst (λ (ss : List Slot). IsEntry
+    (record { targets = e.targets; slots = ss; sets = sets; obs = obs; faces = faces }))
+    (sym el)
+    (subst (λ (ns : List ℕ). IsEntry
+    (record {
+      targets = e.targets;
+      slots = replicate
+          (length e.slots) empty_slot;
+      sets = ns;
+      obs = obs;
+      faces = faces;
+    })) (sym es)
+    (subst (λ (os : List Obs). IsEntry
+    (record {
+      targets = e.targets;
+      slots = replicate
+          (length e.slots) empty_slot;
+      sets = e.sets ++ n ∷ [];
+      obs = os;
+      faces = faces;
+    })) (sym eo)
+    (subst (λ (fs : List Faces). IsEntry
+    (record {
+      targets = e.targets;
+      slots = replicate
+          (length e.slots) empty_slot;
+      sets = e.sets ++ n ∷ [];
+      obs = (closed e).obs;
+      faces = fs;
+    }))
+    (sym ef) whole)))
 
 -- the fault of a new target, as that of a reading
-pub fault_moved : {X : Type 0} (limits : FaceLimits) (e now : EntryValue) (s : Sighting) (r : Result X Refusal) → e ≡ now → None ≡ place_of s.target e.targets
-    → IfErr r (ExplainsRefusal (first_of (when (leb 100 (length now.targets)) kinds.TooManyTargets ∷ []))) → IfErr r (ExplainsRefusal (first_of (reading_faults limits now s)))
+pub fault_moved : {X : Type 0} (limits : FaceLimits) (e now : EntryValue) (s : Sighting)
+    (r : Result X Refusal) → e ≡ now → None ≡ place_of s.target e.targets
+    → IfErr r (ExplainsRefusal
+    (first_of (when (leb 100 (length now.targets)) kinds.TooManyTargets ∷ [])))
+    → IfErr r (ExplainsRefusal (first_of (entry_faults limits now s)))
 fault_moved limits e now s (Ok x) v p h = h
 fault_moved limits e now s (Err f) v p h =
-    let q : None ≡ place_of s.target now.targets = p ∙ ap (λ (w : EntryValue). place_of s.target w.targets) v in
-    subst (λ (o : Option ℕ). ExplainsRefusal (first_of (reading_faults_at limits now s o)) f) q h
+    let q : None ≡ place_of s.target now.targets = p
+    ∙ ap (λ (w : EntryValue). place_of s.target w.targets) v in
+    subst (λ (o : Option ℕ). ExplainsRefusal (first_of (entry_faults_at limits now s o)) f) q h
+
+-- where the station has no target of this name, the reading is the first of its target
+pub new_moved : {X : Type 0} (e now : EntryValue) (s : Sighting) (r : Result X Refusal) → e ≡ now
+    → None ≡ place_of s.target e.targets → IfErr r (WantsOnly (is_new_to now s))
+new_moved e now s (Ok x) v p = tt
+new_moved e now s (Err (refusals.Kind k)) v p = tt
+new_moved e now s (Err refusals.Memory) v p = ap is_none
+    (sym (p ∙ ap (λ (w : EntryValue). place_of s.target w.targets) v))
 
 pub if_none : {X : Type 0} {P : Type 0} (o : Option X) → (o ≡ None → P) → IfNone o P
 if_none None f = f refl

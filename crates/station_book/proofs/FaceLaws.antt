@@ -10,7 +10,8 @@ use Rattle.station_book.specs.Places.{Place, reading_in, is_among, target_at, st
 use Rattle.station_book.specs.Faults.{has_one_face, face_at}
 use Rattle.station_book.proofs.Membership.{In, any_from, any_to, find_some, find_found, all_in, same_test}
 
--- what a book keeps of the open set: the readings of each target of the station, in face I and in face II
+-- what a book keeps of the open set: the readings of each target of the station, in face I and in
+-- face II
 pub record Slot : Type 0 where
   pub first : Option Place
   pub second : Option Place
@@ -33,11 +34,14 @@ pub record IsKept (targets : List (List ℕ)) (r : Place) : Type 0 where
 same_bytes : (xs : List ℕ) → bytes_eq xs xs ≡ true
 same_bytes xs = (bytes_eq-Decides xs xs).1 refl
 
-below_half : (z : ℕ) → (ltb 0 z && ltb z 20_000_000) ≡ true → (ltb 20_000_000 z && ltb z 40_000_000) ≡ false
-below_half z e = split (cases_Bool (ltb 20_000_000 z)) (ltb-true z 20_000_000 (and_parts (ltb 0 z) (ltb z 20_000_000) e).1) where
-  split : (ltb 20_000_000 z ≡ true) ⊎ (ltb 20_000_000 z ≡ false) → z < 20_000_000 → (ltb 20_000_000 z && ltb z 40_000_000) ≡ false
-  split (inl t) lt = let h = ltb-true 20_000_000 z t in absurd (omega arith)
-  split (inr f) lt = ap (λ v. v && ltb z 40_000_000) f
+below_half : (z : ℕ) → (ltb 0 z && ltb z 20_000_000) ≡ true
+    → (ltb 20_000_000 z && ltb z 40_000_000) ≡ false
+below_half z e = split (cases_Bool (ltb 20_000_000 z))
+    (ltb-true z 20_000_000 (and_parts (ltb 0 z) (ltb z 20_000_000) e).1) where
+      split : (ltb 20_000_000 z ≡ true) ⊎ (ltb 20_000_000 z ≡ false) → z < 20_000_000
+          → (ltb 20_000_000 z && ltb z 40_000_000) ≡ false
+      split (inl t) lt = let h = ltb-true 20_000_000 z t in absurd (omega arith)
+      split (inr f) lt = ap (λ v. v && ltb z 40_000_000) f
 
 pub one_face : (b : GsiBlock) → is_of_face false b ≡ true → is_of_face true b ≡ false
 unfolding is_of_face sight
@@ -52,32 +56,40 @@ in_map f x [] h = h
 in_map f x (y ∷ ys) (inl h) = inl (ap f h)
 in_map f x (y ∷ ys) (inr h) = inr (in_map f x ys h)
 
-of_map : {X Y : Type 0} (f : X → Y) (z : Y) (xs : List X) → In z (map f xs) → (x : X) × In x xs × (z ≡ f x)
+of_map : {X Y : Type 0} (f : X → Y) (z : Y) (xs : List X) → In z (map f xs)
+    → (x : X) × In x xs × (z ≡ f x)
 of_map f z [] h = absurd h
 of_map f z (y ∷ ys) (inl h) = (y, inl refl, h)
 of_map f z (y ∷ ys) (inr h) = let r = of_map f z ys h in (r.0, inr r.1, r.2)
 
-pub some_there : (f : Bool) (name : List ℕ) (r : Place) (rs : List Place) → In r rs → target_at r ≡ name → stands (is_of_face f) r ≡ true → is_some (reading_in f name rs) ≡ true
+pub some_there : (f : Bool) (name : List ℕ) (r : Place) (rs : List Place) → In r rs
+    → target_at r ≡ name → stands (is_of_face f) r ≡ true → is_some (reading_in f name rs) ≡ true
 some_there f name r rs h e g = split (none_or_some (reading_in f name rs)) where
   test : (bytes_eq (target_at r) name && stands (is_of_face f) r) ≡ true
   test = and_from _ _ ((bytes_eq-Decides (target_at r) name).1 e) g
 
-  split : (reading_in f name rs ≡ None) ⊎ ((x : Place) × (reading_in f name rs ≡ Some x)) → is_some (reading_in f name rs) ≡ true
-  split (inl n) = absurd (find_found (λ r. bytes_eq (target_at r) name && stands (is_of_face f) r) r rs h test n)
+  split : (reading_in f name rs ≡ None) ⊎ ((x : Place) × (reading_in f name rs ≡ Some x))
+      → is_some (reading_in f name rs) ≡ true
+  split (inl n) = absurd
+      (find_found (λ r. bytes_eq (target_at r) name && stands (is_of_face f) r) r rs h test n)
   split (inr s) = ap is_some s.1
 
 single_first : (s : Slot) → is_some s.first ≡ true → is_none s.second ≡ true → is_single s ≡ true
-single_first s e g = ap (λ v. (v && is_none s.second) || (is_none s.first && is_some s.second)) e ∙ ap (λ v. v || (is_none s.first && is_some s.second)) g
+single_first s e g = ap (λ v. (v && is_none s.second) || (is_none s.first && is_some s.second)) e
+    ∙ ap (λ v. v || (is_none s.first && is_some s.second)) g
 
 or_right_true : (a b : Bool) → b ≡ true → (a || b) ≡ true
 or_right_true true b e = refl
 or_right_true false b e = e
 
 single_second : (s : Slot) → is_none s.first ≡ true → is_some s.second ≡ true → is_single s ≡ true
-single_second s e g = or_right_true (is_some s.first && is_none s.second) (is_none s.first && is_some s.second) (and_from _ _ e g)
+single_second s e g = or_right_true (is_some s.first && is_none s.second)
+    (is_none s.first && is_some s.second) (and_from _ _ e g)
 
 -- a reading alone makes a single slot
-alone : (rs : List Place) (r : Place) → In r rs → stands (is_of_face (face_at r)) r ≡ true → is_none (reading_in (not (face_at r)) (target_at r) rs) ≡ true → is_single (slot rs (target_at r)) ≡ true
+alone : (rs : List Place) (r : Place) → In r rs → stands (is_of_face (face_at r)) r ≡ true
+    → is_none (reading_in (not (face_at r)) (target_at r) rs) ≡ true
+    → is_single (slot rs (target_at r)) ≡ true
 alone rs r h g n = split (face_at r) refl where
   split : (f : Bool) → face_at r ≡ f → is_single (slot rs (target_at r)) ≡ true
   split true e = single_second (slot rs (target_at r))
@@ -92,51 +104,76 @@ one_face_at [] e = refl
 one_face_at (b ∷ past) e = one_face b e
 
 -- a single slot is that of a reading alone
-lonely : (rs : List Place) (name : List ℕ) → is_single (slot rs name) ≡ true → has_one_face rs ≡ true
-lonely rs name e = split (or_cases (is_some (reading_in false name rs) && is_none (reading_in true name rs)) (is_none (reading_in false name rs) && is_some (reading_in true name rs)) e) where
-  at : (f : Bool) (a : Place) → reading_in f name rs ≡ Some a → is_none (reading_in (not f) name rs) ≡ true → (stands (is_of_face f) a ≡ true → face_at a ≡ f) → has_one_face rs ≡ true
-  at f a s n faced =
-      let (inside, test) = find_some (λ r. bytes_eq (target_at r) name && stands (is_of_face f) r) a rs s in
-      let parts = and_parts (bytes_eq (target_at a) name) (stands (is_of_face f) a) test in
-      let same : target_at a ≡ name = (bytes_eq-Decides (target_at a) name).0 parts.0 in
-      any_from (λ r. is_none (reading_in (not (face_at r)) (target_at r) rs)) a rs inside
-      (ap (λ v. is_none (reading_in (not v) (target_at a) rs)) (faced parts.1) ∙ ap (λ (t : List ℕ). is_none (reading_in (not f) t rs)) same ∙ n)
+lonely : (rs : List Place) (name : List ℕ) → is_single (slot rs name) ≡ true
+    → has_one_face rs ≡ true
+lonely rs name e = split
+    (or_cases (is_some (reading_in false name rs) && is_none (reading_in true name rs))
+    (is_none (reading_in false name rs) && is_some (reading_in true name rs)) e) where
+      at : (f : Bool) (a : Place) → reading_in f name rs ≡ Some a
+          → is_none (reading_in (not f) name rs) ≡ true
+          → (stands (is_of_face f) a ≡ true → face_at a ≡ f) → has_one_face rs ≡ true
+      at f a s n faced =
+          let (inside, test) = find_some
+          (λ r. bytes_eq (target_at r) name && stands (is_of_face f) r) a rs s in
+          let parts = and_parts (bytes_eq (target_at a) name) (stands (is_of_face f) a) test in
+          let same : target_at a ≡ name = (bytes_eq-Decides (target_at a) name).0 parts.0 in
+          any_from (λ r. is_none (reading_in (not (face_at r)) (target_at r) rs)) a rs inside
+          (ap (λ v. is_none (reading_in (not v) (target_at a) rs)) (faced parts.1)
+          ∙ ap (λ (t : List ℕ). is_none (reading_in (not f) t rs)) same ∙ n)
 
-  first : (o : Option Place) → reading_in false name rs ≡ o → is_some o ≡ true → is_none (reading_in true name rs) ≡ true → has_one_face rs ≡ true
-  first None s t n = cc
-  first (Some a) s t n = at false a s n (one_face_at a)
+      first : (o : Option Place) → reading_in false name rs ≡ o → is_some o ≡ true
+          → is_none (reading_in true name rs) ≡ true → has_one_face rs ≡ true
+      first None s t n = cc
+      first (Some a) s t n = at false a s n (one_face_at a)
 
-  second : (o : Option Place) → reading_in true name rs ≡ o → is_some o ≡ true → is_none (reading_in false name rs) ≡ true → has_one_face rs ≡ true
-  second None s t n = cc
-  second (Some a) s t n = at true a s n (λ h. h)
+      second : (o : Option Place) → reading_in true name rs ≡ o → is_some o ≡ true
+          → is_none (reading_in false name rs) ≡ true → has_one_face rs ≡ true
+      second None s t n = cc
+      second (Some a) s t n = at true a s n (λ h. h)
 
-  split : ((is_some (reading_in false name rs) && is_none (reading_in true name rs)) ≡ true) ⊎ ((is_none (reading_in false name rs) && is_some (reading_in true name rs)) ≡ true) → has_one_face rs ≡ true
-  split (inl h) = let p = and_parts (is_some (reading_in false name rs)) (is_none (reading_in true name rs)) h in first _ refl p.0 p.1
-  split (inr h) = let p = and_parts (is_none (reading_in false name rs)) (is_some (reading_in true name rs)) h in second _ refl p.1 p.0
+      split : ((is_some (reading_in false name rs) && is_none (reading_in true name rs)) ≡ true)
+          ⊎ ((is_none (reading_in false name rs) && is_some (reading_in true name rs)) ≡ true)
+          → has_one_face rs ≡ true
+      split (inl h) = let p = and_parts (is_some (reading_in false name rs))
+          (is_none (reading_in true name rs)) h in first _ refl p.0 p.1
+      split (inr h) = let p = and_parts (is_none (reading_in false name rs))
+          (is_some (reading_in true name rs)) h in second _ refl p.1 p.0
 
 -- A target has one face exactly where a slot is single.
-pub one_face_by_slots : (targets : List (List ℕ)) (rs : List Place) → AllByRecursion (IsKept targets) rs → has_one_face rs ≡ list_any is_single (slots targets rs)
-one_face_by_slots targets rs kept = same_test (has_one_face rs) (list_any is_single (slots targets rs)) there back where
-  there : has_one_face rs ≡ true → list_any is_single (slots targets rs) ≡ true
-  there e =
-      let (r, inside, test) = any_to (λ r. is_none (reading_in (not (face_at r)) (target_at r) rs)) rs e in
-      let k = all_in (IsKept targets) r rs kept inside in
-      let (name, listed, same) = any_to (λ other. bytes_eq other (target_at r)) targets k.in_targets in
-      let equal : name ≡ target_at r = (bytes_eq-Decides name (target_at r)).0 same in
-      any_from is_single (slot rs name) (slots targets rs) (in_map (slot rs) name targets listed) (ap (λ (t : List ℕ). is_single (slot rs t)) equal ∙ alone rs r inside k.has_face test)
+pub one_face_by_slots : (targets : List (List ℕ)) (rs : List Place)
+    → AllByRecursion (IsKept targets) rs → has_one_face rs ≡ list_any is_single (slots targets rs)
+one_face_by_slots targets rs kept = same_test (has_one_face rs)
+    (list_any is_single (slots targets rs)) there back where
+      there : has_one_face rs ≡ true → list_any is_single (slots targets rs) ≡ true
+      there e =
+          let (r, inside, test) = any_to
+          (λ r. is_none (reading_in (not (face_at r)) (target_at r) rs)) rs e in
+          let k = all_in (IsKept targets) r rs kept inside in
+          let (name, listed, same) = any_to
+          (λ other. bytes_eq other (target_at r)) targets k.in_targets in
+          let equal : name ≡ target_at r = (bytes_eq-Decides name (target_at r)).0 same in
+          any_from is_single (slot rs name) (slots targets rs)
+          (in_map (slot rs) name targets listed)
+          (ap (λ (t : List ℕ). is_single (slot rs t)) equal ∙ alone rs r inside k.has_face test)
 
-  back : list_any is_single (slots targets rs) ≡ true → has_one_face rs ≡ true
-  back e =
-      let (s, inside, single) = any_to is_single (slots targets rs) e in
-      let (name, listed, same) = of_map (slot rs) s targets inside in
-      lonely rs name (sym (ap is_single same) ∙ single)
+      back : list_any is_single (slots targets rs) ≡ true → has_one_face rs ≡ true
+      back e =
+          let (s, inside, single) = any_to is_single (slots targets rs) e in
+          let (name, listed, same) = of_map (slot rs) s targets inside in
+          lonely rs name (sym (ap is_single same) ∙ single)
 
 -- A new target has no reading.
-pub unseen : (targets : List (List ℕ)) (rs : List Place) (name : List ℕ) (f : Bool) → AllByRecursion (IsKept targets) rs → is_among targets name ≡ false → reading_in f name rs ≡ None
+pub unseen : (targets : List (List ℕ)) (rs : List Place) (name : List ℕ) (f : Bool)
+    → AllByRecursion (IsKept targets) rs → is_among targets name ≡ false
+    → reading_in f name rs ≡ None
 unseen targets rs name f kept out = split (none_or_some (reading_in f name rs)) where
-  split : (reading_in f name rs ≡ None) ⊎ ((x : Place) × (reading_in f name rs ≡ Some x)) → reading_in f name rs ≡ None
+  split : (reading_in f name rs ≡ None) ⊎ ((x : Place) × (reading_in f name rs ≡ Some x))
+      → reading_in f name rs ≡ None
   split (inl n) = n
   split (inr s) =
-      let (inside, test) = find_some (λ r. bytes_eq (target_at r) name && stands (is_of_face f) r) s.0 rs s.1 in
-      let same : target_at s.0 ≡ name = (bytes_eq-Decides (target_at s.0) name).0 (and_parts (bytes_eq (target_at s.0) name) (stands (is_of_face f) s.0) test).0 in
-      absurd (false≢true (sym out ∙ ap (is_among targets) (sym same) ∙ (all_in (IsKept targets) s.0 rs kept inside).in_targets))
+      let (inside, test) = find_some
+      (λ r. bytes_eq (target_at r) name && stands (is_of_face f) r) s.0 rs s.1 in
+      let same : target_at s.0 ≡ name = (bytes_eq-Decides (target_at s.0) name).0
+      (and_parts (bytes_eq (target_at s.0) name) (stands (is_of_face f) s.0) test).0 in
+      absurd (false≢true (sym out ∙ ap (is_among targets) (sym same)
+      ∙ (all_in (IsKept targets) s.0 rs kept inside).in_targets))

@@ -1,5 +1,5 @@
--- The fault of a block by what is kept is its fault by the blocks before it: codes 10 and 30, other codes, and a
--- measurement outside a set.
+-- The fault of a block by what is kept is its fault by the blocks before it: codes 10 and 30, other
+-- codes, and a measurement outside a set.
 use Rattle.std.proofs.Common.{◌≡◌, cond, ◌&&◌, List, [], ◌∷◌, ◌++◌, Option, Some, None, refl, sym, ◌∙◌}
 use Rattle.station_book.specs.declared.role.Role.TheVariants as roles
 use Rattle.station_book.specs.Faults.{first_of, end_faults, station_faults, set_faults, reading_faults, fault_after, fault_at_end}
@@ -13,27 +13,44 @@ use Rattle.station_book.specs.Standing.{StandsFor}
 use Rattle.station_book.proofs.TakeLaws.{station_as, set_as, close_as, sight_as}
 use Rattle.station_book.proofs.EndLaws.{same_end}
 
-pub first_append : {X : Type 0} (xs ys : List (Option X)) → first_of (xs ++ ys) ≡ then_fault (first_of xs) (first_of ys)
+pub first_append : {X : Type 0} (xs ys : List (Option X))
+    → first_of (xs ++ ys) ≡ then_fault (first_of xs) (first_of ys)
 first_append [] ys = refl
 first_append (None ∷ xs) ys = first_append xs ys
 first_append (Some x ∷ xs) ys = refl
 
 -- code 10
-pub same_station_fault : (k : kept.Kept) (b : GsiBlock) (past : History) → role_of b ≡ roles.Station → StandsFor k.limits k past → kept.fault_as roles.Station k b ≡ fault_after k.limits past b
+pub same_station_fault : (k : kept.Kept) (b : GsiBlock) (past : History) → role_of b ≡ roles.Station
+    → StandsFor k.limits k past → kept.fault_as roles.Station k b ≡ fault_after k.limits past b
 unfolding fault_after fault_at_end
 same_station_fault k b past r h =
-    (λ i. then_fault (same_end k past h i) (first_of (station_faults b))) ∙ sym (first_append (end_faults past) (station_faults b))
-    ∙ (λ i. first_of (cond (sym (station_as b roles.Station r) i) (end_faults past ++ station_faults b) (cond (opens_set b) (end_faults past ++ set_faults past b) (cond (closes_set b) (end_faults past) (cond (is_sight b && is_open past) (reading_faults k.limits past b) [])))))
+    (λ i. then_fault (same_end k past h i) (first_of (station_faults b)))
+    ∙ sym (first_append (end_faults past) (station_faults b))
+    ∙ (λ i. first_of (cond (sym (station_as b roles.Station r) i)
+    (end_faults past ++ station_faults b)
+    (cond (opens_set b) (end_faults past ++ set_faults past b)
+    (cond (closes_set b) (end_faults past)
+    (cond (is_sight b && is_open past) (reading_faults k.limits past b) [])))))
 
 -- code 30
-pub same_close_fault : (k : kept.Kept) (b : GsiBlock) (past : History) → role_of b ≡ roles.Close → StandsFor k.limits k past → kept.fault_as roles.Close k b ≡ fault_after k.limits past b
+pub same_close_fault : (k : kept.Kept) (b : GsiBlock) (past : History) → role_of b ≡ roles.Close
+    → StandsFor k.limits k past → kept.fault_as roles.Close k b ≡ fault_after k.limits past b
 unfolding fault_after fault_at_end
 same_close_fault k b past r h =
     same_end k past h
-    ∙ (λ i. first_of (cond (sym (station_as b roles.Close r) i) (end_faults past ++ station_faults b) (cond (sym (set_as b roles.Close r) i) (end_faults past ++ set_faults past b) (cond (sym (close_as b roles.Close r) i) (end_faults past) (cond (is_sight b && is_open past) (reading_faults k.limits past b) [])))))
+    ∙ (λ i. first_of (cond (sym (station_as b roles.Close r) i)
+    (end_faults past ++ station_faults b)
+    (cond (sym (set_as b roles.Close r) i) (end_faults past ++ set_faults past b)
+    (cond (sym (close_as b roles.Close r) i) (end_faults past)
+    (cond (is_sight b && is_open past) (reading_faults k.limits past b) [])))))
 
 -- another code
-pub same_other_fault : (k : kept.Kept) (b : GsiBlock) (past : History) → role_of b ≡ roles.Other → kept.fault_as roles.Other k b ≡ fault_after k.limits past b
+pub same_other_fault : (k : kept.Kept) (b : GsiBlock) (past : History) → role_of b ≡ roles.Other
+    → kept.fault_as roles.Other k b ≡ fault_after k.limits past b
 unfolding fault_after
 same_other_fault k b past r =
-    λ i. first_of (cond (sym (station_as b roles.Other r) i) (end_faults past ++ station_faults b) (cond (sym (set_as b roles.Other r) i) (end_faults past ++ set_faults past b) (cond (sym (close_as b roles.Other r) i) (end_faults past) (cond (sym (sight_as b roles.Other r) i && is_open past) (reading_faults k.limits past b) []))))
+    λ i. first_of (cond (sym (station_as b roles.Other r) i) (end_faults past ++ station_faults b)
+    (cond (sym (set_as b roles.Other r) i) (end_faults past ++ set_faults past b)
+    (cond (sym (close_as b roles.Other r) i) (end_faults past)
+    (cond (sym (sight_as b roles.Other r) i && is_open past)
+    (reading_faults k.limits past b) []))))

@@ -17,7 +17,8 @@ use Rattle.station_book.proofs.NameLaws.{Pairwise, AreApart}
 use Rattle.station_book.proofs.OneReading.{length_place}
 
 -- two places of one file that are as long are one
-pub same_place : (h : History) (a b : Place) → In a (places h) → In b (places h) → length a ≡ length b → a ≡ b
+pub same_place : (h : History) (a b : Place) → In a (places h) → In b (places h)
+    → length a ≡ length b → a ≡ b
 same_place [] a b pa pb e = absurd pa
 same_place (c ∷ past) a b (inl ea) (inl eb) e = ea ∙ sym eb
 same_place (c ∷ past) a b (inl ea) (inr pb) e =
@@ -37,7 +38,8 @@ some_block (c ∷ past) a (inr placed) = some_block past a placed
 abbrev pub OfFile : History → Place → Type 0
 OfFile h a = (a ≡ []) ⊎ In a (places h)
 
-pub same_of_file : (h : History) (a b : Place) → OfFile h a → OfFile h b → length a ≡ length b → a ≡ b
+pub same_of_file : (h : History) (a b : Place) → OfFile h a → OfFile h b → length a ≡ length b
+    → a ≡ b
 same_of_file h a b (inl x) (inl y) e = x ∙ sym y
 same_of_file h a b (inl x) (inr p) e =
     let l : length a ≡ 0 = ap length x in let m = some_block h b p in absurd (omega arith)
@@ -48,77 +50,96 @@ same_of_file h a b (inr p) (inr q) e = same_place h a b p q e
 pub last_placed : (p : GsiBlock → Bool) (past : History) → OfFile past (last p past)
 last_placed p [] = inl refl
 last_placed p (b ∷ past) = split (p b) (last_placed p past) where
-  split : (v : Bool) → OfFile past (last p past) → OfFile (b ∷ past) (cond v (b ∷ past) (last p past))
+  split : (v : Bool) → OfFile past (last p past)
+      → OfFile (b ∷ past) (cond v (b ∷ past) (last p past))
   split true ih = inr (inl refl)
   split false (inl e) = inl e
   split false (inr k) = inr (inr k)
 
-pub before_placed : (h : History) (r q : Place) → In r (places h) → In q (places (before r)) → In q (places h)
+pub before_placed : (h : History) (r q : Place) → In r (places h) → In q (places (before r))
+    → In q (places h)
 before_placed [] r q placed k = absurd placed
 before_placed (b ∷ past) r q (inl e) k = inr (subst (λ (x : Place). In q (places (before x))) e k)
 before_placed (b ∷ past) r q (inr placed) k = inr (before_placed past r q placed k)
 
 -- the last such place before a place
-pub owner_placed : (p : GsiBlock → Bool) (h : History) (r : Place) → In r (places h) → OfFile h (last p (before r))
+pub owner_placed : (p : GsiBlock → Bool) (h : History) (r : Place) → In r (places h)
+    → OfFile h (last p (before r))
 owner_placed p h r placed = split (last_placed p (before r)) where
   split : OfFile (before r) (last p (before r)) → OfFile h (last p (before r))
   split (inl e) = inl e
   split (inr k) = inr (before_placed h r (last p (before r)) placed k)
 
-same_station : (b : GsiBlock) (past : History) → opens_station b ≡ false → station (b ∷ past) ≡ station past
+same_station : (b : GsiBlock) (past : History) → opens_station b ≡ false
+    → station (b ∷ past) ≡ station past
 same_station b past e = ap (λ v. cond v (b ∷ past) (last opens_station past)) e
 
 -- the station of an open set is the station
-pub station_of_set : (past : History) → is_open past ≡ true → station (before (opening past)) ≡ station past
+pub station_of_set : (past : History) → is_open past ≡ true
+    → station (before (opening past)) ≡ station past
 station_of_set [] e = cc
 station_of_set (b ∷ past) e = split (cases_Bool (is_opening b)) (station_of_set past) where
-  split : (is_opening b ≡ true) ⊎ (is_opening b ≡ false) → (is_open past ≡ true → station (before (opening past)) ≡ station past)
+  split : (is_opening b ≡ true) ⊎ (is_opening b ≡ false)
+      → (is_open past ≡ true → station (before (opening past)) ≡ station past)
       → station (before (opening (b ∷ past))) ≡ station (b ∷ past)
   split (inl o) ih =
       let set : opens_set b ≡ true = sym (is_open-opening b past o) ∙ e in
-      let own : opening (b ∷ past) ≡ b ∷ past = ap (λ v. cond v (b ∷ past) (last is_opening past)) o in
-      ap (λ (p : Place). station (before p)) own ∙ sym (same_station b past (no_station_at_set b set))
+      let own : opening (b ∷ past) ≡ b ∷ past = ap
+      (λ v. cond v (b ∷ past) (last is_opening past)) o in
+      ap (λ (p : Place). station (before p)) own
+      ∙ sym (same_station b past (no_station_at_set b set))
   split (inr o) ih =
-      let own : opening (b ∷ past) ≡ opening past = ap (λ v. cond v (b ∷ past) (last is_opening past)) o in
+      let own : opening (b ∷ past) ≡ opening past = ap
+      (λ v. cond v (b ∷ past) (last is_opening past)) o in
       ap (λ (p : Place). station (before p)) own ∙ ih (sym (is_open-other b past o) ∙ e)
       ∙ sym (same_station b past (sight_opens_no_station b o))
 
 -- The set of a reading is a set of the file, and of the reading's station.
-pub record HasSet (h : History) (r : Place) : Type 0 where
+pub record HasItsSet (h : History) (r : Place) : Type 0 where
   pub placed : In (opening (before r)) (places h)
   pub is_set : is_set (opening (before r)) ≡ true
   pub of_station : station (before (opening (before r))) ≡ station (before r)
 
-pub set_of_reading : (h : History) (r : Place) → In r (places h) → is_reading r ≡ true → HasSet h r
+pub set_of_reading : (h : History) (r : Place) → In r (places h) → is_reading r ≡ true
+    → HasItsSet h r
 set_of_reading h r placed reading =
-    let now : is_open (before r) ≡ true = (and_parts (stands is_sight r) (is_open (before r)) reading).1 in
+    let now : is_open (before r) ≡ true =
+    (and_parts (stands is_sight r) (is_open (before r)) reading).1 in
     record {
       placed = split now (owner_placed is_opening h r placed);
       is_set = now;
       of_station = station_of_set (before r) now;
     }
   where
-    split : is_open (before r) ≡ true → OfFile h (opening (before r)) → In (opening (before r)) (places h)
-    split now (inl e) = let bad : false ≡ true = sym (ap (λ (p : Place). stands opens_set p) e) ∙ now in cc
+    split : is_open (before r) ≡ true → OfFile h (opening (before r))
+        → In (opening (before r)) (places h)
+    split now (inl e) = let bad : false ≡ true = sym (ap (λ (p : Place). stands opens_set p) e)
+        ∙ now in cc
     split now (inr k) = k
 
 -- the station of a set is listed
-pub set_station : (h : History) (s : Place) → In s (places h) → is_set s ≡ true → In (station (before s)) (stations_of h)
+pub set_station : (h : History) (s : Place) → In s (places h) → is_set s ≡ true
+    → In (station (before s)) (stations_of h)
 set_station h s placed set =
-    let found : list_any (λ q. is_set q && is_same (station (before q)) (station (before s))) (places h) ≡ true =
-    any_from (λ q. is_set q && is_same (station (before q)) (station (before s))) s (places h) placed
+    let found : list_any (λ q. is_set q && is_same (station (before q)) (station (before s)))
+    (places h) ≡ true =
+    any_from (λ q. is_set q && is_same (station (before q)) (station (before s))) s
+    (places h) placed
     (and_from (is_set s) (is_same (station (before s)) (station (before s))) set
     (eq-eqb (length (station (before s))) (length (station (before s))) refl)) in
     let first = any_to (λ q. is_same (station (before q)) (station (before s))) (first_sets h)
     (sym (any_station (λ st. is_same st (station (before s))) h) ∙ found) in
     let q = first.0 in
     let q_placed : In q (places h) =
-    (of_filter (λ place. is_set place && is_empty (sets_of (station (before place)) (before place))) q (places h) first.1).0 in
+    (of_filter (λ place. is_set place && is_empty (sets_of (station (before place)) (before place)))
+    q (places h) first.1).0 in
     let same : station (before q) ≡ station (before s) =
-    same_of_file h (station (before q)) (station (before s)) (owner_placed opens_station h q q_placed) (owner_placed opens_station h s placed)
+    same_of_file h (station (before q)) (station (before s))
+    (owner_placed opens_station h q q_placed) (owner_placed opens_station h s placed)
     (eqb-true (length (station (before q))) (length (station (before s))) first.2) in
     subst (λ (st : Place). In st (stations_of h)) same
-    (in_map (λ s. station (before s)) q (reverse (first_sets h)) (in_reverse q (first_sets h) first.1))
+    (in_map (λ s. station (before s)) q (reverse (first_sets h))
+    (in_reverse q (first_sets h) first.1))
 
 -- a listed station is the station of a set
 pub record IsStationOfSet (h : History) (st : Place) : Type 0 where
@@ -130,11 +151,14 @@ pub record IsStationOfSet (h : History) (st : Place) : Type 0 where
 pub listed_station : (h : History) (st : Place) → In st (stations_of h) → IsStationOfSet h st
 listed_station h st listed =
     let q = of_map (λ s. station (before s)) st (reverse (first_sets h)) listed in
-    let r = of_filter (λ place. is_set place && is_empty (sets_of (station (before place)) (before place))) q.0 (places h) (of_reverse q.0 (first_sets h) q.1) in
+    let r = of_filter (λ place. is_set place && is_empty
+    (sets_of (station (before place)) (before place))) q.0 (places h)
+    (of_reverse q.0 (first_sets h) q.1) in
     record {
       set = q.0;
       placed = r.0;
-      is_set = (and_parts (is_set q.0) (is_empty (sets_of (station (before q.0)) (before q.0))) r.1).0;
+      is_set = (and_parts (is_set q.0)
+          (is_empty (sets_of (station (before q.0)) (before q.0))) r.1).0;
       of_station = q.2;
     }
 
@@ -144,16 +168,20 @@ station_placed h st listed =
     subst (OfFile h) l.of_station (owner_placed opens_station h l.set l.placed)
 
 -- of stations that are apart, one has a name
-pub one_named : (name : List ℕ) (sts : List Place) (a b : Place) → Pairwise AreApart sts → In a sts → In b sts
+pub one_named : (name : List ℕ) (sts : List Place) (a b : Place) → Pairwise AreApart sts → In a sts
+    → In b sts
     → name_at a ≡ Some name → name_at b ≡ Some name → a ≡ b
 one_named name [] a b pairs ia ib na nb = absurd ia
 one_named name (x ∷ xs) a b pairs (inl ea) (inl eb) na nb = ea ∙ sym eb
 one_named name (x ∷ xs) a b pairs (inl ea) (inr ib) na nb =
     absurd (false≢true (sym (all_in (AreApart x) b xs pairs.0 ib)
-    ∙ ap (λ (y : Place). same_name (name_at y) (name_at b)) (sym ea) ∙ (λ i. same_name (na i) (nb i))
+    ∙ ap (λ (y : Place). same_name (name_at y) (name_at b)) (sym ea)
+    ∙ (λ i. same_name (na i) (nb i))
     ∙ (bytes_eq-Decides name name).1 refl))
 one_named name (x ∷ xs) a b pairs (inr ia) (inl eb) na nb =
     absurd (false≢true (sym (all_in (AreApart x) a xs pairs.0 ia)
-    ∙ ap (λ (y : Place). same_name (name_at y) (name_at a)) (sym eb) ∙ (λ i. same_name (nb i) (na i))
+    ∙ ap (λ (y : Place). same_name (name_at y) (name_at a)) (sym eb)
+    ∙ (λ i. same_name (nb i) (na i))
     ∙ (bytes_eq-Decides name name).1 refl))
-one_named name (x ∷ xs) a b pairs (inr ia) (inr ib) na nb = one_named name xs a b pairs.1 ia ib na nb
+one_named name (x ∷ xs) a b pairs (inr ia)
+    (inr ib) na nb = one_named name xs a b pairs.1 ia ib na nb

@@ -61,20 +61,24 @@ more_stations : (v : Bool) (b : GsiBlock) (past : History)
     → (opens_set b && is_empty (open_sets past)) ≡ v
     → stations_of (b ∷ past) ≡ cond v (stations_of past ++ station past ∷ []) (stations_of past)
 more_stations true b past e =
-    ap (λ v. map (λ s. station (before s)) (reverse (cond v ((b ∷ past) ∷ first_sets past) (first_sets past)))) e
+    ap (λ v. map (λ s. station (before s))
+    (reverse (cond v ((b ∷ past) ∷ first_sets past) (first_sets past)))) e
     ∙ ap (map (λ s. station (before s))) (reverse-append ((b ∷ past) ∷ []) (first_sets past))
     ∙ map-append (λ s. station (before s)) (reverse (first_sets past)) ((b ∷ past) ∷ [])
 more_stations false b past e =
-    ap (λ v. map (λ s. station (before s)) (reverse (cond v ((b ∷ past) ∷ first_sets past) (first_sets past)))) e
+    ap (λ v. map (λ s. station (before s))
+    (reverse (cond v ((b ∷ past) ∷ first_sets past) (first_sets past)))) e
 
 empty_list : {X : Type 0} (xs : List X) → is_empty xs ≡ true → xs ≡ []
 empty_list [] e = refl
 empty_list (x ∷ xs) e = cc
 
-pub apart : (limits : FaceLimits) (h : History) → IsWithoutFault limits h → Pairwise AreApart (stations_of h)
+pub apart : (limits : FaceLimits) (h : History) → IsWithoutFault limits h
+    → Pairwise AreApart (stations_of h)
 apart limits [] clean = tt
 apart limits (b ∷ past) clean =
-    split (apart limits past clean.1) (cases_Bool (opens_set b)) (cases_Bool (is_empty (open_sets past)))
+    split (apart limits past clean.1) (cases_Bool (opens_set b))
+    (cases_Bool (is_empty (open_sets past)))
   where
     split : Pairwise AreApart (stations_of past) → (opens_set b ≡ true) ⊎ (opens_set b ≡ false)
         → (is_empty (open_sets past) ≡ true) ⊎ (is_empty (open_sets past) ≡ false)
@@ -82,25 +86,31 @@ apart limits (b ∷ past) clean =
     split older (inl s) (inl n) =
         let c = clean_set limits past b s clean.0 in
         let others =
-        each_false (λ s. same_name (name_at (station (before s))) (name_at (station past))) (first_sets past)
+        each_false (λ s. same_name (name_at (station (before s))) (name_at (station past)))
+        (first_sets past)
         (sym (had_sets_by_names past (empty_list (open_sets past) n)) ∙ c.first_time) in
         subst (Pairwise AreApart) (sym (more_stations true b past (and_from (opens_set b) _ s n)))
         (pairwise_snoc AreApart (stations_of past) (station past) older
-        (all_map (λ st. AreApart st (station past)) (λ s. station (before s)) (reverse (first_sets past))
+        (all_map (λ st. AreApart st (station past)) (λ s. station (before s))
+        (reverse (first_sets past))
         (all_reverse (λ s. AreApart (station (before s)) (station past)) (first_sets past) others)))
     split older (inl s) (inr n) =
         subst (Pairwise AreApart)
-        (sym (more_stations false b past (and_right (opens_set b) (is_empty (open_sets past)) n))) older
+        (sym (more_stations false b past (and_right (opens_set b) (is_empty (open_sets past)) n)))
+        older
     split older (inr s) n =
         subst (Pairwise AreApart)
-        (sym (more_stations false b past (and_left (opens_set b) (is_empty (open_sets past)) s))) older
+        (sym (more_stations false b past (and_left (opens_set b) (is_empty (open_sets past)) s)))
+        older
 
 -- Stations that were surveyed at such places have different names.
 abbrev pub HaveTwoNames : SurveyedStation → SurveyedStation → Type 0
 HaveTwoNames a b = a.station.name ≢ b.station.name
 
-apart_from : (limits : FaceLimits) (h : History) (st : Place) (s : SurveyedStation) (sts : List Place) (ss : List SurveyedStation)
-    → IsSurveyed limits h st s → AllByRecursion (AreApart st) sts → AllZip (IsSurveyed limits h) sts ss
+apart_from : (limits : FaceLimits) (h : History) (st : Place) (s : SurveyedStation)
+    (sts : List Place) (ss : List SurveyedStation)
+    → IsSurveyed limits h st s → AllByRecursion (AreApart st) sts
+    → AllZip (IsSurveyed limits h) sts ss
     → AllByRecursion (HaveTwoNames s) ss
 apart_from limits h st s [] [] own all zip = tt
 apart_from limits h st s [] (y ∷ ys) own all zip = absurd zip
@@ -123,7 +133,8 @@ two_names limits h (x ∷ xs) (y ∷ ys) pairs zip =
 
 pub pairs_of : {X : Type 0} (R : X → X → Type 0) (xs : List X) → Pairwise R xs → AllPairs R xs
 pairs_of R [] pairs = λ i j d before inside. absurd (omega arith)
-pairs_of R (x ∷ xs) pairs = AllPairs-cons R x xs (All-from_recursion (R x) xs pairs.0) (pairs_of R xs pairs.1)
+pairs_of R (x ∷ xs) pairs = AllPairs-cons R x xs (All-from_recursion (R x) xs pairs.0)
+    (pairs_of R xs pairs.1)
 
 pub different_stations : (limits : FaceLimits) (h : History) (stations : List SurveyedStation)
     → IsWithoutFault limits h → AreStations limits h stations → Pairwise HaveTwoNames stations
@@ -137,7 +148,8 @@ different_names limits h stations clean are =
     pairs_of HaveTwoNames stations (different_stations limits h stations clean are)
 
 -- Of stations with different names, the one that is found by its name is the one that has it.
-named_only : (name : List ℕ) (s : SurveyedStation) (ss : List SurveyedStation) → Pairwise HaveTwoNames ss
+named_only : (name : List ℕ) (s : SurveyedStation) (ss : List SurveyedStation)
+    → Pairwise HaveTwoNames ss
     → In s ss → s.station.name ≡ name → station_named name ss ≡ Some s
 named_only name s [] pairs listed e = absurd listed
 named_only name s (x ∷ xs) pairs listed e =
@@ -147,7 +159,8 @@ named_only name s (x ∷ xs) pairs listed e =
         → (bytes_eq x.station.name name ≡ true) ⊎ (bytes_eq x.station.name name ≡ false)
         → station_named name (x ∷ xs) ≡ Some s
     split rest (inl here) (inl t) =
-        ap (λ v. cond v (Some x) (station_named name xs)) t ∙ ap (λ (y : SurveyedStation). Some y) (sym here)
+        ap (λ v. cond v (Some x) (station_named name xs)) t
+        ∙ ap (λ (y : SurveyedStation). Some y) (sym here)
     split rest (inl here) (inr f) =
         absurd (false≢true (sym f ∙ (bytes_eq-Decides x.station.name name).1
         (ap (λ (y : SurveyedStation). y.station.name) (sym here) ∙ e)))
@@ -157,7 +170,8 @@ named_only name s (x ∷ xs) pairs listed e =
     split rest (inr later) (inr f) =
         ap (λ v. cond v (Some x) (station_named name xs)) f ∙ rest later e
 
-pub its_station : (limits : FaceLimits) (h : History) (stations : List SurveyedStation) (name : List ℕ) (s : SurveyedStation)
+pub its_station : (limits : FaceLimits) (h : History) (stations : List SurveyedStation)
+    (name : List ℕ) (s : SurveyedStation)
     → IsWithoutFault limits h → AreStations limits h stations
     → (station_named name stations ≡ Some s) ↔ (Contains stations s × (s.station.name ≡ name))
 its_station limits h stations name s clean are = (there, back) where
@@ -167,4 +181,5 @@ its_station limits h stations name s clean are = (there, back) where
       (contains_in s stations found.0, (bytes_eq-Decides s.station.name name).0 found.1)
 
   back : Contains stations s × (s.station.name ≡ name) → station_named name stations ≡ Some s
-  back c = named_only name s stations (different_stations limits h stations clean are) (in_contains s stations c.0) c.1
+  back c = named_only name s stations (different_stations limits h stations clean are)
+      (in_contains s stations c.0) c.1

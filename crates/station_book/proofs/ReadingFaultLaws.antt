@@ -62,7 +62,8 @@ tests taken many c i =
 -- the same, by the station's targets and the set's readings
 abbrev later_faults : FaceLimits → List (List ℕ) → List Place → GsiBlock → List (Option BookKind)
 later_faults limits targets rs b =
-    tests (is_some (reading_in (face b) (target b) rs)) (not (is_among targets (target b)) && leb 100 (length targets))
+    tests (is_some (reading_in (face b) (target b) rs))
+    (not (is_among targets (target b)) && leb 100 (length targets))
     (by_faces (has_no_two_c limits.two_c) b (reading_in (not (face b)) (target b) rs))
     (by_faces (has_no_two_i limits.two_i) b (reading_in (not (face b)) (target b) rs))
 
@@ -71,10 +72,12 @@ two_faces true s = refl
 two_faces false true = refl
 two_faces false false = refl
 
-unclear_as : (b : GsiBlock) → not (is_of_face false b || is_of_face true b) ≡ is_none (said.face_of ((sight b).zenith))
+unclear_as : (b : GsiBlock)
+    → not (is_of_face false b || is_of_face true b) ≡ is_none (said.face_of ((sight b).zenith))
 unclear_as b =
     (λ i. not (first_face b i || second_face b i))
-    ∙ two_faces (ltb 0 ((sight b).zenith) && ltb ((sight b).zenith) 20_000_000) (ltb 20_000_000 ((sight b).zenith) && ltb ((sight b).zenith) 40_000_000)
+    ∙ two_faces (ltb 0 ((sight b).zenith) && ltb ((sight b).zenith) 20_000_000)
+    (ltb 20_000_000 ((sight b).zenith) && ltb ((sight b).zenith) 40_000_000)
 
 own_same : (b : GsiBlock) → own_faults b ≡ said.sighting_faults b
 own_same b = λ i.
@@ -87,14 +90,16 @@ own_same b = λ i.
     ∷ []
 
 -- the face that is read is the face of the block
-second_of : (f s : Bool) → (f ≡ true → s ≡ false) → said.is_second (cond f (Some false) (cond s (Some true) None)) ≡ s
+second_of : (f s : Bool) → (f ≡ true → s ≡ false)
+    → said.is_second (cond f (Some false) (cond s (Some true) None)) ≡ s
 second_of true s one = sym (one refl)
 second_of false true one = refl
 second_of false false one = refl
 
 face_as : (b : GsiBlock) → said.is_second (said.face_of ((sight b).zenith)) ≡ face b
 face_as b =
-    second_of (ltb 0 ((sight b).zenith) && ltb ((sight b).zenith) 20_000_000) (ltb 20_000_000 ((sight b).zenith) && ltb ((sight b).zenith) 40_000_000)
+    second_of (ltb 0 ((sight b).zenith) && ltb ((sight b).zenith) 20_000_000)
+    (ltb 20_000_000 ((sight b).zenith) && ltb ((sight b).zenith) 40_000_000)
     (λ e. sym (second_face b) ∙ one_face b (first_face b ∙ e))
     ∙ sym (second_face b)
 
@@ -105,91 +110,151 @@ reading_of b = record { target = target b; sight = sight b; is_second = face b }
 sighting_as : (b : GsiBlock) → said.sighting b ≡ reading_of b
 sighting_as b = λ i. record { target = target b; sight = sight b; is_second = face_as b i }
 
-side_sighted : (f : Bool) (rs : List Place) (name : List ℕ) → side f (slot_of rs name) ≡ sighted (reading_in f name rs)
+side_sighted : (f : Bool) (rs : List Place) (name : List ℕ)
+    → side f (slot_of rs name) ≡ sighted (reading_in f name rs)
 side_sighted false rs name = refl
 side_sighted true rs name = refl
 
-apart_same : (beyond : Sight → Sight → Bool) (b : GsiBlock) (o : Option Place) → is_apart beyond (reading_of b) (sighted o) ≡ by_faces beyond b o
+apart_same : (beyond : Sight → Sight → Bool) (b : GsiBlock) (o : Option Place)
+    → is_apart beyond (reading_of b) (sighted o) ≡ by_faces beyond b o
 apart_same beyond b None = refl
 apart_same beyond b (Some m) = refl
 
-new_target_tests : (many : Bool) → first_of (when many kinds.TooManyTargets ∷ []) ≡ first_of (tests false many false false)
+new_target_tests : (many : Bool)
+    → first_of (when many kinds.TooManyTargets ∷ []) ≡ first_of (tests false many false false)
 new_target_tests true = refl
 new_target_tests false = refl
 
-old_target_tests : (taken c i : Bool) → first_of (when taken kinds.FaceTwice ∷ when c kinds.TwoC ∷ when i kinds.TwoI ∷ []) ≡ first_of (tests taken false c i)
+old_target_tests : (taken c i : Bool)
+    → first_of (when taken kinds.FaceTwice ∷ when c kinds.TwoC ∷ when i kinds.TwoI ∷ []) ≡ first_of
+    (tests taken false c i)
 old_target_tests true c i = refl
 old_target_tests false c i = refl
 
 -- a reading with those before it, by the targets and the slots
-same_later : (limits : FaceLimits) (targets : List (List ℕ)) (rs : List Place) (b : GsiBlock) (e : EntryValue) → AllByRecursion (IsKept targets) rs → e.targets ≡ targets → e.slots ≡ slots_of targets rs
-    → first_of (entries.reading_faults limits e (reading_of b)) ≡ first_of (later_faults limits targets rs b)
+same_later : (limits : FaceLimits) (targets : List (List ℕ)) (rs : List Place) (b : GsiBlock)
+    (e : EntryValue) → AllByRecursion (IsKept targets) rs → e.targets ≡ targets
+    → e.slots ≡ slots_of targets rs
+    → first_of (entries.entry_faults limits e (reading_of b)) ≡ first_of
+    (later_faults limits targets rs b)
 same_later limits targets rs b e kept ts ss = split (place_of (target b) e.targets) refl where
   place : place_of (target b) e.targets ≡ place_of (target b) targets
   place = ap (place_of (target b)) ts
 
-  split : (o : Option ℕ) → place_of (target b) e.targets ≡ o → first_of (entries.reading_faults_at limits e (reading_of b) o) ≡ first_of (later_faults limits targets rs b)
+  split : (o : Option ℕ) → place_of (target b) e.targets ≡ o
+      → first_of (entries.entry_faults_at limits e (reading_of b) o) ≡ first_of
+      (later_faults limits targets rs b)
   split None p =
-      let out : is_among targets (target b) ≡ false = absent (λ x. bytes_eq x (target b)) targets (sym place ∙ p) in
+      let out : is_among targets (target b) ≡ false = absent (λ x. bytes_eq x (target b)) targets
+      (sym place ∙ p) in
       let one = unseen targets rs (target b) (face b) kept out in
       let other = unseen targets rs (target b) (not (face b)) kept out in
       new_target_tests (leb 100 (length e.targets))
       ∙ (λ i. first_of (tests false (leb 100 (length (ts i))) false false))
-      ∙ sym (λ i. first_of (tests (is_some (one i)) (not (out i) && leb 100 (length targets)) (by_faces (has_no_two_c limits.two_c) b (other i)) (by_faces (has_no_two_i limits.two_i) b (other i))))
+      ∙ sym (λ i. first_of (tests (is_some (one i)) (not (out i) && leb 100 (length targets))
+      (by_faces (has_no_two_c limits.two_c) b (other i))
+      (by_faces (has_no_two_i limits.two_i) b (other i))))
   split (Some n) p =
       let at = position-Some (λ x. bytes_eq x (target b)) targets n [] (sym place ∙ p) in
-      let here : get_or targets n [] ≡ target b = (bytes_eq-Decides (get_or targets n []) (target b)).0 at.1 in
-      let among : is_among targets (target b) ≡ true = list_any_at (λ x. bytes_eq x (target b)) targets n [] at.0 at.1 in
-      let slot : slot_at e.slots n ≡ slot_of rs (target b) = ap (λ s. slot_at s n) ss ∙ slot_get targets rs n [] at.0 ∙ ap (slot_of rs) here in
-      let taken : is_some (side (face b) (slot_at e.slots n)) ≡ is_some (reading_in (face b) (target b) rs) =
-      ap (λ s. is_some (side (face b) s)) slot ∙ ap is_some (side_sighted (face b) rs (target b)) ∙ some_sighted (reading_in (face b) (target b) rs) in
-      let other : side (not (face b)) (slot_at e.slots n) ≡ sighted (reading_in (not (face b)) (target b) rs) = ap (side (not (face b))) slot ∙ side_sighted (not (face b)) rs (target b) in
-      let c : is_apart (has_no_two_c limits.two_c) (reading_of b) (side (not (face b)) (slot_at e.slots n)) ≡ by_faces (has_no_two_c limits.two_c) b (reading_in (not (face b)) (target b) rs) =
-      ap (is_apart (has_no_two_c limits.two_c) (reading_of b)) other ∙ apart_same (has_no_two_c limits.two_c) b (reading_in (not (face b)) (target b) rs) in
-      let d : is_apart (has_no_two_i limits.two_i) (reading_of b) (side (not (face b)) (slot_at e.slots n)) ≡ by_faces (has_no_two_i limits.two_i) b (reading_in (not (face b)) (target b) rs) =
-      ap (is_apart (has_no_two_i limits.two_i) (reading_of b)) other ∙ apart_same (has_no_two_i limits.two_i) b (reading_in (not (face b)) (target b) rs) in
-      (λ i. first_of (when (taken i) kinds.FaceTwice ∷ when (c i) kinds.TwoC ∷ when (d i) kinds.TwoI ∷ []))
-      ∙ old_target_tests (is_some (reading_in (face b) (target b) rs)) (by_faces (has_no_two_c limits.two_c) b (reading_in (not (face b)) (target b) rs)) (by_faces (has_no_two_i limits.two_i) b (reading_in (not (face b)) (target b) rs))
-      ∙ sym (λ i. first_of (tests (is_some (reading_in (face b) (target b) rs)) (not (among i) && leb 100 (length targets)) (by_faces (has_no_two_c limits.two_c) b (reading_in (not (face b)) (target b) rs)) (by_faces (has_no_two_i limits.two_i) b (reading_in (not (face b)) (target b) rs))))
+      let here : get_or targets n [] ≡ target b =
+      (bytes_eq-Decides (get_or targets n []) (target b)).0 at.1 in
+      let among : is_among targets (target b) ≡ true = list_any_at
+      (λ x. bytes_eq x (target b)) targets n [] at.0 at.1 in
+      let slot : slot_at e.slots n ≡ slot_of rs (target b) = ap (λ s. slot_at s n) ss
+      ∙ slot_get targets rs n [] at.0 ∙ ap (slot_of rs) here in
+      let taken : is_some (side (face b) (slot_at e.slots n)) ≡ is_some
+      (reading_in (face b) (target b) rs) =
+      ap (λ s. is_some (side (face b) s)) slot ∙ ap is_some (side_sighted (face b) rs (target b))
+      ∙ some_sighted (reading_in (face b) (target b) rs) in
+      let other : side (not (face b)) (slot_at e.slots n) ≡ sighted
+      (reading_in (not (face b)) (target b) rs) = ap (side (not (face b))) slot
+      ∙ side_sighted (not (face b)) rs (target b) in
+      let c : is_apart (has_no_two_c limits.two_c) (reading_of b)
+      (side (not (face b)) (slot_at e.slots n)) ≡ by_faces (has_no_two_c limits.two_c) b
+      (reading_in (not (face b)) (target b) rs) =
+      ap (is_apart (has_no_two_c limits.two_c) (reading_of b)) other
+      ∙ apart_same (has_no_two_c limits.two_c) b (reading_in (not (face b)) (target b) rs) in
+      let d : is_apart (has_no_two_i limits.two_i) (reading_of b)
+      (side (not (face b)) (slot_at e.slots n)) ≡ by_faces (has_no_two_i limits.two_i) b
+      (reading_in (not (face b)) (target b) rs) =
+      ap (is_apart (has_no_two_i limits.two_i) (reading_of b)) other
+      ∙ apart_same (has_no_two_i limits.two_i) b (reading_in (not (face b)) (target b) rs) in
+      (λ i. first_of (when (taken i) kinds.FaceTwice ∷ when (c i) kinds.TwoC ∷ when
+      (d i) kinds.TwoI ∷ []))
+      ∙ old_target_tests (is_some (reading_in (face b) (target b) rs))
+      (by_faces (has_no_two_c limits.two_c) b (reading_in (not (face b)) (target b) rs))
+      (by_faces (has_no_two_i limits.two_i) b (reading_in (not (face b)) (target b) rs))
+      ∙ sym (λ i. first_of (tests (is_some (reading_in (face b) (target b) rs))
+      (not (among i) && leb 100 (length targets))
+      (by_faces (has_no_two_c limits.two_c) b (reading_in (not (face b)) (target b) rs))
+      (by_faces (has_no_two_i limits.two_i) b (reading_in (not (face b)) (target b) rs))))
 
 -- the same, in the open set
-same_later_open : (limits : FaceLimits) (shelf : ShelfValue) (past : History) (b : GsiBlock) → IsWithoutFault limits past → is_open past ≡ true → Stand past (stations_in past) shelf
-    → first_of (entries.reading_faults limits (last_of shelf) (said.sighting b)) ≡ first_of (later_faults limits (open_targets past) (open_readings past) b)
+same_later_open : (limits : FaceLimits) (shelf : ShelfValue) (past : History) (b : GsiBlock)
+    → IsWithoutFault limits past → is_open past ≡ true → Stand past (stations_in past) shelf
+    → first_of (entries.entry_faults limits (last_of shelf) (said.sighting b)) ≡ first_of
+    (later_faults limits (open_targets past) (open_readings past) b)
 same_later_open limits shelf past b w now h =
     let e = open_entry shelf past (open_has_set past now) h in
-    ap (λ s. first_of (entries.reading_faults limits (last_of shelf) s)) (sighting_as b)
-    ∙ same_later limits (open_targets past) (open_readings past) b (last_of shelf) (open_kept limits past w) e.is.targets (slots_kept shelf past now h)
+    ap (λ s. first_of (entries.entry_faults limits (last_of shelf) s)) (sighting_as b)
+    ∙ same_later limits (open_targets past) (open_readings past) b (last_of shelf)
+    (open_kept limits past w) e.is.targets (slots_kept shelf past now h)
 
-measured_parts : (limits : FaceLimits) (shelf : ShelfValue) (o : Option BookKind) (s : Sighting) → kept.measured limits shelf (said.unless_fault o s) ≡ then_fault o (first_of (entries.reading_faults limits (last_of shelf) s))
+measured_parts : (limits : FaceLimits) (shelf : ShelfValue) (o : Option BookKind) (s : Sighting)
+    → kept.measured limits shelf (said.unless_fault o s) ≡ then_fault o
+    (first_of (entries.entry_faults limits (last_of shelf) s))
 measured_parts limits shelf None s = refl
 measured_parts limits shelf (Some k) s = refl
 
 -- a reading in the open set
-same_measured : (limits : FaceLimits) (shelf : ShelfValue) (past : History) (b : GsiBlock) → IsWithoutFault limits past → is_open past ≡ true → Stand past (stations_in past) shelf
-    → kept.measured limits shelf (said.unless_fault (first_of (said.sighting_faults b)) (said.sighting b)) ≡ first_of (reading_faults limits past b)
+same_measured : (limits : FaceLimits) (shelf : ShelfValue) (past : History) (b : GsiBlock)
+    → IsWithoutFault limits past → is_open past ≡ true → Stand past (stations_in past) shelf
+    → kept.measured limits shelf
+    (said.unless_fault (first_of (said.sighting_faults b)) (said.sighting b)) ≡ first_of
+    (reading_faults limits past b)
 same_measured limits shelf past b w now h =
     measured_parts limits shelf (first_of (said.sighting_faults b)) (said.sighting b)
-    ∙ (λ i. then_fault (first_of (sym (own_same b) i)) (same_later_open limits shelf past b w now h i))
-    ∙ sym (first_append (own_faults b) (later_faults limits (open_targets past) (open_readings past) b))
+    ∙ (λ i. then_fault (first_of (sym (own_same b) i))
+    (same_later_open limits shelf past b w now h i))
+    ∙ sym (first_append (own_faults b)
+    (later_faults limits (open_targets past) (open_readings past) b))
 
-not_open : (sees now : Bool) (os : List (Option BookKind)) → now ≡ false → None ≡ first_of (cond (sees && now) os [])
+not_open : (sees now : Bool) (os : List (Option BookKind)) → now ≡ false
+    → None ≡ first_of (cond (sees && now) os [])
 not_open true now os e = sym (ap (λ v. first_of (cond v os [])) e)
 not_open false now os e = refl
 
 -- a measurement, by where it stands
-by_stage : (limits : FaceLimits) (stage : Stage) (shelf : ShelfValue) (past : History) (b : GsiBlock) → IsWithoutFault limits past → IsStage stage past → Stand past (stations_in past) shelf
-    → cond (kept.is_open stage) (kept.measured limits shelf (said.read b)) None ≡ first_of (cond (not (lacks 21 b) && is_open past) (reading_faults limits past b) [])
-by_stage limits Outside shelf past b w g h = not_open (not (lacks 21 b)) (is_open past) (reading_faults limits past b) g.1
-by_stage limits (Station name) shelf past b w g h = not_open (not (lacks 21 b)) (is_open past) (reading_faults limits past b) g.3
-by_stage limits BetweenSets shelf past b w g h = not_open (not (lacks 21 b)) (is_open past) (reading_faults limits past b) g.1
+by_stage : (limits : FaceLimits) (stage : Stage) (shelf : ShelfValue) (past : History)
+    (b : GsiBlock) → IsWithoutFault limits past → IsStage stage past
+    → Stand past (stations_in past) shelf
+    → cond (kept.has_open_set stage) (kept.measured limits shelf (said.read b)) None ≡ first_of
+    (cond (not (lacks 21 b) && is_open past) (reading_faults limits past b) [])
+by_stage limits Outside shelf past b w g h = not_open (not (lacks 21 b)) (is_open past)
+    (reading_faults limits past b) g.1
+by_stage limits (Station name) shelf past b w g h = not_open (not (lacks 21 b)) (is_open past)
+    (reading_faults limits past b) g.3
+by_stage limits BetweenSets shelf past b w g h = not_open (not (lacks 21 b)) (is_open past)
+    (reading_faults limits past b) g.1
 by_stage limits InSet shelf past b w g h = by (lacks 21 b) where
-  by : (none : Bool) → kept.measured limits shelf (cond none (Ok None) (said.unless_fault (first_of (said.sighting_faults b)) (said.sighting b))) ≡ first_of (cond (not none && is_open past) (reading_faults limits past b) [])
+  by : (none : Bool) → kept.measured limits shelf
+      (cond none (Ok None) (said.unless_fault (first_of (said.sighting_faults b))
+      (said.sighting b))) ≡ first_of
+      (cond (not none && is_open past) (reading_faults limits past b) [])
   by true = refl
-  by false = same_measured limits shelf past b w g h ∙ sym (ap (λ v. first_of (cond v (reading_faults limits past b) [])) g)
+  by false = same_measured limits shelf past b w g h
+      ∙ sym (ap (λ v. first_of (cond v (reading_faults limits past b) [])) g)
 
 -- THE LAW of a measurement: the fault by what is kept is the fault by the blocks before
-pub same_measurement_fault : (k : kept.Kept) (b : GsiBlock) (past : History) → role_of b ≡ roles.Measurement → StandsFor k.limits k past → kept.fault_as roles.Measurement k b ≡ fault_after k.limits past b
+pub same_measurement_fault : (k : kept.Kept) (b : GsiBlock) (past : History)
+    → role_of b ≡ roles.Measurement → StandsFor k.limits k past
+    → kept.fault_as roles.Measurement k b ≡ fault_after k.limits past b
 unfolding fault_after
 same_measurement_fault k b past r h =
     by_stage k.limits k.stage k.shelf past b h.clean h.stage h.stations
-    ∙ sym (λ i. first_of (cond (station_as b roles.Measurement r i) (end_faults past ++ station_faults b) (cond (set_as b roles.Measurement r i) (end_faults past ++ set_faults past b) (cond (close_as b roles.Measurement r i) (end_faults past) (cond (sight_as b roles.Measurement r i && is_open past) (reading_faults k.limits past b) [])))))
+    ∙ sym (λ i. first_of (cond (station_as b roles.Measurement r i)
+    (end_faults past ++ station_faults b)
+    (cond (set_as b roles.Measurement r i) (end_faults past ++ set_faults past b)
+    (cond (close_as b roles.Measurement r i) (end_faults past)
+    (cond (sight_as b roles.Measurement r i && is_open past)
+    (reading_faults k.limits past b) [])))))

@@ -11,7 +11,7 @@ use Rattle.station_book.specs.Blocks.{opens_station, number}
 use Rattle.station_book.specs.Places.{History, Place, places, at, last, before, station, is_same, is_set, target_at, sets_of, station_readings, targets_of}
 use Rattle.station_book.specs.Faults.{name_at, sight_at, IsWithoutFault}
 use Rattle.station_book.specs.Stations.{Couple, SurveyedStation, IsObserved, HasFaces, IsSurveyed, AreStations, stations_of, couples_of}
-use Rattle.station_book.specs.Recorded.{IsReadingOf, IsRecorded, IsRecordedWith, HasSetAt}
+use Rattle.station_book.specs.Recorded.{IsReadingOf, IsRecorded, IsRecordedWith, HasSet}
 use Rattle.station_book.proofs.Membership.{In}
 use Rattle.station_book.proofs.Elements.{in_contains, contains_in, IsAt, place_in, in_map, of_map, in_filter, in_reverse, zip_left, zip_right, matched}
 use Rattle.station_book.proofs.PairLaws.{one_two_face}
@@ -20,7 +20,8 @@ use Rattle.station_book.proofs.OneReading.{is_of}
 use Rattle.station_book.proofs.FilePlaces.{OfFile, station_placed, set_station, set_of_reading, listed_station, one_named}
 use Rattle.station_book.proofs.CoupleReadings.{IsRead, IsPairOf, pair_of_couple, couple_of_pair, of_station_readings, in_distinct}
 
-reading_of : (h : History) (st set : Place) (station target name : List ℕ) (f : Bool) (r : Place) → name_at st ≡ Some station → name ≡ target
+reading_of : (h : History) (st set : Place) (station target name : List ℕ) (f : Bool) (r : Place)
+    → name_at st ≡ Some station → name ≡ target
     → IsRead h st set name f r → IsReadingOf h station set target f r
 reading_of h st set station target name f r named same read = record {
   placed = contains_in r (places h) read.placed;
@@ -32,22 +33,30 @@ reading_of h st set station target name f r named same read = record {
 }
 
 -- what two readings of a couple recorded
-record IsRecordedBy (limits : FaceLimits) (h : History) (name : List ℕ) (k : Key) (a b : Place) : Type 0 where
+record IsRecordedBy (limits : FaceLimits) (h : History) (name : List ℕ) (k : Key)
+    (a b : Place) : Type 0 where
   pub recorded : IsRecorded limits h name k
   pub first_is : recorded.first ≡ a
   pub second_is : recorded.second ≡ b
 
-recorded_couple : (limits : FaceLimits) (h : History) (st : Place) (s : SurveyedStation) (c : Couple) (o : Obs) (p : IsPairOf h st c) → IsSurveyed limits h st s
-    → IsObserved limits c o → IsRecordedBy limits h s.station.name (key_of_obs s.station.sets s.station.targets o) p.first p.second
+recorded_couple : (limits : FaceLimits) (h : History) (st : Place) (s : SurveyedStation)
+    (c : Couple) (o : Obs) (p : IsPairOf h st c) → IsSurveyed limits h st s
+    → IsObserved limits c o
+    → IsRecordedBy limits h s.station.name
+    (key_of_obs s.station.sets s.station.targets o) p.first p.second
 recorded_couple limits h st s c o p surveyed is = record {
   recorded = record {
     set = p.set;
-    numbered = matched (λ set. at number None set) (reverse (sets_of st h)) s.station.sets surveyed.sets o.set p.set set_place 0;
+    numbered = matched (λ set. at number None set)
+        (reverse (sets_of st h)) s.station.sets surveyed.sets o.set p.set set_place 0;
     first = p.first;
     second = p.second;
-    face_one = reading_of h st p.set s.station.name (get_or s.station.targets o.target []) p.name false p.first surveyed.name same p.one;
-    face_two = reading_of h st p.set s.station.name (get_or s.station.targets o.target []) p.name true p.second surveyed.name same p.two;
-    direction = subst (λ (a : Sight). IsTwoFace limits.two_c a (sight_at p.second) o.value) p.first_is
+    face_one = reading_of h st p.set s.station.name
+        (get_or s.station.targets o.target []) p.name false p.first surveyed.name same p.one;
+    face_two = reading_of h st p.set s.station.name
+        (get_or s.station.targets o.target []) p.name true p.second surveyed.name same p.two;
+    direction = subst (λ (a : Sight). IsTwoFace limits.two_c a (sight_at p.second) o.value)
+        p.first_is
         (subst (λ (b : Sight). IsTwoFace limits.two_c c.first b o.value) p.second_is is.direction);
   };
   first_is = refl;
@@ -60,14 +69,18 @@ recorded_couple limits h st s c o p surveyed is = record {
   name_place = subst (λ (k : ℕ). IsAt (targets_of st h) k p.name) (sym is.target) p.name_place
 
   same : p.name ≡ get_or s.station.targets o.target []
-  same = sym (name_place.value []) ∙ ap (λ (ts : List (List ℕ)). get_or ts o.target []) (sym surveyed.targets)
+  same = sym (name_place.value [])
+      ∙ ap (λ (ts : List (List ℕ)). get_or ts o.target []) (sym surveyed.targets)
 
 -- what was observed at a station was recorded
-recorded_obs : (limits : FaceLimits) (h : History) (st : Place) (s : SurveyedStation) (o : Obs) → In st (stations_of h) → IsSurveyed limits h st s → In o s.station.obs
+recorded_obs : (limits : FaceLimits) (h : History) (st : Place) (s : SurveyedStation) (o : Obs)
+    → In st (stations_of h) → IsSurveyed limits h st s → In o s.station.obs
     → IsRecorded limits h s.station.name (key_of_obs s.station.sets s.station.targets o)
 recorded_obs limits h st s o listed surveyed own =
-    let c = zip_left (IsObserved limits) (couples_of st h) s.station.obs surveyed.directions o own in
-    (recorded_couple limits h st s c.0 o (pair_of_couple h st c.0 (station_placed h st listed) c.1) surveyed c.2).recorded
+    let c = zip_left (IsObserved limits)
+    (couples_of st h) s.station.obs surveyed.directions o own in
+    (recorded_couple limits h st s c.0 o
+    (pair_of_couple h st c.0 (station_placed h st listed) c.1) surveyed c.2).recorded
 
 same_key : (a b : Key) → a.set ≡ b.set → a.target ≡ b.target → a.value ≡ b.value → a ≡ b
 same_key a b s t v = λ i. record { set = s i; target = t i; value = v i }
@@ -75,20 +88,76 @@ same_key a b s t v = λ i. record { set = s i; target = t i; value = v i }
 same_some : (a b : ℕ) → Some a ≡ Some b → a ≡ b
 same_some a b e = cc
 
+-- what two readings of a set and target of a station gave, as it was observed
+pub record IsPairObserved (limits : FaceLimits) (s : SurveyedStation) (set : Place)
+    (target : List ℕ) (first second : Place) : Type 0 where
+  pub obs : Obs
+  pub listed : In obs s.station.obs
+  pub of_set : at number None set ≡ Some (get_or s.station.sets obs.set 0)
+  pub of_target : get_or s.station.targets obs.target [] ≡ target
+  pub direction : IsTwoFace limits.two_c (sight_at first) (sight_at second) obs.value
+
+-- In a file without fault two readings, one of each face, are observed.
+pub pair_observed : (limits : FaceLimits) (h : History) (st : Place) (s : SurveyedStation)
+    (set : Place) (target : List ℕ) (first second : Place) → IsWithoutFault limits h
+    → In st (stations_of h) → IsSurveyed limits h st s → In set (places h) → is_set set ≡ true
+    → station (before set) ≡ st
+    → IsRead h st set target false first → IsRead h st set target true second
+    → IsPairObserved limits s set target first second
+pair_observed limits h st s set target first second clean listed surveyed set_placed set_is
+    set_station_is one two = record {
+      obs = o.0;
+      listed = o.1;
+      of_set = matched (λ set. at number None set)
+          (reverse (sets_of st h)) s.station.sets surveyed.sets i.0 set i.1 0
+          ∙ ap (λ (n : ℕ). Some (get_or s.station.sets n 0)) (sym o.2.set);
+      of_target = ap (λ (n : ℕ). get_or s.station.targets n []) o.2.target
+          ∙ ap (λ (ts : List (List ℕ)). get_or ts j.0 []) surveyed.targets ∙ j.1.value [];
+      direction = o.2.direction;
+    } where
+      -- its place among the sets, and that of the target among the targets
+      i : (i : ℕ) × IsAt (reverse (sets_of st h)) i set
+      i = place_in (reverse (sets_of st h)) set (in_reverse set (sets_of st h)
+          (in_filter (λ place. is_set place && is_same (last opens_station (before place)) st) set
+          (places h) set_placed
+          (and_from (is_set set) (is_same (station (before set)) st) set_is
+          (eq-eqb (length (station (before set))) (length st) (ap length set_station_is)))))
+
+      j : (j : ℕ) × IsAt (targets_of st h) j target
+      j = place_in (targets_of st h) target
+          (in_distinct target (map target_at (station_readings st h))
+          (subst (λ (name : List ℕ). In name (map target_at (station_readings st h)))
+          one.is.of_target
+          (in_map target_at first (station_readings st h)
+          (of_station_readings h st set target false first one))))
+
+      couple : Couple
+      couple = record { set = i.0; target = j.0; first = sight_at first; second = sight_at second }
+
+      o : (o : Obs) × In o s.station.obs × IsObserved limits couple o
+      o = zip_right (IsObserved limits) (couples_of st h) s.station.obs surveyed.directions couple
+          (couple_of_pair limits h st set target i.0 j.0 first second clean
+          (station_placed h st listed)
+          (inr set_placed) i.1 j.1 one two)
+
 -- what was recorded at a station was observed
-observed_key : (limits : FaceLimits) (h : History) (st : Place) (s : SurveyedStation) (k : Key) → AreLimits limits → IsWithoutFault limits h
-    → In st (stations_of h) → IsSurveyed limits h st s → IsRecorded limits h s.station.name k → In k (observed s.station)
+observed_key : (limits : FaceLimits) (h : History) (st : Place) (s : SurveyedStation) (k : Key)
+    → AreLimits limits → IsWithoutFault limits h
+    → In st (stations_of h) → IsSurveyed limits h st s → IsRecorded limits h s.station.name k
+    → In k (observed s.station)
 observed_key limits h st s k small clean listed surveyed r =
-    subst (λ (key : Key). In key (observed s.station)) same (in_map (key_of_obs s.station.sets s.station.targets) o.0 s.station.obs o.1)
+    subst (λ (key : Key). In key (observed s.station)) same
+    (in_map (key_of_obs s.station.sets s.station.targets) pair.obs s.station.obs pair.listed)
   where
     first_placed : In r.first (places h)
     first_placed = in_contains r.first (places h) r.face_one.placed
 
-    first_set : Rattle.station_book.proofs.FilePlaces.HasSet h r.first
+    first_set : Rattle.station_book.proofs.FilePlaces.HasItsSet h r.first
     first_set = set_of_reading h r.first first_placed r.face_one.reading
 
-    second_set : Rattle.station_book.proofs.FilePlaces.HasSet h r.second
-    second_set = set_of_reading h r.second (in_contains r.second (places h) r.face_two.placed) r.face_two.reading
+    second_set : Rattle.station_book.proofs.FilePlaces.HasItsSet h r.second
+    second_set = set_of_reading h r.second
+        (in_contains r.second (places h) r.face_two.placed) r.face_two.reading
 
     set_placed : In r.set (places h)
     set_placed = subst (λ (p : Place). In p (places h)) r.face_one.of_set first_set.placed
@@ -98,70 +167,77 @@ observed_key limits h st s k small clean listed surveyed r =
 
     -- both readings and the set are of the station
     first_station : station (before r.first) ≡ station (before r.set)
-    first_station = sym first_set.of_station ∙ ap (λ (p : Place). station (before p)) r.face_one.of_set
+    first_station = sym first_set.of_station
+        ∙ ap (λ (p : Place). station (before p)) r.face_one.of_set
 
     second_station : station (before r.second) ≡ station (before r.set)
-    second_station = sym second_set.of_station ∙ ap (λ (p : Place). station (before p)) r.face_two.of_set
+    second_station = sym second_set.of_station
+        ∙ ap (λ (p : Place). station (before p)) r.face_two.of_set
 
     set_station_is : station (before r.set) ≡ st
-    set_station_is = one_named s.station.name (stations_of h) (station (before r.set)) st (apart limits h clean)
-        (set_station h r.set set_placed set_is) listed (ap name_at (sym first_station) ∙ r.face_one.of_station) surveyed.name
+    set_station_is = one_named s.station.name (stations_of h) (station (before r.set)) st
+        (apart limits h clean)
+        (set_station h r.set set_placed set_is) listed
+        (ap name_at (sym first_station) ∙ r.face_one.of_station) surveyed.name
 
     one : IsRead h st r.set k.target false r.first
-    one = record { placed = first_placed; of_station = first_station ∙ set_station_is; is = is_of h s.station.name r.set k.target false r.first r.face_one }
+    one = record {
+      placed = first_placed;
+      of_station = first_station ∙ set_station_is;
+      is = is_of h s.station.name r.set k.target false r.first r.face_one;
+    }
 
     two : IsRead h st r.set k.target true r.second
-    two = record { placed = in_contains r.second (places h) r.face_two.placed; of_station = second_station ∙ set_station_is; is = is_of h s.station.name r.set k.target true r.second r.face_two }
+    two = record {
+      placed = in_contains r.second
+          (places h) r.face_two.placed;
+      of_station = second_station ∙ set_station_is;
+      is = is_of h s.station.name r.set k.target true r.second r.face_two;
+    }
 
-    -- its place among the sets, and that of the target among the targets
-    i : (i : ℕ) × IsAt (reverse (sets_of st h)) i r.set
-    i = place_in (reverse (sets_of st h)) r.set (in_reverse r.set (sets_of st h)
-        (in_filter (λ place. is_set place && is_same (last opens_station (before place)) st) r.set (places h) set_placed
-        (and_from (is_set r.set) (is_same (station (before r.set)) st) set_is (eq-eqb (length (station (before r.set))) (length st) (ap length set_station_is)))))
+    pair : IsPairObserved limits s r.set k.target r.first r.second
+    pair = pair_observed limits h st s r.set k.target r.first r.second clean listed surveyed
+        set_placed set_is set_station_is one two
 
-    j : (j : ℕ) × IsAt (targets_of st h) j k.target
-    j = place_in (targets_of st h) k.target (in_distinct k.target (map target_at (station_readings st h))
-        (subst (λ (name : List ℕ). In name (map target_at (station_readings st h))) r.face_one.of_target
-        (in_map target_at r.first (station_readings st h) (of_station_readings h st r.set k.target false r.first one))))
+    same : key_of_obs s.station.sets s.station.targets pair.obs ≡ k
+    same = same_key (key_of_obs s.station.sets s.station.targets pair.obs) k
+        (same_some (get_or s.station.sets pair.obs.set 0) k.set (sym pair.of_set ∙ r.numbered))
+        pair.of_target
+        (one_two_face limits.two_c small.two_c (sight_at r.first)
+        (sight_at r.second) pair.obs.value k.value pair.direction r.direction)
 
-    couple : Couple
-    couple = record { set = i.0; target = j.0; first = sight_at r.first; second = sight_at r.second }
-
-    o : (o : Obs) × In o s.station.obs × IsObserved limits couple o
-    o = zip_right (IsObserved limits) (couples_of st h) s.station.obs surveyed.directions couple
-        (couple_of_pair limits h st r.set k.target i.0 j.0 r.first r.second clean (station_placed h st listed) (inr set_placed) i.1 j.1 one two)
-
-    same : key_of_obs s.station.sets s.station.targets o.0 ≡ k
-    same = same_key (key_of_obs s.station.sets s.station.targets o.0) k
-        (ap (λ (n : ℕ). get_or s.station.sets n 0) o.2.set
-        ∙ same_some (get_or s.station.sets i.0 0) k.set (sym (matched (λ set. at number None set) (reverse (sets_of st h)) s.station.sets surveyed.sets i.0 r.set i.1 0) ∙ r.numbered))
-        (ap (λ (n : ℕ). get_or s.station.targets n []) o.2.target ∙ ap (λ (ts : List (List ℕ)). get_or ts j.0 []) surveyed.targets ∙ j.1.value [])
-        (one_two_face limits.two_c small.two_c (sight_at r.first) (sight_at r.second) o.0.value k.value o.2.direction r.direction)
-
-pub recorded : (limits : FaceLimits) (h : History) (stations : List SurveyedStation) (s : SurveyedStation) (k : Key)
-    → AreLimits limits → IsWithoutFault limits h → AreStations limits h stations → Contains stations s
+pub recorded : (limits : FaceLimits) (h : History) (stations : List SurveyedStation)
+    (s : SurveyedStation) (k : Key)
+    → AreLimits limits → IsWithoutFault limits h → AreStations limits h stations
+    → Contains stations s
     → Contains (observed s.station) k ↔ IsRecorded limits h s.station.name k
 unfolding AreStations
 recorded limits h stations s k small clean are listed = (there, back) where
   own : (st : Place) × In st (stations_of h) × IsSurveyed limits h st s
-  own = zip_left (IsSurveyed limits h) (stations_of h) stations are s (in_contains s stations listed)
+  own = zip_left (IsSurveyed limits h) (stations_of h) stations are s
+      (in_contains s stations listed)
 
   there : Contains (observed s.station) k → IsRecorded limits h s.station.name k
   there c =
-      let o = of_map (key_of_obs s.station.sets s.station.targets) k s.station.obs (in_contains k (observed s.station) c) in
-      subst (IsRecorded limits h s.station.name) o.2 (recorded_obs limits h own.0 s o.0 own.1 own.2 o.1)
+      let o = of_map (key_of_obs s.station.sets s.station.targets) k s.station.obs
+      (in_contains k (observed s.station) c) in
+      subst (IsRecorded limits h s.station.name) o.2
+      (recorded_obs limits h own.0 s o.0 own.1 own.2 o.1)
 
   back : IsRecorded limits h s.station.name k → Contains (observed s.station) k
-  back r = contains_in k (observed s.station) (observed_key limits h own.0 s k small clean own.1 own.2 r)
+  back r = contains_in k (observed s.station)
+      (observed_key limits h own.0 s k small clean own.1 own.2 r)
 
 -- The stations are those that have a set.
-pub stations_with_sets : (limits : FaceLimits) (h : History) (stations : List SurveyedStation) (name : List ℕ) → AreStations limits h stations
-    → ((s : SurveyedStation) × Contains stations s × (s.station.name ≡ name)) ↔ HasSetAt h name
+pub stations_with_sets : (limits : FaceLimits) (h : History) (stations : List SurveyedStation)
+    (name : List ℕ) → AreStations limits h stations
+    → ((s : SurveyedStation) × Contains stations s × (s.station.name ≡ name)) ↔ HasSet h name
 unfolding AreStations
 stations_with_sets limits h stations name are = (there, back) where
-  there : (s : SurveyedStation) × Contains stations s × (s.station.name ≡ name) → HasSetAt h name
+  there : (s : SurveyedStation) × Contains stations s × (s.station.name ≡ name) → HasSet h name
   there s =
-      let own = zip_left (IsSurveyed limits h) (stations_of h) stations are s.0 (in_contains s.0 stations s.1) in
+      let own = zip_left (IsSurveyed limits h) (stations_of h) stations are s.0
+      (in_contains s.0 stations s.1) in
       let l = listed_station h own.0 own.1 in
       record {
         set = l.set;
@@ -170,44 +246,60 @@ stations_with_sets limits h stations name are = (there, back) where
         of_station = ap name_at l.of_station ∙ own.2.name ∙ ap (λ (n : List ℕ). Some n) s.2;
       }
 
-  back : HasSetAt h name → (s : SurveyedStation) × Contains stations s × (s.station.name ≡ name)
+  back : HasSet h name → (s : SurveyedStation) × Contains stations s × (s.station.name ≡ name)
   back r =
       let st = station (before r.set) in
-      let own = zip_right (IsSurveyed limits h) (stations_of h) stations are st (set_station h r.set (in_contains r.set (places h) r.placed) r.opened) in
+      let own = zip_right (IsSurveyed limits h) (stations_of h) stations are st
+      (set_station h r.set (in_contains r.set (places h) r.placed) r.opened) in
       let names : Some own.0.station.name ≡ Some name = sym own.2.name ∙ r.of_station in
       (own.0, contains_in own.0 stations own.1, same_text own.0.station.name name names)
     where
       same_text : (a b : List ℕ) → Some a ≡ Some b → a ≡ b
       same_text a b e = cc
 
-with_faces : (limits : FaceLimits) (h : History) (st : Place) (s : SurveyedStation) → OfFile h st → IsSurveyed limits h st s
-    → (cs : List Couple) (os : List Obs) (fs : List Faces) → ((c : Couple) → In c cs → In c (couples_of st h)) → AllZip (IsObserved limits) cs os → AllZip (HasFaces limits) cs fs
-    → AllZip (IsRecordedWith limits h s.station.name) (map (key_of_obs s.station.sets s.station.targets) os) fs
+with_faces : (limits : FaceLimits) (h : History) (st : Place) (s : SurveyedStation) → OfFile h st
+    → IsSurveyed limits h st s
+    → (cs : List Couple) (os : List Obs) (fs : List Faces)
+    → ((c : Couple) → In c cs → In c (couples_of st h)) → AllZip (IsObserved limits) cs os
+    → AllZip (HasFaces limits) cs fs
+    → AllZip (IsRecordedWith limits h s.station.name)
+    (map (key_of_obs s.station.sets s.station.targets) os) fs
 with_faces limits h st s placed surveyed [] [] [] inside one two = tt
 with_faces limits h st s placed surveyed [] [] (f ∷ fs) inside one two = absurd two
 with_faces limits h st s placed surveyed [] (o ∷ os) fs inside one two = absurd one
 with_faces limits h st s placed surveyed (c ∷ cs) [] fs inside one two = absurd one
 with_faces limits h st s placed surveyed (c ∷ cs) (o ∷ os) [] inside one two = absurd two
-with_faces limits h st s placed surveyed (c ∷ cs) (o ∷ os) (f ∷ fs) inside one two =
-    (head (pair_of_couple h st c placed (inside c (inl refl))), with_faces limits h st s placed surveyed cs os fs (λ d k. inside d (inr k)) one.1 two.1)
+with_faces limits h st s placed surveyed (c ∷ cs) (o ∷ os) (f ∷ fs) inside one two = (
+  head (pair_of_couple h st c placed (inside c (inl refl))),
+  with_faces limits h st s placed
+      surveyed cs os fs (λ d k. inside d (inr k)) one.1 two.1,
+)
   where
-    head : IsPairOf h st c → IsRecordedWith limits h s.station.name (key_of_obs s.station.sets s.station.targets o) f
+    head : IsPairOf h st c
+        → IsRecordedWith limits h s.station.name (key_of_obs s.station.sets s.station.targets o) f
     head p =
         let r = recorded_couple limits h st s c o p surveyed one.0 in
-        let first : c.first ≡ sight_at r.recorded.first = p.first_is ∙ sym (ap sight_at r.first_is) in
-        let second : c.second ≡ sight_at r.recorded.second = p.second_is ∙ sym (ap sight_at r.second_is) in
+        let first : c.first ≡ sight_at r.recorded.first = p.first_is
+        ∙ sym (ap sight_at r.first_is) in
+        let second : c.second ≡ sight_at r.recorded.second = p.second_is
+        ∙ sym (ap sight_at r.second_is) in
         record {
           recorded = r.recorded;
-          two_c = subst (λ (a : Sight). IsTwoC limits.two_c a (sight_at r.recorded.second) f.two_c) first
+          two_c = subst (λ (a : Sight). IsTwoC limits.two_c a (sight_at r.recorded.second) f.two_c)
+              first
               (subst (λ (b : Sight). IsTwoC limits.two_c c.first b f.two_c) second two.0.two_c);
-          two_i = subst (λ (a : Sight). IsTwoI limits.two_i a (sight_at r.recorded.second) f.two_i) first
+          two_i = subst (λ (a : Sight). IsTwoI limits.two_i a (sight_at r.recorded.second) f.two_i)
+              first
               (subst (λ (b : Sight). IsTwoI limits.two_i c.first b f.two_i) second two.0.two_i);
         }
 
 -- Beside each direction stand the face differences of its two readings.
-pub recorded_faces : (limits : FaceLimits) (h : History) (stations : List SurveyedStation) (s : SurveyedStation) → AreStations limits h stations → Contains stations s
+pub recorded_faces : (limits : FaceLimits) (h : History) (stations : List SurveyedStation)
+    (s : SurveyedStation) → AreStations limits h stations → Contains stations s
     → AllZip (IsRecordedWith limits h s.station.name) (observed s.station) s.faces
 unfolding AreStations
 recorded_faces limits h stations s are listed =
-    let own = zip_left (IsSurveyed limits h) (stations_of h) stations are s (in_contains s stations listed) in
-    with_faces limits h own.0 s (station_placed h own.0 own.1) own.2 (couples_of own.0 h) s.station.obs s.faces (λ c k. k) own.2.directions own.2.differences
+    let own = zip_left (IsSurveyed limits h) (stations_of h) stations are s
+    (in_contains s stations listed) in
+    with_faces limits h own.0 s (station_placed h own.0 own.1) own.2
+    (couples_of own.0 h) s.station.obs s.faces (λ c k. k) own.2.directions own.2.differences

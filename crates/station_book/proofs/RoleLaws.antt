@@ -14,7 +14,9 @@ use Rattle.station_book.specs.Blocks.{begins, opens_station, opens_set, closes_s
 
 -- the role of a block whose first word passes these tests
 abbrev by_tests : Bool → Bool → Bool → Bool → Bool → Role
-by_tests measures codes ten twenty thirty = cond measures roles.Measurement (cond codes (cond ten roles.Station (cond twenty roles.Set (cond thirty roles.Close roles.Other))) roles.Other)
+by_tests measures codes ten twenty thirty = cond measures roles.Measurement
+    (cond codes (cond ten roles.Station
+    (cond twenty roles.Set (cond thirty roles.Close roles.Other))) roles.Other)
 
 -- two tests that are never passed together
 abbrev Apart : Bool → Bool → Type 0
@@ -36,7 +38,8 @@ set_by false true false true h a d = refl
 set_by false true false false true a d = refl
 set_by false true false false false a d = refl
 
-close_by : (m c t w h : Bool) → Apart m c → Apart t h → Apart w h → (c && h) ≡ is_close (by_tests m c t w h)
+close_by : (m c t w h : Bool) → Apart m c → Apart t h → Apart w h
+    → (c && h) ≡ is_close (by_tests m c t w h)
 close_by true c t w h a d e = ap (λ v. v && h) (a refl)
 close_by false false t w h a d e = refl
 close_by false true true w h a d e = d refl
@@ -67,29 +70,43 @@ is_code_word code w = eqb w.index 41 && bytes_eq (name_of w.content) code
 pub station_is : (b : GsiBlock) → opens_station b ≡ is_station (role_of b)
 unfolding opens_station
 station_is b = by b.words where
-  by : (ws : List GsiWord) → begins (is_code_word (codes "10")) ws ≡ is_station (role_of (record b { words = ws }))
+  by : (ws : List GsiWord)
+      → begins (is_code_word (codes "10")) ws ≡ is_station (role_of (record b { words = ws }))
   by [] = refl
-  by (w ∷ ws) = station_by (eqb w.index 11) (eqb w.index 41) (bytes_eq (name_of w.content) (codes "10")) (bytes_eq (name_of w.content) (codes "20")) (bytes_eq (name_of w.content) (codes "30")) (two_indices w.index)
+  by (w ∷ ws) = station_by (eqb w.index 11) (eqb w.index 41)
+      (bytes_eq (name_of w.content) (codes "10")) (bytes_eq (name_of w.content) (codes "20"))
+      (bytes_eq (name_of w.content) (codes "30")) (two_indices w.index)
 
 pub set_is : (b : GsiBlock) → opens_set b ≡ is_set_code (role_of b)
 unfolding opens_set
 set_is b = by b.words where
-  by : (ws : List GsiWord) → begins (is_code_word (codes "20")) ws ≡ is_set_code (role_of (record b { words = ws }))
+  by : (ws : List GsiWord)
+      → begins (is_code_word (codes "20")) ws ≡ is_set_code (role_of (record b { words = ws }))
   by [] = refl
-  by (w ∷ ws) = set_by (eqb w.index 11) (eqb w.index 41) (bytes_eq (name_of w.content) (codes "10")) (bytes_eq (name_of w.content) (codes "20")) (bytes_eq (name_of w.content) (codes "30")) (two_indices w.index) (two_codes (codes "10") (codes "20") (name_of w.content) refl)
+  by (w ∷ ws) = set_by (eqb w.index 11) (eqb w.index 41) (bytes_eq (name_of w.content) (codes "10"))
+      (bytes_eq (name_of w.content) (codes "20")) (bytes_eq (name_of w.content) (codes "30"))
+      (two_indices w.index) (two_codes (codes "10") (codes "20") (name_of w.content) refl)
 
 pub close_is : (b : GsiBlock) → closes_set b ≡ is_close (role_of b)
 unfolding closes_set
 close_is b = by b.words where
-  by : (ws : List GsiWord) → begins (is_code_word (codes "30")) ws ≡ is_close (role_of (record b { words = ws }))
+  by : (ws : List GsiWord)
+      → begins (is_code_word (codes "30")) ws ≡ is_close (role_of (record b { words = ws }))
   by [] = refl
-  by (w ∷ ws) = close_by (eqb w.index 11) (eqb w.index 41) (bytes_eq (name_of w.content) (codes "10")) (bytes_eq (name_of w.content) (codes "20")) (bytes_eq (name_of w.content) (codes "30")) (two_indices w.index) (two_codes (codes "10") (codes "30") (name_of w.content) refl) (two_codes (codes "20") (codes "30") (name_of w.content) refl)
+  by (w ∷ ws) = close_by (eqb w.index 11) (eqb w.index 41)
+      (bytes_eq (name_of w.content) (codes "10")) (bytes_eq (name_of w.content) (codes "20"))
+      (bytes_eq (name_of w.content) (codes "30")) (two_indices w.index)
+      (two_codes (codes "10") (codes "30") (name_of w.content) refl)
+      (two_codes (codes "20") (codes "30") (name_of w.content) refl)
 
 measures_is : (b : GsiBlock) → begins (λ w. eqb w.index 11) b.words ≡ is_measurement (role_of b)
 measures_is b = by b.words where
-  by : (ws : List GsiWord) → begins (λ w. eqb w.index 11) ws ≡ is_measurement (role_of (record b { words = ws }))
+  by : (ws : List GsiWord)
+      → begins (λ w. eqb w.index 11) ws ≡ is_measurement (role_of (record b { words = ws }))
   by [] = refl
-  by (w ∷ ws) = measures_by (eqb w.index 11) (eqb w.index 41) (bytes_eq (name_of w.content) (codes "10")) (bytes_eq (name_of w.content) (codes "20")) (bytes_eq (name_of w.content) (codes "30"))
+  by (w ∷ ws) = measures_by (eqb w.index 11) (eqb w.index 41)
+      (bytes_eq (name_of w.content) (codes "10")) (bytes_eq (name_of w.content) (codes "20"))
+      (bytes_eq (name_of w.content) (codes "30"))
 
 pub sight_is : (b : GsiBlock) → is_sight b ≡ (is_measurement (role_of b) && not (lacks 21 b))
 unfolding is_sight lacks

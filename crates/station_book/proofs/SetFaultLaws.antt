@@ -39,52 +39,75 @@ pub record HasOpenEntry (past : History) (shelf : ShelfValue) : Type 0 where
   pub older : List Place
   pub sets : open_sets past ≡ newest ∷ older
   pub name : List ℕ
-  pub is : IsEntryOf (station past) newest older (station_readings (station past) past) name (last_of shelf)
+  pub is : IsEntryOf (station past) newest older (station_readings (station past) past) name
+      (last_of shelf)
 
 -- Where the open station has a set, the last entry is its own.
-pub open_entry : (shelf : ShelfValue) (past : History) → is_empty (open_sets past) ≡ false → Stand past (stations_in past) shelf → HasOpenEntry past shelf
+pub open_entry : (shelf : ShelfValue) (past : History) → is_empty (open_sets past) ≡ false
+    → Stand past (stations_in past) shelf → HasOpenEntry past shelf
 open_entry shelf past some h = by (parted past) where
-  of_sets : (x : List ℕ × EntryValue) (sets : List Place) → open_sets past ≡ sets → last_of shelf ≡ x.1 → IsEntryWith (station past) sets (station_readings (station past) past) x → HasOpenEntry past shelf
+  of_sets : (x : List ℕ × EntryValue) (sets : List Place) → open_sets past ≡ sets
+      → last_of shelf ≡ x.1
+      → IsEntryWith (station past) sets (station_readings (station past) past) x
+      → HasOpenEntry past shelf
   of_sets x [] s l k = absurd k
   of_sets x (set ∷ rest) s l k = record {
     newest = set;
     older = rest;
     sets = s;
     name = x.0;
-    is = subst (λ (e : EntryValue). IsEntryOf (station past) set rest (station_readings (station past) past) x.0 e) (sym l) k;
+    is = subst (λ (e : EntryValue). IsEntryOf (station past) set rest
+        (station_readings (station past) past) x.0 e) (sym l) k;
   }
 
-  of_last : (sts : List Place) (last : Last) → StandWith past (station past ∷ sts) last (reverse shelf.done) → shelf.last ≡ last → HasOpenEntry past shelf
+  of_last : (sts : List Place) (last : Last)
+      → StandWith past (station past ∷ sts) last (reverse shelf.done) → shelf.last ≡ last
+      → HasOpenEntry past shelf
   of_last sts None k e = absurd k
   of_last sts (Some y) k e = of_sets y (open_sets past) refl (ap (λ (o : Last). entry_of o) e) k.0
 
   by : Parted past → HasOpenEntry past shelf
-  by (inl p) = let bad : is_empty (open_sets past) ≡ true = ap is_empty p.0 in absurd (false≢true (sym some ∙ bad))
-  by (inr p) = of_last p.rest shelf.last (subst (λ (sts : List Place). Stand past sts shelf) p.stations h) refl
+  by (inl p) = let bad : is_empty (open_sets past) ≡ true = ap is_empty p.0 in absurd
+      (false≢true (sym some ∙ bad))
+  by (inr p) = of_last p.rest shelf.last
+      (subst (λ (sts : List Place). Stand past sts shelf) p.stations h) refl
 
 -- the faults of a block of code 20, in two parts
-pub set_fault_parts : (limits : FaceLimits) (past : History) (b : GsiBlock) → opens_station b ≡ false → opens_set b ≡ true → fault_after limits past b ≡ then_fault (fault_at_end past) (first_of (set_faults past b))
+pub set_fault_parts : (limits : FaceLimits) (past : History) (b : GsiBlock)
+    → opens_station b ≡ false → opens_set b ≡ true
+    → fault_after limits past b ≡ then_fault (fault_at_end past) (first_of (set_faults past b))
 unfolding fault_after fault_at_end
 set_fault_parts limits past b s n =
-    (λ i. first_of (cond (s i) (end_faults past ++ station_faults b) (cond (n i) (end_faults past ++ set_faults past b) (cond (closes_set b) (end_faults past) (cond (is_sight b && is_open past) (reading_faults limits past b) [])))))
+    (λ i. first_of (cond (s i) (end_faults past ++ station_faults b)
+    (cond (n i) (end_faults past ++ set_faults past b)
+    (cond (closes_set b) (end_faults past)
+    (cond (is_sight b && is_open past) (reading_faults limits past b) [])))))
     ∙ first_append (end_faults past) (set_faults past b)
 
 -- In a file without fault a set has a station.
-pub set_has_station : (limits : FaceLimits) (past : History) → IsWithoutFault limits past → is_empty (open_sets past) ≡ false → is_empty (station past) ≡ false
+pub set_has_station : (limits : FaceLimits) (past : History) → IsWithoutFault limits past
+    → is_empty (open_sets past) ≡ false → is_empty (station past) ≡ false
 set_has_station limits [] w e = absurd (false≢true (sym e))
-set_has_station limits (b ∷ past) w e = split (cases_Bool (opens_station b)) (cases_Bool (opens_set b)) (set_has_station limits past w.1) where
-  same : opens_station b ≡ false → is_empty (station (b ∷ past)) ≡ is_empty (station past)
-  same s = ap (λ v. is_empty (cond v (b ∷ past) (last opens_station past))) s
+set_has_station limits (b ∷ past) w e = split (cases_Bool (opens_station b))
+    (cases_Bool (opens_set b)) (set_has_station limits past w.1) where
+      same : opens_station b ≡ false → is_empty (station (b ∷ past)) ≡ is_empty (station past)
+      same s = ap (λ v. is_empty (cond v (b ∷ past) (last opens_station past))) s
 
-  clean : opens_station b ≡ false → opens_set b ≡ true → first_of (set_faults past b) ≡ None
-  clean s n = then_second (fault_at_end past) (first_of (set_faults past b)) (sym (set_fault_parts limits past b s n) ∙ w.0)
+      clean : opens_station b ≡ false → opens_set b ≡ true → first_of (set_faults past b) ≡ None
+      clean s n = then_second (fault_at_end past) (first_of (set_faults past b))
+          (sym (set_fault_parts limits past b s n) ∙ w.0)
 
-  split : (opens_station b ≡ true) ⊎ (opens_station b ≡ false) → (opens_set b ≡ true) ⊎ (opens_set b ≡ false) → (is_empty (open_sets past) ≡ false → is_empty (station past) ≡ false) → is_empty (station (b ∷ past)) ≡ false
-  split (inl s) n ih = ap (λ v. is_empty (cond v (b ∷ past) (last opens_station past))) s
-  split (inr s) (inl n) ih = same s ∙ none_when (is_empty (station past)) kinds.SetOutside (none_stands (set_faults past b) (clean s n)).1.0
-  split (inr s) (inr n) ih = same s ∙ ih (sym (ap is_empty (sets-other b past s n)) ∙ e)
+      split : (opens_station b ≡ true) ⊎ (opens_station b ≡ false)
+          → (opens_set b ≡ true) ⊎ (opens_set b ≡ false)
+          → (is_empty (open_sets past) ≡ false → is_empty (station past) ≡ false)
+          → is_empty (station (b ∷ past)) ≡ false
+      split (inl s) n ih = ap (λ v. is_empty (cond v (b ∷ past) (last opens_station past))) s
+      split (inr s) (inl n) ih = same s ∙ none_when (is_empty (station past)) kinds.SetOutside
+          (none_stands (set_faults past b) (clean s n)).1.0
+      split (inr s) (inr n) ih = same s ∙ ih (sym (ap is_empty (sets-other b past s n)) ∙ e)
 
-any_map : {X Y : Type 0} (p : Y → Bool) (f : X → Y) (xs : List X) → list_any p (map f xs) ≡ list_any (λ x. p (f x)) xs
+any_map : {X Y : Type 0} (p : Y → Bool) (f : X → Y) (xs : List X)
+    → list_any p (map f xs) ≡ list_any (λ x. p (f x)) xs
 any_map p f [] = refl
 any_map p f (x ∷ xs) = ap (λ v. p (f x) || v) (any_map p f xs)
 
@@ -94,12 +117,14 @@ or_turned true false = refl
 or_turned false true = refl
 or_turned false false = refl
 
-any_last : {X : Type 0} (p : X → Bool) (xs : List X) (x : X) → list_any p (xs ++ x ∷ []) ≡ (p x || list_any p xs)
+any_last : {X : Type 0} (p : X → Bool) (xs : List X) (x : X)
+    → list_any p (xs ++ x ∷ []) ≡ (p x || list_any p xs)
 any_last p xs x = list_any-append p xs (x ∷ []) ∙ or_turned (list_any p xs) (p x)
 
 any_reverse : {X : Type 0} (p : X → Bool) (xs : List X) → list_any p (reverse xs) ≡ list_any p xs
 any_reverse p [] = refl
-any_reverse p (x ∷ xs) = ap (list_any p) (reverse-append (x ∷ []) xs) ∙ any_last p (reverse xs) x ∙ ap (λ v. p x || v) (any_reverse p xs)
+any_reverse p (x ∷ xs) = ap (list_any p) (reverse-append (x ∷ []) xs) ∙ any_last p (reverse xs) x
+    ∙ ap (λ v. p x || v) (any_reverse p xs)
 
 same_bytes : (a b : List ℕ) → bytes_eq a b ≡ bytes_eq b a
 same_bytes a b = same_test (bytes_eq a b) (bytes_eq b a) (turned a b) (turned b a) where
@@ -107,51 +132,71 @@ same_bytes a b = same_test (bytes_eq a b) (bytes_eq b a) (turned a b) (turned b 
   turned x y e = (bytes_eq-Decides y x).1 (sym ((bytes_eq-Decides x y).0 e))
 
 -- a station with sets has a name exactly where one that is kept has it
-known_names : (past : History) (name : List ℕ) (sts : List Place) (es : Surveys) → AreDone past sts es → list_any (λ st. same_name (name_at st) (Some name)) sts ≡ list_any (λ e. bytes_eq name e.0) es
+known_names : (past : History) (name : List ℕ) (sts : List Place) (es : Surveys)
+    → AreDone past sts es
+    → list_any (λ st. same_name (name_at st) (Some name)) sts ≡ list_any (λ e. bytes_eq name e.0) es
 known_names past name [] [] h = refl
 known_names past name [] (e ∷ es) h = absurd h
 known_names past name (st ∷ sts) [] h = absurd h
 known_names past name (st ∷ sts) (e ∷ es) h =
-    λ i. (ap (λ n. same_name n (Some name)) h.0.0 ∙ same_bytes e.0 name) i || known_names past name sts es h.1 i
+    λ i. (ap (λ n. same_name n (Some name)) h.0.0 ∙ same_bytes e.0 name) i || known_names past name
+    sts es h.1 i
 
-one_each : (past : History) (sts : List Place) (es : Surveys) → AreDone past sts es → length sts ≡ length es
+one_each : (past : History) (sts : List Place) (es : Surveys) → AreDone past sts es
+    → length sts ≡ length es
 one_each past [] [] h = refl
 one_each past [] (e ∷ es) h = absurd h
 one_each past (st ∷ sts) [] h = absurd h
 one_each past (st ∷ sts) (e ∷ es) h = ap suc (one_each past sts es h.1)
 
 -- as many stations have sets as are kept
-count_stations : (shelf : ShelfValue) (past : History) → Stand past (stations_in past) shelf → length (first_sets past) ≡ length (all_done shelf)
-count_stations shelf past h = sym (length-map (first_sets past) (λ s. station (before s))) ∙ one_each past (stations_in past) (reverse (all_done shelf)) (are_done past (stations_in past) shelf h) ∙ length-reverse (all_done shelf)
+count_stations : (shelf : ShelfValue) (past : History) → Stand past (stations_in past) shelf
+    → length (first_sets past) ≡ length (all_done shelf)
+count_stations shelf past h = sym (length-map (first_sets past) (λ s. station (before s)))
+    ∙ one_each past (stations_in past) (reverse (all_done shelf))
+    (are_done past (stations_in past) shelf h) ∙ length-reverse (all_done shelf)
 
 -- StationTwice before the first set of a station
-known_station : (shelf : ShelfValue) (past : History) (name : List ℕ) → open_sets past ≡ [] → name_at (station past) ≡ Some name → Stand past (stations_in past) shelf → had_sets past ≡ is_known name shelf
+known_station : (shelf : ShelfValue) (past : History) (name : List ℕ) → open_sets past ≡ []
+    → name_at (station past) ≡ Some name → Stand past (stations_in past) shelf
+    → had_sets past ≡ is_known name shelf
 known_station shelf past name none is h =
     had_sets_by_names past none
     ∙ (λ i. list_any (λ s. same_name (name_at (station (before s))) (is i)) (first_sets past))
-    ∙ sym (any_map (λ st. same_name (name_at st) (Some name)) (λ s. station (before s)) (first_sets past))
-    ∙ known_names past name (stations_in past) (reverse (all_done shelf)) (are_done past (stations_in past) shelf h)
+    ∙ sym (any_map (λ st. same_name (name_at st) (Some name)) (λ s. station (before s))
+    (first_sets past))
+    ∙ known_names past name (stations_in past) (reverse (all_done shelf))
+    (are_done past (stations_in past) shelf h)
     ∙ any_reverse (λ e. bytes_eq name e.0) (all_done shelf)
 
 -- the numbers of a station's sets
-any_numbers : (n : ℕ) (sets : List Place) → list_any (λ s. same_number (number_at s) (Some n)) sets ≡ list_any (λ m. same_number m (Some n)) (numbers_in sets)
+any_numbers : (n : ℕ) (sets : List Place)
+    → list_any (λ s. same_number (number_at s) (Some n)) sets ≡ list_any
+    (λ m. same_number m (Some n)) (numbers_in sets)
 any_numbers n [] = refl
-any_numbers n (s ∷ older) = ap (λ v. same_number (number_at s) (Some n) || v) (any_numbers n older) ∙ sym (any_last (λ m. same_number m (Some n)) (numbers_in older) (number_at s))
+any_numbers n (s ∷ older) = ap (λ v. same_number (number_at s) (Some n) || v) (any_numbers n older)
+    ∙ sym (any_last (λ m. same_number m (Some n)) (numbers_in older) (number_at s))
 
 count_numbers : (sets : List Place) → length (numbers_in sets) ≡ length sets
 count_numbers [] = refl
-count_numbers (s ∷ older) = let l = length-append (numbers_in older) (number_at s ∷ []) in let m = count_numbers older in omega (arith, l, m)
+count_numbers (s ∷ older) = let l = length-append (numbers_in older)
+    (number_at s ∷ []) in let m = count_numbers older in omega (arith, l, m)
 
-kept_numbers : (past : History) (shelf : ShelfValue) (e : HasOpenEntry past shelf) → numbers_in (open_sets past) ≡ map (λ n. Some n) (last_of shelf).sets
+kept_numbers : (past : History) (shelf : ShelfValue) (e : HasOpenEntry past shelf)
+    → numbers_in (open_sets past) ≡ map (λ n. Some n) (last_of shelf).sets
 kept_numbers past shelf e = ap numbers_in e.sets ∙ sym e.is.numbers
 
-known_number : (past : History) (shelf : ShelfValue) (n : ℕ) → HasOpenEntry past shelf → has_set_number (Some n) past ≡ list_any (λ m. eqb m n) (last_of shelf).sets
+known_number : (past : History) (shelf : ShelfValue) (n : ℕ) → HasOpenEntry past shelf
+    → has_set_number (Some n) past ≡ list_any (λ m. eqb m n) (last_of shelf).sets
 known_number past shelf n e =
-    any_numbers n (open_sets past) ∙ ap (list_any (λ m. same_number m (Some n))) (kept_numbers past shelf e)
+    any_numbers n (open_sets past)
+    ∙ ap (list_any (λ m. same_number m (Some n))) (kept_numbers past shelf e)
     ∙ any_map (λ m. same_number m (Some n)) (λ m. Some m) (last_of shelf).sets
 
-count_sets : (past : History) (shelf : ShelfValue) → HasOpenEntry past shelf → length (open_sets past) ≡ length (last_of shelf).sets
-count_sets past shelf e = sym (count_numbers (open_sets past)) ∙ ap length (kept_numbers past shelf e) ∙ length-map (last_of shelf).sets (λ n. Some n)
+count_sets : (past : History) (shelf : ShelfValue) → HasOpenEntry past shelf
+    → length (open_sets past) ≡ length (last_of shelf).sets
+count_sets past shelf e = sym (count_numbers (open_sets past))
+    ∙ ap length (kept_numbers past shelf e) ∙ length-map (last_of shelf).sets (λ n. Some n)
 
 -- the tests of a block of code 20, but for that of its word 42
 abbrev tests : Bool → Bool → Bool → Bool → Bool → Bool → List (Option BookKind)
@@ -164,12 +209,16 @@ tests outside unnumbered had same many most =
     ∷ when most kinds.TooManySets
     ∷ []
 
-first_set_tests : (had many : Bool) → first_of (when had kinds.StationTwice ∷ when many kinds.TooManyStations ∷ []) ≡ first_of (tests false false had false many false)
+first_set_tests : (had many : Bool)
+    → first_of (when had kinds.StationTwice ∷ when many kinds.TooManyStations ∷ []) ≡ first_of
+    (tests false false had false many false)
 first_set_tests true many = refl
 first_set_tests false true = refl
 first_set_tests false false = refl
 
-more_set_tests : (same most : Bool) → first_of (when same kinds.SetTwice ∷ when most kinds.TooManySets ∷ []) ≡ first_of (tests false false false same false most)
+more_set_tests : (same most : Bool)
+    → first_of (when same kinds.SetTwice ∷ when most kinds.TooManySets ∷ []) ≡ first_of
+    (tests false false false same false most)
 more_set_tests true most = refl
 more_set_tests false true = refl
 more_set_tests false false = refl
@@ -177,19 +226,26 @@ more_set_tests false false = refl
 abbrev opening_tests : Option ℕ → History → List (Option BookKind)
 opening_tests n past =
     tests (is_empty (station past)) (is_none n) (had_sets past) (has_set_number n past)
-    (is_empty (open_sets past) && leb 1000 (length (first_sets past))) (leb 40 (length (open_sets past)))
+    (is_empty (open_sets past) && leb 1000 (length (first_sets past)))
+    (leb 40 (length (open_sets past)))
 
 -- the first set of a station
-first_opening : (shelf : ShelfValue) (past : History) (name : List ℕ) (n : ℕ) → is_empty (station past) ≡ false → name_at (station past) ≡ Some name → open_sets past ≡ [] → Stand past (stations_in past) shelf
+first_opening : (shelf : ShelfValue) (past : History) (name : List ℕ) (n : ℕ)
+    → is_empty (station past) ≡ false → name_at (station past) ≡ Some name → open_sets past ≡ []
+    → Stand past (stations_in past) shelf
     → first_of (first_set_faults name shelf) ≡ first_of (opening_tests (Some n) past)
 first_opening shelf past name n inside is none h =
     let had = known_station shelf past name none is h in
     let count = count_stations shelf past h in
     first_set_tests (is_known name shelf) (leb 1000 (length (all_done shelf)))
-    ∙ sym (λ i. first_of (tests (inside i) false (had i) (list_any (λ s. same_number (number_at s) (Some n)) (none i)) (is_empty (none i) && leb 1000 (count i)) (leb 40 (length (none i)))))
+    ∙ sym (λ i. first_of (tests (inside i) false (had i)
+    (list_any (λ s. same_number (number_at s) (Some n)) (none i))
+    (is_empty (none i) && leb 1000 (count i)) (leb 40 (length (none i)))))
 
 -- a further set of a station
-further_opening : (limits : FaceLimits) (shelf : ShelfValue) (past : History) (n : ℕ) → IsWithoutFault limits past → is_empty (open_sets past) ≡ false → Stand past (stations_in past) shelf
+further_opening : (limits : FaceLimits) (shelf : ShelfValue) (past : History) (n : ℕ)
+    → IsWithoutFault limits past → is_empty (open_sets past) ≡ false
+    → Stand past (stations_in past) shelf
     → first_of (more_set_faults (last_of shelf) n) ≡ first_of (opening_tests (Some n) past)
 further_opening limits shelf past n w some h =
     let e = open_entry shelf past some h in
@@ -197,37 +253,61 @@ further_opening limits shelf past n w some h =
     let had = no_had_sets limits past w some in
     let same = known_number past shelf n e in
     let count = count_sets past shelf e in
-    more_set_tests (list_any (λ m. eqb m n) (last_of shelf).sets) (leb 40 (length (last_of shelf).sets))
-    ∙ sym (λ i. first_of (tests (inside i) false (had i) (same i) (some i && leb 1000 (length (first_sets past))) (leb 40 (count i))))
+    more_set_tests (list_any (λ m. eqb m n) (last_of shelf).sets)
+    (leb 40 (length (last_of shelf).sets))
+    ∙ sym (λ i. first_of (tests (inside i) false (had i) (same i)
+    (some i && leb 1000 (length (first_sets past))) (leb 40 (count i))))
 
 -- no number
-no_number : (past : History) → is_empty (station past) ≡ false → Some kinds.SetNumber ≡ first_of (opening_tests None past)
+no_number : (past : History) → is_empty (station past) ≡ false
+    → Some kinds.SetNumber ≡ first_of (opening_tests None past)
 no_number past inside =
-    sym (λ i. first_of (tests (inside i) true (had_sets past) (has_set_number None past) (is_empty (open_sets past) && leb 1000 (length (first_sets past))) (leb 40 (length (open_sets past)))))
+    sym (λ i. first_of (tests (inside i) true (had_sets past) (has_set_number None past)
+    (is_empty (open_sets past) && leb 1000 (length (first_sets past)))
+    (leb 40 (length (open_sets past)))))
 
 -- a set, by where it opens
-same_opening : (limits : FaceLimits) (stage : Stage) (shelf : ShelfValue) (past : History) (n : Option ℕ) → IsWithoutFault limits past → IsStage stage past → Stand past (stations_in past) shelf → kept.opening stage shelf n ≡ first_of (opening_tests n past)
+same_opening : (limits : FaceLimits) (stage : Stage) (shelf : ShelfValue) (past : History)
+    (n : Option ℕ) → IsWithoutFault limits past → IsStage stage past
+    → Stand past (stations_in past) shelf
+    → kept.opening_fault stage shelf n ≡ first_of (opening_tests n past)
 same_opening limits Outside shelf past n w g h =
-    sym (λ i. first_of (tests (is_empty (g.0 i)) (is_none n) (had_sets past) (has_set_number n past) (is_empty (open_sets past) && leb 1000 (length (first_sets past))) (leb 40 (length (open_sets past)))))
+    sym (λ i. first_of (tests (is_empty (g.0 i)) (is_none n) (had_sets past) (has_set_number n past)
+    (is_empty (open_sets past) && leb 1000 (length (first_sets past)))
+    (leb 40 (length (open_sets past)))))
 same_opening limits (Station name) shelf past None w g h = no_number past g.0
-same_opening limits (Station name) shelf past (Some n) w g h = first_opening shelf past name n g.0 g.1 g.2 h
-same_opening limits BetweenSets shelf past None w g h = no_number past (set_has_station limits past w g.0)
-same_opening limits BetweenSets shelf past (Some n) w g h = further_opening limits shelf past n w g.0 h
-same_opening limits InSet shelf past None w g h = no_number past (set_has_station limits past w (open_has_set past g))
-same_opening limits InSet shelf past (Some n) w g h = further_opening limits shelf past n w (open_has_set past g) h
+same_opening limits (Station name) shelf past
+    (Some n) w g h = first_opening shelf past name n g.0 g.1 g.2 h
+same_opening limits BetweenSets shelf past None w g h = no_number past
+    (set_has_station limits past w g.0)
+same_opening limits BetweenSets shelf past
+    (Some n) w g h = further_opening limits shelf past n w g.0 h
+same_opening limits InSet shelf past None w g h = no_number past
+    (set_has_station limits past w (open_has_set past g))
+same_opening limits InSet shelf past (Some n) w g h = further_opening limits shelf past n w
+    (open_has_set past g) h
 
 -- the faults of a set, its word 42 first
-set_tests : (past : History) (b : GsiBlock) → first_of (set_faults past b) ≡ then_fault (when (has_two 42 b) (kinds.WordTwice 42)) (first_of (opening_tests (number b) past))
-set_tests past b = first_append (when (has_two 42 b) (kinds.WordTwice 42) ∷ []) (opening_tests (number b) past) ∙ ap (λ o. then_fault o (first_of (opening_tests (number b) past))) (one (when (has_two 42 b) (kinds.WordTwice 42))) where
-  one : (o : Option BookKind) → first_of (o ∷ []) ≡ o
-  one None = refl
-  one (Some k) = refl
+set_tests : (past : History) (b : GsiBlock)
+    → first_of (set_faults past b) ≡ then_fault (when (has_two 42 b) (kinds.WordTwice 42))
+    (first_of (opening_tests (number b) past))
+set_tests past b = first_append (when (has_two 42 b) (kinds.WordTwice 42) ∷ [])
+    (opening_tests (number b) past)
+    ∙ ap (λ o. then_fault o (first_of (opening_tests (number b) past)))
+    (one (when (has_two 42 b) (kinds.WordTwice 42))) where
+      one : (o : Option BookKind) → first_of (o ∷ []) ≡ o
+      one None = refl
+      one (Some k) = refl
 
 -- THE LAW of code 20: the fault by what is kept is the fault by the blocks before
-pub same_set_fault : (k : kept.Kept) (b : GsiBlock) (past : History) → role_of b ≡ roles.Set → StandsFor k.limits k past → kept.fault_as roles.Set k b ≡ fault_after k.limits past b
+pub same_set_fault : (k : kept.Kept) (b : GsiBlock) (past : History) → role_of b ≡ roles.Set
+    → StandsFor k.limits k past → kept.fault_as roles.Set k b ≡ fault_after k.limits past b
 same_set_fault k b past r h =
     let opens = same_opening k.limits k.stage k.shelf past (number b) h.clean h.stage h.stations in
-    (λ i. then_fault (same_end k past h i) (then_fault (when (has_two 42 b) (kinds.WordTwice 42)) (kept.opening k.stage k.shelf (number b))))
-    ∙ (λ i. then_fault (fault_at_end past) (then_fault (when (has_two 42 b) (kinds.WordTwice 42)) (opens i)))
+    (λ i. then_fault (same_end k past h i)
+    (then_fault (when (has_two 42 b) (kinds.WordTwice 42))
+    (kept.opening_fault k.stage k.shelf (number b))))
+    ∙ (λ i. then_fault (fault_at_end past)
+    (then_fault (when (has_two 42 b) (kinds.WordTwice 42)) (opens i)))
     ∙ (λ i. then_fault (fault_at_end past) (sym (set_tests past b) i))
     ∙ sym (set_fault_parts k.limits past b (station_as b roles.Set r) (set_as b roles.Set r))

@@ -1,5 +1,5 @@
--- What is kept of a station stands for it: after its first set, after a further set, and, where the station is closed,
--- after any block.
+-- What is kept of a station stands for it: after its first set, after a further set, and, where the
+-- station is closed, after any block.
 use Rattle.std.proofs.Common.{◌≡◌, ℕ, suc, ◌-◌, ◌<◌, ◌≤◌, Bool, true, false, cond, ◌&&◌, ◌||◌, List, [], ◌∷◌, ◌++◌, length, map, filter, reverse, replicate, Some, None, refl, sym, ap, ◌∙◌, inl, inr, ◌⊎◌, subst, arith}
 use Rattle.std.specs.List.{AllByRecursion}
 use Rattle.std.proofs.lemmas.Bool.{cases_Bool, false≢true, and_parts, ne_eqb, eq-eqb}
@@ -22,7 +22,8 @@ use Rattle.station_book.proofs.CodeLaws.{no_set_at_station}
 use Rattle.station_book.proofs.StepLaws.{sight_opens_nothing, sight_opens_no_station, is_open-opening, is_open-other, sets-station, sets-more, sets-other}
 
 -- no reading: all slots are empty
-pub no_readings : (targets : List (List ℕ)) → slots_of targets [] ≡ replicate (length targets) empty_slot
+pub no_readings : (targets : List (List ℕ))
+    → slots_of targets [] ≡ replicate (length targets) empty_slot
 no_readings [] = refl
 no_readings (t ∷ ts) = ap (λ ss. empty_slot ∷ ss) (no_readings ts)
 
@@ -32,14 +33,17 @@ length_map f (x ∷ xs) = ap suc (length_map f xs)
 
 length_numbers : (sets : List Place) → length (numbers_in sets) ≡ length sets
 length_numbers [] = refl
-length_numbers (s ∷ older) = let l = length-append (numbers_in older) (number_at s ∷ []) in let m = length_numbers older in omega (arith, l, m)
+length_numbers (s ∷ older) = let l = length-append (numbers_in older)
+    (number_at s ∷ []) in let m = length_numbers older in omega (arith, l, m)
 
-map_more : {X Y : Type 0} (f : X → Y) (xs : List X) (x : X) → map f (xs ++ x ∷ []) ≡ map f xs ++ f x ∷ []
+map_more : {X Y : Type 0} (f : X → Y) (xs : List X) (x : X)
+    → map f (xs ++ x ∷ []) ≡ map f xs ++ f x ∷ []
 map_more f [] x = refl
 map_more f (y ∷ xs) x = ap (λ r. f y ∷ r) (map_more f xs x)
 
 -- after the first set
-pub first_stands : (st set : Place) (name : List ℕ) (n : ℕ) → name_at st ≡ Some name → number_at set ≡ Some n → IsEntryOf st set [] [] name (first_entry n)
+pub first_stands : (st set : Place) (name : List ℕ) (n : ℕ) → name_at st ≡ Some name
+    → number_at set ≡ Some n → IsEntryOf st set [] [] name (first_entry n)
 first_stands st set name n named_so numbered = record {
   named_so = named_so;
   targets = refl;
@@ -50,8 +54,10 @@ first_stands st set name n named_so numbered = record {
 }
 
 -- after a further set
-pub set_stands : (st set newest : Place) (older readings : List Place) (name : List ℕ) (n : ℕ) (e : EntryValue) → number_at set ≡ Some n → in_set set readings ≡ []
-    → IsEntryOf st newest older readings name e → IsEntryOf st set (newest ∷ older) readings name (with_set n e)
+pub set_stands : (st set newest : Place) (older readings : List Place) (name : List ℕ) (n : ℕ)
+    (e : EntryValue) → number_at set ≡ Some n → in_set set readings ≡ []
+    → IsEntryOf st newest older readings name e
+    → IsEntryOf st set (newest ∷ older) readings name (with_set n e)
 set_stands st set newest older readings name n e numbered none h = record {
   named_so = h.named_so;
   targets = h.targets;
@@ -61,50 +67,65 @@ set_stands st set newest older readings name n e numbered none h = record {
   faces = (λ i. h.faces i ++ faces_of (h.slots i));
 } where
   sets : length e.sets ≡ suc (length older)
-  sets = sym (length_map (λ m. Some m) e.sets) ∙ ap length h.numbers ∙ length_numbers (newest ∷ older)
+  sets = sym (length_map (λ m. Some m) e.sets) ∙ ap length h.numbers
+      ∙ length_numbers (newest ∷ older)
 
   last_place : length e.sets - 1 ≡ length older
   last_place = omega (arith, sets)
 
-  slots : replicate (length e.slots) empty_slot ≡ slots_of (targets_in readings) (in_set set readings)
+  slots : replicate (length e.slots) empty_slot ≡ slots_of (targets_in readings)
+      (in_set set readings)
   slots =
-      ap (λ (k : ℕ). replicate k empty_slot) (ap length h.slots ∙ length_map _ (targets_in readings))
+      ap (λ (k : ℕ). replicate k empty_slot)
+      (ap length h.slots ∙ length_map _ (targets_in readings))
       ∙ sym (no_readings (targets_in readings)) ∙ ap (slots_of (targets_in readings)) (sym none)
 
 -- what the station gives once its last set is closed
-survey_is : (h : History) (st : Place) (e : List ℕ × EntryValue) → StandsAt h st e → DoneAt h st (e.0, survey_of e)
+survey_is : (h : History) (st : Place) (e : List ℕ × EntryValue) → StandsAt h st e
+    → DoneAt h st (e.0, survey_of e)
 survey_is h st e k = by (sets_of st h) refl k where
-  by : (sets : List Place) → sets_of st h ≡ sets → IsEntryWith st sets (station_readings st h) e → DoneAt h st (e.0, survey_of e)
+  by : (sets : List Place) → sets_of st h ≡ sets → IsEntryWith st sets (station_readings st h) e
+      → DoneAt h st (e.0, survey_of e)
   by [] s k = absurd k
   by (newest ∷ older) s k =
-      let count : length e.1.sets ≡ suc (length older) = sym (length_map (λ n. Some n) e.1.sets) ∙ ap length k.numbers ∙ length_numbers (newest ∷ older) in
+      let count : length e.1.sets ≡ suc (length older) = sym (length_map (λ n. Some n) e.1.sets)
+      ∙ ap length k.numbers ∙ length_numbers (newest ∷ older) in
       let last : length e.1.sets - 1 ≡ length older = omega (arith, count) in (
         k.named_so,
         record {
           named_so = k.named_so;
           targets = k.targets;
           numbers = k.numbers ∙ ap numbers_in (sym s);
-          obs = (λ i. k.obs i ++ obs_of (last i) (k.slots i)) ∙ ap (obs_in (targets_in (station_readings st h)) (station_readings st h)) (sym s);
-          faces = (λ i. k.faces i ++ faces_of (k.slots i)) ∙ ap (faces_in (targets_in (station_readings st h)) (station_readings st h)) (sym s);
+          obs = (λ i. k.obs i ++ obs_of (last i) (k.slots i))
+              ∙ ap (obs_in (targets_in (station_readings st h)) (station_readings st h)) (sym s);
+          faces = (λ i. k.faces i ++ faces_of (k.slots i))
+              ∙ ap (faces_in (targets_in (station_readings st h)) (station_readings st h)) (sym s);
         },
       )
 
-with_done : (h : History) (sts : List Place) (last : Last) (es : Surveys) → StandWith h sts last es → AreDone h sts (last_done last ++ es)
+with_done : (h : History) (sts : List Place) (last : Last) (es : Surveys) → StandWith h sts last es
+    → AreDone h sts (last_done last ++ es)
 with_done h [] None es k = k
 with_done h [] (Some e) es k = absurd k
 with_done h (st ∷ sts) None es k = absurd k
 with_done h (st ∷ sts) (Some e) es k = (survey_is h st e k.0, k.1)
 
-newest_done : (es : Surveys) (last : Last) → reverse (es ++ last_done last) ≡ last_done last ++ reverse es
+newest_done : (es : Surveys) (last : Last)
+    → reverse (es ++ last_done last) ≡ last_done last ++ reverse es
 newest_done es None = ap reverse (append-nil es)
 newest_done es (Some e) = reverse-append es ((e.0, survey_of e) ∷ [])
 
 -- what all stations give once the last set is closed
-pub are_done : (h : History) (sts : List Place) (s : ShelfValue) → Stand h sts s → AreDone h sts (reverse (all_done s))
-are_done h sts s k = subst (λ (es : Surveys). AreDone h sts es) (sym (newest_done s.done s.last)) (with_done h sts s.last (reverse s.done) k)
+pub are_done : (h : History) (sts : List Place) (s : ShelfValue) → Stand h sts s
+    → AreDone h sts (reverse (all_done s))
+are_done h sts s k = subst (λ (es : Surveys). AreDone h sts es) (sym (newest_done s.done s.last))
+    (with_done h sts s.last (reverse s.done) k)
 
 -- A closed station: a block by which its sets and readings stay as they are changes nothing of it.
-done_stays : (st : Place) (e : List ℕ × SurveyedStation) (b : GsiBlock) (past : History) → sets_of st (b ∷ past) ≡ sets_of st past → station_readings st (b ∷ past) ≡ station_readings st past → DoneAt past st e → DoneAt (b ∷ past) st e
+done_stays : (st : Place) (e : List ℕ × SurveyedStation) (b : GsiBlock) (past : History)
+    → sets_of st (b ∷ past) ≡ sets_of st past
+    → station_readings st (b ∷ past) ≡ station_readings st past → DoneAt past st e
+    → DoneAt (b ∷ past) st e
 done_stays st e b past sets readings h = (h.0, is) where
   is : IsComputed st (sets_of st (b ∷ past)) (station_readings st (b ∷ past)) e.1
   is =
@@ -112,71 +133,115 @@ done_stays st e b past sets readings h = (h.0, is) where
       (subst (λ (rs : List Place). IsComputed st (sets_of st past) rs e.1) (sym readings) h.1)
 
 -- Whatever block comes, what is kept of the stations before the open one stays as it is.
-pub older_stay : (sts : List Place) (es : Surveys) (b : GsiBlock) (past : History) → AllByRecursion (λ st. length st < length (station past)) sts → AreDone past sts es → AreDone (b ∷ past) sts es
+pub older_stay : (sts : List Place) (es : Surveys) (b : GsiBlock) (past : History)
+    → AllByRecursion (λ st. length st < length (station past)) sts → AreDone past sts es
+    → AreDone (b ∷ past) sts es
 older_stay [] [] b past all h = tt
 older_stay [] (e ∷ es) b past all h = h
 older_stay (st ∷ sts) [] b past all h = h
-older_stay (st ∷ sts) (e ∷ es) b past all h =
-    (done_stays st e b past (belonging-older opens_station is_set st b past all.0) (belonging-older opens_station is_reading st b past all.0) h.0, older_stay sts es b past all.1 h.1)
+older_stay (st ∷ sts) (e ∷ es) b past all h = (
+  done_stays st e b past (belonging-older opens_station is_set st b past all.0)
+      (belonging-older opens_station is_reading st b past all.0) h.0,
+  older_stay sts es b past
+      all.1 h.1,
+)
 
 -- Where a set is open, the open station has a set.
 pub open_has_set : (past : History) → is_open past ≡ true → is_empty (open_sets past) ≡ false
 open_has_set [] e = cc
-open_has_set (b ∷ past) e = split (cases_Bool (opens_station b)) (cases_Bool (opens_set b)) (cases_Bool (is_opening b)) (open_has_set past) where
-  split : (opens_station b ≡ true) ⊎ (opens_station b ≡ false) → (opens_set b ≡ true) ⊎ (opens_set b ≡ false) → (is_opening b ≡ true) ⊎ (is_opening b ≡ false) → (is_open past ≡ true → is_empty (open_sets past) ≡ false) → is_empty (open_sets (b ∷ past)) ≡ false
-  split (inr s) (inl n) o ih = ap is_empty (sets-more b past s n)
-  split (inr s) (inr n) (inr o) ih = ap is_empty (sets-other b past s n) ∙ ih (sym (is_open-other b past o) ∙ e)
-  split s (inr n) (inl o) ih = absurd (false≢true (sym n ∙ sym (is_open-opening b past o) ∙ e))
-  split (inl s) (inl n) o ih = absurd (false≢true (sym (no_set_at_station b s) ∙ n))
-  split (inl s) (inr n) (inr o) ih = absurd (false≢true (sym (or_left (opens_station b) _ o) ∙ s)) where
-    or_left : (x y : Bool) → (x || y) ≡ false → x ≡ false
-    or_left true y h = cc
-    or_left false y h = refl
+open_has_set (b ∷ past) e = split (cases_Bool (opens_station b)) (cases_Bool (opens_set b))
+    (cases_Bool (is_opening b)) (open_has_set past) where
+      split : (opens_station b ≡ true) ⊎ (opens_station b ≡ false)
+          → (opens_set b ≡ true) ⊎ (opens_set b ≡ false)
+          → (is_opening b ≡ true) ⊎ (is_opening b ≡ false)
+          → (is_open past ≡ true → is_empty (open_sets past) ≡ false)
+          → is_empty (open_sets (b ∷ past)) ≡ false
+      split (inr s) (inl n) o ih = ap is_empty (sets-more b past s n)
+      split (inr s) (inr n) (inr o) ih = ap is_empty (sets-other b past s n)
+          ∙ ih (sym (is_open-other b past o) ∙ e)
+      split s (inr n) (inl o) ih = absurd (false≢true (sym n ∙ sym (is_open-opening b past o) ∙ e))
+      split (inl s) (inl n) o ih = absurd (false≢true (sym (no_set_at_station b s) ∙ n))
+      split (inl s) (inr n) (inr o) ih = absurd
+          (false≢true (sym (or_left (opens_station b) _ o) ∙ s)) where
+            or_left : (x y : Bool) → (x || y) ≡ false → x ≡ false
+            or_left true y h = cc
+            or_left false y h = refl
 
 -- A station without a set has no reading.
-pub no_set_no_reading : (past : History) → open_sets past ≡ [] → station_readings (station past) past ≡ []
+pub no_set_no_reading : (past : History) → open_sets past ≡ []
+    → station_readings (station past) past ≡ []
 no_set_no_reading [] e = refl
-no_set_no_reading (b ∷ past) e = split (cases_Bool (opens_station b)) (cases_Bool (opens_set b)) (cases_Bool (is_reading (b ∷ past))) (no_set_no_reading past) where
-  split : (opens_station b ≡ true) ⊎ (opens_station b ≡ false) → (opens_set b ≡ true) ⊎ (opens_set b ≡ false) → (is_reading (b ∷ past) ≡ true) ⊎ (is_reading (b ∷ past) ≡ false) → (open_sets past ≡ [] → station_readings (station past) past ≡ []) → station_readings (station (b ∷ past)) (b ∷ past) ≡ []
-  split (inl s) n r ih = belonging-fresh opens_station is_reading b past s
-  split (inr s) (inl n) r ih = let bad : is_empty ((b ∷ past) ∷ open_sets past) ≡ true = ap is_empty (sym (sets-more b past s n) ∙ e) in absurd (false≢true bad)
-  split (inr s) (inr n) (inr r) ih = belonging-same opens_station is_reading b past s r ∙ ih (sym (sets-other b past s n) ∙ e)
-  split (inr s) (inr n) (inl r) ih =
-      let now : is_open past ≡ true = (and_parts (is_sight b) (is_open past) r).1 in
-      let some : is_empty (open_sets past) ≡ true = ap is_empty (sym (sets-other b past s n) ∙ e) in
-      absurd (false≢true (sym (open_has_set past now) ∙ some))
+no_set_no_reading (b ∷ past) e = split (cases_Bool (opens_station b)) (cases_Bool (opens_set b))
+    (cases_Bool (is_reading (b ∷ past))) (no_set_no_reading past) where
+      split : (opens_station b ≡ true) ⊎ (opens_station b ≡ false)
+          → (opens_set b ≡ true) ⊎ (opens_set b ≡ false)
+          → (is_reading (b ∷ past) ≡ true) ⊎ (is_reading (b ∷ past) ≡ false)
+          → (open_sets past ≡ [] → station_readings (station past) past ≡ [])
+          → station_readings (station (b ∷ past)) (b ∷ past) ≡ []
+      split (inl s) n r ih = belonging-fresh opens_station is_reading b past s
+      split (inr s) (inl n) r ih = let bad : is_empty ((b ∷ past) ∷ open_sets past)
+          ≡ true = ap is_empty
+          (sym (sets-more b past s n) ∙ e) in absurd (false≢true bad)
+      split (inr s) (inr n) (inr r) ih = belonging-same opens_station is_reading b past s r
+          ∙ ih (sym (sets-other b past s n) ∙ e)
+      split (inr s) (inr n) (inl r) ih =
+          let now : is_open past ≡ true = (and_parts (is_sight b) (is_open past) r).1 in
+          let some : is_empty (open_sets past) ≡ true = ap is_empty
+          (sym (sets-other b past s n) ∙ e) in
+          absurd (false≢true (sym (open_has_set past now) ∙ some))
 
 -- A block that opens no set and is no reading changes nothing of any station.
-idle : (p : GsiBlock → Bool) (kind : Place → Bool) (owner : Place) (b : GsiBlock) (past : History) → kind (b ∷ past) ≡ false
-    → filter (λ place. kind place && is_same (last p (before place)) owner) (places (b ∷ past)) ≡ filter (λ place. kind place && is_same (last p (before place)) owner) (places past)
-idle p kind owner b past e = ap (λ v. cond (v && is_same (last p past) owner) ((b ∷ past) ∷ rest) rest) e where
-  rest : List Place
-  rest = filter (λ place. kind place && is_same (last p (before place)) owner) (places past)
+idle : (p : GsiBlock → Bool) (kind : Place → Bool) (owner : Place) (b : GsiBlock) (past : History)
+    → kind (b ∷ past) ≡ false
+    → filter (λ place. kind place && is_same (last p (before place)) owner) (places (b ∷ past))
+    ≡ filter (λ place. kind place && is_same (last p (before place)) owner) (places past)
+idle p kind owner b past e = ap
+    (λ v. cond (v && is_same (last p past) owner) ((b ∷ past) ∷ rest) rest) e where
+      rest : List Place
+      rest = filter (λ place. kind place && is_same (last p (before place)) owner) (places past)
 
-idle_stands : (st : Place) (e : List ℕ × EntryValue) (b : GsiBlock) (past : History) → opens_set b ≡ false → is_reading (b ∷ past) ≡ false → StandsAt past st e → StandsAt (b ∷ past) st e
+idle_stands : (st : Place) (e : List ℕ × EntryValue) (b : GsiBlock) (past : History)
+    → opens_set b ≡ false → is_reading (b ∷ past) ≡ false → StandsAt past st e
+    → StandsAt (b ∷ past) st e
 idle_stands st e b past n r h =
-    subst (λ (sets : List Place). IsEntryWith st sets (station_readings st (b ∷ past)) e) (sym (idle opens_station is_set st b past n))
-    (subst (λ (rs : List Place). IsEntryWith st (sets_of st past) rs e) (sym (idle opens_station is_reading st b past r)) h)
+    subst (λ (sets : List Place). IsEntryWith st sets (station_readings st (b ∷ past)) e)
+    (sym (idle opens_station is_set st b past n))
+    (subst (λ (rs : List Place). IsEntryWith st (sets_of st past) rs e)
+    (sym (idle opens_station is_reading st b past r)) h)
 
-done_idle : (sts : List Place) (es : Surveys) (b : GsiBlock) (past : History) → opens_set b ≡ false → is_reading (b ∷ past) ≡ false → AreDone past sts es → AreDone (b ∷ past) sts es
+done_idle : (sts : List Place) (es : Surveys) (b : GsiBlock) (past : History) → opens_set b ≡ false
+    → is_reading (b ∷ past) ≡ false → AreDone past sts es → AreDone (b ∷ past) sts es
 done_idle [] [] b past n r h = tt
 done_idle [] (e ∷ es) b past n r h = h
 done_idle (st ∷ sts) [] b past n r h = h
-done_idle (st ∷ sts) (e ∷ es) b past n r h =
-    (done_stays st e b past (idle opens_station is_set st b past n) (idle opens_station is_reading st b past r) h.0, done_idle sts es b past n r h.1)
+done_idle (st ∷ sts) (e ∷ es) b past n r h = (
+  done_stays st e b past (idle opens_station is_set st b past n)
+      (idle opens_station is_reading st b past r) h.0,
+  done_idle sts es b past n r h.1,
+)
 
-all_idle : (sts : List Place) (last : Last) (es : Surveys) (b : GsiBlock) (past : History) → opens_set b ≡ false → is_reading (b ∷ past) ≡ false → StandWith past sts last es → StandWith (b ∷ past) sts last es
+all_idle : (sts : List Place) (last : Last) (es : Surveys) (b : GsiBlock) (past : History)
+    → opens_set b ≡ false → is_reading (b ∷ past) ≡ false → StandWith past sts last es
+    → StandWith (b ∷ past) sts last es
 all_idle [] None es b past n r h = done_idle [] es b past n r h
 all_idle [] (Some e) es b past n r h = h
 all_idle (st ∷ sts) None es b past n r h = h
-all_idle (st ∷ sts) (Some e) es b past n r h = (idle_stands st e b past n r h.0, done_idle sts es b past n r h.1)
+all_idle (st ∷ sts) (Some e) es b past n r h =
+    (idle_stands st e b past n r h.0, done_idle sts es b past n r h.1)
 
-same_stations : (b : GsiBlock) (past : History) → opens_set b ≡ false → stations_in (b ∷ past) ≡ stations_in past
-same_stations b past n = ap (map (λ s. station (before s))) (ap (λ v. cond (v && is_empty (open_sets past)) ((b ∷ past) ∷ first_sets past) (first_sets past)) n)
+same_stations : (b : GsiBlock) (past : History) → opens_set b ≡ false
+    → stations_in (b ∷ past) ≡ stations_in past
+same_stations b past n = ap (map (λ s. station (before s)))
+    (ap (λ v. cond (v && is_empty (open_sets past)) ((b ∷ past) ∷ first_sets past)
+    (first_sets past)) n)
 
 -- all stations after a block of code 10 or 30, another code, or a measurement that is no reading
-pub stand_idle : (s : ShelfValue) (b : GsiBlock) (past : History) → opens_set b ≡ false → is_reading (b ∷ past) ≡ false → Stand past (stations_in past) s → Stand (b ∷ past) (stations_in (b ∷ past)) s
-stand_idle s b past n r h = subst (λ (sts : List Place). Stand (b ∷ past) sts s) (sym (same_stations b past n)) (all_idle (stations_in past) s.last (reverse s.done) b past n r h)
+pub stand_idle : (s : ShelfValue) (b : GsiBlock) (past : History) → opens_set b ≡ false
+    → is_reading (b ∷ past) ≡ false → Stand past (stations_in past) s
+    → Stand (b ∷ past) (stations_in (b ∷ past)) s
+stand_idle s b past n r h = subst (λ (sts : List Place). Stand (b ∷ past) sts s)
+    (sym (same_stations b past n))
+    (all_idle (stations_in past) s.last (reverse s.done) b past n r h)
 
 -- the stations with sets: those before the open one, and the open one where it has a set
 pub record HasOpenLast (past : History) : Type 0 where
@@ -185,22 +250,30 @@ pub record HasOpenLast (past : History) : Type 0 where
   pub stations : stations_in past ≡ station past ∷ rest
   pub older : AllByRecursion (λ st. length st < length (station past)) rest
 
-all_filter : {X : Type 0} (P : X → Type 0) (p : X → Bool) (xs : List X) → AllByRecursion P xs → AllByRecursion P (filter p xs)
+all_filter : {X : Type 0} (P : X → Type 0) (p : X → Bool) (xs : List X) → AllByRecursion P xs
+    → AllByRecursion P (filter p xs)
 all_filter P p [] all = tt
 all_filter P p (x ∷ xs) all = split (p x) (all_filter P p xs all.1) where
-  split : (v : Bool) → AllByRecursion P (filter p xs) → AllByRecursion P (cond v (x ∷ filter p xs) (filter p xs))
+  split : (v : Bool) → AllByRecursion P (filter p xs)
+      → AllByRecursion P (cond v (x ∷ filter p xs) (filter p xs))
   split true r = (all.0, r)
   split false r = r
 
-below_new : (n : ℕ) (past : History) (xs : List Place) → length (station past) ≤ n → AllByRecursion (λ s. length (last opens_station (before s)) ≤ length (station past)) xs → AllByRecursion (λ st. length st < suc n) (map (λ s. station (before s)) xs)
+below_new : (n : ℕ) (past : History) (xs : List Place) → length (station past) ≤ n
+    → AllByRecursion (λ s. length (last opens_station (before s)) ≤ length (station past)) xs
+    → AllByRecursion (λ st. length st < suc n) (map (λ s. station (before s)) xs)
 below_new n past [] le all = tt
-below_new n past (x ∷ xs) le all = ((let a = all.0 in omega (arith, a, le)), below_new n past xs le all.1)
+below_new n past (x ∷ xs) le all =
+    ((let a = all.0 in omega (arith, a, le)), below_new n past xs le all.1)
 
-same_station : (b : GsiBlock) (past : History) → opens_station b ≡ false → station (b ∷ past) ≡ station past
+same_station : (b : GsiBlock) (past : History) → opens_station b ≡ false
+    → station (b ∷ past) ≡ station past
 same_station b past e = ap (λ v. cond v (b ∷ past) (last opens_station past)) e
 
 abbrev pub Parted : History → Type 0
-Parted past = ((open_sets past ≡ []) × AllByRecursion (λ st. length st < length (station past)) (stations_in past)) ⊎ HasOpenLast past
+Parted past = ((open_sets past ≡ [])
+    × AllByRecursion (λ st. length st < length (station past)) (stations_in past))
+    ⊎ HasOpenLast past
 
 none_or_some : (xs : List Place) → (xs ≡ []) ⊎ (is_empty xs ≡ false)
 none_or_some [] = inl refl
@@ -209,102 +282,186 @@ none_or_some (x ∷ xs) = inr refl
 -- The stations stand in order.
 pub parted : (past : History) → Parted past
 parted [] = inl (refl, tt)
-parted (b ∷ past) = split (cases_Bool (opens_station b)) (cases_Bool (opens_set b)) (parted past) where
-  moved : (sts : List Place) → opens_station b ≡ false → AllByRecursion (λ st. length st < length (station past)) sts → AllByRecursion (λ st. length st < length (station (b ∷ past))) sts
-  moved sts s all = subst (λ (o : Place). AllByRecursion (λ st. length st < length o) sts) (sym (same_station b past s)) all
+parted (b ∷ past) = split (cases_Bool (opens_station b)) (cases_Bool (opens_set b))
+    (parted past) where
+      moved : (sts : List Place) → opens_station b ≡ false
+          → AllByRecursion (λ st. length st < length (station past)) sts
+          → AllByRecursion (λ st. length st < length (station (b ∷ past))) sts
+      moved sts s all = subst (λ (o : Place). AllByRecursion (λ st. length st < length o) sts)
+          (sym (same_station b past s)) all
 
-  split : (opens_station b ≡ true) ⊎ (opens_station b ≡ false) → (opens_set b ≡ true) ⊎ (opens_set b ≡ false) → Parted past → Parted (b ∷ past)
-  split (inl s) n h =
-      let here : station (b ∷ past) ≡ b ∷ past = ap (λ v. cond v (b ∷ past) (last opens_station past)) s in
-      let all = below_new (length past) past (first_sets past) (length-last opens_station past) (all_filter _ (λ place. is_set place && is_empty (sets_of (station (before place)) (before place))) (places past) (owners_in_order opens_station past)) in
-      inl (
-        sets-station b past s,
-        subst (λ (sts : List Place). AllByRecursion (λ st. length st < length (station (b ∷ past))) sts) (sym (same_stations b past (no_set_at_station b s)))
-            (subst (λ (o : Place). AllByRecursion (λ st. length st < length o) (stations_in past)) (sym here) all),
+      split : (opens_station b ≡ true) ⊎ (opens_station b ≡ false)
+          → (opens_set b ≡ true) ⊎ (opens_set b ≡ false) → Parted past → Parted (b ∷ past)
+      split (inl s) n h =
+          let here : station (b ∷ past) ≡ b ∷ past = ap
+          (λ v. cond v (b ∷ past) (last opens_station past)) s in
+          let all = below_new (length past) past (first_sets past) (length-last opens_station past)
+          (all_filter _ (λ place. is_set place && is_empty
+          (sets_of (station (before place)) (before place))) (places past)
+          (owners_in_order opens_station past)) in
+          inl (
+            sets-station b past s,
+            subst (λ (sts : List Place). AllByRecursion
+                (λ st. length st < length (station (b ∷ past))) sts)
+                (sym (same_stations b past (no_set_at_station b s)))
+                (subst (λ (o : Place). AllByRecursion (λ st. length st < length o)
+                (stations_in past))
+                (sym here) all),
+          )
+      split (inr s) (inl n) (inl h) =
+          let first : stations_in (b ∷ past) ≡ station past ∷ stations_in past = ap
+          (λ v. map (λ t. station (before t))
+          (cond v ((b ∷ past) ∷ first_sets past) (first_sets past)))
+          ((λ i. n i && is_empty (h.0 i))) in
+          inr (record {
+            rest = stations_in past;
+            some_set = ap is_empty
+                (sets-more b past s n);
+            stations = first
+                ∙ ap (λ (o : Place). o ∷ stations_in past) (sym (same_station b past s));
+            older = moved
+                (stations_in past) s h.1;
+          })
+      split (inr s) (inl n) (inr h) =
+          let some = h.some_set in
+          let same : stations_in (b ∷ past) ≡ stations_in past = ap
+          (λ v. map (λ t. station (before t))
+          (cond v ((b ∷ past) ∷ first_sets past) (first_sets past))) ((λ i. n i && some i)) in
+          inr (record {
+            rest = h.rest;
+            some_set = ap is_empty (sets-more b past s n);
+            stations = same ∙ h.stations ∙ ap (λ (o : Place). o ∷ h.rest)
+                (sym (same_station b past s));
+            older = moved h.rest s h.older;
+          })
+      split (inr s) (inr n) (inl h) = inl (
+        sets-other b past s n ∙ h.0,
+        subst (λ (sts : List Place). AllByRecursion
+            (λ st. length st < length (station (b ∷ past))) sts) (sym (same_stations b past n))
+            (moved (stations_in past) s h.1),
       )
-  split (inr s) (inl n) (inl h) =
-      let first : stations_in (b ∷ past) ≡ station past ∷ stations_in past = ap (λ v. map (λ t. station (before t)) (cond v ((b ∷ past) ∷ first_sets past) (first_sets past))) ((λ i. n i && is_empty (h.0 i))) in
-      inr (record { rest = stations_in past; some_set = ap is_empty (sets-more b past s n); stations = first ∙ ap (λ (o : Place). o ∷ stations_in past) (sym (same_station b past s)); older = moved (stations_in past) s h.1 })
-  split (inr s) (inl n) (inr h) =
-      let some = h.some_set in
-      let same : stations_in (b ∷ past) ≡ stations_in past = ap (λ v. map (λ t. station (before t)) (cond v ((b ∷ past) ∷ first_sets past) (first_sets past))) ((λ i. n i && some i)) in
-      inr (record { rest = h.rest; some_set = ap is_empty (sets-more b past s n); stations = same ∙ h.stations ∙ ap (λ (o : Place). o ∷ h.rest) (sym (same_station b past s)); older = moved h.rest s h.older })
-  split (inr s) (inr n) (inl h) = inl (sets-other b past s n ∙ h.0, subst (λ (sts : List Place). AllByRecursion (λ st. length st < length (station (b ∷ past))) sts) (sym (same_stations b past n)) (moved (stations_in past) s h.1))
-  split (inr s) (inr n) (inr h) = inr (record { rest = h.rest; some_set = ap is_empty (sets-other b past s n) ∙ h.some_set; stations = same_stations b past n ∙ h.stations ∙ ap (λ (o : Place). o ∷ h.rest) (sym (same_station b past s)); older = moved h.rest s h.older })
+      split (inr s) (inr n) (inr h) = inr
+          (record {
+            rest = h.rest;
+            some_set = ap is_empty (sets-other b past s n) ∙ h.some_set;
+            stations = same_stations b past n ∙ h.stations ∙ ap (λ (o : Place). o ∷ h.rest)
+                (sym (same_station b past s));
+            older = moved h.rest s h.older;
+          })
 
-pub set_is_no_reading : (b : GsiBlock) (past : History) → opens_set b ≡ true → is_reading (b ∷ past) ≡ false
+pub set_is_no_reading : (b : GsiBlock) (past : History) → opens_set b ≡ true
+    → is_reading (b ∷ past) ≡ false
 set_is_no_reading b past n = split (cases_Bool (is_sight b)) where
   split : (is_sight b ≡ true) ⊎ (is_sight b ≡ false) → (is_sight b && is_open past) ≡ false
   split (inr s) = ap (λ v. v && is_open past) s
-  split (inl s) = absurd (false≢true (sym (sight_opens_nothing b s) ∙ or_second (opens_station b) (opens_set b) (closes_set b) n)) where
-    or_second : (a x c : Bool) → x ≡ true → (a || (x || c)) ≡ true
-    or_second true x c e = refl
-    or_second false true c e = refl
-    or_second false false c e = cc
+  split (inl s) = absurd
+      (false≢true (sym (sight_opens_nothing b s)
+      ∙ or_second (opens_station b) (opens_set b) (closes_set b) n)) where
+        or_second : (a x c : Bool) → x ≡ true → (a || (x || c)) ≡ true
+        or_second true x c e = refl
+        or_second false true c e = refl
+        or_second false false c e = cc
 
 -- all stations after the first set of the open one
-pub stand_first : (shelf : ShelfValue) (b : GsiBlock) (past : History) (name : List ℕ) (n : ℕ) → opens_station b ≡ false → opens_set b ≡ true → open_sets past ≡ [] → name_at (station past) ≡ Some name → number b ≡ Some n
-    → Stand past (stations_in past) shelf → Stand (b ∷ past) (stations_in (b ∷ past)) (with_station name n shelf)
+pub stand_first : (shelf : ShelfValue) (b : GsiBlock) (past : History) (name : List ℕ) (n : ℕ)
+    → opens_station b ≡ false → opens_set b ≡ true → open_sets past ≡ []
+    → name_at (station past) ≡ Some name → number b ≡ Some n
+    → Stand past (stations_in past) shelf
+    → Stand (b ∷ past) (stations_in (b ∷ past)) (with_station name n shelf)
 stand_first shelf b past name n s set none named_so numbered h =
-    subst (λ (sts : List Place). Stand (b ∷ past) sts (with_station name n shelf)) (sym stations)
-    (head, older_stay (stations_in past) (reverse (all_done shelf)) b past older (are_done past (stations_in past) shelf h))
+    subst (λ (sts : List Place). Stand (b ∷ past) sts (with_station name n shelf)) (sym stations) (
+      head,
+      older_stay (stations_in past) (reverse (all_done shelf)) b past older
+          (are_done past (stations_in past) shelf h),
+    )
   where
     stations : stations_in (b ∷ past) ≡ station past ∷ stations_in past
-    stations = ap (λ v. map (λ t. station (before t)) (cond v ((b ∷ past) ∷ first_sets past) (first_sets past))) (λ i. set i && is_empty (none i))
+    stations = ap (λ v. map (λ t. station (before t))
+        (cond v ((b ∷ past) ∷ first_sets past) (first_sets past))) (λ i. set i && is_empty (none i))
 
     older : AllByRecursion (λ st. length st < length (station past)) (stations_in past)
     older = by (parted past) where
       by : Parted past → AllByRecursion (λ st. length st < length (station past)) (stations_in past)
       by (inl p) = p.1
-      by (inr p) = let bad : is_empty (open_sets past) ≡ true = ap is_empty none in absurd (false≢true (sym p.some_set ∙ bad))
+      by (inr p) = let bad : is_empty (open_sets past) ≡ true = ap is_empty none in absurd
+          (false≢true (sym p.some_set ∙ bad))
 
     sets : sets_of (station past) (b ∷ past) ≡ (b ∷ past) ∷ []
-    sets = ap (λ (st : Place). sets_of st (b ∷ past)) (sym (same_station b past s)) ∙ sets-more b past s set ∙ ap (λ ss. (b ∷ past) ∷ ss) none
+    sets = ap (λ (st : Place). sets_of st (b ∷ past)) (sym (same_station b past s))
+        ∙ sets-more b past s set ∙ ap (λ ss. (b ∷ past) ∷ ss) none
 
     readings : station_readings (station past) (b ∷ past) ≡ []
-    readings = idle opens_station is_reading (station past) b past (set_is_no_reading b past set) ∙ no_set_no_reading past none
+    readings = idle opens_station is_reading (station past) b past (set_is_no_reading b past set)
+        ∙ no_set_no_reading past none
 
     head : StandsAt (b ∷ past) (station past) (name, first_entry n)
     head =
-        subst (λ (ss : List Place). IsEntryWith (station past) ss (station_readings (station past) (b ∷ past)) (name, first_entry n)) (sym sets)
-        (subst (λ (rs : List Place). IsEntryWith (station past) ((b ∷ past) ∷ []) rs (name, first_entry n)) (sym readings) (first_stands (station past) (b ∷ past) name n named_so numbered))
+        subst (λ (ss : List Place). IsEntryWith (station past) ss
+        (station_readings (station past) (b ∷ past)) (name, first_entry n)) (sym sets)
+        (subst (λ (rs : List Place). IsEntryWith (station past) ((b ∷ past) ∷ []) rs
+        (name, first_entry n)) (sym readings)
+        (first_stands (station past) (b ∷ past) name n named_so numbered))
 
 -- a set that is still to come has no readings among those of any station
-none_to_come : (b : GsiBlock) (past : History) (st : Place) → in_set (b ∷ past) (station_readings st past) ≡ []
-none_to_come b past st = none_in_later (λ place. is_reading place && is_same (station (before place)) st) (b ∷ past) past (omega arith)
+none_to_come : (b : GsiBlock) (past : History) (st : Place)
+    → in_set (b ∷ past) (station_readings st past) ≡ []
+none_to_come b past st = none_in_later
+    (λ place. is_reading place && is_same (station (before place)) st) (b ∷ past) past (omega arith)
 
 -- all stations after a further set of the open one
-pub stand_further : (x : List ℕ × EntryValue) (es : Surveys) (b : GsiBlock) (past : History) (n : ℕ) → opens_station b ≡ false → opens_set b ≡ true → is_empty (open_sets past) ≡ false → number b ≡ Some n
-    → StandWith past (stations_in past) (Some x) es → StandWith (b ∷ past) (stations_in (b ∷ past)) (Some (x.0, with_set n x.1)) es
+pub stand_further : (x : List ℕ × EntryValue) (es : Surveys) (b : GsiBlock) (past : History) (n : ℕ)
+    → opens_station b ≡ false → opens_set b ≡ true → is_empty (open_sets past) ≡ false
+    → number b ≡ Some n
+    → StandWith past (stations_in past) (Some x) es
+    → StandWith (b ∷ past) (stations_in (b ∷ past)) (Some (x.0, with_set n x.1)) es
 stand_further x es b past n s set some numbered h = by (parted past) where
-  further : (sets : List Place) → IsEntryWith (station past) sets (station_readings (station past) past) x → IsEntryWith (station past) ((b ∷ past) ∷ sets) (station_readings (station past) past) (x.0, with_set n x.1)
+  further : (sets : List Place)
+      → IsEntryWith (station past) sets (station_readings (station past) past) x
+      → IsEntryWith (station past) ((b ∷ past) ∷ sets) (station_readings (station past) past)
+      (x.0, with_set n x.1)
   further [] k = absurd k
-  further (newest ∷ older) k = set_stands (station past) (b ∷ past) newest older (station_readings (station past) past) x.0 n x.1 numbered (none_to_come b past (station past)) k
+  further (newest ∷ older) k = set_stands (station past) (b ∷ past) newest older
+      (station_readings (station past) past) x.0 n x.1 numbered
+      (none_to_come b past (station past)) k
 
   head : StandsAt past (station past) x → StandsAt (b ∷ past) (station past) (x.0, with_set n x.1)
   head k =
-      let sets : sets_of (station past) (b ∷ past) ≡ (b ∷ past) ∷ open_sets past = ap (λ (st : Place). sets_of st (b ∷ past)) (sym (same_station b past s)) ∙ sets-more b past s set in
-      let readings = idle opens_station is_reading (station past) b past (set_is_no_reading b past set) in
-      subst (λ (ss : List Place). IsEntryWith (station past) ss (station_readings (station past) (b ∷ past)) (x.0, with_set n x.1)) (sym sets)
-      (subst (λ (rs : List Place). IsEntryWith (station past) ((b ∷ past) ∷ open_sets past) rs (x.0, with_set n x.1)) (sym readings) (further (open_sets past) k))
+      let sets : sets_of (station past) (b ∷ past) ≡ (b ∷ past) ∷ open_sets past = ap
+      (λ (st : Place). sets_of st (b ∷ past)) (sym (same_station b past s))
+      ∙ sets-more b past s set in
+      let readings = idle opens_station is_reading (station past) b past
+      (set_is_no_reading b past set) in
+      subst (λ (ss : List Place). IsEntryWith (station past) ss
+      (station_readings (station past) (b ∷ past)) (x.0, with_set n x.1)) (sym sets)
+      (subst (λ (rs : List Place). IsEntryWith (station past) ((b ∷ past) ∷ open_sets past) rs
+      (x.0, with_set n x.1)) (sym readings) (further (open_sets past) k))
 
   by : Parted past → StandWith (b ∷ past) (stations_in (b ∷ past)) (Some (x.0, with_set n x.1)) es
-  by (inl p) = let bad : is_empty (open_sets past) ≡ true = ap is_empty p.0 in absurd (false≢true (sym some ∙ bad))
+  by (inl p) = let bad : is_empty (open_sets past) ≡ true = ap is_empty p.0 in absurd
+      (false≢true (sym some ∙ bad))
   by (inr p) =
-      let same : stations_in (b ∷ past) ≡ stations_in past = ap (λ v. map (λ t. station (before t)) (cond v ((b ∷ past) ∷ first_sets past) (first_sets past))) (λ i. set i && some i) in
+      let same : stations_in (b ∷ past) ≡ stations_in past = ap
+      (λ v. map (λ t. station (before t))
+      (cond v ((b ∷ past) ∷ first_sets past) (first_sets past))) (λ i. set i && some i) in
       let k = subst (λ (sts : List Place). StandWith past sts (Some x) es) p.stations h in
-      subst (λ (sts : List Place). StandWith (b ∷ past) sts (Some (x.0, with_set n x.1)) es) (sym (same ∙ p.stations)) (head k.0, older_stay p.rest es b past p.older k.1)
+      subst (λ (sts : List Place). StandWith (b ∷ past) sts (Some (x.0, with_set n x.1)) es)
+      (sym (same ∙ p.stations)) (head k.0, older_stay p.rest es b past p.older k.1)
 
 -- Where the open station has a set, there is a last station.
-pub last_there : (s : ShelfValue) (past : History) → is_empty (open_sets past) ≡ false → Stand past (stations_in past) s → (x : List ℕ × EntryValue) × (s.last ≡ Some x)
+pub last_there : (s : ShelfValue) (past : History) → is_empty (open_sets past) ≡ false
+    → Stand past (stations_in past) s → (x : List ℕ × EntryValue) × (s.last ≡ Some x)
 last_there s past some h = by (parted past) where
-  of_last : (st : Place) (sts : List Place) (last : Last) → StandWith past (st ∷ sts) last (reverse s.done) → s.last ≡ last → (x : List ℕ × EntryValue) × (s.last ≡ Some x)
+  of_last : (st : Place) (sts : List Place) (last : Last)
+      → StandWith past (st ∷ sts) last (reverse s.done) → s.last ≡ last
+      → (x : List ℕ × EntryValue) × (s.last ≡ Some x)
   of_last st sts None k e = absurd k
   of_last st sts (Some x) k e = (x, e)
 
   by : Parted past → (x : List ℕ × EntryValue) × (s.last ≡ Some x)
-  by (inl p) = let bad : is_empty (open_sets past) ≡ true = ap is_empty p.0 in absurd (false≢true (sym some ∙ bad))
-  by (inr p) = of_last (station past) p.rest s.last (subst (λ (sts : List Place). Stand past sts s) p.stations h) refl
+  by (inl p) = let bad : is_empty (open_sets past) ≡ true = ap is_empty p.0 in absurd
+      (false≢true (sym some ∙ bad))
+  by (inr p) = of_last (station past) p.rest s.last
+      (subst (λ (sts : List Place). Stand past sts s) p.stations h) refl
 
 -- The sets of the open station, where a set is open: the open one and those before it.
 pub record HasOpenSet (past : History) : Type 0 where
@@ -312,49 +469,71 @@ pub record HasOpenSet (past : History) : Type 0 where
   pub sets : open_sets past ≡ opening past ∷ older
   pub before_it : AllByRecursion (λ s. length s < length (opening past)) older
 
-places_below : (past : History) (n : ℕ) → length past ≤ n → AllByRecursion (λ s. length s < suc n) (places past)
+places_below : (past : History) (n : ℕ) → length past ≤ n
+    → AllByRecursion (λ s. length s < suc n) (places past)
 places_below [] n le = tt
 places_below (b ∷ past) n le = (omega arith, places_below past n (omega arith))
 
 pub open_set : (past : History) → is_open past ≡ true → HasOpenSet past
 open_set [] e = cc
-open_set (b ∷ past) e = split (cases_Bool (opens_station b)) (cases_Bool (opens_set b)) (cases_Bool (is_opening b)) (open_set past) where
-  split : (opens_station b ≡ true) ⊎ (opens_station b ≡ false) → (opens_set b ≡ true) ⊎ (opens_set b ≡ false) → (is_opening b ≡ true) ⊎ (is_opening b ≡ false) → (is_open past ≡ true → HasOpenSet past) → HasOpenSet (b ∷ past)
-  split (inr s) (inl n) (inl o) ih =
-      let here : opening (b ∷ past) ≡ b ∷ past = ap (λ v. cond v (b ∷ past) (last is_opening past)) o in
-      record {
-        older = open_sets past;
-        sets = sets-more b past s n ∙ ap (λ (p : Place). p ∷ open_sets past) (sym here);
-        before_it = subst (λ (p : Place). AllByRecursion (λ s. length s < length p) (open_sets past)) (sym here) (all_filter _ (λ place. is_set place && is_same (last opens_station (before place)) (station past)) (places past) (places_below past (length past) (omega arith)));
-      }
-  split (inr s) (inl n) (inr o) ih = absurd (false≢true (sym o ∙ or_second (opens_station b) (opens_set b) (closes_set b) n)) where
-    or_second : (a x c : Bool) → x ≡ true → (a || (x || c)) ≡ true
-    or_second true x c e = refl
-    or_second false true c e = refl
-    or_second false false c e = cc
-  split (inr s) (inr n) (inr o) ih =
-      let k = ih (sym (is_open-other b past o) ∙ e) in
-      let same : opening (b ∷ past) ≡ opening past = ap (λ v. cond v (b ∷ past) (last is_opening past)) o in
-      record {
-        older = k.older;
-        sets = sets-other b past s n ∙ k.sets ∙ ap (λ (p : Place). p ∷ k.older) (sym same);
-        before_it = subst (λ (p : Place). AllByRecursion (λ s. length s < length p) k.older) (sym same) k.before_it;
-      }
-  split s (inr n) (inl o) ih = absurd (false≢true (sym n ∙ sym (is_open-opening b past o) ∙ e))
-  split (inl s) (inl n) o ih = absurd (false≢true (sym (no_set_at_station b s) ∙ n))
-  split (inl s) (inr n) (inr o) ih = absurd (false≢true (sym (or_left (opens_station b) (opens_set b || closes_set b) o) ∙ s)) where
-    or_left : (x y : Bool) → (x || y) ≡ false → x ≡ false
-    or_left true y h = cc
-    or_left false y h = refl
+open_set (b ∷ past) e = split (cases_Bool (opens_station b)) (cases_Bool (opens_set b))
+    (cases_Bool (is_opening b)) (open_set past) where
+      split : (opens_station b ≡ true) ⊎ (opens_station b ≡ false)
+          → (opens_set b ≡ true) ⊎ (opens_set b ≡ false)
+          → (is_opening b ≡ true) ⊎ (is_opening b ≡ false) → (is_open past ≡ true → HasOpenSet past)
+          → HasOpenSet (b ∷ past)
+      split (inr s) (inl n) (inl o) ih =
+          let here : opening (b ∷ past) ≡ b ∷ past = ap
+          (λ v. cond v (b ∷ past) (last is_opening past)) o in
+          record {
+            older = open_sets past;
+            sets = sets-more b past s n ∙ ap (λ (p : Place). p ∷ open_sets past) (sym here);
+            before_it = subst (λ (p : Place). AllByRecursion (λ s. length s < length p)
+                (open_sets past)) (sym here)
+                (all_filter _ (λ place. is_set place && is_same (last opens_station (before place))
+                (station past)) (places past) (places_below past (length past) (omega arith)));
+          }
+      split (inr s) (inl n) (inr o) ih = absurd
+          (false≢true (sym o ∙ or_second (opens_station b) (opens_set b) (closes_set b) n)) where
+            or_second : (a x c : Bool) → x ≡ true → (a || (x || c)) ≡ true
+            or_second true x c e = refl
+            or_second false true c e = refl
+            or_second false false c e = cc
+      split (inr s) (inr n) (inr o) ih =
+          let k = ih (sym (is_open-other b past o) ∙ e) in
+          let same : opening (b ∷ past) ≡ opening past = ap
+          (λ v. cond v (b ∷ past) (last is_opening past)) o in
+          record {
+            older = k.older;
+            sets = sets-other b past s n ∙ k.sets ∙ ap (λ (p : Place). p ∷ k.older) (sym same);
+            before_it = subst (λ (p : Place). AllByRecursion (λ s. length s < length p) k.older)
+                (sym same) k.before_it;
+          }
+      split s (inr n) (inl o) ih = absurd (false≢true (sym n ∙ sym (is_open-opening b past o) ∙ e))
+      split (inl s) (inl n) o ih = absurd (false≢true (sym (no_set_at_station b s) ∙ n))
+      split (inl s) (inr n) (inr o) ih = absurd
+          (false≢true (sym (or_left (opens_station b) (opens_set b || closes_set b) o) ∙ s)) where
+            or_left : (x y : Bool) → (x || y) ≡ false → x ≡ false
+            or_left true y h = cc
+            or_left false y h = refl
 
-in_none : (b : GsiBlock) (past : History) (readings older : List Place) → AllByRecursion (λ s. length s < length (opening past)) older → IsInNone (b ∷ past) readings older
+in_none : (b : GsiBlock) (past : History) (readings older : List Place)
+    → AllByRecursion (λ s. length s < length (opening past)) older
+    → IsInNone (b ∷ past) readings older
 in_none b past readings [] all = tt
-in_none b past readings (s ∷ older) all =
-    (ap (λ v. cond v ((b ∷ past) ∷ in_set s readings) (in_set s readings)) (ne_eqb (length (opening past)) (length s) (λ e. let a = all.0 in absurd (omega (arith, a, e)))), in_none b past readings older all.1)
+in_none b past readings (s ∷ older) all = (
+  ap (λ v. cond v ((b ∷ past) ∷ in_set s readings) (in_set s readings))
+      (ne_eqb (length (opening past)) (length s)
+      (λ e. let a = all.0 in absurd (omega (arith, a, e)))),
+  in_none b past readings older all.1,
+)
 
 -- all stations after a reading
-pub stand_reading : (x : List ℕ × EntryValue) (es : Surveys) (b : GsiBlock) (past : History) (s : Sighting) → is_opening b ≡ false → is_reading (b ∷ past) ≡ true → is_open past ≡ true → Says s (b ∷ past)
-    → StandWith past (stations_in past) (Some x) es → StandWith (b ∷ past) (stations_in (b ∷ past)) (Some (x.0, with_reading s x.1)) es
+pub stand_reading : (x : List ℕ × EntryValue) (es : Surveys) (b : GsiBlock) (past : History)
+    (s : Sighting) → is_opening b ≡ false → is_reading (b ∷ past) ≡ true → is_open past ≡ true
+    → Says s (b ∷ past)
+    → StandWith past (stations_in past) (Some x) es
+    → StandWith (b ∷ past) (stations_in (b ∷ past)) (Some (x.0, with_reading s x.1)) es
 stand_reading x es b past s o reading now says h = by (parted past) where
   no_station : opens_station b ≡ false
   no_station = sight_opens_no_station b o
@@ -369,20 +548,40 @@ stand_reading x es b past s o reading now says h = by (parted past) where
   set : HasOpenSet past
   set = open_set past now
 
-  mine : (readings : List Place) → in_set (opening past) ((b ∷ past) ∷ readings) ≡ (b ∷ past) ∷ in_set (opening past) readings
-  mine readings = ap (λ v. cond v ((b ∷ past) ∷ in_set (opening past) readings) (in_set (opening past) readings)) (eq-eqb (length (opening past)) (length (opening past)) refl)
+  mine : (readings : List Place)
+      → in_set (opening past) ((b ∷ past) ∷ readings) ≡ (b ∷ past) ∷ in_set (opening past) readings
+  mine readings = ap (λ v. cond v ((b ∷ past) ∷ in_set (opening past) readings)
+      (in_set (opening past) readings))
+      (eq-eqb (length (opening past)) (length (opening past)) refl)
 
-  head : StandsAt past (station past) x → StandsAt (b ∷ past) (station past) (x.0, with_reading s x.1)
+  head : StandsAt past (station past) x
+      → StandsAt (b ∷ past) (station past) (x.0, with_reading s x.1)
   head k =
-      let sets : sets_of (station past) (b ∷ past) ≡ opening past ∷ set.older = ap (λ (st : Place). sets_of st (b ∷ past)) (sym (same_station b past no_station)) ∙ sets-other b past no_station no_set ∙ set.sets in
-      let readings : station_readings (station past) (b ∷ past) ≡ (b ∷ past) ∷ station_readings (station past) past = ap (λ (st : Place). station_readings st (b ∷ past)) (sym (same_station b past no_station)) ∙ belonging-more opens_station is_reading b past no_station reading in
-      let old : IsEntryWith (station past) (opening past ∷ set.older) (station_readings (station past) past) x = subst (λ (ss : List Place). IsEntryWith (station past) ss (station_readings (station past) past) x) set.sets k in
-      subst (λ (ss : List Place). IsEntryWith (station past) ss (station_readings (station past) (b ∷ past)) (x.0, with_reading s x.1)) (sym sets)
-      (subst (λ (rs : List Place). IsEntryWith (station past) (opening past ∷ set.older) rs (x.0, with_reading s x.1)) (sym readings)
-      (reading_stands (station past) (opening past) set.older (station_readings (station past) past) (b ∷ past) x.0 x.1 s says (mine (station_readings (station past) past)) (in_none b past (station_readings (station past) past) set.older set.before_it) old))
+      let sets : sets_of (station past) (b ∷ past) ≡ opening past ∷ set.older = ap
+      (λ (st : Place). sets_of st (b ∷ past)) (sym (same_station b past no_station))
+      ∙ sets-other b past no_station no_set ∙ set.sets in
+      let readings : station_readings (station past) (b ∷ past) ≡ (b ∷ past) ∷ station_readings
+      (station past) past = ap (λ (st : Place). station_readings st (b ∷ past))
+      (sym (same_station b past no_station))
+      ∙ belonging-more opens_station is_reading b past no_station reading in
+      let old : IsEntryWith (station past) (opening past ∷ set.older)
+      (station_readings (station past) past) x = subst
+      (λ (ss : List Place). IsEntryWith (station past) ss
+      (station_readings (station past) past) x) set.sets k in
+      subst (λ (ss : List Place). IsEntryWith (station past) ss
+      (station_readings (station past) (b ∷ past)) (x.0, with_reading s x.1)) (sym sets)
+      (subst (λ (rs : List Place). IsEntryWith (station past) (opening past ∷ set.older) rs
+      (x.0, with_reading s x.1)) (sym readings)
+      (reading_stands (station past) (opening past) set.older (station_readings (station past) past)
+      (b ∷ past) x.0 x.1 s says (mine (station_readings (station past) past))
+      (in_none b past (station_readings (station past) past) set.older set.before_it) old))
 
-  by : Parted past → StandWith (b ∷ past) (stations_in (b ∷ past)) (Some (x.0, with_reading s x.1)) es
-  by (inl p) = let bad : is_empty (open_sets past) ≡ true = ap is_empty p.0 in absurd (false≢true (sym (open_has_set past now) ∙ bad))
+  by : Parted past → StandWith (b ∷ past) (stations_in (b ∷ past))
+      (Some (x.0, with_reading s x.1)) es
+  by (inl p) = let bad : is_empty (open_sets past) ≡ true = ap is_empty p.0 in absurd
+      (false≢true (sym (open_has_set past now) ∙ bad))
   by (inr p) =
       let k = subst (λ (sts : List Place). StandWith past sts (Some x) es) p.stations h in
-      subst (λ (sts : List Place). StandWith (b ∷ past) sts (Some (x.0, with_reading s x.1)) es) (sym (same_stations b past no_set ∙ p.stations)) (head k.0, older_stay p.rest es b past p.older k.1)
+      subst (λ (sts : List Place). StandWith (b ∷ past) sts (Some (x.0, with_reading s x.1)) es)
+      (sym (same_stations b past no_set ∙ p.stations))
+      (head k.0, older_stay p.rest es b past p.older k.1)

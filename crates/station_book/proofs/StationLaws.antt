@@ -10,9 +10,13 @@ use Rattle.station_book.proofs.PlaceLaws.{belonging-fresh, belonging-same}
 use Rattle.station_book.proofs.Membership.{In, any_from, any_to, same_test}
 
 -- the numbers that a book keeps of the station's sets answer whether one has this number
-pub number_by_kept : (n : Option ℕ) (past : History) → has_set_number n past ≡ list_any (λ m. same_number m n) (map (λ s. at number None s) (open_sets past))
+pub number_by_kept : (n : Option ℕ) (past : History)
+    → has_set_number n past ≡ list_any (λ m. same_number m n)
+    (map (λ s. at number None s) (open_sets past))
 number_by_kept n past = any_map (open_sets past) where
-  any_map : (xs : List Place) → list_any (λ s. same_number (at number None s) n) xs ≡ list_any (λ m. same_number m n) (map (λ s. at number None s) xs)
+  any_map : (xs : List Place)
+      → list_any (λ s. same_number (at number None s) n) xs ≡ list_any (λ m. same_number m n)
+      (map (λ s. at number None s) xs)
   any_map [] = refl
   any_map (x ∷ xs) = ap (λ v. same_number (at number None x) n || v) (any_map xs)
 
@@ -33,71 +37,122 @@ rest_true true b e = refl
 rest_true false b e = e
 
 -- where some place belongs to the last owner, what holds of the owner is found at a place
-some_owner : (p : GsiBlock → Bool) (kind : Place → Bool) (f : Place → Bool) (past : History) → is_empty (belonging p kind (last p past) past) ≡ false → f (last p past) ≡ true
+some_owner : (p : GsiBlock → Bool) (kind : Place → Bool) (f : Place → Bool) (past : History)
+    → is_empty (belonging p kind (last p past) past) ≡ false → f (last p past) ≡ true
     → list_any (λ s. kind s && f (last p (before s))) (places past) ≡ true
 some_owner p kind f [] full e = absurd (false≢true (sym full))
-some_owner p kind f (b ∷ past) full e = split (cases_Bool (p b)) (cases_Bool (kind (b ∷ past))) (some_owner p kind f past) where
-  split : (p b ≡ true) ⊎ (p b ≡ false) → (kind (b ∷ past) ≡ true) ⊎ (kind (b ∷ past) ≡ false) → (is_empty (belonging p kind (last p past) past) ≡ false → f (last p past) ≡ true → list_any (λ s. kind s && f (last p (before s))) (places past) ≡ true)
-      → list_any (λ s. kind s && f (last p (before s))) (places (b ∷ past)) ≡ true
-  split (inl h) k ih = absurd (false≢true (sym full ∙ ap is_empty (belonging-fresh p kind b past h)))
-  split (inr h) (inl k) ih = head_true (kind (b ∷ past) && f (last p past)) _ (and_from _ _ k (sym (ap (λ v. f (cond v (b ∷ past) (last p past))) h) ∙ e))
-  split (inr h) (inr k) ih = rest_true (kind (b ∷ past) && f (last p past)) _ (ih (sym (ap is_empty (belonging-same p kind b past h k)) ∙ full) (sym (ap (λ v. f (cond v (b ∷ past) (last p past))) h) ∙ e))
+some_owner p kind f (b ∷ past) full e = split (cases_Bool (p b)) (cases_Bool (kind (b ∷ past)))
+    (some_owner p kind f past) where
+      split : (p b ≡ true) ⊎ (p b ≡ false) → (kind (b ∷ past) ≡ true) ⊎ (kind (b ∷ past) ≡ false)
+          → (is_empty (belonging p kind (last p past) past) ≡ false → f (last p past) ≡ true
+          → list_any (λ s. kind s && f (last p (before s))) (places past) ≡ true)
+          → list_any (λ s. kind s && f (last p (before s))) (places (b ∷ past)) ≡ true
+      split (inl h) k ih = absurd
+          (false≢true (sym full ∙ ap is_empty (belonging-fresh p kind b past h)))
+      split (inr h) (inl k) ih = head_true (kind (b ∷ past) && f (last p past)) _
+          (and_from _ _ k (sym (ap (λ v. f (cond v (b ∷ past) (last p past))) h) ∙ e))
+      split (inr h) (inr k) ih = rest_true (kind (b ∷ past) && f (last p past)) _
+          (ih (sym (ap is_empty (belonging-same p kind b past h k)) ∙ full)
+          (sym (ap (λ v. f (cond v (b ∷ past) (last p past))) h) ∙ e))
 
 -- the sets have the stations of the first sets
-pub any_station : (f : Place → Bool) (past : History) → list_any (λ s. is_set s && f (station (before s))) (places past) ≡ list_any (λ s. f (station (before s))) (first_sets past)
+pub any_station : (f : Place → Bool) (past : History)
+    → list_any (λ s. is_set s && f (station (before s))) (places past) ≡ list_any
+    (λ s. f (station (before s))) (first_sets past)
 any_station f [] = refl
-any_station f (b ∷ past) = split (cases_Bool (opens_set b)) (cases_Bool (is_empty (open_sets past))) (cases_Bool (f (station past))) (any_station f past) where
-  split : (opens_set b ≡ true) ⊎ (opens_set b ≡ false) → (is_empty (open_sets past) ≡ true) ⊎ (is_empty (open_sets past) ≡ false) → (f (station past) ≡ true) ⊎ (f (station past) ≡ false)
-      → list_any (λ s. is_set s && f (station (before s))) (places past) ≡ list_any (λ s. f (station (before s))) (first_sets past)
-      → list_any (λ s. is_set s && f (station (before s))) (places (b ∷ past)) ≡ list_any (λ s. f (station (before s))) (first_sets (b ∷ past))
-  split (inr s) e g ih =
-      ap (λ v. (v && f (station past)) || list_any (λ s. is_set s && f (station (before s))) (places past)) s ∙ ih
-      ∙ sym (ap (λ v. list_any (λ s. f (station (before s))) (cond (v && is_empty (open_sets past)) ((b ∷ past) ∷ first_sets past) (first_sets past))) s)
-  split (inl s) (inl e) g ih =
-      ap (λ v. (v && f (station past)) || list_any (λ s. is_set s && f (station (before s))) (places past)) s ∙ ap (λ v. f (station past) || v) ih
-      ∙ sym (ap (λ v. list_any (λ s. f (station (before s))) (cond v ((b ∷ past) ∷ first_sets past) (first_sets past))) (and_from (opens_set b) (is_empty (open_sets past)) s e))
-  split (inl s) (inr e) (inl g) ih =
-      let found = some_owner opens_station is_set f past e g in
-      head_true (opens_set b && f (station past)) _ (and_from _ _ s g) ∙ sym (sym ih ∙ found)
-      ∙ sym (ap (λ v. list_any (λ s. f (station (before s))) (cond v ((b ∷ past) ∷ first_sets past) (first_sets past))) (and_false (opens_set b) (is_empty (open_sets past)) e))
-  split (inl s) (inr e) (inr g) ih =
-      ap (λ v. v || list_any (λ s. is_set s && f (station (before s))) (places past)) (and_false (opens_set b) (f (station past)) g) ∙ ih
-      ∙ sym (ap (λ v. list_any (λ s. f (station (before s))) (cond v ((b ∷ past) ∷ first_sets past) (first_sets past))) (and_false (opens_set b) (is_empty (open_sets past)) e))
+any_station f (b ∷ past) = split (cases_Bool (opens_set b)) (cases_Bool (is_empty (open_sets past)))
+    (cases_Bool (f (station past))) (any_station f past) where
+      split : (opens_set b ≡ true) ⊎ (opens_set b ≡ false)
+          → (is_empty (open_sets past) ≡ true) ⊎ (is_empty (open_sets past) ≡ false)
+          → (f (station past) ≡ true) ⊎ (f (station past) ≡ false)
+          → list_any (λ s. is_set s && f (station (before s))) (places past) ≡ list_any
+          (λ s. f (station (before s))) (first_sets past)
+          → list_any (λ s. is_set s && f (station (before s))) (places (b ∷ past)) ≡ list_any
+          (λ s. f (station (before s))) (first_sets (b ∷ past))
+      split (inr s) e g ih =
+          ap (λ v. (v && f (station past)) || list_any (λ s. is_set s && f (station (before s)))
+          (places past)) s ∙ ih
+          ∙ sym (ap (λ v. list_any (λ s. f (station (before s)))
+          (cond (v && is_empty (open_sets past)) ((b ∷ past) ∷ first_sets past) (first_sets past)))
+          s)
+      split (inl s) (inl e) g ih =
+          ap (λ v. (v && f (station past)) || list_any (λ s. is_set s && f (station (before s)))
+          (places past)) s ∙ ap (λ v. f (station past) || v) ih
+          ∙ sym (ap (λ v. list_any (λ s. f (station (before s)))
+          (cond v ((b ∷ past) ∷ first_sets past) (first_sets past)))
+          (and_from (opens_set b) (is_empty (open_sets past)) s e))
+      split (inl s) (inr e) (inl g) ih =
+          let found = some_owner opens_station is_set f past e g in
+          head_true (opens_set b && f (station past)) _ (and_from _ _ s g) ∙ sym (sym ih ∙ found)
+          ∙ sym (ap (λ v. list_any (λ s. f (station (before s)))
+          (cond v ((b ∷ past) ∷ first_sets past) (first_sets past)))
+          (and_false (opens_set b) (is_empty (open_sets past)) e))
+      split (inl s) (inr e) (inr g) ih =
+          ap (λ v. v || list_any (λ s. is_set s && f (station (before s))) (places past))
+          (and_false (opens_set b) (f (station past)) g) ∙ ih
+          ∙ sym (ap (λ v. list_any (λ s. f (station (before s)))
+          (cond v ((b ∷ past) ∷ first_sets past) (first_sets past)))
+          (and_false (opens_set b) (is_empty (open_sets past)) e))
 
 -- what a filter leaves out
-left_out : {X : Type 0} (p : X → Bool) (x : X) (xs : List X) → filter p xs ≡ [] → In x xs → p x ≡ false
+left_out : {X : Type 0} (p : X → Bool) (x : X) (xs : List X) → filter p xs ≡ [] → In x xs
+    → p x ≡ false
 left_out p x [] e h = absurd h
 left_out p x (y ∷ ys) e h = split (cases_Bool (p y)) h (left_out p x ys) where
-  split : (p y ≡ true) ⊎ (p y ≡ false) → (x ≡ y) ⊎ In x ys → (filter p ys ≡ [] → In x ys → p x ≡ false) → p x ≡ false
-  split (inl t) k rest = let f : y ∷ filter p ys ≡ [] = sym (ap (λ v. cond v (y ∷ filter p ys) (filter p ys)) t) ∙ e in cc
+  split : (p y ≡ true) ⊎ (p y ≡ false) → (x ≡ y) ⊎ In x ys
+      → (filter p ys ≡ [] → In x ys → p x ≡ false) → p x ≡ false
+  split (inl t) k rest = let f : y ∷ filter p ys ≡ [] = sym
+      (ap (λ v. cond v (y ∷ filter p ys) (filter p ys)) t) ∙ e in cc
   split (inr t) (inl k) rest = ap p k ∙ t
   split (inr t) (inr k) rest = rest (sym (ap (λ v. cond v (y ∷ filter p ys) (filter p ys)) t) ∙ e) k
 
-of_filter : {X : Type 0} (p : X → Bool) (x : X) (xs : List X) → In x (filter p xs) → In x xs × (p x ≡ true)
+of_filter : {X : Type 0} (p : X → Bool) (x : X) (xs : List X) → In x (filter p xs)
+    → In x xs × (p x ≡ true)
 of_filter p x [] h = absurd h
 of_filter p x (y ∷ ys) h = split (cases_Bool (p y)) (of_filter p x ys) where
-  split : (p y ≡ true) ⊎ (p y ≡ false) → (In x (filter p ys) → In x ys × (p x ≡ true)) → In x (y ∷ ys) × (p x ≡ true)
-  split (inl t) rest = by (subst (In x) (ap (λ v. cond v (y ∷ filter p ys) (filter p ys)) t) h) where
-    by : (x ≡ y) ⊎ In x (filter p ys) → In x (y ∷ ys) × (p x ≡ true)
-    by (inl k) = (inl k, ap p k ∙ t)
-    by (inr k) = let r = rest k in (inr r.0, r.1)
-  split (inr t) rest = let r = rest (subst (In x) (ap (λ v. cond v (y ∷ filter p ys) (filter p ys)) t) h) in (inr r.0, r.1)
+  split : (p y ≡ true) ⊎ (p y ≡ false) → (In x (filter p ys) → In x ys × (p x ≡ true))
+      → In x (y ∷ ys) × (p x ≡ true)
+  split (inl t) rest = by
+      (subst (In x) (ap (λ v. cond v (y ∷ filter p ys) (filter p ys)) t) h) where
+        by : (x ≡ y) ⊎ In x (filter p ys) → In x (y ∷ ys) × (p x ≡ true)
+        by (inl k) = (inl k, ap p k ∙ t)
+        by (inr k) = let r = rest k in (inr r.0, r.1)
+  split (inr t) rest = let r = rest
+      (subst (In x) (ap (λ v. cond v (y ∷ filter p ys) (filter p ys)) t) h) in (inr r.0, r.1)
 
 -- Before its first set, a station's name had sets exactly where a station with sets has it.
-pub had_sets_by_names : (past : History) → open_sets past ≡ []
-    → had_sets past ≡ list_any (λ s. same_name (name_at (station (before s))) (name_at (station past))) (first_sets past)
-had_sets_by_names past none = any_station (λ st. not (is_same st (station past)) && same_name (name_at st) (name_at (station past))) past ∙ same_test _ _ there back where
-  there : list_any (λ s. not (is_same (station (before s)) (station past)) && same_name (name_at (station (before s))) (name_at (station past))) (first_sets past) ≡ true
-      → list_any (λ s. same_name (name_at (station (before s))) (name_at (station past))) (first_sets past) ≡ true
-  there e =
-      let (s, inside, test) = any_to (λ s. not (is_same (station (before s)) (station past)) && same_name (name_at (station (before s))) (name_at (station past))) (first_sets past) e in
-      any_from (λ s. same_name (name_at (station (before s))) (name_at (station past))) s (first_sets past) inside (and_parts (not (is_same (station (before s)) (station past))) _ test).1
+pub had_sets_by_names : (past : History) → open_sets past ≡ [] → had_sets past ≡ list_any
+    (λ s. same_name (name_at (station (before s))) (name_at (station past))) (first_sets past)
+had_sets_by_names past none = any_station
+    (λ st. not (is_same st (station past)) && same_name (name_at st) (name_at (station past))) past
+    ∙ same_test _ _ there back where
+      there : list_any (λ s. not (is_same (station (before s)) (station past)) && same_name
+          (name_at (station (before s))) (name_at (station past))) (first_sets past) ≡ true
+          → list_any (λ s. same_name (name_at (station (before s))) (name_at (station past)))
+          (first_sets past) ≡ true
+      there e =
+          let (s, inside, test) = any_to
+          (λ s. not (is_same (station (before s)) (station past)) && same_name
+          (name_at (station (before s))) (name_at (station past))) (first_sets past) e in
+          any_from (λ s. same_name (name_at (station (before s))) (name_at (station past))) s
+          (first_sets past) inside
+          (and_parts (not (is_same (station (before s)) (station past))) _ test).1
 
-  back : list_any (λ s. same_name (name_at (station (before s))) (name_at (station past))) (first_sets past) ≡ true
-      → list_any (λ s. not (is_same (station (before s)) (station past)) && same_name (name_at (station (before s))) (name_at (station past))) (first_sets past) ≡ true
-  back e =
-      let (s, inside, test) = any_to (λ s. same_name (name_at (station (before s))) (name_at (station past))) (first_sets past) e in
-      let (placed, kind) = of_filter (λ place. is_set place && is_empty (open_sets (before place))) s (places past) inside in
-      let out : (is_set s && is_same (station (before s)) (station past)) ≡ false = left_out (λ place. is_set place && is_same (station (before place)) (station past)) s (places past) none placed in
-      any_from (λ s. not (is_same (station (before s)) (station past)) && same_name (name_at (station (before s))) (name_at (station past))) s (first_sets past) inside
-      (and_from _ _ (ap not (right_false (is_set s) (is_same (station (before s)) (station past)) (and_parts (is_set s) (is_empty (open_sets (before s))) kind).0 out)) test)
+      back : list_any (λ s. same_name (name_at (station (before s))) (name_at (station past)))
+          (first_sets past) ≡ true
+          → list_any (λ s. not (is_same (station (before s)) (station past)) && same_name
+          (name_at (station (before s))) (name_at (station past))) (first_sets past) ≡ true
+      back e =
+          let (s, inside, test) = any_to
+          (λ s. same_name (name_at (station (before s))) (name_at (station past)))
+          (first_sets past) e in
+          let (placed, kind) = of_filter
+          (λ place. is_set place && is_empty (open_sets (before place))) s (places past) inside in
+          let out : (is_set s && is_same (station (before s)) (station past)) ≡ false = left_out
+          (λ place. is_set place && is_same (station (before place)) (station past)) s
+          (places past) none placed in
+          any_from (λ s. not (is_same (station (before s)) (station past)) && same_name
+          (name_at (station (before s))) (name_at (station past))) s (first_sets past) inside
+          (and_from _ _ (ap not
+          (right_false (is_set s) (is_same (station (before s)) (station past))
+          (and_parts (is_set s) (is_empty (open_sets (before s))) kind).0 out)) test)

@@ -13,30 +13,38 @@ use Rattle.station_book.specs.Faults.{open_readings, open_sets}
 use Rattle.station_book.proofs.PlaceLaws.{belonging-fresh, belonging-more, belonging-same}
 
 -- a set is open after a block
-pub is_open-opening : (b : GsiBlock) (past : History) → is_opening b ≡ true → is_open (b ∷ past) ≡ opens_set b
+pub is_open-opening : (b : GsiBlock) (past : History) → is_opening b ≡ true
+    → is_open (b ∷ past) ≡ opens_set b
 is_open-opening b past e = ap (λ v. stands opens_set (cond v (b ∷ past) (last is_opening past))) e
 
-pub is_open-other : (b : GsiBlock) (past : History) → is_opening b ≡ false → is_open (b ∷ past) ≡ is_open past
+pub is_open-other : (b : GsiBlock) (past : History) → is_opening b ≡ false
+    → is_open (b ∷ past) ≡ is_open past
 is_open-other b past e = ap (λ v. stands opens_set (cond v (b ∷ past) (last is_opening past))) e
 
 -- the readings of the open set after a block
-pub readings-opening : (b : GsiBlock) (past : History) → is_opening b ≡ true → open_readings (b ∷ past) ≡ []
+pub readings-opening : (b : GsiBlock) (past : History) → is_opening b ≡ true
+    → open_readings (b ∷ past) ≡ []
 readings-opening b past e = belonging-fresh is_opening is_reading b past e
 
-pub readings-more : (b : GsiBlock) (past : History) → is_opening b ≡ false → is_reading (b ∷ past) ≡ true → open_readings (b ∷ past) ≡ (b ∷ past) ∷ open_readings past
+pub readings-more : (b : GsiBlock) (past : History) → is_opening b ≡ false
+    → is_reading (b ∷ past) ≡ true → open_readings (b ∷ past) ≡ (b ∷ past) ∷ open_readings past
 readings-more b past e r = belonging-more is_opening is_reading b past e r
 
-pub readings-other : (b : GsiBlock) (past : History) → is_opening b ≡ false → is_reading (b ∷ past) ≡ false → open_readings (b ∷ past) ≡ open_readings past
+pub readings-other : (b : GsiBlock) (past : History) → is_opening b ≡ false
+    → is_reading (b ∷ past) ≡ false → open_readings (b ∷ past) ≡ open_readings past
 readings-other b past e r = belonging-same is_opening is_reading b past e r
 
 -- the sets of the station after a block
-pub sets-station : (b : GsiBlock) (past : History) → opens_station b ≡ true → open_sets (b ∷ past) ≡ []
+pub sets-station : (b : GsiBlock) (past : History) → opens_station b ≡ true
+    → open_sets (b ∷ past) ≡ []
 sets-station b past e = belonging-fresh opens_station is_set b past e
 
-pub sets-more : (b : GsiBlock) (past : History) → opens_station b ≡ false → opens_set b ≡ true → open_sets (b ∷ past) ≡ (b ∷ past) ∷ open_sets past
+pub sets-more : (b : GsiBlock) (past : History) → opens_station b ≡ false → opens_set b ≡ true
+    → open_sets (b ∷ past) ≡ (b ∷ past) ∷ open_sets past
 sets-more b past e s = belonging-more opens_station is_set b past e s
 
-pub sets-other : (b : GsiBlock) (past : History) → opens_station b ≡ false → opens_set b ≡ false → open_sets (b ∷ past) ≡ open_sets past
+pub sets-other : (b : GsiBlock) (past : History) → opens_station b ≡ false → opens_set b ≡ false
+    → open_sets (b ∷ past) ≡ open_sets past
 sets-other b past e s = belonging-same opens_station is_set b past e s
 
 -- the targets of the station after a block
@@ -46,14 +54,21 @@ open_targets past = targets_of (station past) past
 names_at : List Place → List (List ℕ)
 names_at rs = map (λ r. target_at r) rs
 
-pub targets-station : (b : GsiBlock) (past : History) → opens_station b ≡ true → open_targets (b ∷ past) ≡ []
-targets-station b past e = ap (λ rs. distinct (map (λ r. target_at r) rs)) (belonging-fresh opens_station is_reading b past e)
+pub targets-station : (b : GsiBlock) (past : History) → opens_station b ≡ true
+    → open_targets (b ∷ past) ≡ []
+targets-station b past e = ap (λ rs. distinct (map (λ r. target_at r) rs))
+    (belonging-fresh opens_station is_reading b past e)
 
-pub targets-more : (b : GsiBlock) (past : History) → opens_station b ≡ false → is_reading (b ∷ past) ≡ true → open_targets (b ∷ past) ≡ with_new (open_targets past) (target b)
-targets-more b past e r = ap (λ rs. distinct (map (λ r. target_at r) rs)) (belonging-more opens_station is_reading b past e r)
+pub targets-more : (b : GsiBlock) (past : History) → opens_station b ≡ false
+    → is_reading (b ∷ past) ≡ true
+    → open_targets (b ∷ past) ≡ with_new (open_targets past) (target b)
+targets-more b past e r = ap (λ rs. distinct (map (λ r. target_at r) rs))
+    (belonging-more opens_station is_reading b past e r)
 
-pub targets-other : (b : GsiBlock) (past : History) → opens_station b ≡ false → is_reading (b ∷ past) ≡ false → open_targets (b ∷ past) ≡ open_targets past
-targets-other b past e r = ap (λ rs. distinct (map (λ r. target_at r) rs)) (belonging-same opens_station is_reading b past e r)
+pub targets-other : (b : GsiBlock) (past : History) → opens_station b ≡ false
+    → is_reading (b ∷ past) ≡ false → open_targets (b ∷ past) ≡ open_targets past
+targets-other b past e r = ap (λ rs. distinct (map (λ r. target_at r) rs))
+    (belonging-same opens_station is_reading b past e r)
 
 -- a block that begins with word 11 has no code
 measures_alone : (ws : List GsiWord) (code : List ℕ) → begins (λ w. w.index == 11) ws ≡ true

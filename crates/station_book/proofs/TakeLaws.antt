@@ -41,68 +41,101 @@ set_as b r e = set_is b ∙ ap is_set_code e
 pub close_as : (b : GsiBlock) (r : Role) → role_of b ≡ r → closes_set b ≡ is_close r
 close_as b r e = close_is b ∙ ap is_close e
 
-pub sight_as : (b : GsiBlock) (r : Role) → role_of b ≡ r → is_sight b ≡ (is_measurement r && not (lacks 21 b))
+pub sight_as : (b : GsiBlock) (r : Role) → role_of b ≡ r
+    → is_sight b ≡ (is_measurement r && not (lacks 21 b))
 sight_as b r e = sight_is b ∙ ap (λ q. is_measurement q && not (lacks 21 b)) e
 
-opening_as : (b : GsiBlock) (r : Role) → role_of b ≡ r → is_opening b ≡ (is_station r || (is_set_code r || is_close r))
+opening_as : (b : GsiBlock) (r : Role) → role_of b ≡ r
+    → is_opening b ≡ (is_station r || (is_set_code r || is_close r))
 opening_as b r e = λ i. station_as b r e i || (set_as b r e i || close_as b r e i)
 
-same_station : (b : GsiBlock) (past : History) → opens_station b ≡ false → station (b ∷ past) ≡ station past
+same_station : (b : GsiBlock) (past : History) → opens_station b ≡ false
+    → station (b ∷ past) ≡ station past
 same_station b past e = ap (λ v. cond v (b ∷ past) (last opens_station past)) e
 
 no_reading : (b : GsiBlock) (past : History) → is_sight b ≡ false → is_reading (b ∷ past) ≡ false
 no_reading b past e = ap (λ v. v && is_open past) e
 
 -- a block that opens and closes nothing leaves the stage
-stage_stays : (stage : Stage) (b : GsiBlock) (past : History) → opens_station b ≡ false → opens_set b ≡ false → is_opening b ≡ false → IsStage stage past → IsStage stage (b ∷ past)
+stage_stays : (stage : Stage) (b : GsiBlock) (past : History) → opens_station b ≡ false
+    → opens_set b ≡ false → is_opening b ≡ false → IsStage stage past → IsStage stage (b ∷ past)
 stage_stays Outside b past s n o h = (same_station b past s ∙ h.0, is_open-other b past o ∙ h.1)
-stage_stays (Station name) b past s n o h = (ap is_empty (same_station b past s) ∙ h.0, ap (λ p. name_at p) (same_station b past s) ∙ h.1, sets-other b past s n ∙ h.2, is_open-other b past o ∙ h.3)
-stage_stays BetweenSets b past s n o h = (ap is_empty (sets-other b past s n) ∙ h.0, is_open-other b past o ∙ h.1)
+stage_stays (Station name) b past s n o h = (
+  ap is_empty (same_station b past s) ∙ h.0,
+  ap (λ p. name_at p) (same_station b past s) ∙ h.1,
+  sets-other b past s n ∙ h.2,
+  is_open-other b past o ∙ h.3,
+)
+stage_stays BetweenSets b past s n o h =
+    (ap is_empty (sets-other b past s n) ∙ h.0, is_open-other b past o ∙ h.1)
 stage_stays InSet b past s n o h = is_open-other b past o ∙ h
 
 -- a closing code
-stage_closes : (stage : Stage) (b : GsiBlock) (past : History) → opens_station b ≡ false → opens_set b ≡ false → is_opening b ≡ true → IsStage stage past → IsStage (kept.closed_stage stage) (b ∷ past)
+stage_closes : (stage : Stage) (b : GsiBlock) (past : History) → opens_station b ≡ false
+    → opens_set b ≡ false → is_opening b ≡ true → IsStage stage past
+    → IsStage (kept.closed_stage stage) (b ∷ past)
 stage_closes Outside b past s n o h = (same_station b past s ∙ h.0, is_open-opening b past o ∙ n)
-stage_closes (Station name) b past s n o h = (ap is_empty (same_station b past s) ∙ h.0, ap (λ p. name_at p) (same_station b past s) ∙ h.1, sets-other b past s n ∙ h.2, is_open-opening b past o ∙ n)
-stage_closes BetweenSets b past s n o h = (ap is_empty (sets-other b past s n) ∙ h.0, is_open-opening b past o ∙ n)
-stage_closes InSet b past s n o h = (ap is_empty (sets-other b past s n) ∙ open_has_set past h, is_open-opening b past o ∙ n)
+stage_closes (Station name) b past s n o h = (
+  ap is_empty (same_station b past s) ∙ h.0,
+  ap (λ p. name_at p) (same_station b past s) ∙ h.1,
+  sets-other b past s n ∙ h.2,
+  is_open-opening b past o ∙ n,
+)
+stage_closes BetweenSets b past s n o h =
+    (ap is_empty (sets-other b past s n) ∙ h.0, is_open-opening b past o ∙ n)
+stage_closes InSet b past s n o h =
+    (ap is_empty (sets-other b past s n) ∙ open_has_set past h, is_open-opening b past o ∙ n)
 
 pub then_second : {X : Type 0} (o p : Option X) → then_fault o p ≡ None → p ≡ None
 then_second None p e = e
 then_second (Some x) p e = cc
 
 -- where a block of code 10 has no fault it has a name
-name_found_in : (f : Found) → first_of (when (is_twice f) (kinds.WordTwice 42) ∷ when (is_absent f) kinds.StationName ∷ []) ≡ None → (name : List ℕ) × (name_found f ≡ Some name)
+name_found_in : (f : Found)
+    → first_of (when (is_twice f) (kinds.WordTwice 42) ∷ when (is_absent f) kinds.StationName ∷ [])
+    ≡ None → (name : List ℕ) × (name_found f ≡ Some name)
 name_found_in Absent e = absurd cc
 name_found_in (One w) e = (name_of w.content, refl)
 name_found_in Twice e = absurd cc
 
-name_of_station : (b : GsiBlock) → first_of (station_faults b) ≡ None → (name : List ℕ) × (named b ≡ Some name)
+name_of_station : (b : GsiBlock) → first_of (station_faults b) ≡ None
+    → (name : List ℕ) × (named b ≡ Some name)
 unfolding has_two lacks named
 name_of_station b e = name_found_in (found 42 b) e
 
-is_set_block : (b : GsiBlock) → role_of b ≡ roles.Set → (opens_station b ≡ false) × (opens_set b ≡ true)
+is_set_block : (b : GsiBlock) → role_of b ≡ roles.Set
+    → (opens_station b ≡ false) × (opens_set b ≡ true)
 is_set_block b e = (station_as b roles.Set e, set_as b roles.Set e)
 
 -- a further set of the last station
-further_taken : (shelf : ShelfValue) (b : GsiBlock) (past : History) (n : ℕ) → role_of b ≡ roles.Set → number b ≡ Some n → is_empty (open_sets past) ≡ false
-    → Stand past (stations_in past) shelf → Stand (b ∷ past) (stations_in (b ∷ past)) (change_last (with_set n) shelf)
+further_taken : (shelf : ShelfValue) (b : GsiBlock) (past : History) (n : ℕ) → role_of b ≡ roles.Set
+    → number b ≡ Some n → is_empty (open_sets past) ≡ false
+    → Stand past (stations_in past) shelf
+    → Stand (b ∷ past) (stations_in (b ∷ past)) (change_last (with_set n) shelf)
 further_taken shelf b past n r e some h =
     let k = is_set_block b r in
     let (x, last) = last_there shelf past some h in
-    subst (λ (o : Last). StandWith (b ∷ past) (stations_in (b ∷ past)) (option_map (λ p. (p.0, with_set n p.1)) o) (reverse shelf.done)) (sym last)
-    (stand_further x (reverse shelf.done) b past n k.0 k.1 some e (subst (λ (o : Last). StandWith past (stations_in past) o (reverse shelf.done)) last h))
+    subst (λ (o : Last). StandWith (b ∷ past) (stations_in (b ∷ past))
+    (option_map (λ p. (p.0, with_set n p.1)) o) (reverse shelf.done)) (sym last)
+    (stand_further x (reverse shelf.done) b past n k.0 k.1 some e
+    (subst (λ (o : Last). StandWith past (stations_in past) o (reverse shelf.done)) last h))
 
 -- a block of code 20
-pub set_taken : (shelf : ShelfValue) (b : GsiBlock) (past : History) (stage : Stage) (n : Option ℕ) → role_of b ≡ roles.Set → number b ≡ n → kept.opening stage shelf n ≡ None → IsStage stage past
-    → Stand past (stations_in past) shelf → Stand (b ∷ past) (stations_in (b ∷ past)) (kept.opened stage n shelf)
+pub set_taken : (shelf : ShelfValue) (b : GsiBlock) (past : History) (stage : Stage) (n : Option ℕ)
+    → role_of b ≡ roles.Set → number b ≡ n → kept.opening_fault stage shelf n ≡ None
+    → IsStage stage past
+    → Stand past (stations_in past) shelf
+    → Stand (b ∷ past) (stations_in (b ∷ past)) (kept.opened stage n shelf)
 set_taken shelf b past Outside n r e f g h = absurd cc
 set_taken shelf b past (Station name) None r e f g h = absurd cc
-set_taken shelf b past (Station name) (Some n) r e f g h = let k = is_set_block b r in stand_first shelf b past name n k.0 k.1 g.2 g.1 e h
+set_taken shelf b past (Station name)
+    (Some n) r e f g h = let k = is_set_block b r in stand_first shelf b past name n k.0 k.1 g.2 g.1
+    e h
 set_taken shelf b past BetweenSets None r e f g h = absurd cc
 set_taken shelf b past BetweenSets (Some n) r e f g h = further_taken shelf b past n r e g.0 h
 set_taken shelf b past InSet None r e f g h = absurd cc
-set_taken shelf b past InSet (Some n) r e f g h = further_taken shelf b past n r e (open_has_set past g) h
+set_taken shelf b past InSet (Some n) r e f g h = further_taken shelf b past n r e
+    (open_has_set past g) h
 
 -- what a measurement that was read says
 pub record WasRead (b : GsiBlock) (s : Sighting) : Type 0 where
@@ -110,39 +143,52 @@ pub record WasRead (b : GsiBlock) (s : Sighting) : Type 0 where
   pub clean : first_of (said.sighting_faults b) ≡ None
   pub is : said.sighting b ≡ s
 
-read_cases : (absent : Bool) (fault : Option BookKind) (s t : Sighting) → cond absent (Ok None) (said.unless_fault fault s) ≡ Ok (Some t) → (absent ≡ false) × (fault ≡ None) × (s ≡ t)
+read_cases : (absent : Bool) (fault : Option BookKind) (s t : Sighting)
+    → cond absent (Ok None) (said.unless_fault fault s) ≡ Ok (Some t)
+    → (absent ≡ false) × (fault ≡ None) × (s ≡ t)
 read_cases true fault s t e = absurd cc
 read_cases false None s t e = (refl, refl, cc)
 read_cases false (Some k) s t e = absurd cc
 
 pub was_read : (b : GsiBlock) (s : Sighting) → said.read b ≡ Ok (Some s) → WasRead b s
-was_read b s e = let p = read_cases (lacks 21 b) (first_of (said.sighting_faults b)) (said.sighting b) s e in record { has_direction = p.0; clean = p.1; is = p.2 }
+was_read b s e = let p = read_cases (lacks 21 b) (first_of (said.sighting_faults b))
+    (said.sighting b) s e in record { has_direction = p.0; clean = p.1; is = p.2 }
 
-none_cases : (absent : Bool) (fault : Option BookKind) (s : Sighting) → ◌≡◌ {A = Result (Option Sighting) BookKind} (cond absent (Ok None) (said.unless_fault fault s)) (Ok None) → absent ≡ true
+none_cases : (absent : Bool) (fault : Option BookKind) (s : Sighting)
+    → ◌≡◌ {A = Result (Option Sighting) BookKind}
+    (cond absent (Ok None) (said.unless_fault fault s)) (Ok None) → absent ≡ true
 none_cases true fault s e = refl
 none_cases false None s e = absurd cc
 none_cases false (Some k) s e = absurd cc
 
-pub first_face : (b : GsiBlock) → is_of_face false b ≡ (ltb 0 ((sight b).zenith) && ltb ((sight b).zenith) 20_000_000)
+pub first_face : (b : GsiBlock)
+    → is_of_face false b ≡ (ltb 0 ((sight b).zenith) && ltb ((sight b).zenith) 20_000_000)
 unfolding is_of_face
 first_face b = refl
 
-pub second_face : (b : GsiBlock) → is_of_face true b ≡ (ltb 20_000_000 ((sight b).zenith) && ltb ((sight b).zenith) 40_000_000)
+pub second_face : (b : GsiBlock)
+    → is_of_face true b ≡ (ltb 20_000_000 ((sight b).zenith) && ltb ((sight b).zenith) 40_000_000)
 unfolding is_of_face
 second_face b = refl
 
 abbrev HasFace : GsiBlock → Bool → Type 0
 HasFace b f = (is_of_face f b ≡ true) × (is_of_face (not f) b ≡ false)
 
-face_cases : (b : GsiBlock) (one two : Bool) → is_of_face false b ≡ one → is_of_face true b ≡ two → is_none (cond one (Some false) (cond two (Some true) None)) ≡ false → HasFace b (said.is_second (cond one (Some false) (cond two (Some true) None)))
+face_cases : (b : GsiBlock) (one two : Bool) → is_of_face false b ≡ one → is_of_face true b ≡ two
+    → is_none (cond one (Some false) (cond two (Some true) None)) ≡ false
+    → HasFace b (said.is_second (cond one (Some false) (cond two (Some true) None)))
 face_cases b true two e f g = (e, one_face b e)
 face_cases b false true e f g = (f, e)
 face_cases b false false e f g = absurd cc
 
 says : (b : GsiBlock) (past : History) (s : Sighting) → WasRead b s → Says s (b ∷ past)
 says b past s w =
-    let clear = none_when (is_none (said.face_of ((sight b).zenith))) kinds.FaceUnclear (none_stands (said.sighting_faults b) w.clean).1.1.1.1.1.0 in
-    let face : HasFace b (said.is_second (said.face_of ((sight b).zenith))) = face_cases b (ltb 0 ((sight b).zenith) && ltb ((sight b).zenith) 20_000_000) (ltb 20_000_000 ((sight b).zenith) && ltb ((sight b).zenith) 40_000_000) (first_face b) (second_face b) clear in
+    let clear = none_when (is_none (said.face_of ((sight b).zenith))) kinds.FaceUnclear
+    (none_stands (said.sighting_faults b) w.clean).1.1.1.1.1.0 in
+    let face : HasFace b (said.is_second (said.face_of ((sight b).zenith))) = face_cases b
+    (ltb 0 ((sight b).zenith) && ltb ((sight b).zenith) 20_000_000)
+    (ltb 20_000_000 ((sight b).zenith) && ltb ((sight b).zenith) 40_000_000) (first_face b)
+    (second_face b) clear in
     let here : HasFace b s.is_second = subst (λ (t : Sighting). HasFace b t.is_second) w.is face in
     record {
       target_is = sym (ap (λ (t : Sighting). t.target) w.is);
@@ -151,15 +197,25 @@ says b past s w =
       face_not = here.1;
     }
 
-measures_nothing : (b : GsiBlock) → role_of b ≡ roles.Measurement → (opens_station b ≡ false) × (opens_set b ≡ false) × (is_opening b ≡ false)
-measures_nothing b r = (station_as b roles.Measurement r, set_as b roles.Measurement r, opening_as b roles.Measurement r)
+measures_nothing : (b : GsiBlock) → role_of b ≡ roles.Measurement
+    → (opens_station b ≡ false) × (opens_set b ≡ false) × (is_opening b ≡ false)
+measures_nothing b r = (
+  station_as b roles.Measurement r,
+  set_as b roles.Measurement r,
+  opening_as b roles.Measurement
+      r,
+)
 
 -- a measurement in an open set, by what it says
-in_set_taken : (shelf : ShelfValue) (b : GsiBlock) (past : History) (o : Result (Option Sighting) BookKind) → role_of b ≡ roles.Measurement → said.read b ≡ o → is_open past ≡ true → (kind : (k : BookKind) → o ≡ Err k → ⊥)
-    → Stand past (stations_in past) shelf → Stand (b ∷ past) (stations_in (b ∷ past)) (kept.with_measured o shelf)
+in_set_taken : (shelf : ShelfValue) (b : GsiBlock) (past : History)
+    (o : Result (Option Sighting) BookKind) → role_of b ≡ roles.Measurement → said.read b ≡ o
+    → is_open past ≡ true → (kind : (k : BookKind) → o ≡ Err k → ⊥)
+    → Stand past (stations_in past) shelf
+    → Stand (b ∷ past) (stations_in (b ∷ past)) (kept.with_measured o shelf)
 in_set_taken shelf b past (Err k) r e now kind h = absurd (kind k refl)
 in_set_taken shelf b past (Ok None) r e now kind h =
-    let absent : lacks 21 b ≡ true = none_cases (lacks 21 b) (first_of (said.sighting_faults b)) (said.sighting b) e in
+    let absent : lacks 21 b ≡ true = none_cases (lacks 21 b) (first_of (said.sighting_faults b))
+    (said.sighting b) e in
     let blind : is_sight b ≡ false = sight_as b roles.Measurement r ∙ ap not absent in
     stand_idle shelf b past (set_as b roles.Measurement r) (no_reading b past blind) h
 in_set_taken shelf b past (Ok (Some s)) r e now kind h =
@@ -167,42 +223,74 @@ in_set_taken shelf b past (Ok (Some s)) r e now kind h =
     let seen : is_sight b ≡ true = sight_as b roles.Measurement r ∙ ap not w.has_direction in
     let reading : is_reading (b ∷ past) ≡ true = (λ i. seen i && now i) in
     let (x, last) = last_there shelf past (open_has_set past now) h in
-    subst (λ (o : Last). StandWith (b ∷ past) (stations_in (b ∷ past)) (option_map (λ p. (p.0, with_reading s p.1)) o) (reverse shelf.done)) (sym last)
-    (stand_reading x (reverse shelf.done) b past s (opening_as b roles.Measurement r) reading now (says b past s w) (subst (λ (o : Last). StandWith past (stations_in past) o (reverse shelf.done)) last h))
+    subst (λ (o : Last). StandWith (b ∷ past) (stations_in (b ∷ past))
+    (option_map (λ p. (p.0, with_reading s p.1)) o) (reverse shelf.done)) (sym last)
+    (stand_reading x (reverse shelf.done) b past s (opening_as b roles.Measurement r) reading now
+    (says b past s w) (subst
+    (λ (o : Last). StandWith past (stations_in past) o (reverse shelf.done)) last h))
 
-no_err : (limits : FaceLimits) (shelf : ShelfValue) (o : Result (Option Sighting) BookKind) → kept.measured limits shelf o ≡ None → (k : BookKind) → o ≡ Err k → ⊥
+no_err : (limits : FaceLimits) (shelf : ShelfValue) (o : Result (Option Sighting) BookKind)
+    → kept.measured limits shelf o ≡ None → (k : BookKind) → o ≡ Err k → ⊥
 no_err limits shelf (Err j) f k e = absurd cc
 no_err limits shelf (Ok o) f k e = cc
 
-closed_no_reading : (b : GsiBlock) (past : History) → is_open past ≡ false → is_reading (b ∷ past) ≡ false
+closed_no_reading : (b : GsiBlock) (past : History) → is_open past ≡ false
+    → is_reading (b ∷ past) ≡ false
 closed_no_reading b past e = by (is_sight b) where
   by : (v : Bool) → (v && is_open past) ≡ false
   by true = e
   by false = refl
 
 -- a measurement
-pub measurement_taken : (limits : FaceLimits) (shelf : ShelfValue) (stage : Stage) (b : GsiBlock) (past : History) → role_of b ≡ roles.Measurement → cond (kept.is_open stage) (kept.measured limits shelf (said.read b)) None ≡ None → IsStage stage past
-    → Stand past (stations_in past) shelf → Stand (b ∷ past) (stations_in (b ∷ past)) (cond (kept.is_open stage) (kept.with_measured (said.read b) shelf) shelf)
-measurement_taken limits shelf Outside b past r f g h = stand_idle shelf b past (set_as b roles.Measurement r) (closed_no_reading b past g.1) h
-measurement_taken limits shelf (Station name) b past r f g h = stand_idle shelf b past (set_as b roles.Measurement r) (closed_no_reading b past g.3) h
-measurement_taken limits shelf BetweenSets b past r f g h = stand_idle shelf b past (set_as b roles.Measurement r) (closed_no_reading b past g.1) h
-measurement_taken limits shelf InSet b past r f g h = in_set_taken shelf b past (said.read b) r refl g (no_err limits shelf (said.read b) f) h
+pub measurement_taken : (limits : FaceLimits) (shelf : ShelfValue) (stage : Stage) (b : GsiBlock)
+    (past : History) → role_of b ≡ roles.Measurement
+    → cond (kept.has_open_set stage) (kept.measured limits shelf (said.read b)) None ≡ None
+    → IsStage stage past
+    → Stand past (stations_in past) shelf
+    → Stand (b ∷ past) (stations_in (b ∷ past))
+    (cond (kept.has_open_set stage) (kept.with_measured (said.read b) shelf) shelf)
+measurement_taken limits shelf Outside b past r f g h = stand_idle shelf b past
+    (set_as b roles.Measurement r) (closed_no_reading b past g.1) h
+measurement_taken limits shelf (Station name) b past r f g h = stand_idle shelf b past
+    (set_as b roles.Measurement r) (closed_no_reading b past g.3) h
+measurement_taken limits shelf BetweenSets b past r f g h = stand_idle shelf b past
+    (set_as b roles.Measurement r) (closed_no_reading b past g.1) h
+measurement_taken limits shelf InSet b past r f g h = in_set_taken shelf b past
+    (said.read b) r refl g (no_err limits shelf (said.read b) f) h
 
 -- THE LAW: after a block without fault, what is kept stands for the blocks with it
-pub taken_stands : (limits : FaceLimits) (taken : ℕ) (stage : Stage) (shelf : ShelfValue) (b : GsiBlock) (past : History) (r : Role) → role_of b ≡ r
-    → kept.fault_as r (record { limits = limits; taken = taken; stage = stage; shelf = shelf }) b ≡ None → fault_after limits past b ≡ None
-    → StandsFor limits (record { limits = limits; taken = taken; stage = stage; shelf = shelf }) past → StandsFor limits (kept.after_as r b (record { limits = limits; taken = taken + 1; stage = stage; shelf = shelf })) (b ∷ past)
+pub taken_stands : (limits : FaceLimits) (taken : ℕ) (stage : Stage) (shelf : ShelfValue)
+    (b : GsiBlock) (past : History) (r : Role) → role_of b ≡ r
+    → kept.fault_as r (record { limits = limits; taken = taken; stage = stage; shelf = shelf }) b
+    ≡ None → fault_after limits past b ≡ None
+    → StandsFor limits (record { limits = limits; taken = taken; stage = stage; shelf = shelf })
+    past → StandsFor limits
+    (kept.after_as r b (record {
+      limits = limits;
+      taken = taken + 1;
+      stage = stage;
+      shelf =
+          shelf;
+    })) (b ∷ past)
 taken_stands limits taken stage shelf b past roles.Station r f clean h =
-    let (name, is) = name_of_station b (then_second (kept.ending stage shelf) (first_of (station_faults b)) f) in
+    let (name, is) = name_of_station b
+    (then_second (kept.ending stage shelf) (first_of (station_faults b)) f) in
     let s = station_as b roles.Station r in
-    let here : station (b ∷ past) ≡ b ∷ past = ap (λ v. cond v (b ∷ past) (last opens_station past)) s in
+    let here : station (b ∷ past) ≡ b ∷ past = ap
+    (λ v. cond v (b ∷ past) (last opens_station past)) s in
     record {
       limited = refl;
       clean = (clean, h.clean);
       counted = (let t = h.counted in omega (arith, t));
-      stage = subst (λ (o : Option (List ℕ)). IsStage (kept.at_station o stage) (b ∷ past)) (sym is)
-          (ap is_empty here, ap (λ p. name_at p) here ∙ is, sets-station b past s, is_open-opening b past (opening_as b roles.Station r) ∙ set_as b roles.Station r);
-      stations = stand_idle shelf b past (set_as b roles.Station r) (no_reading b past (sight_as b roles.Station r)) h.stations;
+      stage = subst (λ (o : Option (List ℕ)). IsStage (kept.at_station o stage) (b ∷ past))
+          (sym is) (
+            ap is_empty here,
+            ap (λ p. name_at p) here ∙ is,
+            sets-station b past s,
+            is_open-opening b past (opening_as b roles.Station r) ∙ set_as b roles.Station r,
+          );
+      stations = stand_idle shelf b past (set_as b roles.Station r)
+          (no_reading b past (sight_as b roles.Station r)) h.stations;
     }
 taken_stands limits taken stage shelf b past roles.Set r f clean h = record {
   limited = refl;
@@ -210,14 +298,18 @@ taken_stands limits taken stage shelf b past roles.Set r f clean h = record {
   counted = (let t = h.counted in omega (arith, t));
   stage = is_open-opening b past (opening_as b roles.Set r) ∙ set_as b roles.Set r;
   stations = set_taken shelf b past stage (number b) r refl
-      (then_second (when (has_two 42 b) (kinds.WordTwice 42)) (kept.opening stage shelf (number b)) (then_second (kept.ending stage shelf) _ f)) h.stage h.stations;
+      (then_second (when (has_two 42 b) (kinds.WordTwice 42))
+      (kept.opening_fault stage shelf (number b)) (then_second (kept.ending stage shelf) _ f))
+      h.stage h.stations;
 }
 taken_stands limits taken stage shelf b past roles.Close r f clean h = record {
   limited = refl;
   clean = (clean, h.clean);
   counted = (let t = h.counted in omega (arith, t));
-  stage = stage_closes stage b past (station_as b roles.Close r) (set_as b roles.Close r) (opening_as b roles.Close r) h.stage;
-  stations = stand_idle shelf b past (set_as b roles.Close r) (no_reading b past (sight_as b roles.Close r)) h.stations;
+  stage = stage_closes stage b past (station_as b roles.Close r) (set_as b roles.Close r)
+      (opening_as b roles.Close r) h.stage;
+  stations = stand_idle shelf b past (set_as b roles.Close r)
+      (no_reading b past (sight_as b roles.Close r)) h.stations;
 }
 taken_stands limits taken stage shelf b past roles.Measurement r f clean h =
     let m = measures_nothing b r in
@@ -232,10 +324,13 @@ taken_stands limits taken stage shelf b past roles.Other r f clean h = record {
   limited = refl;
   clean = (clean, h.clean);
   counted = (let t = h.counted in omega (arith, t));
-  stage = stage_stays stage b past (station_as b roles.Other r) (set_as b roles.Other r) (opening_as b roles.Other r) h.stage;
-  stations = stand_idle shelf b past (set_as b roles.Other r) (no_reading b past (sight_as b roles.Other r)) h.stations;
+  stage = stage_stays stage b past (station_as b roles.Other r) (set_as b roles.Other r)
+      (opening_as b roles.Other r) h.stage;
+  stations = stand_idle shelf b past (set_as b roles.Other r)
+      (no_reading b past (sight_as b roles.Other r)) h.stations;
 }
 
 -- the same book under its own limits
-pub at_own : (limits : FaceLimits) (k : kept.Kept) (h : History) → StandsFor limits k h → StandsFor k.limits k h
+pub at_own : (limits : FaceLimits) (k : kept.Kept) (h : History) → StandsFor limits k h
+    → StandsFor k.limits k h
 at_own limits k h s = subst (λ (l : FaceLimits). StandsFor l k h) (sym s.limited) s

@@ -1,5 +1,5 @@
 -- What a book keeps of the last station that has sets.
-use Rattle.std.specs.Prelude.{◌≡◌, ℕ, ◌-◌, ◌≤◌, nat_le, List, [], ◌∷◌, ◌++◌, length, Option, Some, None, All, AllPairs, ◌≢◌, position, replicate, slice_set}
+use Rattle.std.specs.Prelude.{◌≡◌, ℕ, ◌-◌, ◌≤◌, nat_le, Bool, false, is_none, List, [], ◌∷◌, ◌++◌, length, Option, Some, None, All, AllPairs, ◌≢◌, position, replicate, slice_set}
 use Rattle.std.specs.Str.{bytes_eq}
 use Rattle.adjust_kernel.specs.declared.obs.Obs.{Obs}
 use Rattle.adjust_kernel.specs.declared.limits.TheConstants.{MOST_SETS, MOST_TARGETS}
@@ -13,9 +13,10 @@ use Rattle.station_book.specs.Faults.{when, first_of}
 use Rattle.adjust_kernel.specs.Names.{IsName}
 use Rattle.adjust_kernel.specs.Sheets.{IsSetNumber}
 use Rattle.station_book.specs.Sound.{AreSoFar}
-use Rattle.station_book.specs.Slots.{slot_at, with_side, empty_slot, slot_faults, end_faults, IsKeptSlot, obs_of, faces_of}
+use Rattle.station_book.specs.Slots.{slot_at, with_side, empty_slot, slot_faults, closing_faults, IsKeptSlot, obs_of, faces_of}
 
--- the names of its targets, their readings in its last set, the numbers of its sets, and what all sets before the last gave
+-- the names of its targets, their readings in its last set, the numbers of its sets, and what all
+-- sets before the last gave
 pub record EntryValue : Type 0 where
   pub targets : List (List ℕ)
   pub slots : List Slot
@@ -29,7 +30,11 @@ first_entry n = record { targets = []; slots = []; sets = n ∷ []; obs = []; fa
 
 -- what all its sets gave
 abbrev pub closed : EntryValue → EntryValue
-closed e = record e { obs = e.obs ++ obs_of (length e.sets - 1) e.slots; faces = e.faces ++ faces_of e.slots }
+closed e = record e {
+  obs = e.obs ++ obs_of
+      (length e.sets - 1) e.slots;
+  faces = e.faces ++ faces_of e.slots;
+}
 
 -- the station with one more set
 abbrev pub with_set : ℕ → EntryValue → EntryValue
@@ -41,20 +46,36 @@ with_set n e = record {
   faces = e.faces ++ faces_of e.slots;
 }
 
+-- whether this is the name at a place
+abbrev pub is_named : List ℕ → Option (List ℕ) → Bool
+is_named name None = false
+is_named name (Some t) = bytes_eq t name
+
 abbrev pub place_of : List ℕ → List (List ℕ) → Option ℕ
 place_of name targets = position (λ t. bytes_eq t name) targets
 
-abbrev pub reading_faults_at : FaceLimits → EntryValue → Sighting → Option ℕ → List (Option BookKind)
-reading_faults_at limits e s None = when (nat_le MOST_TARGETS (length e.targets)) kinds.TooManyTargets ∷ []
-reading_faults_at limits e s (Some i) = slot_faults limits (slot_at e.slots i) s
+-- whether a reading's target is none of the station's
+abbrev pub is_new_to : EntryValue → Sighting → Bool
+is_new_to e s = is_none (place_of s.target e.targets)
+
+abbrev pub entry_faults_at : FaceLimits → EntryValue → Sighting → Option ℕ → List (Option BookKind)
+entry_faults_at limits e s None = when
+    (nat_le MOST_TARGETS (length e.targets)) kinds.TooManyTargets ∷ []
+entry_faults_at limits e s (Some i) = slot_faults limits (slot_at e.slots i) s
 
 -- the faults of a reading in the last set
-abbrev pub reading_faults : FaceLimits → EntryValue → Sighting → List (Option BookKind)
-reading_faults limits e s = reading_faults_at limits e s (place_of s.target e.targets)
+abbrev pub entry_faults : FaceLimits → EntryValue → Sighting → List (Option BookKind)
+entry_faults limits e s = entry_faults_at limits e s (place_of s.target e.targets)
 
 abbrev pub with_reading_at : Sighting → EntryValue → Option ℕ → EntryValue
-with_reading_at s e None = record e { targets = e.targets ++ s.target ∷ []; slots = e.slots ++ with_side s.is_second s.sight empty_slot ∷ [] }
-with_reading_at s e (Some i) = record e { slots = slice_set e.slots i (with_side s.is_second s.sight (slot_at e.slots i)) }
+with_reading_at s e None = record
+    e {
+      targets = e.targets ++ s.target ∷ [];
+      slots = e.slots ++ with_side s.is_second s.sight
+          empty_slot ∷ [];
+    }
+with_reading_at s e (Some i) = record
+    e { slots = slice_set e.slots i (with_side s.is_second s.sight (slot_at e.slots i)) }
 
 -- the station with one more reading in the last set
 abbrev pub with_reading : Sighting → EntryValue → EntryValue
@@ -76,4 +97,4 @@ pub record IsEntry (e : EntryValue) : Type 0 where
 
 -- The last set may end here.
 abbrev pub MayEnd : EntryValue → Type 0
-MayEnd e = first_of (end_faults e.slots) ≡ None
+MayEnd e = first_of (closing_faults e.slots) ≡ None

@@ -1,5 +1,5 @@
--- What is kept of the stations, and where the book stands, by the blocks before: station by station, from the sets and
--- the readings that are the station's.
+-- What is kept of the stations, and where the book stands, by the blocks before: station by
+-- station, from the sets and the readings that are the station's.
 use Rattle.std.specs.Prelude.{◌≡◌, ℕ, true, false, List, [], ◌∷◌, ◌++◌, length, map, Option, Some, None, reverse}
 use Rattle.std.specs.Option.{option_map}
 use Rattle.adjust_kernel.specs.declared.obs.Obs.{Obs}
@@ -11,7 +11,7 @@ use Rattle.station_book.specs.declared.stage.Stage.TheVariants.{Outside, Station
 use Rattle.station_book.specs.Slots.{obs_of, faces_of}
 use Rattle.station_book.specs.Entries.{EntryValue}
 use Rattle.station_book.specs.Shelves.{Surveys, Last, ShelfValue}
-use Rattle.station_book.specs.Blocks.{number}
+use Rattle.station_book.specs.Blocks.{number, face_one, face_two}
 use Rattle.station_book.specs.Places.{History, Place, before, station, is_empty, is_open, sets_of, station_readings, first_sets, distinct, reading_in, target_at, at}
 use Rattle.station_book.specs.Stations.{SurveyedStation, in_set}
 use Rattle.station_book.specs.Faults.{open_sets, name_at, sight_at}
@@ -25,7 +25,10 @@ sighted o = option_map sight_at o
 
 -- the angles of a target's readings, among these
 abbrev pub slot_of : List Place → List ℕ → Slot
-slot_of rs name = record { first = sighted (reading_in false name rs); second = sighted (reading_in true name rs) }
+slot_of rs name = record {
+  first = sighted (reading_in face_one name rs);
+  second = sighted (reading_in face_two name rs);
+}
 
 abbrev pub slots_of : List (List ℕ) → List Place → List Slot
 slots_of targets rs = map (slot_of rs) targets
@@ -34,14 +37,17 @@ slots_of targets rs = map (slot_of rs) targets
 abbrev pub targets_in : List Place → List (List ℕ)
 targets_in readings = distinct (map target_at readings)
 
--- the observations of these sets, which come the newest first; their places are counted from the oldest
+-- the observations of these sets, which come the newest first; their places are counted from the
+-- oldest
 abbrev pub obs_in : List (List ℕ) → List Place → List Place → List Obs
 obs_in targets readings [] = []
-obs_in targets readings (s ∷ older) = obs_in targets readings older ++ obs_of (length older) (slots_of targets (in_set s readings))
+obs_in targets readings (s ∷ older) = obs_in targets readings older ++ obs_of (length older)
+    (slots_of targets (in_set s readings))
 
 abbrev pub faces_in : List (List ℕ) → List Place → List Place → List Faces
 faces_in targets readings [] = []
-faces_in targets readings (s ∷ older) = faces_in targets readings older ++ faces_of (slots_of targets (in_set s readings))
+faces_in targets readings (s ∷ older) = faces_in targets readings older ++ faces_of
+    (slots_of targets (in_set s readings))
 
 -- the numbers of these sets, the oldest first
 abbrev pub numbers_in : List Place → List (Option ℕ)
@@ -49,7 +55,8 @@ numbers_in [] = []
 numbers_in (s ∷ older) = numbers_in older ++ number_at s ∷ []
 
 -- what is kept of a station that has these sets, at least one, and these readings, the newest first
-pub record IsEntryOf (st newest : Place) (older readings : List Place) (name : List ℕ) (e : EntryValue) : Type 0 where
+pub record IsEntryOf (st newest : Place) (older readings : List Place) (name : List ℕ)
+    (e : EntryValue) : Type 0 where
   pub named_so : name_at st ≡ Some name
   pub targets : e.targets ≡ targets_in readings
   pub numbers : map (λ n. Some n) e.sets ≡ numbers_in (newest ∷ older)
@@ -104,6 +111,7 @@ Stand h sts s = StandWith h sts s.last (reverse s.done)
 -- where the book stands in the file
 abbrev pub IsStage : Stage → History → Type 0
 IsStage Outside h = (station h ≡ []) × (is_open h ≡ false)
-IsStage (Station name) h = (is_empty (station h) ≡ false) × (name_at (station h) ≡ Some name) × (open_sets h ≡ []) × (is_open h ≡ false)
+IsStage (Station name) h = (is_empty (station h) ≡ false) × (name_at (station h) ≡ Some name)
+    × (open_sets h ≡ []) × (is_open h ≡ false)
 IsStage BetweenSets h = (is_empty (open_sets h) ≡ false) × (is_open h ≡ false)
 IsStage InSet h = is_open h ≡ true

@@ -1,5 +1,5 @@
 -- What a book keeps, and what each kind of block does to it.
-use Rattle.std.specs.Prelude.{ℕ, ◌+◌, Bool, true, false, ◌&&◌, not, if◌then◌else◌, Result, Ok, Err, List, Option, Some, None, IsSome}
+use Rattle.std.specs.Prelude.{ℕ, ◌+◌, Bool, true, false, ◌&&◌, if◌then◌else◌, Result, Ok, Err, List, Option, Some, None, IsSome}
 use Rattle.station_book.specs.declared.fault.BookKind.{BookKind}
 use Rattle.station_book.specs.declared.fault.BookKind.TheVariants as kinds
 use Rattle.station_book.specs.Limits.{FaceLimits}
@@ -11,10 +11,10 @@ use Rattle.gsi_word.specs.Blocks.{GsiBlock}
 use Rattle.station_book.specs.declared.role.Role.{Role}
 use Rattle.station_book.specs.declared.role.Role.TheVariants.{Station as AsStation, Set, Close, Measurement, Other}
 use Rattle.station_book.specs.Roles.{role_of}
-use Rattle.station_book.specs.Blocks.{has_two, lacks, named, number}
+use Rattle.station_book.specs.Blocks.{has_two, named, number}
 use Rattle.station_book.specs.Readings.{read}
-use Rattle.station_book.specs.Slots.{end_faults}
-use Rattle.station_book.specs.Entries.{with_set, reading_faults, with_reading}
+use Rattle.station_book.specs.Slots.{closing_faults}
+use Rattle.station_book.specs.Entries.{with_set, is_new_to, entry_faults, with_reading}
 use Rattle.station_book.specs.Shelves.{ShelfValue, Last, last_of, LastMayEnd, change_last, with_station, first_set_faults, more_set_faults}
 
 -- what a book keeps: its limits, how many blocks it took, where it stands, and its stations with
@@ -31,28 +31,28 @@ then_fault None o = o
 then_fault (Some x) o = Some x
 
 -- a set is open
-abbrev pub is_open : Stage → Bool
-is_open Outside = false
-is_open (Station name) = false
-is_open BetweenSets = false
-is_open InSet = true
+abbrev pub has_open_set : Stage → Bool
+has_open_set Outside = false
+has_open_set (Station name) = false
+has_open_set BetweenSets = false
+has_open_set InSet = true
 
 -- the fault of the end of a set, where one is open
 abbrev pub ending : Stage → ShelfValue → Option BookKind
 ending Outside shelf = None
 ending (Station name) shelf = None
 ending BetweenSets shelf = None
-ending InSet shelf = first_of (end_faults (last_of shelf).slots)
+ending InSet shelf = first_of (closing_faults (last_of shelf).slots)
 
 -- the fault of a set that opens here
-abbrev pub opening : Stage → ShelfValue → Option ℕ → Option BookKind
-opening Outside shelf n = Some kinds.SetOutside
-opening (Station name) shelf None = Some kinds.SetNumber
-opening (Station name) shelf (Some n) = first_of (first_set_faults name shelf)
-opening BetweenSets shelf None = Some kinds.SetNumber
-opening BetweenSets shelf (Some n) = first_of (more_set_faults (last_of shelf) n)
-opening InSet shelf None = Some kinds.SetNumber
-opening InSet shelf (Some n) = first_of (more_set_faults (last_of shelf) n)
+abbrev pub opening_fault : Stage → ShelfValue → Option ℕ → Option BookKind
+opening_fault Outside shelf n = Some kinds.SetOutside
+opening_fault (Station name) shelf None = Some kinds.SetNumber
+opening_fault (Station name) shelf (Some n) = first_of (first_set_faults name shelf)
+opening_fault BetweenSets shelf None = Some kinds.SetNumber
+opening_fault BetweenSets shelf (Some n) = first_of (more_set_faults (last_of shelf) n)
+opening_fault InSet shelf None = Some kinds.SetNumber
+opening_fault InSet shelf (Some n) = first_of (more_set_faults (last_of shelf) n)
 
 -- the stations after a set of this number
 abbrev pub opened : Stage → Option ℕ → ShelfValue → ShelfValue
@@ -78,7 +78,7 @@ closed_stage InSet = BetweenSets
 abbrev pub measured : FaceLimits → ShelfValue → Result (Option Sighting) BookKind → Option BookKind
 measured limits shelf (Err k) = Some k
 measured limits shelf (Ok None) = None
-measured limits shelf (Ok (Some s)) = first_of (reading_faults limits (last_of shelf) s)
+measured limits shelf (Ok (Some s)) = first_of (entry_faults limits (last_of shelf) s)
 
 -- the stations after a measurement that says this, in an open set
 abbrev pub with_measured : Result (Option Sighting) BookKind → ShelfValue → ShelfValue
@@ -89,25 +89,30 @@ with_measured (Ok (Some s)) shelf = change_last (with_reading s) shelf
 -- the fault of a block with this role
 abbrev pub fault_as : Role → Kept → GsiBlock → Option BookKind
 fault_as AsStation k b = then_fault (ending k.stage k.shelf) (first_of (station_faults b))
-fault_as Set k b = then_fault (ending k.stage k.shelf) (then_fault (when (has_two 42 b) (kinds.WordTwice 42)) (opening k.stage k.shelf (number b)))
+fault_as Set k b = then_fault (ending k.stage k.shelf)
+    (then_fault (when (has_two 42 b) (kinds.WordTwice 42))
+    (opening_fault k.stage k.shelf (number b)))
 fault_as Close k b = ending k.stage k.shelf
-fault_as Measurement k b = if is_open k.stage then measured k.limits k.shelf (read b) else None
+fault_as Measurement k b = if has_open_set k.stage then measured k.limits k.shelf (read b) else None
 fault_as Other k b = None
 
 -- the fault of a block
 abbrev pub fault_of : Kept → GsiBlock → Option BookKind
 fault_of k b = fault_as (role_of b) k b
 
--- a measurement that is a reading here
-abbrev pub is_read : Kept → GsiBlock → Bool
-is_read k b = is_open k.stage && not (lacks 21 b)
+-- whether a book may need memory for a measurement that says this, in an open set: its target is
+-- new to the last station
+abbrev pub is_first_of_target : ShelfValue → Result (Option Sighting) BookKind → Bool
+is_first_of_target shelf (Err k) = false
+is_first_of_target shelf (Ok None) = false
+is_first_of_target shelf (Ok (Some s)) = is_new_to (last_of shelf) s
 
--- whether a book may need memory for a block of this role: a set, or a reading
+-- whether a book may need memory for a block of this role: a set, or the first reading of a target
 abbrev pub grows_as : Role → Kept → GsiBlock → Bool
 grows_as AsStation k b = false
 grows_as Set k b = true
 grows_as Close k b = false
-grows_as Measurement k b = is_read k b
+grows_as Measurement k b = has_open_set k.stage && is_first_of_target k.shelf (read b)
 grows_as Other k b = false
 
 -- whether a book may need memory for a block
@@ -119,7 +124,8 @@ abbrev pub after_as : Role → GsiBlock → Kept → Kept
 after_as AsStation b k = record k { stage = at_station (named b) k.stage }
 after_as Set b k = record k { stage = InSet; shelf = opened k.stage (number b) k.shelf }
 after_as Close b k = record k { stage = closed_stage k.stage }
-after_as Measurement b k = record k { shelf = if is_open k.stage then with_measured (read b) k.shelf else k.shelf }
+after_as Measurement b k = record
+    k { shelf = if has_open_set k.stage then with_measured (read b) k.shelf else k.shelf }
 after_as Other b k = k
 
 -- what is kept after a block

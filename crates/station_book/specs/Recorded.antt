@@ -1,15 +1,16 @@
 -- What a field file recorded, in the words of its blocks alone.
-use Rattle.std.specs.Prelude.{◌≡◌, ℕ, Bool, true, false, IsTrue, List, Contains, Some, None}
-use Rattle.adjust_kernel.specs.Matching.{Key}
+use Rattle.std.specs.Prelude.{◌≡◌, ℕ, Bool, IsTrue, List, Contains, Some, None, ◌⊎◌}
+use Rattle.adjust_kernel.specs.Matching.{Key, observed}
 use Rattle.station_book.specs.declared.faces.Faces.{Faces}
 use Rattle.station_book.specs.Limits.{FaceLimits}
 use Rattle.station_book.specs.Sights.{IsTwoC, IsTwoI, IsTwoFace}
-use Rattle.station_book.specs.Blocks.{number, is_of_face}
+use Rattle.station_book.specs.Blocks.{number, face_one, face_two, is_of_face}
 use Rattle.station_book.specs.Places.{History, Place, places, at, before, opening, station, is_set, is_reading, target_at, stands}
 use Rattle.station_book.specs.Faults.{name_at, sight_at}
+use Rattle.station_book.specs.Stations.{SurveyedStation}
 
 -- The file has a reading at this place: of this station, named by its block with code 10, of the
--- set that was opened at `set`, of this target, and of face I with `false`, face II with `true`.
+-- set that was opened at `set`, of this target and face.
 pub record IsReadingOf (h : History) (name : List ℕ) (set : Place) (target : List ℕ)
     (face : Bool) (r : Place) : Type 0 where
   pub placed : Contains (places h) r
@@ -20,7 +21,7 @@ pub record IsReadingOf (h : History) (name : List ℕ) (set : Place) (target : L
   pub of_face : IsTrue (stands (is_of_face face) r)
 
 -- The file has a set of the station of this name.
-pub record HasSetAt (h : History) (name : List ℕ) : Type 0 where
+pub record HasSet (h : History) (name : List ℕ) : Type 0 where
   pub set : Place
   pub placed : Contains (places h) set
   pub opened : IsTrue (is_set set)
@@ -34,8 +35,8 @@ pub record IsRecorded (limits : FaceLimits) (h : History) (name : List ℕ) (k :
   pub numbered : at number None set ≡ Some k.set
   pub first : Place
   pub second : Place
-  pub face_one : IsReadingOf h name set k.target false first
-  pub face_two : IsReadingOf h name set k.target true second
+  pub face_one : IsReadingOf h name set k.target face_one first
+  pub face_two : IsReadingOf h name set k.target face_two second
   pub direction : IsTwoFace limits.two_c (sight_at first) (sight_at second) k.value
 
 -- The same, with the face differences of the same two readings, each within its limit.
@@ -44,3 +45,17 @@ pub record IsRecordedWith (limits : FaceLimits) (h : History) (name : List ℕ) 
   pub recorded : IsRecorded limits h name k
   pub two_c : IsTwoC limits.two_c (sight_at recorded.first) (sight_at recorded.second) f.two_c
   pub two_i : IsTwoI limits.two_i (sight_at recorded.first) (sight_at recorded.second) f.two_i
+
+-- The reading at this place is listed: it is one of the two readings of which an observation is
+-- listed at its station, set and target.
+pub record IsListed (limits : FaceLimits) (h : History) (stations : List SurveyedStation)
+    (r : Place) : Type 0 where
+  pub surveyed : SurveyedStation
+  pub among : Contains stations surveyed
+  pub of_station : name_at (station (before r)) ≡ Some surveyed.station.name
+  pub key : Key
+  pub listed : Contains (observed surveyed.station) key
+  pub of_set : at number None (opening (before r)) ≡ Some key.set
+  pub of_target : target_at r ≡ key.target
+  pub recorded : IsRecorded limits h surveyed.station.name key
+  pub is_one : (recorded.first ≡ r) ⊎ (recorded.second ≡ r)

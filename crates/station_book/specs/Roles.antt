@@ -17,7 +17,8 @@ code_role name =
 -- what a block is that begins with this word
 abbrev pub word_role : Option GsiWord → Role
 word_role None = Other
-word_role (Some w) = if w.index == 11 then Measurement else (if w.index == 41 then code_role (name_of w.content) else Other)
+word_role (Some w) = if w.index == 11 then Measurement else
+    (if w.index == 41 then code_role (name_of w.content) else Other)
 
 -- what a block is
 abbrev pub role_of : GsiBlock → Role

@@ -39,7 +39,9 @@ slot_faults limits slot s =
 
 -- the fault of two readings
 abbrev pub pair_fault : FaceLimits → Sight → Sight → Option BookKind
-pair_fault limits a b = first_of (when (has_no_two_c limits.two_c a b) kinds.TwoC ∷ when (has_no_two_i limits.two_i a b) kinds.TwoI ∷ [])
+pair_fault limits a b = first_of
+    (when (has_no_two_c limits.two_c a b) kinds.TwoC ∷ when
+    (has_no_two_i limits.two_i a b) kinds.TwoI ∷ [])
 
 abbrev pub is_unread : Slot → Bool
 is_unread s = is_none s.first && is_none s.second
@@ -49,8 +51,8 @@ abbrev pub is_single : Slot → Bool
 is_single s = (is_some s.first && is_none s.second) || (is_none s.first && is_some s.second)
 
 -- the faults of a set that ends
-abbrev pub end_faults : List Slot → List (Option BookKind)
-end_faults slots =
+abbrev pub closing_faults : List Slot → List (Option BookKind)
+closing_faults slots =
     when (list_all is_unread slots) kinds.EmptySet
     ∷ when (list_any is_single slots) kinds.OneFace
     ∷ []
@@ -60,13 +62,14 @@ abbrev pub IsKeptSlot : Slot → Type 0
 IsKeptSlot s = (IfSome s.first AreOnCircle) × (IfSome s.second AreOnCircle)
 
 -- the observation of two readings
-abbrev pub joined : ℕ → ℕ → Option Sight → Option Sight → Option Obs
-joined set target (Some a) (Some b) = Some (record { set = set; target = target; value = direction a b })
-joined set target (Some a) None = None
-joined set target None b = None
+abbrev pub observation_of : ℕ → ℕ → Option Sight → Option Sight → Option Obs
+observation_of set target (Some a) (Some b) = Some
+    (record { set = set; target = target; value = direction a b })
+observation_of set target (Some a) None = None
+observation_of set target None b = None
 
 abbrev pub obs_at : ℕ → ℕ × Slot → Option Obs
-obs_at set p = joined set p.0 p.1.first p.1.second
+obs_at set p = observation_of set p.0 p.1.first p.1.second
 
 -- the observations of a set, in the order of the targets
 abbrev pub obs_of : ℕ → List Slot → List Obs

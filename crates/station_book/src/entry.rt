@@ -1,16 +1,16 @@
 //! The last station that has sets.
 
-ghost use Rattle.std.specs.Prelude.{◌≡◌, ◌<◌, ◌≤◌, None, Some, length, IfOk, IfErr, OnOk, OnErr, IfSome, IfNone, false, nat_le, ◌==◌, [], ◌∷◌};
+ghost use Rattle.std.specs.Prelude.{◌≡◌, ◌≢◌, ◌<◌, ◌≤◌, AllPairs, slice_get, None, Some, length, IfOk, IfErr, OnOk, OnErr, IfSome, IfNone, false, nat_le, ◌==◌, [], ◌∷◌};
 ghost use Rattle.std.specs.List.{list_any};
 ghost use Rattle.adjust_kernel.specs.Sheets.{IsSetNumber};
 ghost use Rattle.station_book.specs.Shelves.{survey_of, more_set_faults};
 ghost use Rattle.std.specs.Str.{bytes_eq};
 ghost use Rattle.station_book.specs.Faults.{first_of, when};
-ghost use Rattle.station_book.specs.Slots.{end_faults};
+ghost use Rattle.station_book.specs.Slots.{closing_faults};
 ghost use Rattle.station_book.specs.Sights.{AreOnCircle};
-ghost use Rattle.station_book.specs.Entries.{MayEnd, first_entry, with_set, place_of, reading_faults, with_reading, with_reading_at};
+ghost use Rattle.station_book.specs.Entries.{MayEnd, first_entry, with_set, is_named, place_of, is_new_to, entry_faults, with_reading, with_reading_at};
 ghost use Rattle.station_book.specs.declared.fault.BookKind.TheVariants as kinds;
-ghost use Rattle.station_book.specs.Refusals.{ExplainsRefusal};
+ghost use Rattle.station_book.specs.Refusals.{ExplainsRefusal, WantsOnly};
 
 use crate::faces::Faces;
 use crate::fault::{BookKind, Refusal};
@@ -31,6 +31,8 @@ pub(crate) struct Entry {
     sets: Vec<u16>,
     obs: Vec<Obs>,
     faces: Vec<Faces>,
+    /// The place of the target that was read last: where the next one is looked for first.
+    last: usize,
 }
 
 impl Model for Entry {
@@ -50,20 +52,52 @@ pub(crate) fn is_same(a: &Name, b: &Name) -> bool
     a.bytes() == b.bytes()
 }
 
-// The place of the target of this name.
+/// The place of the target of this name.
 fn position_of(targets: &[Name], name: &Name) -> Option<usize>
     ensures { result ≡ place_of name.now targets.now }
 {
     targets.iter().position(|target| is_same(target, name))
 }
 
+/// Whether the target at this place has this name.
+fn is_at(targets: &[Name], name: &Name, place: usize) -> bool
+    ensures { result ≡ is_named name.now (slice_get targets.now place) }
+{
+    match targets.get(place) {
+        Some(target) => is_same(target, name),
+        None => false,
+    }
+}
+
+/// The place of the target of this name, which is looked for first beside the one that was read
+/// last: targets are read in turn, and in face II mostly backwards.
+#[tactic(auto, using(crate::proofs::PlacedLaws::placed))]
+fn place_from(targets: &[Name], name: &Name, last: usize) -> Option<usize>
+    requires { AllPairs (λ a b. a ≢ b) targets.now }
+    ensures { result ≡ place_of name.now targets.now }
+{
+    let after = last.wrapping_add(1);
+    if is_at(targets, name, after) {
+        return Some(after);
+    }
+    if is_at(targets, name, last) {
+        return Some(last);
+    }
+    let before = last.wrapping_sub(1);
+    if is_at(targets, name, before) {
+        return Some(before);
+    }
+    position_of(targets, name)
+}
+
 /// The place of the target of this name.
-fn place_of(targets: &[Name], name: &Name) -> Option<usize>
+fn place_of(targets: &[Name], name: &Name, last: usize) -> Option<usize>
+    requires { AllPairs (λ a b. a ≢ b) targets.now }
     ensures place { result ≡ place_of name.now targets.now }
     ensures inside { IfSome result (λ i. i < length targets.now) }
     ensures absent { IfNone result (list_any (λ t. bytes_eq t name.now) targets.now ≡ false) }
 {
-    let place = position_of(targets, name);
+    let place = place_from(targets, name, last);
     place
 }
 
@@ -74,21 +108,20 @@ impl Entry {
         ensures { IfOk result (λ e. e ≡ first_entry number) }
     {
         let mut sets = Vec::new(alloc);
-        match sets.push(number) {
-            Ok(()) => Ok(Entry {
-                targets: Vec::new(alloc),
-                slots: Vec::new(alloc),
-                sets,
-                obs: Vec::new(alloc),
-                faces: Vec::new(alloc),
-            }),
-            Err(_) => Err(AllocError),
-        }
+        sets.push(number)?;
+        Ok(Entry {
+            targets: Vec::new(alloc),
+            slots: Vec::new(alloc),
+            sets,
+            obs: Vec::new(alloc),
+            faces: Vec::new(alloc),
+            last: 0,
+        })
     }
 
     /// The fault of the last set, if it ends here.
     pub(crate) fn end_fault(&self) -> Option<BookKind>
-        ensures { result ≡ first_of (end_faults self.now.slots) }
+        ensures { result ≡ first_of (closing_faults self.now.slots) }
     {
         end_fault(&self.slots)
     }
@@ -115,18 +148,10 @@ impl Entry {
         ensures ok { OnOk result (self.new ≡ with_set number self.old) }
         ensures err { OnErr result (self.new ≡ self.old) }
     {
-        if self.sets.reserve(1).is_err() {
-            return Err(AllocError);
-        }
+        self.sets.reserve(1)?;
         let last = self.sets.len() as u32 - 1;
-        match push_pairs(last, &self.slots, &mut self.obs, &mut self.faces) {
-            Ok(()) => {}
-            Err(_) => return Err(AllocError),
-        }
-        match self.sets.push(number) {
-            Ok(()) => {}
-            Err(_) => unreachable!(),
-        }
+        push_pairs(last, &self.slots, &mut self.obs, &mut self.faces)?;
+        self.sets.push(number).unwrap();
         empty_all(&mut self.slots);
         Ok(())
     }
@@ -134,17 +159,19 @@ impl Entry {
     /// Takes a reading of the last set.
     pub(crate) fn take_reading(&mut self, limits: Limits, reading: Sighting) -> Result<(), Refusal>
         requires { AreOnCircle reading.sight }
-        ensures clean { OnOk result (first_of (reading_faults limits self.old reading) ≡ None) }
+        ensures clean { OnOk result (first_of (entry_faults limits self.old reading) ≡ None) }
         ensures ok { OnOk result (self.new ≡ with_reading reading self.old) }
-        ensures fault { IfErr result (ExplainsRefusal (first_of (reading_faults limits self.old reading))) }
+        ensures fault { IfErr result (ExplainsRefusal (first_of (entry_faults limits self.old reading))) }
+        ensures memory { IfErr result (WantsOnly (is_new_to self.old reading)) }
         ensures err { OnErr result (self.new ≡ self.old) }
     {
-        match place_of(&self.targets, &reading.target) {
+        match place_of(&self.targets, &reading.target, self.last) {
             Some(place) => {
                 let slot = self.slots[place];
                 match slot_fault(limits, slot, reading) {
                     Some(kind) => Err(Refusal::Kind(kind)),
                     None => {
+                        self.last = place;
                         self.slots[place] = with_side(slot, reading.is_second, reading.sight);
                         Ok(())
                     }
@@ -154,7 +181,7 @@ impl Entry {
         }
     }
 
-    // Takes the first reading of a target.
+    /// Takes the first reading of a target.
     fn add_target(&mut self, reading: Sighting) -> Result<(), Refusal>
         requires new { list_any (λ t. bytes_eq t reading.target) self.old.targets ≡ false }
         requires angle { AreOnCircle reading.sight }
@@ -166,19 +193,14 @@ impl Entry {
         if self.targets.len() >= MOST_TARGETS {
             return Err(Refusal::Kind(BookKind::TooManyTargets));
         }
-        if self.targets.reserve(1).is_err() {
-            return Err(Refusal::Memory);
-        }
+        self.targets.reserve(1)?;
+        self.slots.reserve(1)?;
         let _name = reading.target.bytes();
         let slot = with_side(empty_slot(), reading.is_second, reading.sight);
-        match self.slots.push(slot) {
-            Ok(()) => {}
-            Err(_) => return Err(Refusal::Memory),
-        }
-        match self.targets.push(reading.target) {
-            Ok(()) => Ok(()),
-            Err(_) => unreachable!(),
-        }
+        self.last = self.targets.len();
+        self.slots.push(slot).unwrap();
+        self.targets.push(reading.target).unwrap();
+        Ok(())
     }
 
     /// Takes this list, which is empty, for the readings.
@@ -205,9 +227,10 @@ impl Entry {
             sets,
             mut obs,
             mut faces,
+            last,
         } = self;
-        let last = sets.len() as u32 - 1;
-        match push_pairs(last, &slots, &mut obs, &mut faces) {
+        let set = sets.len() as u32 - 1;
+        match push_pairs(set, &slots, &mut obs, &mut faces) {
             Ok(()) => {}
             Err(_) => {
                 return Err(Entry {
@@ -216,13 +239,12 @@ impl Entry {
                     sets,
                     obs,
                     faces,
+                    last,
                 });
             }
         }
         slots.clear();
-        match Station::new(name, targets, sets, obs) {
-            Some(station) => Ok((Surveyed { station, faces }, slots)),
-            None => unreachable!(),
-        }
+        let station = Station::of_valid(name, targets, sets, obs);
+        Ok((Surveyed { station, faces }, slots))
     }
 }

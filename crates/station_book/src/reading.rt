@@ -4,34 +4,25 @@ ghost use Rattle.std.specs.Prelude.{◌≡◌, ◌<◌, None, Some, IfOk, IfErr,
 ghost use Rattle.gsi_word.specs.BlockViews.{block_of};
 ghost use Rattle.adjust_kernel.specs.Sheets.{IsSetNumber};
 ghost use Rattle.gsi_word.specs.Names.{name_of};
-ghost use Rattle.station_book.specs.Faults.{first_of, station_faults};
+ghost use Rattle.station_book.specs.Faults.{when, first_of, station_faults};
 ghost use Rattle.station_book.specs.Blocks.{has_two, named, number, number_of_name, target};
 ghost use Rattle.station_book.specs.Readings.{face_of, read};
+ghost use Rattle.station_book.specs.declared.fault.BookKind.TheVariants as kinds;
 ghost use Rattle.station_book.specs.Sights.{AreOnCircle};
 
 use crate::bounds::{CIRCLE, HALF_CIRCLE};
 use crate::fault::BookKind;
 use crate::sight::{Sight, Sighting};
 use adjust_kernel::{LARGEST_SET_NUMBER, Name};
-use gsi_word::{Block, Found, Word, decimal_number};
-
-/// The index of a horizontal direction.
-const DIRECTION: u8 = 21;
-
-/// The index of a zenith angle.
-const ZENITH: u8 = 22;
-
-/// The index of the first information behind a code.
-const INFORMATION: u8 = 42;
+use gsi_word::{
+    Block, CODE_INFORMATION, Found, HORIZONTAL_DIRECTION, VERTICAL_ANGLE, Word, decimal_number,
+};
 
 /// The name that a word holds.
 fn name_in(word: &Word<'_>) -> Name
     ensures { result ≡ name_of word.now.content }
 {
-    match Name::new(word.name()) {
-        Some(name) => name,
-        None => unreachable!(),
-    }
+    Name::of_valid(word.name())
 }
 
 /// The name of the station that a block of code 10 opens.
@@ -41,8 +32,8 @@ pub(crate) fn station_name(block: &Block<'_>) -> Result<Name, BookKind>
     ensures clean { OnOk result (first_of (station_faults (block_of block.now)) ≡ None) }
     ensures fault { IfErr result (λ k. first_of (station_faults (block_of block.now)) ≡ Some k) }
 {
-    match block.find(INFORMATION) {
-        Found::Twice => Err(BookKind::WordTwice(INFORMATION)),
+    match block.find(CODE_INFORMATION) {
+        Found::Twice => Err(BookKind::WordTwice(CODE_INFORMATION)),
         Found::Absent => Err(BookKind::StationName),
         Found::One(word) => Ok(name_in(&word)),
     }
@@ -60,37 +51,22 @@ fn number_of(name: &[u8]) -> Option<u16>
     }
 }
 
-/// The number of a set, if the block of code 20 has one, and whether it has two words for it.
-#[derive(Clone, Copy, Debug, Drop)]
-pub(crate) struct SetBlock {
-    pub twice: bool,
-    pub number: Option<u16>,
-}
-
-/// What a block of code 20 says.
+/// The number of the set that a block of code 20 opens, if it says one.
 #[tactic(auto, unfolding(crate::specs::Blocks::number, crate::specs::Blocks::named, crate::specs::Blocks::has_two))]
-pub(crate) fn set_block(block: &Block<'_>) -> SetBlock
-    ensures twice { result.twice ≡ has_two 42 (block_of block.now) }
-    ensures number { result.number ≡ number (block_of block.now) }
-    ensures valid { IfSome result.number IsSetNumber }
+pub(crate) fn set_number(block: &Block<'_>) -> Result<Option<u16>, BookKind>
+    ensures ok { IfOk result (λ n. n ≡ number (block_of block.now)) }
+    ensures valid { IfOk result (λ n. IfSome n IsSetNumber) }
+    ensures clean { OnOk result (when (has_two 42 (block_of block.now)) (kinds.WordTwice 42) ≡ None) }
+    ensures fault { IfErr result (λ k. when (has_two 42 (block_of block.now)) (kinds.WordTwice 42) ≡ Some k) }
 {
-    match block.find(INFORMATION) {
-        Found::Twice => SetBlock {
-            twice: true,
-            number: None,
-        },
-        Found::Absent => SetBlock {
-            twice: false,
-            number: None,
-        },
-        Found::One(word) => SetBlock {
-            twice: false,
-            number: number_of(word.name()),
-        },
+    match block.find(CODE_INFORMATION) {
+        Found::Twice => Err(BookKind::WordTwice(CODE_INFORMATION)),
+        Found::Absent => Ok(None),
+        Found::One(word) => Ok(number_of(word.name())),
     }
 }
 
-/// The face of a reading with this zenith angle.
+/// Whether a reading with this zenith angle is of face II; nothing where it is of neither face.
 fn face_of(zenith: u32) -> Option<bool>
     ensures { result ≡ face_of zenith }
 {
@@ -121,25 +97,19 @@ pub(crate) fn read(block: &Block<'_>) -> Result<Option<Sighting>, BookKind>
     ensures value { result ≡ read (block_of block.now) }
     ensures angles { IfOk result (λ o. IfSome o (λ s. AreOnCircle s.sight)) }
 {
-    let direction = block.find(DIRECTION);
+    let (direction, zenith) = block.find_two(HORIZONTAL_DIRECTION, VERTICAL_ANGLE);
     let direction = match direction {
         Found::Absent => return Ok(None),
-        Found::Twice => return Err(BookKind::WordTwice(DIRECTION)),
+        Found::Twice => return Err(BookKind::WordTwice(HORIZONTAL_DIRECTION)),
         Found::One(word) => word,
     };
-    let zenith = match block.find(ZENITH) {
+    let zenith = match zenith {
         Found::Absent => return Err(BookKind::NoZenith),
-        Found::Twice => return Err(BookKind::WordTwice(ZENITH)),
+        Found::Twice => return Err(BookKind::WordTwice(VERTICAL_ANGLE)),
         Found::One(word) => word,
     };
-    let hz = match direction.angle() {
-        Ok(units) => units,
-        Err(fault) => return Err(BookKind::Hz(fault)),
-    };
-    let zenith = match zenith.angle() {
-        Ok(units) => units,
-        Err(fault) => return Err(BookKind::Zenith(fault)),
-    };
+    let hz = direction.angle().map_err(BookKind::Hz)?;
+    let zenith = zenith.angle().map_err(BookKind::Zenith)?;
     let Some(is_second) = face_of(zenith) else {
         return Err(BookKind::FaceUnclear);
     };

@@ -4,7 +4,7 @@ ghost use Rattle.std.specs.Prelude.{◌≡◌};
 ghost use Rattle.gsi_word.specs.BlockViews.{block_of};
 ghost use Rattle.station_book.specs.Roles.{code_role, role_of};
 
-use gsi_word::Block;
+use gsi_word::{Block, CODE_NUMBER, POINT_NUMBER};
 
 /// What a block is to a book.
 #[derive(Clone, Copy, Debug, PartialEq, Eq)]
@@ -41,15 +41,10 @@ fn code_role(name: &[u8]) -> Role
 pub(crate) fn role_of(block: &Block<'_>) -> Role
     ensures { result ≡ role_of (block_of block.now) }
 {
-    let Some(first) = block.word(0) else {
-        return Role::Other;
-    };
-    let index = first.index();
-    if index == 11 {
-        return Role::Measurement;
+    let first = block.first();
+    match first.index() {
+        POINT_NUMBER => Role::Measurement,
+        CODE_NUMBER => code_role(first.name()),
+        _ => Role::Other,
     }
-    if index == 41 {
-        return code_role(first.name());
-    }
-    Role::Other
 }

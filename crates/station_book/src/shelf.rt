@@ -7,10 +7,10 @@ ghost use Rattle.indexmap.specs.IndexMap.{spare};
 ghost use Rattle.adjust_kernel.specs.Sheets.{IsSetNumber};
 ghost use Rattle.station_book.specs.Shelves.{empty_shelf, last_done, all_done, surveys_of, with_station, LastMayEnd, first_set_faults, last_of, change_last, is_known, more_set_faults};
 ghost use Rattle.station_book.specs.Faults.{first_of};
-ghost use Rattle.station_book.specs.Slots.{end_faults};
+ghost use Rattle.station_book.specs.Slots.{closing_faults};
 ghost use Rattle.station_book.specs.Sights.{AreOnCircle};
-ghost use Rattle.station_book.specs.Entries.{MayEnd, with_set, reading_faults, with_reading};
-ghost use Rattle.station_book.specs.Refusals.{ExplainsRefusal};
+ghost use Rattle.station_book.specs.Entries.{MayEnd, with_set, is_new_to, entry_faults, with_reading};
+ghost use Rattle.station_book.specs.Refusals.{ExplainsRefusal, WantsOnly};
 
 use crate::bounds::MOST_STATIONS;
 use crate::entry::{Entry, is_same};
@@ -106,7 +106,7 @@ impl Shelf {
     /// The fault of the last set, if it ends here.
     pub(crate) fn end_fault(&self) -> Option<BookKind>
         requires { IsSome self.now.last }
-        ensures { result ≡ first_of (end_faults (last_of self.now).slots) }
+        ensures { result ≡ first_of (closing_faults (last_of self.now).slots) }
     {
         match &self.last {
             Some((_, entry)) => entry.end_fault(),
@@ -133,10 +133,7 @@ impl Shelf {
         ensures list { IfOk result (λ slots. slots.items ≡ []) }
         ensures err { OnErr result (self.new ≡ self.old) }
     {
-        match self.done.reserve(1) {
-            Ok(()) => {}
-            Err(_) => return Err(AllocError),
-        }
+        self.done.reserve(1)?;
         match self.last.take() {
             None => Ok(Vec::new(self.alloc)),
             Some((name, entry)) => match entry.close(name) {
@@ -161,14 +158,9 @@ impl Shelf {
         ensures ok { OnOk result (self.new ≡ with_station name number self.old) }
         ensures err { OnErr result (self.new ≡ self.old) }
     {
-        let mut entry = match Entry::first(self.alloc, number) {
-            Ok(entry) => entry,
-            Err(_) => return Err(AllocError),
-        };
-        match self.close_last() {
-            Ok(slots) => entry.use_list(slots),
-            Err(_) => return Err(AllocError),
-        }
+        let mut entry = Entry::first(self.alloc, number)?;
+        let slots = self.close_last()?;
+        entry.use_list(slots);
         self.last = Some((name, entry));
         Ok(())
     }
@@ -204,10 +196,8 @@ impl Shelf {
         if self.len() >= MOST_STATIONS {
             return Err(Refusal::Kind(BookKind::TooManyStations));
         }
-        match self.add_station(name, number) {
-            Ok(()) => Ok(()),
-            Err(_) => Err(Refusal::Memory),
-        }
+        self.add_station(name, number)?;
+        Ok(())
     }
 
     /// Opens a further set of the last station.
@@ -223,19 +213,18 @@ impl Shelf {
         if let Some(kind) = self.set_fault(number) {
             return Err(Refusal::Kind(kind));
         }
-        match self.add_set(number) {
-            Ok(()) => Ok(()),
-            Err(_) => Err(Refusal::Memory),
-        }
+        self.add_set(number)?;
+        Ok(())
     }
 
     /// A reading in the last set of the last station.
     pub(crate) fn take_reading(&mut self, limits: Limits, reading: Sighting) -> Result<(), Refusal>
         requires some { IsSome self.old.last }
         requires angle { AreOnCircle reading.sight }
-        ensures clean { OnOk result (first_of (reading_faults limits (last_of self.old) reading) ≡ None) }
+        ensures clean { OnOk result (first_of (entry_faults limits (last_of self.old) reading) ≡ None) }
         ensures ok { OnOk result (self.new ≡ change_last (with_reading reading) self.old) }
-        ensures fault { IfErr result (ExplainsRefusal (first_of (reading_faults limits (last_of self.old) reading))) }
+        ensures fault { IfErr result (ExplainsRefusal (first_of (entry_faults limits (last_of self.old) reading))) }
+        ensures memory { IfErr result (WantsOnly (is_new_to (last_of self.old) reading)) }
         ensures err { OnErr result (self.new ≡ self.old) }
     {
         match &mut self.last {
@@ -250,18 +239,12 @@ impl Shelf {
         ensures { IfOk result (λ s. s ≡ surveys_of self) }
     {
         let mut shelf = self;
-        match shelf.close_last() {
-            Ok(_) => {}
-            Err(_) => return Err(AllocError),
-        }
+        shelf.close_last()?;
         let Shelf { alloc, done, .. } = shelf;
         let mut surveyed = Vec::new(alloc);
         let mut rest = done.into_iter();
         'stations: while let Some((_, station)) = rest.next() {
-            match surveyed.push(station) {
-                Ok(()) => {}
-                Err(_) => return Err(AllocError),
-            }
+            surveyed.push(station)?;
         }
         Ok(Stations { surveyed })
     }

@@ -5,7 +5,7 @@ ghost use Rattle.std.specs.Vec.{vec_capacity};
 ghost use Rattle.std.specs.List.{list_any, list_all};
 ghost use Rattle.std.specs.Option.{option_to_list};
 ghost use Rattle.station_book.specs.Faults.{first_of};
-ghost use Rattle.station_book.specs.Slots.{side, with_side, empty_slot, slot_faults, pair_fault, end_faults, is_unread, is_single, IsKeptSlot, obs_at, obs_of, faces_at, faces_of};
+ghost use Rattle.station_book.specs.Slots.{side, with_side, empty_slot, slot_faults, pair_fault, closing_faults, is_unread, is_single, IsKeptSlot, obs_at, obs_of, faces_at, faces_of};
 ghost use Rattle.station_book.specs.Sights.{AreOnCircle};
 
 use crate::faces::Faces;
@@ -76,6 +76,7 @@ pub(crate) fn slot_fault(limits: Limits, slot: Slot, reading: Sighting) -> Optio
     }
 }
 
+/// The fault of a reading in face I and one in face II of a target, if they have one.
 fn pair_fault(limits: Limits, first: Sight, second: Sight) -> Option<BookKind>
     requires first_in { AreOnCircle first }
     requires second_in { AreOnCircle second }
@@ -90,24 +91,28 @@ fn pair_fault(limits: Limits, first: Sight, second: Sight) -> Option<BookKind>
     None
 }
 
+/// Whether the target has no reading.
 fn is_unread(slot: &Slot) -> bool
     ensures { result ≡ is_unread slot.now }
 {
     slot.first.is_none() && slot.second.is_none()
 }
 
+/// Whether the target has a reading of one face alone.
 fn is_single(slot: &Slot) -> bool
     ensures { result ≡ is_single slot.now }
 {
     slot.first.is_some() != slot.second.is_some()
 }
 
+/// Whether no target has a reading.
 fn are_unread(slots: &[Slot]) -> bool
     ensures { result ≡ list_all is_unread slots.now }
 {
     slots.iter().all(|slot| is_unread(slot))
 }
 
+/// Whether some target has a reading of one face alone.
 fn has_single(slots: &[Slot]) -> bool
     ensures { result ≡ list_any is_single slots.now }
 {
@@ -116,7 +121,7 @@ fn has_single(slots: &[Slot]) -> bool
 
 /// The fault of a set that ends with these readings, if it has one.
 pub(crate) fn end_fault(slots: &[Slot]) -> Option<BookKind>
-    ensures { result ≡ first_of (end_faults slots.now) }
+    ensures { result ≡ first_of (closing_faults slots.now) }
 {
     if are_unread(slots) {
         return Some(BookKind::EmptySet);
@@ -127,7 +132,7 @@ pub(crate) fn end_fault(slots: &[Slot]) -> Option<BookKind>
     None
 }
 
-// Appends the observation of a target, where it has one.
+/// Appends the observation of a target, where it has one.
 fn push_pair(set: u32, target: u32, slot: Slot, obs: &mut Vec<Obs>, faces: &mut Vec<Faces>)
     requires angles { IsKeptSlot slot }
     requires obs_room { vec_len obs.old < vec_capacity obs.old }
@@ -147,14 +152,8 @@ fn push_pair(set: u32, target: u32, slot: Slot, obs: &mut Vec<Obs>, faces: &mut 
         target,
         value: direction_of(first, second),
     };
-    match obs.push(one) {
-        Ok(()) => {}
-        Err(_) => unreachable!(),
-    }
-    match faces.push(faces_of(first, second)) {
-        Ok(()) => {}
-        Err(_) => unreachable!(),
-    }
+    obs.push(one).unwrap();
+    faces.push(faces_of(first, second)).unwrap();
 }
 
 /// Appends the observations of a set and their face differences. All growths come first.
@@ -171,12 +170,8 @@ pub(crate) fn push_pairs(
     ensures kept_obs { OnErr result (obs.new.items ≡ obs.old.items) }
     ensures kept_faces { OnErr result (faces.new.items ≡ faces.old.items) }
 {
-    if obs.reserve(slots.len()).is_err() {
-        return Err(AllocError);
-    }
-    if faces.reserve(slots.len()).is_err() {
-        return Err(AllocError);
-    }
+    obs.reserve(slots.len())?;
+    faces.reserve(slots.len())?;
     'slots: for (place, slot) in slots.iter().enumerate() {
         push_pair(set, place as u32, *slot, obs, faces);
     }

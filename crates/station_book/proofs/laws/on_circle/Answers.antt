@@ -1,5 +1,5 @@
-use Rattle.station_book.proofs.SomeSurvey.{on_circle}
+use Rattle.station_book.proofs.WithinLaws.{sight_on_circle}
 use Rattle.station_book.proofs.laws.on_circle.Goals as goal
 
 pub returns : goal.returns
-returns c = on_circle
+returns c = sight_on_circle

@@ -5,4 +5,5 @@ use Rattle.station_book.proofs.AnswerLaws.{stands_empty}
 use Rattle.station_book.proofs.book.Book.new.Goals as goal
 
 pub returns : goal.returns
-returns c = subst (λ (k : Kept). StandsFor c.args.limits k []) (sym c.empty.ensures) (stands_empty c.args.limits)
+returns c = subst (λ (k : Kept). StandsFor c.args.limits k []) (sym c.empty.ensures)
+    (stands_empty c.args.limits)

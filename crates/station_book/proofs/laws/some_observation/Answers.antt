@@ -1,0 +1,5 @@
+use Rattle.station_book.proofs.ObservedLaws.{some_observation}
+use Rattle.station_book.proofs.laws.some_observation.Goals as goal
+
+pub returns : goal.returns
+returns c = some_observation
