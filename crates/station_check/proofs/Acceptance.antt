@@ -1,6 +1,6 @@
--- From the kernel's verdict to what an acceptance and a refusal say.
+-- From the kernel's acceptance to what an acceptance of the check says.
 use Rattle.std.proofs.Common.{◌≡◌, ℕ, List, [], ◌∷◌, Option, Some, None, Result, Ok, Err, refl, sym, ap, subst, ◌∙◌, inl, inr}
-use Rattle.std.specs.Prelude.{◌↔◌, IfSome, IfOk, IfErr, reverse}
+use Rattle.std.specs.Prelude.{◌↔◌, IfSome, IfOk, reverse}
 use mathlib.Core.List.{reverse_aux}
 use Rattle.std.specs.List.{AllZip, Contains}
 use Rattle.std.proofs.lemmas.List.{reverse-reverse}
@@ -10,7 +10,6 @@ use Rattle.gsi_file.specs.FileAnswers.{FileAnswers, file_answers}
 use Rattle.gsi_file.specs.declared.file_fault.FileKind.{FileKind}
 use Rattle.adjust_kernel.specs.Sheets.{SheetValue}
 use Rattle.adjust_kernel.specs.declared.accepted.Accepted.{Accepted}
-use Rattle.adjust_kernel.specs.declared.kernel_fault.KernelFault.{KernelFault}
 use Rattle.adjust_kernel.specs.Stations.{StationValue}
 use Rattle.adjust_kernel.specs.Verdict.{IsAcceptedSheet, KeepsLimit}
 use Rattle.station_book.specs.declared.fault.BookKind.{BookKind}
@@ -21,17 +20,15 @@ use Rattle.station_book.specs.Recorded.{IsRecorded, IsRecordedWith}
 use Rattle.adjust_kernel.specs.Matching.{Key, observed, keys_of}
 use Rattle.station_book.specs.Stations.{SurveyedStation, AreStations, station_named}
 use Rattle.station_check.specs.declared.fault.Fault.{Fault}
-use Rattle.station_check.specs.declared.fault.Fault.TheVariants.{Gsi, Book, SheetRead, Sheet, NoStation, Means, Kernel, Write, Memory}
 use Rattle.station_check.specs.Records.{ComesTo, FileComesTo, at_end, file_fault}
 use Rattle.station_check.specs.Surveys.{IsSurvey, Surveys}
 use Rattle.station_check.specs.Accepted.{IsAccepted}
 use Rattle.station_check.specs.Judged.{IsJudged, IsJudgedSheet, IfKernels}
-use Rattle.station_check.specs.Refused.{IsRefusedByKernel, TellsOfRefusal}
 use Rattle.station_check.specs.Telling.{WhereBothTell}
 
 -- Lines and the end after them come to these blocks: they are the blocks of the lines behind those
 -- before them, and no fault stands.
-record CameWell (limits : FaceLimits) (past : History) (lines : List (List ℕ)) (last : Option FileKind) (blocks : History) : Type 0 where
+pub record CameWell (limits : FaceLimits) (past : History) (lines : List (List ℕ)) (last : Option FileKind) (blocks : History) : Type 0 where
   pub more : List GsiBlock
   pub each : AllZip IsBlock lines more
   pub split : blocks ≡ reverse_aux more past
@@ -46,7 +43,7 @@ well_at_end limits past blocks None clean e h =
     subst (λ (b : History). CameWell limits past [] None b) same (record { more = []; each = tt; split = refl; ended = refl; faultless = clean; closed = e })
 well_at_end limits past blocks (Some kind) clean e h = cc
 
-came_well : (limits : FaceLimits) (past : History) (lines : List (List ℕ)) (last : Option FileKind) (blocks : History) → IsWithoutFault limits past → ComesTo limits past lines last (Ok blocks) → CameWell limits past lines last blocks
+pub came_well : (limits : FaceLimits) (past : History) (lines : List (List ℕ)) (last : Option FileKind) (blocks : History) → IsWithoutFault limits past → ComesTo limits past lines last (Ok blocks) → CameWell limits past lines last blocks
 came_well limits past [] (Some kind) blocks clean h = cc
 came_well limits past [] None blocks clean h = well_at_end limits past blocks (fault_at_end past) clean refl h
 came_well limits past (line ∷ lines) last blocks clean (inl h) = let e = h.answer in cc
@@ -127,37 +124,3 @@ accepted_so accepts limits small most None told stations r s j = tt
 accepted_so accepts limits small most (Some file) None stations r s j = tt
 accepted_so accepts limits small most (Some file) (Some stated) stations (Ok a) s j = accepts limits most file stated stations a small s j
 accepted_so accepts limits small most (Some file) (Some stated) stations (Err fault) s j = tt
-
--- A sheet that was judged badly is refused so.
-refused_of : (limits : FaceLimits) (most : Option ℕ) (gsi told : Told) (stations : List SurveyedStation) (fault : KernelFault) → IsSurvey limits (file_answers gsi) stations → IsJudgedSheet stations most told (Err fault) → IsRefusedByKernel limits most gsi told fault
-refused_of limits most gsi told stations fault survey judged = record {
-  stations = stations;
-  survey = survey;
-  bytes = judged.bytes;
-  whole = judged.whole;
-  sheet = judged.sheet;
-  states = judged.states;
-  its = judged.judged.its;
-  named = judged.judged.named;
-  first = judged.judged.verdict;
-  squares = judged.judged.squares;
-}
-
-by_fault : (limits : FaceLimits) (most : Option ℕ) (gsi told : Told) (stations : List SurveyedStation) (fault : Fault) → IsSurvey limits (file_answers gsi) stations → IfKernels (IsJudgedSheet stations most told) (Err fault) → TellsOfRefusal limits most gsi told fault
-by_fault limits most gsi told stations (Gsi fault) s j = tt
-by_fault limits most gsi told stations (Book fault) s j = tt
-by_fault limits most gsi told stations SheetRead s j = tt
-by_fault limits most gsi told stations (Sheet fault) s j = tt
-by_fault limits most gsi told stations NoStation s j = tt
-by_fault limits most gsi told stations (Means fault) s j = tt
-by_fault limits most gsi told stations (Kernel fault) s j = refused_of limits most gsi told stations fault s j
-by_fault limits most gsi told stations Write s j = tt
-by_fault limits most gsi told stations Memory s j = tt
-
--- the same of an answer, where both readers tell
-pub refused_so : (limits : FaceLimits) (most : Option ℕ) (gsi told : Option Told) (stations : List SurveyedStation) (r : Result Accepted Fault) → IfSome gsi (λ file. Surveys limits (file_answers file) (Ok stations))
-    → IfSome told (λ stated. IfKernels (IsJudgedSheet stations most stated) r) → WhereBothTell gsi told (λ file stated. IfErr r (TellsOfRefusal limits most file stated))
-refused_so limits most None told stations r s j = tt
-refused_so limits most (Some file) None stations r s j = tt
-refused_so limits most (Some file) (Some stated) stations (Ok a) s j = tt
-refused_so limits most (Some file) (Some stated) stations (Err fault) s j = by_fault limits most file stated stations fault s j

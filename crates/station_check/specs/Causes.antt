@@ -2,6 +2,7 @@
 -- is answered as `Memory`, and `Write` only where a call of the writer failed.
 use Rattle.std.specs.Prelude.{◌≡◌, Bool, true, Result, Ok, Err}
 use Rattle.gsi_file.specs.declared.file_fault.FileFault.TheVariants as file
+use Rattle.adjust_kernel.specs.declared.kernel_fault.KernelFault.TheVariants as kernel
 use Rattle.station_book.specs.declared.fault.BookFault.{BookFault}
 use Rattle.station_book.specs.declared.fault.BookFault.TheVariants as book
 use Rattle.sheet_format.specs.declared.fault.SheetFault.{SheetFault}
@@ -28,12 +29,14 @@ IsOfFile (Book (book.At number what)) = Unit {0}
 IsOfFile Memory = Unit {0}
 IsOfFile fault = ⊥
 
--- A fault that comes from the sheet on, or want of memory.
+-- A fault that comes from the sheet on, or want of memory. The kernel's fault `Name`, that the sheet
+-- is of another station, is none of these: the station was found by the sheet's name.
 abbrev pub IsOfSheet : Fault → Type 0
 IsOfSheet SheetRead = Unit {0}
 IsOfSheet (Sheet sheet.TooLong) = Unit {0}
 IsOfSheet (Sheet (sheet.Row number what)) = Unit {0}
 IsOfSheet NoStation = Unit {0}
+IsOfSheet (Kernel kernel.Name) = ⊥
 IsOfSheet (Kernel fault) = Unit {0}
 IsOfSheet Memory = Unit {0}
 IsOfSheet fault = ⊥

@@ -1,7 +1,8 @@
 -- What the refusal of a sheet says.
-use Rattle.std.specs.Prelude.{◌≡◌, ℕ, List, Option, Some, Result, Ok, Err}
+use Rattle.std.specs.Prelude.{◌≡◌, ◌≢◌, ◌⊎◌, ℕ, List, Option, Some, Result, Ok, Err}
+use Rattle.std.specs.List.{Contains}
 use Rattle.byte_ends.specs.Source.{Told}
-use Rattle.byte_ends.specs.Input.{input_within, Ended}
+use Rattle.byte_ends.specs.Input.{Input, input_within, Ended, BrokeOff, RanPast}
 use Rattle.gsi_file.specs.FileAnswers.{file_answers}
 use Rattle.adjust_kernel.specs.Promises.{TellsOfSquares}
 use Rattle.adjust_kernel.specs.Sheets.{SheetValue}
@@ -9,13 +10,81 @@ use Rattle.adjust_kernel.specs.Verdict.{IsVerdict}
 use Rattle.adjust_kernel.specs.declared.accepted.Accepted.{Accepted}
 use Rattle.adjust_kernel.specs.declared.kernel_fault.KernelFault.{KernelFault}
 use Rattle.sheet_format.specs.Rows.{IsSheetText}
+use Rattle.sheet_format.specs.Faults.{IsSheetFault}
+use Rattle.sheet_format.specs.declared.fault.SheetFault.{SheetFault}
+use Rattle.sheet_format.specs.declared.fault.SheetFault.TheVariants as sheet
 use Rattle.sheet_format.specs.declared.reading.TheConstants.{LONGEST_SHEET}
 use Rattle.station_book.specs.Limits.{FaceLimits}
 use Rattle.station_book.specs.Stations.{SurveyedStation, station_named}
 use Rattle.station_check.specs.declared.fault.Fault.{Fault}
-use Rattle.station_check.specs.declared.fault.Fault.TheVariants.{Gsi, Book, Kernel}
+use Rattle.station_check.specs.declared.fault.Fault.TheVariants.{Gsi, Book, SheetRead, Sheet, NoStation, Kernel, Memory}
 use Rattle.station_check.specs.Records.{FileComesTo}
 use Rattle.station_check.specs.Surveys.{IsSurvey}
+
+-- A fault of the field file is the one that the file comes to, whatever the sheet is.
+abbrev pub TellsOfFile : FaceLimits → Told → Fault → Type 0
+TellsOfFile limits gsi (Gsi fault) = FileComesTo limits (file_answers gsi) (Err (Gsi fault))
+TellsOfFile limits gsi (Book fault) = FileComesTo limits (file_answers gsi) (Err (Book fault))
+TellsOfFile limits gsi fault = Unit {0}
+
+-- Where the field file comes to a fault, that is the answer, whatever the sheet is, unless there
+-- was no memory.
+abbrev pub IsFileFirst : FaceLimits → Told → Result Accepted Fault → Type 0
+IsFileFirst limits gsi r =
+    (fault : Fault) → FileComesTo limits (file_answers gsi) (Err fault)
+    → (r ≡ Err Memory) ⊎ (r ≡ Err fault)
+
+-- The sheet's reader is not asked where the field file has a fault.
+abbrev pub IsUnreadAtFileFault : {Q : Type 0} → Result Accepted Fault → Q → Q → Type 0
+IsUnreadAtFileFault (Err (Gsi fault)) old new = new ≡ old
+IsUnreadAtFileFault (Err (Book fault)) old new = new ≡ old
+IsUnreadAtFileFault r old new = Unit {0}
+
+-- The sheet's reader gave these bytes, no more than a sheet may have, and then failed.
+abbrev pub BreaksOff : Told → Type 0
+BreaksOff told = (bytes : List ℕ) × (input_within LONGEST_SHEET told ≡ BrokeOff bytes)
+
+-- This is the first fault of what came of the sheet's reader: there are too many bytes, or it is
+-- that of the bytes.
+abbrev pub IsFaultOfInput : Input → SheetFault → Type 0
+IsFaultOfInput (Ended bytes) fault = IsSheetFault bytes fault
+IsFaultOfInput (BrokeOff bytes) fault = ⊥
+IsFaultOfInput RanPast fault = fault ≡ sheet.TooLong
+
+-- A fault of the sheet's bytes is the one that its reader's bytes have, whatever the field file is.
+abbrev pub TellsOfSheet : Told → Fault → Type 0
+TellsOfSheet told SheetRead = BreaksOff told
+TellsOfSheet told (Sheet fault) = IsFaultOfInput (input_within LONGEST_SHEET told) fault
+TellsOfSheet told fault = Unit {0}
+
+-- Of what two readers tell, a read of the sheet failed.
+pub record IsRefusedByRead (limits : FaceLimits) (gsi told : Told) : Type 0 where
+  -- The field file ended without a fault, and has these stations.
+  pub stations : List SurveyedStation
+  pub survey : IsSurvey limits (file_answers gsi) stations
+  pub broke_off : BreaksOff told
+
+-- Of what two readers tell, the sheet's bytes have this first fault.
+pub record IsRefusedByText (limits : FaceLimits) (gsi told : Told) (fault : SheetFault)
+    : Type 0 where
+  -- The field file ended without a fault, and has these stations.
+  pub stations : List SurveyedStation
+  pub survey : IsSurvey limits (file_answers gsi) stations
+  pub first : IsFaultOfInput (input_within LONGEST_SHEET told) fault
+
+-- Of what two readers tell, the field file has no station of the sheet's name.
+pub record IsRefusedByName (limits : FaceLimits) (gsi told : Told) : Type 0 where
+  -- The field file ended without a fault, and has these stations.
+  pub stations : List SurveyedStation
+  pub survey : IsSurvey limits (file_answers gsi) stations
+  -- The sheet was read to its end, and its bytes state this sheet.
+  pub bytes : List ℕ
+  pub whole : input_within LONGEST_SHEET told ≡ Ended bytes
+  pub sheet : SheetValue
+  pub states : IsSheetText bytes sheet
+  -- None of the stations has its name.
+  pub absent : (other : SurveyedStation) → Contains stations other
+      → other.station.name ≢ sheet.name
 
 -- Of what two readers tell, the kernel refuses the sheet with this fault.
 pub record IsRefusedByKernel (limits : FaceLimits) (most : Option ℕ) (gsi told : Told)
@@ -36,19 +105,13 @@ pub record IsRefusedByKernel (limits : FaceLimits) (most : Option ℕ) (gsi told
   -- squares; where nothing holds the sets and targets together, another has the same.
   pub squares : TellsOfSquares its.station sheet most (Err fault)
 
--- what a refusal by the kernel tells
+-- What a refusal tells, fault by fault.
 abbrev pub TellsOfRefusal : FaceLimits → Option ℕ → Told → Told → Fault → Type 0
+TellsOfRefusal limits most gsi told (Gsi fault) = TellsOfFile limits gsi (Gsi fault)
+TellsOfRefusal limits most gsi told (Book fault) = TellsOfFile limits gsi (Book fault)
+TellsOfRefusal limits most gsi told SheetRead = IsRefusedByRead limits gsi told
+TellsOfRefusal limits most gsi told (Sheet fault) = IsRefusedByText limits gsi told fault
+TellsOfRefusal limits most gsi told NoStation = IsRefusedByName limits gsi told
 TellsOfRefusal limits most gsi told (Kernel fault) = IsRefusedByKernel limits most gsi told fault
-TellsOfRefusal limits most gsi told fault = Unit {0}
-
--- A fault of the field file is the one that the file comes to, whatever the sheet is.
-abbrev pub TellsOfFile : FaceLimits → Told → Fault → Type 0
-TellsOfFile limits gsi (Gsi fault) = FileComesTo limits (file_answers gsi) (Err (Gsi fault))
-TellsOfFile limits gsi (Book fault) = FileComesTo limits (file_answers gsi) (Err (Book fault))
-TellsOfFile limits gsi fault = Unit {0}
-
--- The sheet's reader is not asked where the field file has a fault.
-abbrev pub IsUnreadAtFileFault : {Q : Type 0} → Result Accepted Fault → Q → Q → Type 0
-IsUnreadAtFileFault (Err (Gsi fault)) old new = new ≡ old
-IsUnreadAtFileFault (Err (Book fault)) old new = new ≡ old
-IsUnreadAtFileFault r old new = Unit {0}
+TellsOfRefusal limits most gsi told Memory = Unit {0}
+TellsOfRefusal limits most gsi told fault = ⊥

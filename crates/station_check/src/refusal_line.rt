@@ -79,9 +79,7 @@ fn add_file_fault(line: &mut VerdictLine, fault: FileFault)
 {
     match fault {
         FileFault::At(number, kind) => {
-            let mut digits = Buffer::new();
-            add(line, b"block ");
-            add(line, digits.format(number).as_bytes());
+            add_numbered(line, b"block ", number);
             add(line, b": ");
             add_file_kind(line, kind);
         }

@@ -1,9 +1,8 @@
-//! The calls of the program over worked bytes, and what each answers.
+//! The calls of the program over bytes worked out by hand, and what each answers.
 
 ghost use Rattle.std.specs.Prelude.{◌<◌};
 
 use crate::runs::{run_check, run_list, run_means};
-use adjust_kernel::ResidualLimit;
 use byte_ends::{Held, Script};
 use station_book::Limits;
 use std::alloc::Global;
@@ -35,64 +34,52 @@ impl Ran {
     }
 
     /// The text written with status 0, or the line of a refusal, with status 1 and nothing written.
-    pub fn text(&self) -> &str {
-        let text = match (self.status, self.out.bytes(), self.err.bytes()) {
+    pub fn text(&self) -> &[u8] {
+        match (self.status, self.out.bytes(), self.err.bytes()) {
             (0, out, []) => out,
             (1, [], err) => err,
             _ => b"a status that doesn't fit what was written",
-        };
-        str::from_utf8(text).unwrap_or("no text")
+        }
     }
 }
 
-/// The check of a sheet against a field file under the usual limits, from readers that give so many
-/// bytes at a time.
-pub fn checked(
-    alloc: Global,
-    gsi: &str,
-    sheet: &str,
-    residual: Option<u32>,
-    step: usize,
-) -> Result<Ran, Fail>
+/// The check of a sheet against a field file, from readers that give so many bytes at a time.
+pub fn checked(alloc: Global, gsi: &[u8], sheet: &[u8], step: usize) -> Result<Ran, Fail>
     requires { 0 < step }
 {
     let mut ran = Ran::new(alloc)?;
-    let residual = match residual {
-        Some(half_units) => Some(ResidualLimit::new(half_units).ok_or("no limit")?),
-        None => None,
-    };
-    let mut stated = Script::new(sheet.as_bytes(), step, false);
+    let gsi = Script::new(gsi, step, false);
+    let mut sheet = Script::new(sheet, step, false);
+    let limits = usual_limits()?;
     ran.status = run_check(
         alloc,
-        Script::new(gsi.as_bytes(), step, false),
-        &mut stated,
-        usual_limits()?,
-        residual,
-        &mut ran.out,
-        &mut ran.err,
-    );
-    Ok(ran)
-}
-
-/// The list of a field file under these limits.
-pub fn listed(alloc: Global, gsi: &str, limits: Limits) -> Result<Ran, Fail> {
-    let mut ran = Ran::new(alloc)?;
-    let gsi = Script::new(gsi.as_bytes(), AMPLE, false);
-    ran.status = run_list(alloc, gsi, limits, &mut ran.out, &mut ran.err);
-    Ok(ran)
-}
-
-/// The sheet of means of a station of a field file under the usual limits.
-pub fn means_of(alloc: Global, gsi: &str, name: &str) -> Result<Ran, Fail> {
-    let mut ran = Ran::new(alloc)?;
-    let gsi = Script::new(gsi.as_bytes(), AMPLE, false);
-    ran.status = run_means(
-        alloc,
         gsi,
-        name.as_bytes(),
-        usual_limits()?,
+        &mut sheet,
+        limits,
+        None,
         &mut ran.out,
         &mut ran.err,
     );
+    Ok(ran)
+}
+
+/// The list of a field file, from a reader that gives so many bytes at a time.
+pub fn listed(alloc: Global, gsi: &[u8], step: usize) -> Result<Ran, Fail>
+    requires { 0 < step }
+{
+    let mut ran = Ran::new(alloc)?;
+    let gsi = Script::new(gsi, step, false);
+    ran.status = run_list(alloc, gsi, usual_limits()?, &mut ran.out, &mut ran.err);
+    Ok(ran)
+}
+
+/// The sheet of means of S1 of a field file, from a reader that gives so many bytes at a time.
+pub fn means_of(alloc: Global, gsi: &[u8], step: usize) -> Result<Ran, Fail>
+    requires { 0 < step }
+{
+    let mut ran = Ran::new(alloc)?;
+    let gsi = Script::new(gsi, step, false);
+    let limits = usual_limits()?;
+    ran.status = run_means(alloc, gsi, b"S1", limits, &mut ran.out, &mut ran.err);
     Ok(ran)
 }

@@ -1,7 +1,7 @@
 //! Readers that fail or never end, and writers that fail, at the check, the list and the means.
 
 use super::answers::{AMPLE, usual_limits};
-use super::files::{Broken, Endless, LIST, Noted, SHEET, STATION, Stuck};
+use super::files::{ACCEPTED, Broken, Endless, LIST, Noted, Recovers, SHEET, STATION, Stuck};
 use crate::check::check_bytes;
 use crate::fault::Fault;
 use crate::list::write_list;
@@ -11,8 +11,6 @@ use byte_ends::{Held, OfRead, OfWrite, Script};
 use gsi_file::{FileFault, FileKind};
 use sheet_format::{LONGEST_SHEET, RowKind, SheetFault};
 use std::test::Fail;
-
-const ACCEPTED: &[u8] = b"accepted S1: 2 sets, 2 targets, 4 directions, greatest residual 4/4\n";
 
 #[test]
 fn a_field_file_that_breaks_off_is_refused_and_nothing_is_written(
@@ -46,6 +44,26 @@ fn a_sheet_that_breaks_off_is_refused(rt: HostRuntime) -> Result<(), Fail> {
         let mut sheet = Script::new(&SHEET[..given], 10, true);
         let verdict = check_bytes(rt.alloc(), gsi, &mut sheet, usual_limits()?, None);
         assert_eq!(rt; verdict, Err(Fault::SheetRead), "after {given} bytes");
+    }
+    Ok(())
+}
+
+#[test]
+fn a_sheet_that_broke_off_or_ended_is_not_read_on(rt: HostRuntime) -> Result<(), Fail> {
+    let no_word = Fault::Gsi(FileFault::At(1, FileKind::Word(1)));
+    let rows: [(&[u8], bool, Option<Fault>, usize); 3] = [
+        (STATION, true, Some(Fault::SheetRead), 2),
+        (STATION, false, None, 2),
+        (b"5", false, Some(no_word), 0),
+    ];
+    for (gsi, fails, fault, asked) in rows {
+        let mut reader = Recovers::new(SHEET, fails);
+        let mut sheet = OfRead::new(&mut reader);
+        let gsi = Script::new(gsi, AMPLE, false);
+        let verdict = check_bytes(rt.alloc(), gsi, &mut sheet, usual_limits()?, None);
+        drop(sheet);
+        assert_eq!(rt; verdict.err(), fault);
+        assert_eq!(rt; reader.asked, asked);
     }
     Ok(())
 }
