@@ -12,6 +12,9 @@ SHEET := examples/station_s1.csv
 SOURCES := crates.txt HANDLES $(shell find crates \( -name out -o -name tests -o -name must-fail \) -prune \
   -o -type f \( -name '*.rt' -o -name '*.antt' \) -print)
 
+# The manual page and the completions.
+SHARED := $(sort $(shell find share -type f))
+
 # The crates of this repository, lowest first, as crates.txt lists them.
 CRATES := $(shell sed -n 's/^\([a-z_]*\):.*/\1/p' crates.txt)
 
@@ -20,7 +23,7 @@ NEED_TOOLCHAIN = command -v $(RT) > /dev/null || { \
   echo "make: the Rattle toolchain is missing: no command '$(RT)' is found; put it on PATH, or name it as RT=/path/to/rt" >&2; \
   exit 1; }
 
-.PHONY: run test sweep check install clean
+.PHONY: run test sweep check bench install uninstall clean
 
 # Builds the proved program and runs it on an example.
 run: $(PROGRAM)
@@ -47,10 +50,23 @@ check:
 	@$(NEED_TOOLCHAIN)
 	@$(RT) all check
 
-# Copies the proved program to $(PREFIX)/bin. After a build it needs no toolchain.
+# Measures the program beside a plain one of the same job: time, and instructions where valgrind is found. BENCH has options.
+bench: $(PROGRAM)
+	@$(PYTHON) bench/bench.py $(BENCH)
+
+# Copies the proved program to $(PREFIX)/bin, and its manual page and completions to $(PREFIX)/share, as they lie in
+# share/. After a build it needs no toolchain.
 install: $(PROGRAM)
 	install -d '$(DESTDIR)$(PREFIX)/bin'
 	install -m 755 $(PROGRAM) '$(DESTDIR)$(PREFIX)/bin/station_check'
+	@for file in $(SHARED); do \
+	  install -d "$(DESTDIR)$(PREFIX)/$$(dirname "$$file")" && \
+	  install -m 644 "$$file" "$(DESTDIR)$(PREFIX)/$$file" || exit 1; \
+	done
+
+# Removes what `make install` put there.
+uninstall:
+	rm -f '$(DESTDIR)$(PREFIX)/bin/station_check' $(SHARED:%='$(DESTDIR)$(PREFIX)/%')
 
 clean:
 	rm -rf crates/*/out

@@ -77,6 +77,11 @@ SHEETS = [
         ACCEPTED.replace(b"4/4", b"1000000000000/1000000000000"),
     ),
     ("it in version 1", over(1, *WIDEST), refused("sheet row 1: Range")),
+    (
+        "it alone in version 1",
+        edited(SHEET, (b"S1,4", b"S1,%d" % 10**12)),
+        refused("sheet row 1: Range"),
+    ),
     ("a denominator above it", over(2, 10**12 + 1, 0, 0, 0), refused("sheet row 1: Range")),
     (
         "the largest numbers of version 2",
@@ -138,6 +143,7 @@ SHEETS = [
         refused("sheet row 6: Fields"),
     ),
     ("a byte order mark", b"\xef\xbb\xbf" + SHEET, ACCEPTED),
+    ("two of them", b"\xef\xbb\xbf" * 2 + SHEET, refused("sheet row 1: Kind")),
     ("as many blanks as a sheet may have", b" " * 1_048_576, refused("sheet row 1: Fields")),
     ("one more", b" " * 1_048_577, refused("sheet: TooLong")),
     (
@@ -149,6 +155,8 @@ SHEETS = [
 
 OTHER_UNIT = edited(STATION, (b"0A 21.102+00000000", b"0A 21.104+00000000"))
 
+OTHER_STATION = edited(STATION, (b"S1", b"S2"))
+
 OTHER_MODE = edited(STATION, (b"0A 21.102+00000000", b"0A 21.112+00000000"))
 
 MORE_WORDS = b" 31..00+00012345 51....+0000+000 87..10+00001500\r\n"
@@ -159,6 +167,14 @@ FILES = [
     ("GSI-16", widened(STATION), SHEET, ACCEPTED),
     ("another unit", OTHER_UNIT, SHEET, refused("block 3: Hz Unit")),
     ("and no sheet", OTHER_UNIT, b"", refused("block 3: Hz Unit")),
+    ("and no first word", OTHER_UNIT, edited(SHEET, (b"sheet", b"")), refused("block 3: Hz Unit")),
+    ("another station", OTHER_STATION, SHEET, refused("no station")),
+    (
+        "and a sheet with a fault",
+        OTHER_STATION,
+        edited(SHEET, (b"S1,4", b"S1,0")),
+        refused("sheet row 1: Range"),
+    ),
     ("another input mode", OTHER_MODE, SHEET, refused("block 3: Hz InputMode")),
     ("a block outside", b"110001+0000000A 21.104+00000000\n" + STATION, SHEET, ACCEPTED),
     (

@@ -188,7 +188,9 @@ class CommandLineTest(ProgramTest):
             (["-h"], [b"Usage: "]),
             (["help"], [b"Usage: "]),
             (["check", "--help"], [b"--residual <N>", b"half units", b"[default: none]"]),
+            (["check", "--help"], [b"With --residual", b"no other full turns give a\nsmaller sum"]),
             (["means", "--help"], [b"<STATION>", b"--two-c <N>", b"[default: 2000]"]),
+            (["means", "--help"], [b"where no residual\nlimit is stated"]),
             (["list", "--help"], [b"0.01 mgon", b"--two-i <N>", b"[default: 2000]"]),
             (["words", "--help"], [b"GSI-8, GSI-16 or both"]),
             (["help", "words"], [b"GSI-8, GSI-16 or both"]),
@@ -200,7 +202,7 @@ class CommandLineTest(ProgramTest):
                 for part in parts:
                     self.assertIn(part, stdout)
                 self.assertLessEqual(max(map(len, stdout.splitlines())), 100)
-        for command in COMMANDS:
+        for command in [*COMMANDS, "explain"]:
             with self.subTest(command=command):
                 stdout = answer_of([command, "--help"])[1]
                 self.assertIn(b"Exit status:\n  0  ", stdout)

@@ -56,11 +56,14 @@ FAULTS = [
         "block 3: WordTwice 22",
     ),
     ("a set first", b"410001+00000020 42....+00000001\n" + STATION, "block 1: SetOutside"),
+    ("no code", edited(STATION, (b"410001+00000010", b"410001+00000020")), "block 1: SetOutside"),
     ("no name", b"410001+00000010\n" + STATION, "block 1: StationName"),
     ("two names", edited(STATION, (b"S1", b"S1 42....+000000S2")), "block 1: WordTwice 42"),
     ("set 0", edited(STATION, (FIRST_SET, b"42....+00000000")), "block 2: SetNumber"),
     ("set 10000", edited(STATION, (FIRST_SET, b"42....+00010000")), "block 2: SetNumber"),
     ("blanks before a set", edited(STATION, (FIRST_SET, b"42....+       1")), "block 2: SetNumber"),
+    ("a letter in a set", edited(STATION, (FIRST_SET, b"42....+0000001A")), "block 2: SetNumber"),
+    ("a set by a word 43", edited(STATION, (FIRST_SET, b"43....+00000001")), "block 2: SetNumber"),
     ("a set again", STATION + b"410013+00000020 42....+00000002", "block 13: SetTwice"),
     (
         "a station again",
@@ -72,6 +75,11 @@ FAULTS = [
         THREE_LINES + b"110004+0000000A 21.102+00000001 22.102+10000000",
         "block 4: FaceTwice",
     ),
+    (
+        "two sets in one",
+        edited(STATION, (b"410007+00000020 42....+00000002\r\n", b"")),
+        "block 7: FaceTwice",
+    ),
     ("one face", THREE_LINES + b"410004+00000030", "block 4: OneFace"),
     ("one face at the end", FIVE_LINES, "block 6: OneFace"),
     (
@@ -79,7 +87,13 @@ FAULTS = [
         b"".join(STATION.splitlines(keepends=True)[:2]) + b"410003+00000030",
         "block 3: EmptySet",
     ),
+    (
+        "an empty set at the end",
+        edited(STATION, (b"00000030\r\n", b"00000020 42....+00000003")),
+        "block 13: EmptySet",
+    ),
     ("a foreign first word", edited(STATION, (b"410012", b"510012")), "block 12: FirstWord"),
+    ("a last word cut", edited(STATION, (b"00000030\r\n", b"0000003")), "block 12: Word 1"),
     (
         "a cut word",
         FIVE_LINES + b"110006+0000000A 21.102+20000006 22.102+2999",
@@ -97,6 +111,10 @@ SAME = [
     ("another code", edited(STATION, (b"110004", b"410099+?......1\r\n110004"))),
     ("no end of the last set", edited(STATION, (LAST_LINE, b""))),
     ("a reading behind the end", STATION + b"110013+00000099 21.102+11111111 22.102+10000000"),
+    (
+        "the set ended twice",
+        STATION + b"410013+00000030\n410014+00000010 42....+000000S1\n",
+    ),
     ("the station named again", STATION + b"410013+00000010 42....+000000S1"),
     (
         "other words",

@@ -1,0 +1,220 @@
+#!/usr/bin/env python3
+"""Measures station_check beside a plain Rust program of the same job, and beside `cat`.
+
+It makes field files (16 KB, 400 KB and 16 MB of stations of 10 and of 100 targets), builds
+plain.rs with `rustc -O` into a temporary folder, compares what both programs print byte for byte,
+and measures each command on each file:
+
+  time           the least of several runs; all programs take turns, in one run of this script
+  instructions   a byte of the field file, less those of an empty one, counted by valgrind
+
+Instructions are the figure to keep: times depend on the machine and on what else it does.
+"""
+
+import argparse
+import os
+import random
+import re
+import shutil
+import subprocess
+import sys
+import tempfile
+import time
+from pathlib import Path
+
+ROOT = Path(__file__).resolve().parent.parent
+PROGRAM = ROOT / "crates/station_check/out/station_check"
+CIRCLE = 40_000_000
+HALF = CIRCLE // 2
+
+# Of each file: its name, and its numbers of stations, of sets of each, and of targets of each set.
+FILES = (
+    ("16 KB", 1, 16, 10),
+    ("400 KB", 10, 40, 10),
+    ("16 MB", 400, 40, 10),
+    ("10 KB", 1, 1, 100),
+    ("400 KB", 1, 40, 100),
+    ("16 MB", 41, 40, 100),
+)
+
+# Files that are larger than this many bytes are counted only where it is asked for.
+COUNTED = 1_000_000
+
+
+def reading(number, target, hz, v):
+    return f"11{number % 10000:04}+{target:0>8} 21.102+{hz % CIRCLE:08} 22.102+{v:08}\r\n"
+
+
+def code(number, value, info=None):
+    word = "" if info is None else f" 42....+{info:0>8}"
+    return f"41{number % 10000:04}+{value:08}{word}\r\n"
+
+
+def field_file(stations, sets, targets):
+    """The text of stations whose sets are complete, with small errors in every reading."""
+    draw = random.Random(1)
+    lines = []
+    for station in range(1, stations + 1):
+        lines.append(code(len(lines) + 1, 10, f"S{station}"))
+        names = [f"P{target}" for target in range(1, targets + 1)]
+        sights = [(name, draw.randrange(CIRCLE), draw.randrange(9_000_000, 11_000_000)) for name in names]
+        for number in range(1, sets + 1):
+            lines.append(code(len(lines) + 1, 20, number))
+            begin = draw.randrange(CIRCLE)
+            for name, hz, v in sights:
+                error = draw.randrange(-50, 51)
+                lines.append(reading(len(lines) + 1, name, hz - begin + error, v))
+            for name, hz, v in reversed(sights):
+                error = draw.randrange(-50, 51)
+                lines.append(reading(len(lines) + 1, name, hz - begin + HALF + error, CIRCLE - v + error))
+    lines.append(code(len(lines) + 1, 30))
+    return "".join(lines)
+
+
+def build_plain(folder):
+    """Builds the plain program, where rustc is found."""
+    if shutil.which("rustc") is None:
+        return None
+    program = folder / "plain"
+    source = Path(__file__).with_name("plain.rs")
+    subprocess.run(["rustc", "--edition", "2021", "-O", "-o", program, source], check=True)
+    return program
+
+
+def run(command):
+    """Runs a command; answers how long it took, in milliseconds."""
+    start = time.perf_counter_ns()
+    done = subprocess.run(command, stdin=subprocess.DEVNULL, stdout=subprocess.DEVNULL, close_fds=False)
+    took = time.perf_counter_ns() - start
+    if done.returncode != 0:
+        sys.exit(f"{' '.join(map(str, command))}: status {done.returncode}")
+    return took / 1e6
+
+
+def printed(command):
+    return subprocess.run(command, stdin=subprocess.DEVNULL, stdout=subprocess.PIPE, check=True).stdout
+
+
+def least_times(commands, runs):
+    """The least time of each command; they take turns, and another one begins each round."""
+    times = [[] for _ in commands]
+    for turn in range(runs):
+        for place in range(len(commands)):
+            which = (turn + place) % len(commands)
+            times[which].append(run(commands[which]))
+    return [min(of_one) for of_one in times]
+
+
+def instructions(command, folder):
+    log = folder / "valgrind.log"
+    tool = ["valgrind", "--tool=cachegrind", "--cache-sim=no", "--cachegrind-out-file=/dev/null"]
+    run([*tool, f"--log-file={log}", *command])
+    return int(re.search(r"I +refs: +([\d,]+)", log.read_text())[1].replace(",", ""))
+
+
+class Bench:
+    """The programs that are measured, the first of them ours, and a folder for their files."""
+
+    def __init__(self, programs, folder, options):
+        self.programs = programs
+        self.folder = folder
+        self.options = options
+        self.can_count = shutil.which("valgrind") is not None
+        empty = folder / "empty.gsi"
+        empty.touch()
+        if self.can_count:
+            starts = [[program, "words", empty] for program in programs.values()]
+            starts.append(["cat", empty])
+            self.starts = [instructions(start, folder) for start in starts]
+
+    def commands(self, words):
+        """The command line of each program, and of `cat` of the field file."""
+        commands = [[program, *words] for program in self.programs.values()]
+        return [*commands, ["cat", words[1]]]
+
+    def compare(self, words):
+        """What all programs print alike."""
+        outputs = [printed([program, *words]) for program in self.programs.values()]
+        if any(output != outputs[0] for output in outputs):
+            sys.exit(f"the programs print different texts: {' '.join(map(str, words))}")
+        return outputs[0]
+
+    def row(self, name, words):
+        size = words[1].stat().st_size
+        commands = self.commands(words)
+        row = [words[0], name, *figures(least_times(commands, self.options.runs), 2)]
+        if self.can_count:
+            counts = []
+            if self.options.instructions or size <= COUNTED:
+                totals = [instructions(command, self.folder) for command in commands]
+                counts = [(total - start) / size for total, start in zip(totals, self.starts)]
+            row += figures(counts, 1) or [""] * (2 * len(commands) - 2)
+        return row
+
+    def header(self):
+        names = list(self.programs)
+        ratios = [f"of {name}" for name in names[1:]]
+        header = ["command", "file", *(f"{name}, ms" for name in names), "cat, ms", *ratios]
+        if self.can_count:
+            header += [*(f"{name}, a byte" for name in names), "cat, a byte", *ratios]
+        return header
+
+
+def figures(values, places):
+    """Figures of all programs and of `cat`, and then the ratios of ours to the other programs."""
+    ratios = [f"{values[0] / other:.2f}" for other in values[1:-1]]
+    return [*(f"{value:.{places}f}" for value in values), *ratios]
+
+
+def show(row):
+    print("| " + " | ".join(row) + " |", flush=True)
+
+
+def measure(bench):
+    show(bench.header())
+    show(["---"] * len(bench.header()))
+    for title, stations, sets, targets in FILES:
+        name = f"{title}, {targets} targets"
+        gsi = bench.folder / f"{title.replace(' ', '')}_{targets}.gsi"
+        gsi.write_text(field_file(stations, sets, targets), newline="")
+        sheet = gsi.with_suffix(".csv")
+        means = ["means", gsi, f"S{stations}"]
+        sheet.write_bytes(bench.compare(means))
+        for words in (["words", gsi], ["list", gsi], means, ["check", gsi, sheet]):
+            if words[0] in bench.options.commands:
+                bench.compare(words)
+                show(bench.row(name, words))
+
+
+def named_program(text):
+    name, sign, path = text.partition("=")
+    if not sign:
+        raise argparse.ArgumentTypeError("NAME=PROGRAM is expected")
+    return name, Path(path).resolve()
+
+
+def main():
+    parser = argparse.ArgumentParser(description=__doc__, formatter_class=argparse.RawDescriptionHelpFormatter)
+    parser.add_argument("others", nargs="*", type=named_program, metavar="NAME=PROGRAM", help="measure these too")
+    parser.add_argument("--runs", type=int, default=9, help="how often each command is timed (9)")
+    parser.add_argument("--instructions", action="store_true", help="count those of the largest files too: minutes")
+    parser.add_argument("--commands", nargs="+", default=["words", "list", "means", "check"], metavar="COMMAND")
+    options = parser.parse_args()
+    if not os.access(PROGRAM, os.X_OK):
+        sys.exit(f"no program at {PROGRAM}: 'make run' builds it")
+    with tempfile.TemporaryDirectory() as folder:
+        folder = Path(folder)
+        programs = {"ours": PROGRAM}
+        if plain := build_plain(folder):
+            programs["plain"] = plain
+        else:
+            print("rustc isn't found: there is no plain program to compare with")
+        programs.update(options.others)
+        bench = Bench(programs, folder, options)
+        if not bench.can_count:
+            print("valgrind isn't found: no instructions are counted")
+        measure(bench)
+
+
+if __name__ == "__main__":
+    main()

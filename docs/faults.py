@@ -1,0 +1,143 @@
+"""Makes the pages of faults from the program's explanations: `python3 docs/faults.py [PROGRAM]`.
+
+docs/FAULTS.md is made whole, and of the man page the part between two comments.
+"""
+
+import re
+import subprocess
+import sys
+from pathlib import Path
+from typing import NamedTuple
+
+ROOT = Path(__file__).resolve().parents[1]
+PROGRAM = ROOT / "crates" / "station_check" / "out" / "station_check"
+GUIDE_PAGE = ROOT / "docs" / "FAULTS.md"
+MAN_PAGE = ROOT / "share" / "man" / "man1" / "station_check.1"
+
+# The comments of the man page that stand round the faults.
+BEGIN = '.\\" The faults, made by docs/faults.py.\n'
+END = '.\\" The end of the faults.\n'
+
+# What the line of a refusal says before a fault, and the heading of such faults.
+HEADINGS = [
+    ("block", "Of the field file"),
+    ("sheet", "Of the sheet"),
+    ("no station", "Of the station"),
+    ("means", "Of the station"),
+    ("kernel", "Of the comparison"),
+    ("", "Of the run"),
+]
+
+INTRODUCTION = """\
+# Faults
+
+A refusal is one line on standard error, and names the first fault: `refused: block 4: TwoC`. Each fault is explained here as `station_check explain FAULT` does; `station_check explain` lists all names. `docs/FORMATS.md` says exactly when each fault comes, and which comes first. This page is made by `docs/faults.py` from what the program prints.
+"""
+
+
+class Listed(NamedTuple):
+    name: str
+    meaning: str
+
+
+class Explanation(NamedTuple):
+    names: list
+    meaning: str
+    when: str
+    example: str
+    remedy: str
+
+    def heading(self):
+        reason = self.example.removeprefix("refused: ")
+        return next(heading for start, heading in HEADINGS if reason.startswith(start))
+
+
+def printed(program, *words):
+    return subprocess.run([program, "explain", *words], check=True, capture_output=True, text=True).stdout
+
+
+def listed(program):
+    """The names of all faults with their meanings, as the program lists them."""
+    lines = printed(program).splitlines()
+    return [Listed(*re.split(r" {2,}", line, maxsplit=1)) for line in lines]
+
+
+def parsed(text):
+    """An explanation that the program printed."""
+    head, when, example, remedy = text.rstrip("\n").split("\n\n")
+    names, meaning = head.split(": ", 1)
+    return Explanation(names.split(", "), meaning, when, example.strip(), remedy.removeprefix("What to do: "))
+
+
+def explanation_of(program, name):
+    return parsed(printed(program, name))
+
+
+def explanations(program):
+    """Each explanation once, in the order of the list."""
+    found = {}
+    for name, _ in listed(program):
+        explanation = explanation_of(program, name)
+        found.setdefault(explanation.names[0], explanation)
+    return list(found.values())
+
+
+def sentence(text):
+    return f"{text[0].upper()}{text[1:]}."
+
+
+def one_line(text):
+    return text.replace("\n", " ")
+
+
+def guide_page(program):
+    parts, heading = [INTRODUCTION], None
+    for fault in explanations(program):
+        if fault.heading() != heading:
+            heading = fault.heading()
+            parts.append(f"## {heading}\n")
+        names = ", ".join(f"`{name}`" for name in fault.names)
+        text = re.sub(r"'([^']*)'", r"`\1`", one_line(fault.when))
+        remedy = re.sub(r"'([^']*)'", r"`\1`", one_line(fault.remedy))
+        parts.append(f"### {names}\n\n{sentence(fault.meaning)}\n\n{text}\n")
+        parts.append(f"```\n{fault.example}\n```\n\nWhat to do: {remedy}\n")
+    return "\n".join(parts)
+
+
+def escaped(text):
+    """Text for a man page: each byte stands for itself."""
+    for plain, named in [("\\", "\\e"), ("-", "\\-"), ("'", "\\(aq"), ("^", "\\(ha"), ("`", "\\(ga"), ("~", "\\(ti")]:
+        text = text.replace(plain, named)
+    return re.sub(r"^\.", r"\\&.", text, flags=re.MULTILINE)
+
+
+def man_part(program):
+    lines, heading = [], None
+    for fault in explanations(program):
+        if fault.heading() != heading:
+            heading = fault.heading()
+            lines.append(f".SS {heading}")
+        names = ", ".join(f"\\fB{escaped(name)}\\fR" for name in fault.names)
+        lines += [".TP", names, escaped(sentence(fault.meaning)), escaped(fault.when)]
+        lines += [".IP", f"\\fB{escaped(fault.example)}\\fR", ".IP", escaped(f"What to do: {fault.remedy}")]
+    return "".join(f"{line}\n" for line in lines)
+
+
+def man_page(program):
+    before, rest = MAN_PAGE.read_text().split(BEGIN)
+    after = rest.split(END)[1]
+    return before + BEGIN + man_part(program) + END + after
+
+
+def pages(program):
+    """Each page that has faults, with what it must hold."""
+    return [(GUIDE_PAGE, guide_page(program)), (MAN_PAGE, man_page(program))]
+
+
+def main():
+    for path, text in pages(Path(sys.argv[1]) if len(sys.argv) > 1 else PROGRAM):
+        path.write_text(text)
+
+
+if __name__ == "__main__":
+    main()

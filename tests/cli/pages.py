@@ -1,0 +1,109 @@
+"""The commands that a page of docs shows, and what they print.
+
+A fenced block `console` has commands, each behind `$ `, and under each what it prints on standard
+output and standard error; a line `..` stands for any number of lines. A backslash at the end of a
+line continues a command. The commands of a page are run one after the other by one shell.
+
+`python3 tests/cli/pages.py PAGE` writes what the commands print now into a page, where it differs.
+"""
+
+import os
+import re
+import shlex
+import subprocess
+import sys
+import tempfile
+from pathlib import Path
+from shutil import copytree
+from typing import NamedTuple
+
+from program import PROGRAM, ROOT
+
+BLOCK = re.compile(r"^```console\n(.*?)^```$", re.DOTALL | re.MULTILINE)
+COMMAND = re.compile(r"(.*\\\n)*.*")  # its lines but the last end with a backslash
+END = "the end of a command of this page"
+SKIPPED = "..\n"
+
+# More than any page takes, in seconds.
+TIME = 60
+
+
+class Step(NamedTuple):
+    command: str
+    printed: str  # as the page has it
+
+    def fits(self, printed):
+        """Whether this is what the page shows."""
+        parts = self.printed.split(SKIPPED)
+        pattern = "(?:.*\n)*".join(map(re.escape, parts))
+        return re.fullmatch(pattern, printed) is not None
+
+
+def steps_of(block):
+    """The commands of a block with what it shows under each."""
+    for part in re.split(r"^\$ ", block, flags=re.MULTILINE)[1:]:
+        command = COMMAND.match(part).group()
+        yield Step(command, part.removeprefix(command).removeprefix("\n"))
+
+
+def page_steps(page):
+    return [step for block in BLOCK.findall(page) for step in steps_of(block)]
+
+
+def tools(folder):
+    """A folder with the program and with the Python of this run, by the names that pages use."""
+    folder.mkdir()
+    (folder / "station_check").symlink_to(PROGRAM.resolve())
+    python = folder / "python3"
+    python.write_text(f'#!/bin/sh\nexec {shlex.quote(sys.executable)} "$@"\n')
+    python.chmod(0o755)
+    return folder
+
+
+def printed_by(steps, folder):
+    """What each command prints, in a folder that has what a page works on."""
+    script = "".join(
+        f"{{ {step.command}\n}} 2>&1\nstatus=$?; echo '{END}'; (exit $status)\n" for step in steps
+    )
+    with tempfile.TemporaryDirectory() as top:
+        path = f"{tools(Path(top) / 'bin')}{os.pathsep}{os.environ['PATH']}"
+        environment = {**os.environ, "PATH": path, "LC_ALL": "C", "PYTHONDONTWRITEBYTECODE": "1"}
+        run = {"cwd": folder, "env": environment, "stdin": subprocess.DEVNULL, "timeout": TIME}
+        done = subprocess.run(["bash", "-c", script], capture_output=True, **run)
+    printed = done.stdout.decode().replace("\r\n", "\n").split(f"{END}\n")
+    assert len(printed) == len(steps) + 1, (printed[-1], done.stderr)
+    return printed[:-1]
+
+
+def copied(path, folder):
+    """A copy of the examples, in which the commands of a page run: those of README.md name them
+    from the root."""
+    place = folder / "examples"
+    copytree(ROOT / "examples", place)
+    return folder if path.name == "README.md" else place
+
+
+def checked(path):
+    """Each command of a page, and what it prints now."""
+    steps = page_steps(path.read_text())
+    with tempfile.TemporaryDirectory() as top:
+        return list(zip(steps, printed_by(steps, copied(path, Path(top)))))
+
+
+def mended(path):
+    """The page with what its commands print now."""
+    answers = iter(checked(path))
+
+    def block(found):
+        mended = [
+            f"$ {step.command}\n{step.printed if step.fits(printed) else printed}"
+            for step, (_, printed) in zip(steps_of(found[1]), answers)
+        ]
+        return f"```console\n{''.join(mended)}```"
+
+    return BLOCK.sub(block, path.read_text())
+
+
+if __name__ == "__main__":
+    for name in sys.argv[1:]:
+        Path(name).write_text(mended(Path(name)))

@@ -1,0 +1,116 @@
+"""The completions of bash, zsh and fish; those of a shell that isn't found are skipped."""
+
+import os
+import shutil
+import subprocess
+import unittest
+
+from program import PROGRAM, ROOT, ProgramTest
+from test_explain import names
+
+SHARE = ROOT / "share"
+BASH = SHARE / "bash-completion" / "completions" / "station_check"
+ZSH = SHARE / "zsh" / "site-functions"
+FISH = SHARE / "fish" / "vendor_completions.d" / "station_check.fish"
+
+COMMANDS = ["check", "means", "list", "words", "explain", "help"]
+
+FACE_LIMITS = ["--two-c", "--two-i"]
+
+# Asks the completion of bash for a line, whose last word may be empty.
+ASK_BASH = """
+source "$1"
+shift
+COMP_WORDS=("$@")
+COMP_CWORD=$(($# - 1))
+[[ $(complete -p station_check) == *_station_check* ]] || exit 1
+_station_check
+printf '%s\\n' "${COMPREPLY[@]}"
+"""
+
+# Asks whether zsh finds a completion of the program, and reads it whole.
+ASK_ZSH = """
+fpath=("$1" $fpath)
+autoload -Uz compinit
+compinit -u -D
+autoload +X -Uz _station_check && print -- $_comps[station_check]
+"""
+
+
+def printed(command, **options):
+    done = subprocess.run(command, capture_output=True, text=True, timeout=60, **options)
+    assert (done.returncode, done.stderr) == (0, ""), done
+    return done.stdout
+
+
+class CompletionsTest(ProgramTest):
+    def setUp(self):
+        super().setUp()
+        (self.folder / "field.gsi").write_bytes(b"")
+        (self.folder / "sheet.csv").write_bytes(b"")
+
+    def of_bash(self, *words):
+        """What bash proposes in place of the last of these words."""
+        command = ["bash", "-c", ASK_BASH, "bash", BASH, PROGRAM, *words]
+        return printed(command, cwd=self.folder).split("\n")[:-1]
+
+    def test_bash_completes_commands(self):
+        self.assertEqual(["check"], self.of_bash("ch"))
+        self.assertEqual(COMMANDS, self.of_bash(""))
+        self.assertEqual(COMMANDS, self.of_bash("help", ""))
+        self.assertEqual([""], self.of_bash("nonsense", ""))
+
+    def test_bash_completes_options(self):
+        self.assertEqual(["--help", "--version"], self.of_bash("-"))
+        self.assertEqual([*FACE_LIMITS, "--residual", "--help"], self.of_bash("check", "-"))
+        self.assertEqual(FACE_LIMITS, self.of_bash("check", "field.gsi", "--two"))
+        for command in ["means", "list"]:
+            self.assertEqual([*FACE_LIMITS, "--help"], self.of_bash(command, "-"))
+        for command in ["words", "explain", "help"]:
+            self.assertEqual(["--help"], self.of_bash(command, "-"))
+        for words in [["--two-c", ""], ["--two-i", "="], ["--residual", "=", "1"]]:
+            self.assertEqual([""], self.of_bash("check", *words))
+
+    def test_bash_completes_files(self):
+        for command in ["check", "means", "list", "words"]:
+            self.assertEqual(["field.gsi", "sheet.csv"], sorted(self.of_bash(command, "")))
+        self.assertEqual(["sheet.csv"], self.of_bash("check", "--two-c", "1", "field.gsi", "s"))
+        self.assertEqual(["sheet.csv"], self.of_bash("check", "--two-c", "=", "1", "field.gsi", "s"))
+        for words in [["check", "a", "b", ""], ["means", "a", ""], ["list", "a", ""]]:
+            self.assertEqual([""], self.of_bash(*words))
+
+    def test_bash_completes_faults(self):
+        self.assertEqual(sorted(names()), sorted(self.of_bash("explain", "")))
+        self.assertEqual(["TwoC", "TwoI"], self.of_bash("explain", "Two"))
+
+    @unittest.skipUnless(shutil.which("zsh"), "no zsh is found")
+    def test_zsh_finds_its_completion(self):
+        command = ["zsh", "-f", "-c", ASK_ZSH, "zsh", ZSH]
+        self.assertEqual("_station_check\n", printed(command, env={**os.environ, "HOME": str(self.folder)}))
+
+    def of_fish(self, line):
+        """What fish proposes for a line."""
+        home = str(self.folder / "home")
+        path = f"{PROGRAM.parent}:{os.environ['PATH']}"
+        env = {**os.environ, "HOME": home, "XDG_CONFIG_HOME": home, "XDG_DATA_HOME": home, "PATH": path}
+        command = ["fish", "--no-config", "-c", f"source '{FISH}'; complete -C '{line}'"]
+        lines = printed(command, cwd=self.folder, env=env).splitlines()
+        return sorted(line.split("\t")[0] for line in lines)
+
+    @unittest.skipUnless(shutil.which("fish"), "no fish is found")
+    def test_fish_completes(self):
+        for line, expected in [
+            ("station_check ch", ["check"]),
+            ("station_check ", sorted(COMMANDS)),
+            ("station_check check --", ["--help", "--residual", *FACE_LIMITS]),
+            ("station_check list --two", FACE_LIMITS),
+            ("station_check list f", ["field.gsi"]),
+            ("station_check explain Two", ["TwoC", "TwoI"]),
+            ("station_check help m", ["means"]),
+        ]:
+            with self.subTest(line):
+                self.assertEqual(expected, self.of_fish(line))
+
+
+if __name__ == "__main__":
+    unittest.main()

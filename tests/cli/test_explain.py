@@ -1,0 +1,188 @@
+"""`explain`: each fault is explained, its example is met, and the pages made from it are up to date."""
+
+import os
+import re
+import subprocess
+import sys
+
+import model
+import preload
+from kinds import OF_BYTES, OF_COUNTS, OF_READS, REFUSALS
+from program import EXAMPLE, PROGRAM, ROOT, ProgramTest, answer_of
+from worked import refused
+
+sys.path.insert(0, str(ROOT / "conformance"))
+sys.path.insert(0, str(ROOT / "docs"))
+import faults  # noqa: E402
+import run  # noqa: E402
+
+NO_MEMORY = b"refused: out of memory\n"
+
+WRITE_FAILED = b"refused: write failed\n"
+
+# One block more than fills a file of the largest size.
+TOO_LONG_FILE = b"110001+0000000A\n" * 1_048_577
+
+# A row of a table of faults: its first column, with all its names.
+FAULT_ROW = re.compile(r"^\| (`[^|]*`) \| ")
+
+WIDEST = 100
+
+
+def explained(*words):
+    """What is printed of a fault that is asked for so; it must be there."""
+    status, stdout, stderr = answer_of(["explain", *words])
+    assert (status, stderr) == (0, b""), stderr
+    return stdout.decode()
+
+
+def names():
+    return [fault.name for fault in faults.listed(PROGRAM)]
+
+
+def tables_of_faults():
+    """The names in the tables of docs/FORMATS.md whose columns are fault and when."""
+    found, in_table = [], False
+    for line in (ROOT / "docs" / "FORMATS.md").read_text().splitlines():
+        if line == "| Fault | When |":
+            in_table = True
+        elif not line.startswith("|"):
+            in_table = False
+        elif in_table and (row := FAULT_ROW.match(line)):
+            found += re.findall(r"`([^`]*)`", row[1])
+    return found
+
+
+class ExplainTest(ProgramTest):
+    def test_all_names_are_different_and_each_is_explained(self):
+        listed = faults.listed(PROGRAM)
+        self.assertEqual(len(listed), len({fault.name for fault in listed}))
+        for fault in listed:
+            with self.subTest(fault.name):
+                explanation = faults.explanation_of(PROGRAM, fault.name)
+                self.assertIn(fault.name, explanation.names)
+                self.assertEqual(fault.meaning, explanation.meaning)
+                for part in [explanation.meaning, explanation.when, explanation.remedy]:
+                    self.assertTrue(part.strip())
+
+    def test_each_refusal_of_a_case_is_explained(self):
+        known = set(names())
+        for case in run.cases():
+            if case.expected[0] != 1:
+                continue
+            line = case.expected[2].decode().rstrip("\n")
+            with self.subTest(line):
+                text = explained(line)
+                self.assertEqual(text, explained(*line.split()))
+                self.assertTrue(set(faults.parsed(text).names) <= known)
+                self.assertIn(self.name_in(line), faults.parsed(text).names)
+
+    def name_in(self, line):
+        """The name of the fault in the line of a refusal, found in another way than the program's."""
+        reason = line.removeprefix("refused: ")
+        reason = re.sub(r"^(block \d+|sheet row \d+|sheet|means|kernel): ", "", reason)
+        return re.sub(r" \d+$", "", reason)
+
+    def test_each_kind_of_refusal_is_explained(self):
+        others = ["write failed", "out of memory"]
+        kinds = [*REFUSALS, *OF_COUNTS, *OF_BYTES, *OF_READS, *others]
+        found = {self.name_in(kind.replace(" n", " 1")) for kind in kinds}
+        self.assertEqual(found, set(names()))
+
+    def test_each_fault_of_the_formats_is_explained(self):
+        found = tables_of_faults()
+        self.assertGreater(len(found), 40)
+        known = set(names())
+        for name in found:
+            name = re.sub(r" n$", "", name)
+            if name.endswith(" FAULT"):
+                continue
+            with self.subTest(name):
+                angles = {f"Hz {name}", f"Zenith {name}"}
+                self.assertTrue(name in known or angles <= known)
+
+    def examples(self):
+        return {faults.explanation_of(PROGRAM, name).example for name in names()}
+
+    def test_each_example_comes(self):
+        met = {case.expected[2].decode().rstrip("\n") for case in run.cases()}
+        for example in sorted(self.examples() - met):
+            with self.subTest(example):
+                self.assertEqual(f"{example}\n".encode(), self.refusal_like(example))
+
+    def refusal_like(self, example):
+        """The refusal of a run that no case can be: too large, or of a failing output or memory."""
+        long_sheet = self.folder / "sheet.csv"
+        if example.endswith("FileTooLong"):
+            return answer_of(["list", "/dev/stdin"], TOO_LONG_FILE)[2]
+        if example.endswith("TooLong"):
+            long_sheet.write_bytes(b" " * (model.LONGEST_SHEET + 1))
+            return answer_of(["check", EXAMPLE, long_sheet])[2]
+        if example.endswith("write failed"):
+            done = subprocess.run(["bash", "-c", f"'{PROGRAM}' --help > /dev/full"], capture_output=True)
+            return done.stderr
+        env = {"LD_PRELOAD": str(preload.built("refuse_allocation")), "REFUSE_CALL": "1"}
+        return answer_of(["list", EXAMPLE], env={**env, "REFUSE_ALL": "1"})[2]
+
+    def test_a_fault_is_asked_for_by_its_name_or_by_its_line(self):
+        for name, lines in [
+            ("TwoC", ["block 4: TwoC", "refused: block 4: TwoC", "refused:  block 4: TwoC"]),
+            ("Hz Unit", ["block 3: Hz Unit", "refused: block 3: Hz Unit", "Zenith Unit"]),
+            ("WordTwice", ["WordTwice 42", "refused: block 1: WordTwice 42"]),
+            ("no station", ["refused: no station"]),
+            ("Read", ["sheet: Read", "refused: block 1: Read"]),
+            ("out of memory", ["refused: out of memory"]),
+        ]:
+            for line in [name, *lines]:
+                for words in [[line], line.split()]:
+                    with self.subTest(words):
+                        self.assertEqual(explained(name), explained(*words))
+
+    def test_a_name_that_no_fault_has_is_a_mistake(self):
+        for words in [["nonsense"], ["twoc"], ["Unit"], [""], ["Hz", "n"], ["Byte", "x"], ["TwoC", ":"]]:
+            with self.subTest(words):
+                status, stdout, stderr = answer_of(["explain", *words])
+                self.assertEqual((2, b""), (status, stdout))
+                self.assertTrue(stderr.startswith(b"error: no fault has the name '"), stderr)
+                self.assertIn(answer_of(["explain"])[1], stderr)
+                self.assertTrue(stderr.endswith(b"\nFor more information, try '--help'.\n"), stderr)
+
+    def test_an_output_that_takes_nothing_is_a_refusal(self):
+        for words in ["explain", "explain TwoC"]:
+            for output in [">/dev/full", ">&-"]:
+                with self.subTest(words, output=output):
+                    command = ["bash", "-c", f"'{PROGRAM}' {words} {output}"]
+                    done = subprocess.run(command, capture_output=True, timeout=60)
+                    self.assertEqual((1, b"", WRITE_FAILED), (done.returncode, done.stdout, done.stderr))
+
+    def test_a_failing_standard_error_changes_no_status(self):
+        for words, status in [("explain nonsense", 2), ("explain > /dev/full", 1)]:
+            with self.subTest(words):
+                done = subprocess.run(["bash", "-c", f"'{PROGRAM}' {words} 2>&-"], capture_output=True)
+                self.assertEqual(status, done.returncode)
+
+    def test_no_line_is_too_wide(self):
+        for text in [explained(), *map(explained, names())]:
+            for line in text.splitlines():
+                self.assertLessEqual(len(line), WIDEST, line)
+
+    def test_an_explanation_looks_so(self):
+        expected = (
+            "Datum: the direction of the first target is not 0\n"
+            "\n"
+            "Directions are stated from the first target of the station, so its own is 0.\n"
+            "\n"
+            "  refused: kernel: Datum\n"
+            "\n"
+            "What to do: Take the direction of the first target from all directions and all orientations. No\n"
+            "residual changes by that.\n"
+        )
+        self.assertEqual(expected, explained("Datum"))
+
+
+class PagesTest(ProgramTest):
+    def test_pages_are_up_to_date(self):
+        """Where this fails, `python3 docs/faults.py` makes them anew."""
+        for path, text in faults.pages(PROGRAM):
+            with self.subTest(path.name):
+                self.assertEqual(text, path.read_text())
