@@ -9,7 +9,8 @@ use Rattle.sheet_format.specs.declared.fault.SheetFault.{SheetFault}
 use Rattle.sheet_format.specs.declared.fault.SheetFault.TheVariants as sheet
 use Rattle.sheet_means.specs.declared.fault.MeansFault.TheVariants as means
 use Rattle.station_check.specs.declared.fault.Fault.{Fault}
-use Rattle.station_check.specs.declared.fault.Fault.TheVariants.{Gsi, Book, SheetRead, Sheet, NoStation, Means, Kernel, Write, Memory}
+use Rattle.station_check.specs.declared.fault.Fault.TheVariants.{Gsi, Book, SheetRead, Sheet}
+use Rattle.station_check.specs.declared.fault.Fault.TheVariants.{NoStation, Means, Kernel, Write, Memory}
 
 -- a fault of the book as one of a run
 abbrev pub of_book : BookFault → Fault
@@ -29,8 +30,8 @@ IsOfFile (Book (book.At number what)) = Unit {0}
 IsOfFile Memory = Unit {0}
 IsOfFile fault = ⊥
 
--- A fault that comes from the sheet on, or want of memory. The kernel's fault `Name`, that the sheet
--- is of another station, is none of these: the station was found by the sheet's name.
+-- A fault that comes from the sheet on, or want of memory. The kernel's fault `Name`, that the
+-- sheet is of another station, is none of these: the station was found by the sheet's name.
 abbrev pub IsOfSheet : Fault → Type 0
 IsOfSheet SheetRead = Unit {0}
 IsOfSheet (Sheet sheet.TooLong) = Unit {0}

@@ -17,7 +17,8 @@ use Rattle.sheet_format.specs.declared.reading.TheConstants.{LONGEST_SHEET}
 use Rattle.station_book.specs.Limits.{FaceLimits}
 use Rattle.station_book.specs.Stations.{SurveyedStation, station_named}
 use Rattle.station_check.specs.declared.fault.Fault.{Fault}
-use Rattle.station_check.specs.declared.fault.Fault.TheVariants.{Gsi, Book, SheetRead, Sheet, NoStation, Kernel, Memory}
+use Rattle.station_check.specs.declared.fault.Fault.TheVariants.{Gsi, Book, SheetRead, Sheet}
+use Rattle.station_check.specs.declared.fault.Fault.TheVariants.{NoStation, Kernel, Memory}
 use Rattle.station_check.specs.Records.{FileComesTo}
 use Rattle.station_check.specs.Surveys.{IsSurvey}
 

@@ -24,7 +24,7 @@ pub struct Explanation {
 
 impl Explanation {
     /// Whether this is a name of the fault.
-    pub fn has_name(&self, name: &str) -> bool
+    fn has_name(&self, name: &str) -> bool
         ensures { IsTrue result ↔ Any (λ n. n.now ≡ name.now) self.now.names.now }
     {
         self.names.iter().any(|&n| n == name)
@@ -32,7 +32,7 @@ impl Explanation {
 }
 
 /// The explanation of this name among some; none where it is no name of any.
-pub fn explanation_of<'a>(entries: &'a [Explanation], name: &str) -> Option<&'a Explanation>
+fn explanation_of<'a>(entries: &'a [Explanation], name: &str) -> Option<&'a Explanation>
     ensures found { IfSome result (λ e. Contains entries.now e.now) }
     ensures named { IfSome result (λ e. Any (λ n. n.now ≡ name.now) e.now.names.now) }
     ensures missing { IfNone result
@@ -41,15 +41,18 @@ pub fn explanation_of<'a>(entries: &'a [Explanation], name: &str) -> Option<&'a 
     entries.iter().find(|e| e.has_name(name))
 }
 
-/// The explanation of this name among all; none where no fault has it.
-pub fn explanation_named(name: &str) -> Option<&'static Explanation> {
-    explanations()
-        .iter()
-        .find_map(|&group| explanation_of(group, name))
+/// The explanation of this name among groups of explanations; none where it is no name of any.
+pub fn explanation_named<'a>(groups: &[&'a [Explanation]], name: &str) -> Option<&'a Explanation>
+    ensures found { IfSome result (λ e. Any (λ g. Contains g.now e.now) groups.now) }
+    ensures named { IfSome result (λ e. Any (λ n. n.now ≡ name.now) e.now.names.now) }
+    ensures missing { IfNone result
+        (All (λ g. All (λ e. All (λ n. n.now ≢ name.now) e.names.now) g.now) groups.now) }
+{
+    groups.iter().find_map(|&group| explanation_of(group, name))
 }
 
-/// The explanations of all faults that the line of a refusal can name, in groups, about in the order
-/// in which they are looked for. No static holds them all: a proof reads each as one term.
+/// The explanations of all faults that the line of a refusal can name, in groups, about in the
+/// order in which they are looked for. No static holds them all: a proof reads each as one term.
 pub fn explanations() -> [&'static [Explanation]; 10] {
     [
         file_faults(),
