@@ -18,14 +18,11 @@ from program import ProgramTest, answer_of
 
 NO_MEMORY = (1, b"", b"refused: out of memory\n")
 
-# No run over a small file makes more allocations than this.
-MOST_CALLS = 100_000
+# No run makes more allocations than this: what is kept grows by doubling.
+MOST_CALLS = 10_000
 
 # How many runs are started before it is looked whether one met no refusal.
 BATCH = 64
-
-# Of the largest station every so-many-th allocation is refused.
-STEP = 7 if SWEEP else 50
 
 LINES = FIELD.splitlines(keepends=True)
 
@@ -49,6 +46,7 @@ RUNS = [
     "words {field}",
     "words {empty}",
     "words {first_word}",
+    "words {face_twice}",
     "list {field}",
     "list --two-c 10 --two-i=2 {field}",
     "list {face_twice}",
@@ -77,7 +75,7 @@ RUNS = [
     "list {folder}",
 ]
 
-# Runs over the largest station.
+# Runs over the largest station, and over its sheet of some four thousand rows.
 LARGE_RUNS = ["words {large}", "list {large}", "means {large} S1", "check {large} {large_sheet}"]
 
 
@@ -105,14 +103,13 @@ class RefusedMemoryTest(ProgramTest):
         met.unlink()
         return answer
 
-    def refused_in_turn(self, library, run, step, refuses_all=False):
+    def refused_in_turn(self, library, run, refuses_all=False):
         """The answers where one call after the other is refused, until a run meets no refusal."""
         answers = []
         refused = lambda call: self.refused_run(library, run, call, refuses_all)
         with ThreadPoolExecutor(os.cpu_count()) as pool:
-            for first in range(1, MOST_CALLS, step * BATCH):
-                calls = range(first, first + step * BATCH, step)
-                batch = list(pool.map(refused, calls))
+            for first in range(1, MOST_CALLS, BATCH):
+                batch = list(pool.map(refused, range(first, first + BATCH)))
                 answers += itertools.takewhile(lambda answer: answer is not None, batch)
                 if None in batch:
                     return answers
@@ -128,20 +125,20 @@ class RefusedMemoryTest(ProgramTest):
         library = preload.built("refuse_allocation")
         for run in RUNS:
             with self.subTest(run):
-                self.check_refusals(run, self.refused_in_turn(library, run, 1))
+                self.check_refusals(run, self.refused_in_turn(library, run))
 
     def test_each_allocation_and_all_after_it_refused(self):
         library = preload.built("refuse_allocation")
         for run in RUNS:
             with self.subTest(run):
-                self.check_refusals(run, self.refused_in_turn(library, run, 1, refuses_all=True))
+                self.check_refusals(run, self.refused_in_turn(library, run, refuses_all=True))
 
     def test_allocations_for_the_largest_station_refused(self):
         library = preload.built("refuse_allocation")
         for run in LARGE_RUNS:
             with self.subTest(run):
-                step = 1 if "words" in run else STEP
-                self.check_refusals(run, self.refused_in_turn(library, run, step))
+                self.check_refusals(run, self.refused_in_turn(library, run))
+                self.check_refusals(run, self.refused_in_turn(library, run, refuses_all=True))
 
     def test_a_run_without_a_refusal_is_as_ever(self):
         library = preload.built("refuse_allocation")
