@@ -6,7 +6,7 @@ use Rattle.std.specs.List.{AllZip, Contains}
 use Rattle.std.proofs.lemmas.List.{reverse-reverse}
 use Rattle.byte_ends.specs.Source.{Told}
 use Rattle.gsi_word.specs.Blocks.{GsiBlock, IsBlock}
-use Rattle.gsi_file.specs.FileAnswers.{FileAnswers, file_answers}
+use Rattle.gsi_file.specs.FileAnswers.{file_answers}
 use Rattle.gsi_file.specs.declared.file_fault.FileKind.{FileKind}
 use Rattle.adjust_kernel.specs.Sheets.{SheetValue}
 use Rattle.adjust_kernel.specs.declared.accepted.Accepted.{Accepted}
@@ -17,13 +17,13 @@ use Rattle.station_book.specs.Faults.{fault_at_end, IsWithoutFault}
 use Rattle.station_book.specs.Limits.{FaceLimits, AreLimits}
 use Rattle.station_book.specs.Places.{History}
 use Rattle.station_book.specs.Recorded.{IsRecorded, IsRecordedWith}
-use Rattle.adjust_kernel.specs.Matching.{Key, observed, keys_of}
+use Rattle.adjust_kernel.specs.Matching.{Key, observed}
 use Rattle.station_book.specs.Stations.{SurveyedStation, AreStations, station_named}
 use Rattle.station_check.specs.declared.fault.Fault.{Fault}
-use Rattle.station_check.specs.Records.{ComesTo, FileComesTo, at_end, file_fault}
+use Rattle.station_check.specs.Records.{ComesTo, at_end}
 use Rattle.station_check.specs.Surveys.{IsSurvey, Surveys}
 use Rattle.station_check.specs.Accepted.{IsAccepted}
-use Rattle.station_check.specs.Judged.{IsJudged, IsJudgedSheet, IfKernels}
+use Rattle.station_check.specs.Judged.{IsJudgedSheet, IfKernels}
 use Rattle.station_check.specs.Telling.{WhereBothTell}
 
 -- Lines and the end after them come to these blocks: they are the blocks of the lines behind those

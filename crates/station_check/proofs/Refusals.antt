@@ -19,13 +19,14 @@ use Rattle.station_book.specs.Stations.{SurveyedStation, station_named}
 use Rattle.station_check.specs.declared.fault.Fault.{Fault}
 use Rattle.station_check.specs.declared.fault.Fault.TheVariants.{Gsi, Book, SheetRead, Sheet, NoStation, Means, Kernel, Write, Memory}
 use Rattle.station_check.specs.Surveys.{IsSurvey, Surveys}
-use Rattle.station_check.specs.Verdicts.{ByStation, BySheet, IsBySheet, by_kernel}
+use Rattle.station_check.specs.Verdicts.{ByStation, BySheet, by_kernel}
 use Rattle.station_check.specs.Judged.{IsJudgedSheet, IfKernels}
 use Rattle.station_check.specs.Causes.{IsOfFile, IsOfSheet, IsOfCheck}
 use Rattle.station_check.specs.Records.{FileComesTo}
-use Rattle.station_check.specs.Refused.{IsFaultOfInput, IsFileFirst, TellsOfSheet, IsRefusedByName, IsRefusedByKernel, TellsOfRefusal}
+use Rattle.station_check.specs.Refused.{IsFaultOfInput, IsFileFirst, TellsOfFile, TellsOfSheet, IsRefusedByName, IsRefusedByKernel, TellsOfRefusal}
 use Rattle.station_check.specs.Telling.{WhereBothTell}
 use Rattle.station_check.proofs.Acceptance.{FindsIts, came_well}
+use Rattle.station_check.proofs.FirstFaultLaws.{is_first}
 use Rattle.station_check.proofs.Named.{has_name}
 
 -- a refusal by the kernel's verdict is the kernel's
@@ -171,8 +172,8 @@ refused_so refuses limits most (Some file) (Some stated) stations (Err fault) s 
 
 -- A fault of the field file is told, where both readers tell.
 told_of_file : (limits : FaceLimits) (most : Option ℕ) (gsi told : Told) (fault : Fault) → IsOfFile fault → Surveys limits (file_answers gsi) (Err fault) → TellsOfRefusal limits most gsi told fault
-told_of_file limits most gsi told (Gsi fault) o h = h
-told_of_file limits most gsi told (Book fault) o h = h
+told_of_file limits most gsi told (Gsi fault) o h = is_first limits (file_answers gsi) (Gsi fault) h
+told_of_file limits most gsi told (Book fault) o h = is_first limits (file_answers gsi) (Book fault) h
 told_of_file limits most gsi told SheetRead o h = absurd o
 told_of_file limits most gsi told (Sheet fault) o h = absurd o
 told_of_file limits most gsi told NoStation o h = absurd o
@@ -186,6 +187,22 @@ pub file_refused_so : (limits : FaceLimits) (most : Option ℕ) (gsi told : Opti
 file_refused_so limits most None told fault o h = tt
 file_refused_so limits most (Some file) None fault o h = tt
 file_refused_so limits most (Some file) (Some stated) fault o h = told_of_file limits most file stated fault o h
+
+-- A fault of the field file is its first, where its reader tells.
+of_file : (limits : FaceLimits) (gsi : Told) (fault : Fault) → IsOfFile fault → Surveys limits (file_answers gsi) (Err fault) → TellsOfFile limits gsi fault
+of_file limits gsi (Gsi fault) o h = is_first limits (file_answers gsi) (Gsi fault) h
+of_file limits gsi (Book fault) o h = is_first limits (file_answers gsi) (Book fault) h
+of_file limits gsi SheetRead o h = tt
+of_file limits gsi (Sheet fault) o h = tt
+of_file limits gsi NoStation o h = tt
+of_file limits gsi (Means fault) o h = tt
+of_file limits gsi (Kernel fault) o h = tt
+of_file limits gsi Write o h = tt
+of_file limits gsi Memory o h = tt
+
+pub of_file_so : (limits : FaceLimits) (gsi : Option Told) (fault : Fault) → IsOfFile fault → IfSome gsi (λ file. Surveys limits (file_answers file) (Err fault)) → IfSome gsi (λ file. TellsOfFile limits file fault)
+of_file_so limits None fault o h = tt
+of_file_so limits (Some file) fault o h = of_file limits file fault o h
 
 sheet_by_answer : (stations : List SurveyedStation) (most : Option ℕ) (told : Told) (fault : Fault) → (◌≡◌ {A = Result Accepted Fault} (Err fault) (Err Memory)) ⊎ BySheet stations most (input_within LONGEST_SHEET told) (Err fault) → TellsOfSheet told fault
 sheet_by_answer stations most told fault (inl e) =

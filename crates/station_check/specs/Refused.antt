@@ -1,5 +1,5 @@
 -- What the refusal of a sheet says.
-use Rattle.std.specs.Prelude.{◌≡◌, ◌≢◌, ◌⊎◌, ℕ, List, Option, Some, Result, Ok, Err}
+use Rattle.std.specs.Prelude.{◌≡◌, ◌≢◌, ◌⊎◌, ℕ, List, Option, Some, Result, Err}
 use Rattle.std.specs.List.{Contains}
 use Rattle.byte_ends.specs.Source.{Told}
 use Rattle.byte_ends.specs.Input.{Input, input_within, Ended, BrokeOff, RanPast}
@@ -19,13 +19,14 @@ use Rattle.station_book.specs.Stations.{SurveyedStation, station_named}
 use Rattle.station_check.specs.declared.fault.Fault.{Fault}
 use Rattle.station_check.specs.declared.fault.Fault.TheVariants.{Gsi, Book, SheetRead, Sheet}
 use Rattle.station_check.specs.declared.fault.Fault.TheVariants.{NoStation, Kernel, Memory}
+use Rattle.station_check.specs.FirstFault.{IsFirstFault}
 use Rattle.station_check.specs.Records.{FileComesTo}
 use Rattle.station_check.specs.Surveys.{IsSurvey}
 
--- A fault of the field file is the one that the file comes to, whatever the sheet is.
+-- A fault of the field file is its first, whatever the sheet is.
 abbrev pub TellsOfFile : FaceLimits → Told → Fault → Type 0
-TellsOfFile limits gsi (Gsi fault) = FileComesTo limits (file_answers gsi) (Err (Gsi fault))
-TellsOfFile limits gsi (Book fault) = FileComesTo limits (file_answers gsi) (Err (Book fault))
+TellsOfFile limits gsi (Gsi fault) = IsFirstFault limits (file_answers gsi) (Gsi fault)
+TellsOfFile limits gsi (Book fault) = IsFirstFault limits (file_answers gsi) (Book fault)
 TellsOfFile limits gsi fault = Unit {0}
 
 -- Where the field file comes to a fault, that is the answer, whatever the sheet is, unless there

@@ -3,7 +3,7 @@ use Rattle.station_check.specs.Telling.{WhereBothTell}
 use Rattle.station_check.specs.Verdicts.{AnswersVerdict}
 use Rattle.station_check.proofs.Acceptance.{accepted_so}
 use Rattle.station_check.proofs.OneVerdict.{only_so}
-use Rattle.station_check.proofs.Refusals.{refused_so, file_refused_so, sheet_so, file_alone_so, none_first_so, first_so, of_check}
+use Rattle.station_check.proofs.Refusals.{refused_so, file_refused_so, of_file_so, sheet_so, file_alone_so, none_first_so, first_so, of_check}
 use Rattle.station_check.proofs.check.check_bytes.Goals as goal
 
 pub returns-in-Ok-clause-accepted : goal.returns-in-Ok-clause-accepted
@@ -26,6 +26,9 @@ returns-in-Ok-clause-refused g c =
 
 pub returns-in-Err-clause-refused : goal.returns-in-Err-clause-refused
 returns-in-Err-clause-refused g c = file_refused_so c.args.limits c.args.residual _ _ c.in-Err.fault c.in-Err.ensures.of_file c.in-Err.ensures.surveys
+
+pub returns-in-Err-clause-of_file : goal.returns-in-Err-clause-of_file
+returns-in-Err-clause-of_file g c = of_file_so c.args.limits _ c.in-Err.fault c.in-Err.ensures.of_file c.in-Err.ensures.surveys
 
 pub returns-in-Ok-clause-file_first : goal.returns-in-Ok-clause-file_first
 returns-in-Ok-clause-file_first g c = none_first_so c.one_outcome.ensures.one c.args.limits _ c.in-Ok.stations c.check_sheet.result c.in-Ok.ensures.surveys
