@@ -39,6 +39,10 @@ def rows(*counts):
     return "\n".join(written + ["obs,1,A,0,0"] * observations).encode()
 
 
+THOUSAND = stations_with(1 for _ in range(1_000))
+SHEET_OF_LAST = model.means(lines(station("S999", 1, 1)), b"S999")[1]
+
+
 # The faults of size, each with the largest input that has none.
 LARGE = [
     Case("100 targets", "list", lines(station("S1", 1, 100))),
@@ -47,6 +51,9 @@ LARGE = [
     Case("40 sets", "list", lines(station("S1", 40, 1))),
     Case("41 sets", "list", lines(station("S1", 41, 1))),
     Case("40 sets, means", "means", lines(station("S1", 40, 2))),
+    Case("1,000 stations", "list", THOUSAND),
+    Case("1,000 stations, means of the last", "means", THOUSAND, station="S999"),
+    Case("1,000 stations, a sheet of the last", "check", THOUSAND, SHEET_OF_LAST),
     Case("1,001 stations", "list", stations_with(1 for _ in range(1_001))),
     Case("a sheet of 100 targets and 40 sets", "check", FIELD, rows(1, 100, 40, 4_000)),
     Case("a sheet of 101 targets", "check", FIELD, rows(1, 101, 1, 1)),
@@ -59,7 +66,6 @@ LARGE = [
 
 # These take the model some time.
 LARGER = [
-    Case("1,000 stations", "list", stations_with(1 for _ in range(1_000))),
     Case("1,000 stations and one", "list", stations_with(min(n, 1) for n in range(1_001))),
     Case("40 sets of 100 targets", "means", lines(station("S1", 40, 100))),
 ]

@@ -91,6 +91,7 @@ fn a_sheet_has_so_many_bytes(rt: HostRuntime) -> Result<(), Fail> {
     let mut endless = OfRead::new(Endless::new(b" ", 1));
     let verdict = check_bytes(rt.alloc(), gsi, &mut endless, usual_limits()?, None);
     assert_eq!(rt; verdict, Err(Fault::Sheet(SheetFault::TooLong)));
+    assert!(rt; endless.into_inner().asked <= 1_048_577);
     Ok(())
 }
 
