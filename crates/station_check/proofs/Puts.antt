@@ -1,6 +1,6 @@
 -- A store of a known length at a place of a page's room.
-use Rattle.std.proofs.Common.{◌≡◌, ℕ, ◌+◌, ◌-◌, ◌≤◌, List, [], ◌∷◌, ◌++◌, take, drop, length, refl, ap, ◌∙◌, sym, arith}
-use Rattle.std.proofs.lemmas.List.{take_at, take-append-le, take-take, length-take-le, length-drop, length-append}
+use Rattle.std.proofs.Common.{◌≡◌, ℕ, ◌+◌, ◌-◌, ◌≤◌, List, ◌++◌, take, drop, length, ap, ◌∙◌, arith}
+use Rattle.std.proofs.lemmas.List.{take-append-le, take-take, length-take-le, length-drop, length-append}
 use Rattle.std.proofs.lemmas.Simd.{put_chunk_is}
 use Rattle.std.proofs.Math.Seq.{take-append-add}
 use borrow.Rule.Slice.PartMut.{put_mid, mid_of, post_of}

@@ -1,126 +1,124 @@
-//! The list of stations as text, made in memory line by line.
+//! The lines of a list, put into a page's room.
 
-ghost use Rattle.std.specs.Prelude.{◌≡◌, ◌<◌, ◌++◌, length, IfOk, OnOk, Some, slice_get};
+ghost use Rattle.std.specs.Prelude.{◌≡◌, ◌<◌, ◌≤◌, ◌+◌, ◌++◌, ◌∷◌, [], length, take, decimal, codes};
 ghost use Rattle.std.specs.Fmt.{signed_decimal};
 ghost use Rattle.adjust_kernel.specs.Matching.{key_of_obs};
-ghost use Rattle.station_check.specs.ListTexts.{station_line, key_text, faces_text, observation_line, surveyed_text, list_text};
+ghost use Rattle.station_check.specs.ListTexts.{station_line, key_text, faces_text, observation_line};
 
-use adjust_kernel::{Obs, Station};
-use itoa::Buffer;
-use station_book::{Faces, Stations, Surveyed};
-use std::alloc::{AllocError, Global};
+use crate::list_numbers::{LONGEST_NUMBER, put_natural, put_signed};
+use crate::page::PAGE;
+use crate::put::{Room, put_4, put_8, put_byte, put_bytes, put_text};
+use crate::word_line::put_number;
+use adjust_kernel::{Name, Obs, Station};
+use station_book::Faces;
 
-/// Adds the line of a station: its name, and how many sets, targets and directions it has.
+/// Bytes that no line of a list passes. The longest is that of a station: 39 bytes of words, a name
+/// of sixteen, and three numbers of twenty digits at most.
+pub const LONGEST_LIST_LINE: usize = 115;
+
+/// Puts the line of a station: its name, and how many sets, targets and directions it has.
 #[tactic(auto, unfolding(crate::specs::ListTexts::station_line))]
-fn add_station(text: &mut Vec<u8>, station: &Station) -> Result<(), AllocError>
-    ensures { OnOk result (text.new.items ≡ text.old.items ++ station_line station.now) }
+pub(crate) fn put_station(room: &mut Room, at: usize, station: &Station) -> usize
+    requires { at + LONGEST_LIST_LINE ≤ PAGE }
+    ensures within { result ≤ PAGE }
+    ensures whole { length room.new ≡ PAGE }
+    ensures text { take result room.new ≡ take at room.old ++ station_line station.now }
 {
-    let mut digits = Buffer::new();
-    text.extend_from_slice(b"station ")?;
-    text.extend_from_slice(station.name().bytes())?;
-    text.extend_from_slice(b": ")?;
-    text.extend_from_slice(digits.format(station.sets().len()).as_bytes())?;
-    text.extend_from_slice(b" sets, ")?;
-    text.extend_from_slice(digits.format(station.targets().len()).as_bytes())?;
-    text.extend_from_slice(b" targets, ")?;
-    text.extend_from_slice(digits.format(station.obs().len()).as_bytes())?;
-    text.extend_from_slice(b" directions\n")
+    let name_at = put_text(room, at, b"station ");
+    let counts_at = put_name(room, name_at, &station.name());
+    put_counts(room, counts_at, station)
 }
 
-/// Adds what was observed: the set, the target and the direction.
-fn add_key(text: &mut Vec<u8>, station: &Station, obs: Obs) -> Result<(), AllocError>
-    requires set_in { obs.set < length station.now.sets }
-    requires target_in { obs.target < length station.now.targets }
-    ensures { OnOk result (text.new.items ≡
-        text.old.items ++ key_text (key_of_obs station.now.sets station.now.targets obs)) }
+/// Puts a name.
+#[inline(always)]
+fn put_name(room: &mut Room, at: usize, name: &Name) -> usize
+    requires { at + 16 ≤ PAGE }
+    ensures next { result ≤ at + 16 }
+    ensures text { take result room.new ≡ take at room.old ++ name.now }
 {
-    let mut digits = Buffer::new();
-    text.extend_from_slice(b"set ")?;
-    text.extend_from_slice(digits.format(station.sets()[obs.set as usize]).as_bytes())?;
-    text.extend_from_slice(b", target ")?;
-    text.extend_from_slice(station.targets()[obs.target as usize].bytes())?;
-    text.extend_from_slice(b": p ")?;
-    text.extend_from_slice(digits.format(obs.value).as_bytes())
+    put_bytes(room, at, name.bytes())
 }
 
-/// Adds a text and a number after it.
-fn add_signed(text: &mut Vec<u8>, label: &[u8], value: i32) -> Result<(), AllocError>
-    ensures { OnOk result (text.new.items ≡
-        text.old.items ++ (label.now ++ signed_decimal value)) }
+/// Puts how many sets, targets and directions a station has, and ends the line.
+fn put_counts(room: &mut Room, at: usize, station: &Station) -> usize
+    requires { at + 91 ≤ PAGE }
+    ensures within { result ≤ PAGE }
+    ensures text { take result room.new ≡ take at room.old
+        ++ (codes ": " ++ decimal (length station.now.sets)
+        ++ codes " sets, " ++ decimal (length station.now.targets)
+        ++ codes " targets, " ++ decimal (length station.now.obs) ++ codes " directions\n") }
 {
-    let mut digits = Buffer::new();
-    text.extend_from_slice(label)?;
-    text.extend_from_slice(digits.format(value).as_bytes())
+    let sets_at = put_text(room, at, b": ");
+    let sets_end = put_number(room, sets_at, station.sets().len());
+    let targets_at = put_text(room, sets_end, b" sets, ");
+    let targets_end = put_number(room, targets_at, station.targets().len());
+    let obs_at = put_text(room, targets_end, b" targets, ");
+    let obs_end = put_number(room, obs_at, station.obs().len());
+    put_text(room, obs_end, b" directions\n")
 }
 
-/// Adds face differences, and ends the line.
-fn add_faces(text: &mut Vec<u8>, faces: Faces) -> Result<(), AllocError>
-    ensures { OnOk result (text.new.items ≡ text.old.items ++ faces_text faces) }
-{
-    add_signed(text, b", 2c ", faces.two_c)?;
-    add_signed(text, b", 2i ", faces.two_i)?;
-    text.extend_from_slice(b"\n")
-}
-
-/// Adds the line of an observation.
+/// Puts the line of an observation.
+#[inline(always)]
 #[tactic(auto, unfolding(crate::specs::ListTexts::observation_line))]
-fn add_observation(
-    text: &mut Vec<u8>,
+pub(crate) fn put_observation(
+    room: &mut Room,
+    at: usize,
     station: &Station,
     obs: Obs,
     faces: Faces,
-) -> Result<(), AllocError>
+) -> usize
+    requires room { at + LONGEST_LIST_LINE ≤ PAGE }
     requires set_in { obs.set < length station.now.sets }
     requires target_in { obs.target < length station.now.targets }
-    ensures { OnOk result (text.new.items ≡ text.old.items
-        ++ observation_line (key_of_obs station.now.sets station.now.targets obs) faces) }
+    ensures within { result ≤ PAGE }
+    ensures whole { length room.new ≡ PAGE }
+    ensures text { take result room.new ≡ take at room.old
+        ++ observation_line (key_of_obs station.now.sets station.now.targets obs) faces }
 {
-    add_key(text, station, obs)?;
-    add_faces(text, faces)
+    let faces_at = put_key(room, at, station, obs);
+    put_faces(room, faces_at, faces)
 }
 
-/// The observation at a place.
-fn observation_at(obs: &[Obs], place: usize) -> Obs
-    requires { place < length obs.now }
-    ensures { slice_get obs.now place ≡ Some result }
+/// Puts what was observed: the set, the target and the direction.
+#[inline(always)]
+fn put_key(room: &mut Room, at: usize, station: &Station, obs: Obs) -> usize
+    requires room { at + 53 ≤ PAGE }
+    requires set_in { obs.set < length station.now.sets }
+    requires target_in { obs.target < length station.now.targets }
+    ensures next { result ≤ at + 53 }
+    ensures text { take result room.new ≡ take at room.old
+        ++ key_text (key_of_obs station.now.sets station.now.targets obs) }
 {
-    obs[place]
+    let set_at = put_4(room, at, b"set ");
+    let set_end = put_natural(room, set_at, station.sets()[obs.set as usize] as u32);
+    let blank_at = put_8(room, set_end, b", target");
+    let target_at = put_byte(room, blank_at, b' ');
+    let target_end = put_name(room, target_at, &station.targets()[obs.target as usize]);
+    let value_at = put_4(room, target_end, b": p ");
+    put_natural(room, value_at, obs.value)
 }
 
-/// The face differences at a place.
-fn differences_at(faces: &[Faces], place: usize) -> Faces
-    requires { place < length faces.now }
-    ensures { slice_get faces.now place ≡ Some result }
+/// Puts a text of four bytes, a blank, and a number.
+#[inline(always)]
+fn put_labelled(room: &mut Room, at: usize, label: &[u8; 4], number: i32) -> usize
+    requires { at + 16 ≤ PAGE }
+    ensures next { result ≤ at + 16 }
+    ensures text { take result room.new ≡
+        take at room.old ++ (label.now ++ 32 ∷ signed_decimal number) }
 {
-    faces[place]
+    let blank_at = put_4(room, at, label);
+    let number_at = put_byte(room, blank_at, b' ');
+    put_signed(room, number_at, number)
 }
 
-/// Adds the lines of a station.
-fn add_surveyed(text: &mut Vec<u8>, surveyed: &Surveyed) -> Result<(), AllocError>
-    ensures { OnOk result (text.new.items ≡ text.old.items ++ surveyed_text surveyed.now) }
+/// Puts face differences, and ends the line.
+#[inline(always)]
+fn put_faces(room: &mut Room, at: usize, faces: Faces) -> usize
+    requires { at + 33 ≤ PAGE }
+    ensures within { result ≤ PAGE }
+    ensures text { take result room.new ≡ take at room.old ++ faces_text faces }
 {
-    let station = surveyed.station();
-    let faces = surveyed.faces();
-    let obs = station.obs();
-    add_station(text, station)?;
-    'observations: for place in 0..obs.len() {
-        let observation = observation_at(obs, place);
-        let differences = differences_at(faces, place);
-        add_observation(text, station, observation, differences)?;
-    }
-    Ok(())
-}
-
-/// The list of these stations.
-pub(crate) fn list_text(alloc: Global, stations: &Stations) -> Result<Vec<u8>, AllocError>
-    ensures { IfOk result (λ text. text.items ≡ list_text stations.now) }
-{
-    let mut text = Vec::new(alloc);
-    'stations: for place in 0..stations.len() {
-        match stations.at(place) {
-            Some(surveyed) => add_surveyed(&mut text, surveyed)?,
-            None => unreachable!(),
-        }
-    }
-    Ok(text)
+    let two_i_at = put_labelled(room, at, b", 2c", faces.two_c);
+    let end = put_labelled(room, two_i_at, b", 2i", faces.two_i);
+    put_byte(room, end, b'\n')
 }

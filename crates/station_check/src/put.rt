@@ -60,6 +60,18 @@ pub(crate) fn put_16(room: &mut Room, at: usize, bytes: &[u8], n: usize) -> usiz
     at + n
 }
 
+/// Puts a text of the program, whose length is known where it is put.
+#[inline(always)]
+pub(crate) fn put_text(room: &mut Room, at: usize, text: &[u8]) -> usize
+    requires { at + length text.now ≤ PAGE }
+    ensures next { result ≡ at + length text.now }
+    ensures text { take result room.new ≡ take at room.old ++ text.now }
+{
+    let end = at + text.len();
+    room[at..end].copy_from_slice(text);
+    end
+}
+
 /// Puts bytes.
 pub(crate) fn put_bytes(room: &mut Room, at: usize, bytes: &[u8]) -> usize
     requires { at + length bytes.now ≤ PAGE }

@@ -1,6 +1,5 @@
-use Rattle.std.proofs.Common.{rules, ℕ, ◌≡◌, ◌+◌, ◌++◌, ◌∷◌, [], List, ap, ◌∙◌, sym, arith}
+use Rattle.std.proofs.Common.{rules, ℕ, ◌≡◌, ◌+◌, ◌++◌, ◌∷◌, [], ap, ◌∙◌, arith}
 use Rattle.std.specs.Prelude.{decimal}
-use Rattle.std.proofs.lemmas.List.{length-set}
 use Rattle.station_check.proofs.LabelLaws.{next_label, label_long, label_short}
 use Rattle.station_check.proofs.label.Label.go_to.Goals as goal
 
