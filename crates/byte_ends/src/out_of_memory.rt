@@ -1,3 +1,8 @@
-/// There was no memory.
-#[derive(Clone, Copy, Debug, PartialEq, Eq)]
+//! Want of memory.
+
+use thiserror::Error;
+
+/// There was no memory for the bytes: run it again with more.
+#[derive(Clone, Copy, Debug, PartialEq, Eq, Error)]
+#[error("out of memory: run it again with more")]
 pub struct OutOfMemory;

@@ -1,6 +1,6 @@
 //! What no clause says: that calls succeed, and what std's own readers and writers get.
 
-use crate::{Failed, Held, OfRead, OfWrite, Script, Sink, Source};
+use crate::{Failed, Held, OfRead, OfWrite, OutOfMemory, Script, Sink, Source};
 use std::alloc::{AllocError, Global};
 use std::io::{self, Error, ErrorKind, Read, Write};
 use std::test::Fail;
@@ -200,5 +200,14 @@ fn a_held_sink_takes_what_it_has_room_for(rt: HostRuntime) -> Result<(), Fail> {
     }
     let mut sink = Held::new(rt.alloc(), 4, 4, true).map_err(|_| "no memory")?;
     assert_eq!(rt; sink.flush(), Err(Failed));
+    Ok(())
+}
+
+#[test]
+fn faults_are_told_in_words(rt: HostRuntime) -> Result<(), Fail> {
+    let failed = "a read or a write failed: see whether the file is open, whole and has room";
+    let memory = "out of memory: run it again with more";
+    assert_eq!(rt; format!(in rt.alloc(); "{Failed}")?.as_str(), failed);
+    assert_eq!(rt; format!(in rt.alloc(); "{OutOfMemory}")?.as_str(), memory);
     Ok(())
 }
