@@ -1,9 +1,10 @@
 -- The residuals of the means of a complete station add to 0, for each target and for each set.
 use Rattle.std.proofs.Common.{◌≡◌, ℕ, ◌*◌, ◌<◌, List, ℤ, pos, arith, ap, sym, ◌∙◌}
-use Rattle.std.proofs.Math.IntN.{◌*ℤ◌, ◌-ℤ◌}
+use Rattle.std.proofs.Math.IntN.{◌*ℤ◌, ◌-ℤ◌, *ℤ-zero, +ℤ_invr}
 use Rattle.adjust_kernel.specs.Readings.{Reading}
 use Rattle.adjust_kernel.specs.Residuals.{Choice, residual, unrolled, target_sum, set_sum}
-use Rattle.sheet_means.proofs.Ring.{num, ◌⊖◌, ◌⊗◌, same_value}
+use Rattle.std.proofs.lemmas.Int.{ints}
+use Rattle.sheet_means.proofs.Products.{over_difference, three_factors}
 use Rattle.sheet_means.specs.Totals.{target_total, set_total, whole_total}
 use Rattle.sheet_means.specs.Means.{AreMeans}
 use Rattle.sheet_means.proofs.GridLaws.{sum_below, sum_below-same, sum_below-sub, sum_below-scale, sum_below-const, sum_below-swap, AreGrid, at, sum_of_all, sum_of_target, sum_of_set, whole_by_sets}
@@ -11,11 +12,18 @@ use Rattle.sheet_means.proofs.GridLaws.{sum_below, sum_below-same, sum_below-sub
 -- what is left over of a target, and of a set
 target_left : (s t : ℕ) (c f g : ℤ) → pos s *ℤ (pos t *ℤ (c -ℤ f)) -ℤ (pos s *ℤ g -ℤ pos s *ℤ g -ℤ pos s *ℤ (pos t *ℤ f)) -ℤ pos (s * t) *ℤ c ≡ pos 0
 target_left s t c f g =
-    same_value (num (pos s) ⊗ (num (pos t) ⊗ (num c ⊖ num f)) ⊖ (num (pos s) ⊗ num g ⊖ num (pos s) ⊗ num g ⊖ num (pos s) ⊗ (num (pos t) ⊗ num f)) ⊖ num (pos (s * t)) ⊗ num c) (num (pos 0)) (omega arith)
+    let a = ap (λ z. pos s *ℤ z) (over_difference (pos t) c f) in
+    let b = over_difference (pos s) (pos t *ℤ c) (pos t *ℤ f) in
+    let d = three_factors s t c in
+    omega (arith, ints)
 
 set_left : (s t : ℕ) (y f g : ℤ) → pos t *ℤ (g -ℤ pos t *ℤ f) -ℤ pos t *ℤ (g -ℤ pos s *ℤ y -ℤ pos t *ℤ f) -ℤ pos (s * t) *ℤ y ≡ pos 0
 set_left s t y f g =
-    same_value (num (pos t) ⊗ (num g ⊖ num (pos t) ⊗ num f) ⊖ num (pos t) ⊗ (num g ⊖ num (pos s) ⊗ num y ⊖ num (pos t) ⊗ num f) ⊖ num (pos (s * t)) ⊗ num y) (num (pos 0)) (omega arith)
+    let a = over_difference (pos t) g (pos t *ℤ f) in
+    let b = over_difference (pos t) (g -ℤ pos s *ℤ y) (pos t *ℤ f) in
+    let d = over_difference (pos t) g (pos s *ℤ y) in
+    let e = three_factors t s y in
+    omega (arith, ints)
 
 module _ (sets targets : ℕ) (readings : List Reading) (grid : AreGrid sets targets readings) (c : Choice) (means : AreMeans sets targets readings c) (some : 0 < targets) where
   abbrev x : ℕ → ℕ → ℤ
@@ -68,4 +76,4 @@ module _ (sets targets : ℕ) (readings : List Reading) (grid : AreGrid sets tar
       ∙ set_left sets targets (set_total readings s) F G
 
   pub first_direction : c.direction 0 ≡ pos 0
-  first_direction = means.directions 0 some ∙ same_value (num (pos targets) ⊗ (num F ⊖ num F)) (num (pos 0)) (omega arith)
+  first_direction = means.directions 0 some ∙ ap (λ z. pos targets *ℤ z) (+ℤ_invr F) ∙ *ℤ-zero (pos targets)

@@ -1,6 +1,6 @@
 -- Sums over the readings of a complete station: over its sets, and within a set over its targets.
 use Rattle.std.proofs.Common.{◌≡◌, ℕ, suc, zero, ◌+◌, ◌*◌, ◌≤◌, ◌<◌, Bool, true, false, cond, eqb, List, length, take, get_or, ℤ, pos, ◌+ℤ◌, arith, ap, refl, sym, ◌∙◌}
-use Rattle.std.proofs.Math.IntN.{◌*ℤ◌, ◌-ℤ◌, *ℤ-zero}
+use Rattle.std.proofs.Math.IntN.{◌*ℤ◌, ◌-ℤ◌, *ℤ-zero, suc_ℤ-*ℤ}
 use Rattle.std.proofs.Math.Nat.{mul-le-mul}
 use Rattle.std.proofs.lemmas.Int.{ints}
 use Rattle.std.proofs.lemmas.Bool.{ne_eqb}
@@ -10,7 +10,7 @@ use Rattle.adjust_kernel.specs.Sums.{int_sum_by, int_sum_where}
 use Rattle.adjust_kernel.specs.Readings.{Reading}
 use Rattle.adjust_kernel.specs.Residuals.{unrolled}
 use Rattle.sheet_means.specs.Totals.{reading_at, set_total, whole_total}
-use Rattle.sheet_means.proofs.Ring.{num, ◌⊕◌, ◌⊗◌, same_value}
+use Rattle.sheet_means.proofs.Products.{over_sum}
 use Rattle.sheet_means.proofs.PlaceLaws.{int_sum_by_more}
 use native.Mathlib.Decide.{ℕ_discrete}
 
@@ -34,11 +34,11 @@ sum_below-sub (suc n) f g = let e = sum_below-sub n f g in omega (arith, ints)
 pub sum_below-scale : (n : ℕ) (c : ℤ) (f : ℕ → ℤ) → sum_below n (λ k. c *ℤ f k) ≡ c *ℤ sum_below n f
 sum_below-scale zero c f = sym (*ℤ-zero c)
 sum_below-scale (suc n) c f =
-    ap (λ s. s +ℤ c *ℤ f n) (sum_below-scale n c f) ∙ same_value (num c ⊗ num (sum_below n f) ⊕ num c ⊗ num (f n)) (num c ⊗ (num (sum_below n f) ⊕ num (f n))) (omega arith)
+    ap (λ s. s +ℤ c *ℤ f n) (sum_below-scale n c f) ∙ sym (over_sum c (sum_below n f) (f n))
 
 pub sum_below-const : (n : ℕ) (z : ℤ) → sum_below n (λ k. z) ≡ pos n *ℤ z
 sum_below-const zero z = omega (arith, ints)
-sum_below-const (suc n) z = ap (λ s. s +ℤ z) (sum_below-const n z) ∙ same_value (num (pos n) ⊗ num z ⊕ num z) (num (pos (suc n)) ⊗ num z) (omega arith)
+sum_below-const (suc n) z = ap (λ s. s +ℤ z) (sum_below-const n z) ∙ sym (suc_ℤ-*ℤ (pos n) z)
 
 -- rows and columns may be exchanged
 pub sum_below-swap : (n m : ℕ) (f : ℕ → ℕ → ℤ) → sum_below n (λ i. sum_below m (λ j. f i j)) ≡ sum_below m (λ j. sum_below n (λ i. f i j))

@@ -1,4 +1,4 @@
-pub mod Ring
+pub mod Products
 pub mod PlaceLaws
 pub mod CompleteLaws
 pub mod GridLaws

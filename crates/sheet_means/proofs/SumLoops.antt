@@ -3,7 +3,6 @@ use Rattle.std.proofs.Common.{◌≡◌, ℕ, suc, ◌+◌, ℤ, pos, ◌+ℤ◌
 use lib.IntN.{◌*ℤ◌}
 use Rattle.std.proofs.lemmas.Int.{ints}
 use Rattle.adjust_kernel.specs.Within.{IsWithin}
-use Rattle.sheet_means.proofs.Ring.{num, ◌⊕◌, ◌⊗◌, same_value}
 use Rattle.sheet_means.proofs.GridLaws.{sum_below}
 
 -- the sum of f at the numbers below n, each within the bound
@@ -13,7 +12,7 @@ pub record IsSumTo (f : ℕ → ℤ) (most : ℤ) (n : ℕ) (total : ℤ) : Type
 
 pub sum_more : (f : ℕ → ℤ) (most : ℤ) (n : ℕ) (total : ℤ) → IsSumTo f most n total → IsWithin most (f n) → IsSumTo f most (n + 1) (total +ℤ f n)
 sum_more f most n total s w =
-    let e : most *ℤ pos (n + 1) ≡ most *ℤ pos n +ℤ most = same_value (num most ⊗ num (pos (n + 1))) (num most ⊗ num (pos n) ⊕ num most) (omega arith) in
+    let e : most *ℤ pos (n + 1) ≡ most *ℤ pos n +ℤ most = omega (arith, ints) in
     let a = s.bound.low in let b = s.bound.high in let c = w.low in let d = w.high in
     let m : n + 1 ≡ suc n = omega arith in
     record {
