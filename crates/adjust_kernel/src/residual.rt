@@ -62,7 +62,7 @@ fn residual_at(sheet: &Sheet, obs: &Obs, row: &Row) -> i128
     direction - orientation - reading
 }
 
-//// The scaled residual of a row, by its place from 0, in half units (0.005 mgon each) times the
+/// The scaled residual of a row, by its place from 0, in half units (0.005 mgon each) times the
 /// sheet's denominator: of a sheet of this station.
 pub fn residual_of(station: &Station, sheet: &Sheet, row: usize) -> i128
     requires matches { Matches station.now sheet.now }
