@@ -40,9 +40,21 @@ impl Model for Entry {
 
     ghost Value = { EntryValue };
 
-    ghost view = { λ e. record { targets = e.targets.items; slots = e.slots.items; sets = e.sets.items; obs = e.obs.items; faces = e.faces.items } };
+    ghost view = { λ e. record {
+      targets = e.targets.items;
+      slots = e.slots.items;
+      sets = e.sets.items;
+      obs = e.obs.items;
+      faces = e.faces.items;
+    } };
 
-    ghost invariant = { λ e. IsEntry (record { targets = e.targets.items; slots = e.slots.items; sets = e.sets.items; obs = e.obs.items; faces = e.faces.items }) };
+    ghost invariant = { λ e. IsEntry (record {
+      targets = e.targets.items;
+      slots = e.slots.items;
+      sets = e.sets.items;
+      obs = e.obs.items;
+      faces = e.faces.items;
+    }) };
 }
 
 /// Whether two names are one.
@@ -161,7 +173,8 @@ impl Entry {
         requires { AreOnCircle reading.sight }
         ensures clean { OnOk result (first_of (entry_faults limits self.old reading) ≡ None) }
         ensures ok { OnOk result (self.new ≡ with_reading reading self.old) }
-        ensures fault { IfErr result (ExplainsRefusal (first_of (entry_faults limits self.old reading))) }
+        ensures fault { IfErr result
+            (ExplainsRefusal (first_of (entry_faults limits self.old reading))) }
         ensures memory { IfErr result (WantsOnly (is_new_to self.old reading)) }
         ensures err { OnErr result (self.new ≡ self.old) }
     {
@@ -187,7 +200,9 @@ impl Entry {
         requires angle { AreOnCircle reading.sight }
         ensures clean { OnOk result (length self.old.targets < 100) }
         ensures ok { OnOk result (self.new ≡ with_reading_at reading self.old None) }
-        ensures fault { IfErr result (ExplainsRefusal (first_of (when (nat_le 100 (length self.old.targets)) kinds.TooManyTargets ∷ []))) }
+        ensures fault { IfErr result
+            (ExplainsRefusal (first_of
+            (when (nat_le 100 (length self.old.targets)) kinds.TooManyTargets ∷ []))) }
         ensures err { OnErr result (self.new ≡ self.old) }
     {
         if self.targets.len() >= MOST_TARGETS {

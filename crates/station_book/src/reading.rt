@@ -56,8 +56,10 @@ fn number_of(name: &[u8]) -> Option<u16>
 pub(crate) fn set_number(block: &Block<'_>) -> Result<Option<u16>, BookKind>
     ensures ok { IfOk result (λ n. n ≡ number (block_of block.now)) }
     ensures valid { IfOk result (λ n. IfSome n IsSetNumber) }
-    ensures clean { OnOk result (when (has_two 42 (block_of block.now)) (kinds.WordTwice 42) ≡ None) }
-    ensures fault { IfErr result (λ k. when (has_two 42 (block_of block.now)) (kinds.WordTwice 42) ≡ Some k) }
+    ensures clean { OnOk result
+        (when (has_two 42 (block_of block.now)) (kinds.WordTwice 42) ≡ None) }
+    ensures fault { IfErr result
+        (λ k. when (has_two 42 (block_of block.now)) (kinds.WordTwice 42) ≡ Some k) }
 {
     match block.find(CODE_INFORMATION) {
         Found::Twice => Err(BookKind::WordTwice(CODE_INFORMATION)),

@@ -207,7 +207,8 @@ impl Shelf {
         requires number { IsSetNumber number }
         ensures clean { OnOk result (first_of (more_set_faults (last_of self.old) number) ≡ None) }
         ensures ok { OnOk result (self.new ≡ change_last (with_set number) self.old) }
-        ensures fault { IfErr result (ExplainsRefusal (first_of (more_set_faults (last_of self.old) number))) }
+        ensures fault { IfErr result
+            (ExplainsRefusal (first_of (more_set_faults (last_of self.old) number))) }
         ensures err { OnErr result (self.new ≡ self.old) }
     {
         if let Some(kind) = self.set_fault(number) {
@@ -221,9 +222,11 @@ impl Shelf {
     pub(crate) fn take_reading(&mut self, limits: Limits, reading: Sighting) -> Result<(), Refusal>
         requires some { IsSome self.old.last }
         requires angle { AreOnCircle reading.sight }
-        ensures clean { OnOk result (first_of (entry_faults limits (last_of self.old) reading) ≡ None) }
+        ensures clean { OnOk result
+            (first_of (entry_faults limits (last_of self.old) reading) ≡ None) }
         ensures ok { OnOk result (self.new ≡ change_last (with_reading reading) self.old) }
-        ensures fault { IfErr result (ExplainsRefusal (first_of (entry_faults limits (last_of self.old) reading))) }
+        ensures fault { IfErr result
+            (ExplainsRefusal (first_of (entry_faults limits (last_of self.old) reading))) }
         ensures memory { IfErr result (WantsOnly (is_new_to (last_of self.old) reading)) }
         ensures err { OnErr result (self.new ≡ self.old) }
     {
