@@ -111,36 +111,51 @@ fn add(chance: &mut Chance, lines: &mut Vec<Line>, line: Line) -> Result<(), All
     Ok(())
 }
 
-/// Adds a set of some targets, in face I and then back in face II.
+/// Adds a reading of each of these targets in this face.
+fn add_face(
+    chance: &mut Chance,
+    lines: &mut Vec<Line>,
+    targets: &[u32],
+    is_second: bool,
+) -> Result<(), AllocError> {
+    for target in targets.iter() {
+        let line = reading_line(chance, *target, is_second);
+        add(chance, lines, line)?;
+    }
+    Ok(())
+}
+
+/// Adds a set of one to three targets, in face I and then back in face II.
 fn add_set(chance: &mut Chance, lines: &mut Vec<Line>) -> Result<(), AllocError> {
     let number = 1 + chance.below(6);
     add(chance, lines, code_line(20, number))?;
     let first = chance.below(3);
-    let count = 1 + chance.below(3);
-    for place in 0..count {
-        let line = reading_line(chance, first + place, false);
-        add(chance, lines, line)?;
-    }
-    for place in 0..count {
-        let line = reading_line(chance, first + (count - 1 - place), true);
-        add(chance, lines, line)?;
-    }
+    let there = [first, first + 1, first + 2];
+    let back = [first + 2, first + 1, first];
+    let count = 1 + chance.below(3) as usize;
+    add_face(chance, lines, &there[..count], false)?;
+    add_face(chance, lines, &back[3 - count..], true)?;
     if chance.below(2) == 0 {
         add(chance, lines, code_line(30, 0))?;
     }
     Ok(())
 }
 
-/// A file of some stations.
+/// Adds a station of up to three sets.
+fn add_station(chance: &mut Chance, lines: &mut Vec<Line>) -> Result<(), AllocError> {
+    let name = chance.below(3);
+    add(chance, lines, code_line(10, name))?;
+    for _ in 0..chance.below(4) {
+        add_set(chance, lines)?;
+    }
+    Ok(())
+}
+
+/// A file of one to three stations.
 fn made_file(alloc: Global, chance: &mut Chance) -> Result<Vec<Line>, AllocError> {
     let mut lines = Vec::new(alloc);
-    let stations = 1 + chance.below(3);
-    for _ in 0..stations {
-        let name = chance.below(3);
-        add(chance, &mut lines, code_line(10, name))?;
-        for _ in 0..chance.below(4) {
-            add_set(chance, &mut lines)?;
-        }
+    for _ in 0..1 + chance.below(3) {
+        add_station(chance, &mut lines)?;
     }
     Ok(lines)
 }
@@ -157,6 +172,20 @@ fn push_word(text: &mut Vec<u8>, head: &[u8], number: u32) -> Result<(), AllocEr
     Ok(())
 }
 
+/// Appends so many words of an angle.
+fn push_angles(
+    text: &mut Vec<u8>,
+    index: u8,
+    count: u32,
+    unit: u8,
+    angle: u32,
+) -> Result<(), AllocError> {
+    for _ in 0..count {
+        push_word(text, &[b'2', index, b'.', b'1', b'0', unit, b'+'], angle)?;
+    }
+    Ok(())
+}
+
 /// The bytes of a line.
 fn text_of(alloc: Global, line: &Line) -> Result<Vec<u8>, AllocError> {
     let mut text = Vec::new(alloc);
@@ -168,20 +197,8 @@ fn text_of(alloc: Global, line: &Line) -> Result<Vec<u8>, AllocError> {
     for _ in 0..line.names {
         push_word(&mut text, b"42....+", line.number)?;
     }
-    for _ in 0..line.directions {
-        push_word(
-            &mut text,
-            &[b'2', b'1', b'.', b'1', b'0', line.unit, b'+'],
-            line.hz,
-        )?;
-    }
-    for _ in 0..line.zeniths {
-        push_word(
-            &mut text,
-            &[b'2', b'2', b'.', b'1', b'0', line.zenith_unit, b'+'],
-            line.zenith,
-        )?;
-    }
+    push_angles(&mut text, b'1', line.directions, line.unit, line.hz)?;
+    push_angles(&mut text, b'2', line.zeniths, line.zenith_unit, line.zenith)?;
     Ok(text)
 }
 
