@@ -1,13 +1,13 @@
 -- The next line of what is in hand and what the source gives.
-use Rattle.std.proofs.Common.{◌≡◌, ℕ, zero, suc, ◌+◌, ◌-◌, ◌<◌, ◌≤◌, Bool, true, false, cond, List, [], ◌∷◌, ◌++◌, length, take, drop, Option, None, Some, refl, sym, ap, subst, ◌∙◌, arith, append_assoc, add-one, length-take, length-append, drop-cons}
+use Rattle.std.proofs.Common.{◌≡◌, ℕ, zero, suc, ◌+◌, ◌-◌, ◌<◌, ◌≤◌, Bool, true, false, cond, List, [], ◌∷◌, ◌++◌, length, take, drop, Option, None, Some, refl, sym, ap, subst, ◌∙◌, arith, append_assoc, add-one, length-take, length-drop, length-append, drop-cons, drop-drop, ◌⊎◌, inl, inr}
 use Rattle.std.specs.Prelude.{slice_index}
-use Rattle.std.proofs.lemmas.List.{take-append-drop, take-take, take_all, get_or-take, append-nil}
+use Rattle.std.proofs.lemmas.List.{take-append-drop, take-take, take_all, get_or-take, get_or-drop, append-nil}
 use Rattle.std.proofs.lemmas.List.Elements.{All-nil, All-take}
 use Rattle.std.proofs.lemmas.Bool.{true≢false}
 use Rattle.byte_ends.specs.Source.{Told, HasBrokenOff}
 use Rattle.gsi_file.specs.declared.file_fault.FileKind.TheVariants.{Read, FileTooLong, LineTooLong}
 use Rattle.gsi_file.specs.Parts.{is_line_end, has_ink, HasNoEnd}
-use Rattle.gsi_file.specs.FileAnswers.{answers_within}
+use Rattle.gsi_file.specs.FileAnswers.{answers_within, line_before}
 use Rattle.gsi_file.specs.Filling.{Grows, FailsTold}
 use Rattle.gsi_file.specs.Finding.{answers_in, SameAnswers, AnswersAre, AnswersBegin, HasFound, BreaksOff}
 use Rattle.gsi_file.proofs.FirstBytes.{with_line, answers_end, answers_failed, answers_line, answers_long_file, answers_long_line}
@@ -138,6 +138,25 @@ passes (Some a) (Some b) room h0 left line h lt less end ink s =
     part_ended a b room h0 left line h lt less end s
     ∙ ap (λ (t : Bool). record { lines = cond t (take line h ∷ o.lines) o.lines; last = o.last }) ink
 
+-- no byte, so no end
+pub none_plain : (h : List ℕ) → HasNoEnd (take 0 h)
+none_plain h = All-nil (λ b. is_line_end b ≡ false)
+
+-- An end behind an end stands after an empty part, which is passed over.
+past_next_end : (told0 told : Option Told) (room : ℕ) (h0 part : List ℕ) (left line : ℕ) (h : List ℕ) → line + 1 < length h → line + 1 < left → is_line_end (slice_index h (line + 1)) ≡ true →
+    AnswersBegin told0 room h0 told part (left - (line + 1)) (drop (line + 1) h) → AnswersBegin told0 room h0 told part (left - (line + 2)) (drop (line + 2) h)
+past_next_end None told room h0 part left line h lt less end begin = tt
+past_next_end (Some a) None room h0 part left line h lt less end begin = begin
+past_next_end (Some a) (Some b) room h0 part left line h lt less end begin =
+    let left1 = left - (line + 1) in
+    let h1 = drop (line + 1) h in
+    let s : Searching (Some b) (Some b) left1 h1 left1 0 h1 = record { short = omega arith; inside = omega arith; fits = omega arith; most = omega arith; plain = none_plain h1; same = refl } in
+    let here : is_line_end (slice_index h1 0) ≡ true = ap is_line_end (get_or-drop (line + 1) h 0 0 ∙ ap (λ k. slice_index h k) (omega arith)) ∙ end in
+    begin
+    ∙ ap (line_before part) (part_ended b b left1 h1 left1 0 h1 (omega (arith, length-drop (line + 1) h)) (omega arith) here s)
+    ∙ ap (λ zs. line_before part (answers_in (left1 - 1) zs b)) (drop-drop 1 (line + 1) h ∙ ap (λ k. drop k h) (omega arith))
+    ∙ ap (λ n. line_before part (answers_in n (drop (line + 2) h) b)) (omega arith)
+
 -- ink needs a byte
 pub some_byte : (line : ℕ) (h : List ℕ) → has_ink (take line h) ≡ true → 0 < line
 some_byte zero h e = let f : false ≡ true = e in cc
@@ -153,12 +172,19 @@ ends_by told0 told told' room h0 left line h h' n ink e z i s g =
 pub grown_length : (told told' : Option Told) (h h' : List ℕ) (n : ℕ) → Grows told told' h h' n → length h ≤ length h'
 grown_length told told' h h' n g = omega (arith, ap length g.now, length-append h g.given)
 
--- the line found by its end
-pub found_ended : (told0 told : Option Told) (room : ℕ) (h0 : List ℕ) (left line : ℕ) (h : List ℕ) → line < length h → line < left → is_line_end (slice_index h line) ≡ true → has_ink (take line h) ≡ true → Searching told0 told room h0 left line h →
-    HasFound told0 told room h0 h (record { line = line; used = line + 1; room = left - (line + 1); last = false })
-found_ended told0 told room h0 left line h lt less end ink s =
+-- the line found by its end, which is used up with it, and so may be the end behind it
+pub found_ended : (told0 told : Option Told) (room : ℕ) (h0 : List ℕ) (left line used : ℕ) (h : List ℕ) → line < length h → line < left → used ≤ length h → used ≤ left → is_line_end (slice_index h line) ≡ true → has_ink (take line h) ≡ true
+    → (used ≡ line + 1) ⊎ ((used ≡ line + 2) × (is_line_end (slice_index h (line + 1)) ≡ true)) → Searching told0 told room h0 left line h →
+    HasFound told0 told room h0 h (record { line = line; used = used; room = left - used; last = false })
+found_ended told0 told room h0 left line used h lt less inside fits end ink next s =
     let some : 0 < line = some_byte line h ink in
-    record { line = omega arith; used = omega arith; ended = λ e. omega arith; takes = omega (arith, s.most); told = finds told0 told room h0 left line h lt less end ink s }
+    let begin = finds told0 told room h0 left line h lt less end ink s in
+    let more : line < used = elim next [ inl one ↦ omega (arith, one) | inr two ↦ omega (arith, two.0) ] in
+    let after : AnswersBegin told0 room h0 told (take line h) (left - used) (drop used h) = elim next [
+      | inl one ↦ subst (λ (k : ℕ). AnswersBegin told0 room h0 told (take line h) (left - k) (drop k h)) (sym one) begin
+      | inr two ↦ subst (λ (k : ℕ). AnswersBegin told0 room h0 told (take line h) (left - k) (drop k h)) (sym two.0) (past_next_end told0 told room h0 (take line h) left line h (omega (arith, two.0)) (omega (arith, two.0)) two.1 begin)
+    ] in
+    record { line = omega arith; used = inside; ended = λ e. more; takes = omega (arith, s.most, more, some); told = after }
 
 -- the line found by the end of the source
 pub found_at_end : (told0 told told' : Option Told) (room : ℕ) (h0 : List ℕ) (left line : ℕ) (h h' : List ℕ) (n : ℕ) → line ≡ length h → n ≡ 0 → has_ink (take line h') ≡ true → Searching told0 told room h0 left line h → Grows told told' h h' n →
@@ -166,7 +192,3 @@ pub found_at_end : (told0 told told' : Option Told) (room : ℕ) (h0 : List ℕ)
 found_at_end told0 told told' room h0 left line h h' n e z ink s g =
     let some : 0 < line = some_byte line h' ink in
     record { line = omega arith; used = omega (arith, grown_length told told' h h' n g); ended = λ e. absurd (true≢false e); takes = omega (arith, s.most, s.fits); told = ends_by told0 told told' room h0 left line h h' n true e z ink s g }
-
--- no byte, so no end
-pub none_plain : (h : List ℕ) → HasNoEnd (take 0 h)
-none_plain h = All-nil (λ b. is_line_end b ≡ false)

@@ -4,7 +4,7 @@
 //! looks no further than one byte past the longest line, nor past what may still be taken of the
 //! file, so at the same byte the file's limit comes first.
 
-ghost use Rattle.std.specs.Prelude.{◌≡◌, ◌<◌, ◌+◌, ◌-◌, true, false};
+ghost use Rattle.std.specs.Prelude.{◌≡◌, ◌≤◌, ◌-◌, true, false};
 ghost use Rattle.gsi_file.specs.Finding.{Finds};
 
 use crate::buffer::Buffer;
@@ -17,7 +17,7 @@ use byte_ends::Source;
 pub(crate) struct Found {
     /// How many bytes it has.
     pub(crate) line: usize,
-    /// How many bytes are used up with it: the byte that ends it, too.
+    /// How many bytes are used up with it: the byte that ends it, too, and a line feed behind that.
     pub(crate) used: usize,
     /// How many bytes of the file may be taken after it.
     pub(crate) room: usize,
@@ -26,19 +26,14 @@ pub(crate) struct Found {
 }
 
 /// A line that a byte has ended, where `left` bytes might be taken at its beginning.
-fn ended(line: usize, left: usize) -> Found
-    requires { line < left }
-    ensures { result ≡ record {
-      line = line;
-      used = line + 1;
-      room = left - (line + 1);
-      last = false;
-    } }
+fn ended(line: usize, used: usize, left: usize) -> Found
+    requires { used ≤ left }
+    ensures { result ≡ record { line = line; used = used; room = left - used; last = false } }
 {
     Found {
         line,
-        used: line + 1,
-        room: left - (line + 1),
+        used,
+        room: left - used,
         last: false,
     }
 }
@@ -70,7 +65,7 @@ pub(crate) fn find_line<R: Source>(
         line = buffer.line_end(line, seen);
         if line < seen {
             if buffer.has_ink(line) {
-                return Ok(Some(ended(line, left)));
+                return Ok(Some(ended(line, buffer.behind_end(line, seen), left)));
             }
             buffer.drop_front(line + 1);
             left -= line + 1;

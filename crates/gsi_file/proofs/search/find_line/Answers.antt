@@ -11,7 +11,7 @@ returns-then-has_ink g c =
     let h = c.search.buffer in
     let s : Searching (told c.args.reader.now) (told c.search.reader) c.args.room c.args.buffer.now c.search.left line h = record { short = omega arith; inside = omega arith; fits = omega arith; most = c.search.invariant.most; plain = c.line_end-line.ensures.plain; same = c.search.invariant.same } in
     subst (λ (f : Found). HasFound (told c.args.reader.now) (told c.search.reader) c.args.room c.args.buffer.now h f) (sym c.ended.ensures)
-    (found_ended _ _ _ _ c.search.left line h (omega arith) (omega arith) (c.line_end-line.ensures.end c.if-line-seen.true) (sym c.has_ink.ensures ∙ c.if-has_ink.true) s)
+    (found_ended _ _ _ _ c.search.left line c.behind_end.result h (omega arith) (omega arith) (omega (arith, c.behind_end.ensures.within)) (omega (arith, c.behind_end.ensures.within)) (c.line_end-line.ensures.end c.if-line-seen.true) (sym c.has_ink.ensures ∙ c.if-has_ink.true) c.behind_end.ensures.next s)
 
 pub search-preserved-then-line-seen : goal.search-preserved-then-line-seen
 search-preserved-then-line-seen g c =

@@ -1,6 +1,6 @@
 use Rattle.std.proofs.Common.{arith, ◌<◌}
 use Rattle.gsi_word.proofs.DecimalLaws.{below_fifteen}
-use Rattle.gsi_word.proofs.decimal.decimal_number.Goals as goal
+use Rattle.gsi_word.proofs.decimal.number_one_by_one.Goals as goal
 
 pub overflow_mul-number : goal.overflow_mul-number
 overflow_mul-number c =

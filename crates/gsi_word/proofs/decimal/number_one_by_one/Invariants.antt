@@ -2,7 +2,7 @@ use Rattle.std.proofs.Common.{◌≡◌, ◌^◌, ◌<◌, take, true}
 use Rattle.std.specs.Char.{is_ascii_digit}
 use Rattle.std.specs.List.{list_all}
 use Rattle.gsi_word.specs.Angles.{decimal_value}
-use Rattle.gsi_word.proofs.decimal.decimal_number.Given as goal
+use Rattle.gsi_word.proofs.decimal.number_one_by_one.Given as goal
 
 abbrev pub invariant-loop-byte : goal.invariant-loop-byte
 invariant-loop-byte l = record {
