@@ -87,7 +87,8 @@ impl<R: Source> Lines<R> {
         }
     }
 
-    /// The reader, as the reads have left it: it may have given bytes after the last line that came.
+    /// The reader, as the reads have left it: it may have given bytes after the last line that
+    /// came.
     pub fn into_inner(self) -> R
         ensures { result ≡ reader_of self }
     {
@@ -99,6 +100,7 @@ impl<R: Source> Lines<R> {
     /// After the end each call answers `None`, and after a fault the same fault. It takes no
     /// memory: the line stands in the buffer that `new` took, so the next can't be asked for while
     /// it is held.
+    #[inline(always)]
     pub fn next(&mut self) -> Result<Option<Line<'_>>, FileFault>
         ensures* after { sem 𝓛 (Rests (the_row R.row) self.entry (λ new.
             Answers (to_come R.told self.old) result (to_come R.told new)

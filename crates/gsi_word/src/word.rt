@@ -108,6 +108,7 @@ impl<'a> Word<'a> {
     }
 
     /// The angle that the word holds, in units of 0.00001 gon, from 0 to 39,999,999.
+    #[inline(always)]
     pub fn angle(&self) -> Result<u32, AngleFault>
         ensures value { result ≡ angle_of self.now }
         ensures within_turn { IfOk result (λ units. units < 40000000) }
