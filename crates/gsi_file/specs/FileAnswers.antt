@@ -22,7 +22,8 @@ abbrev pub is_within : ℕ → List ℕ → Bool
 is_within most bytes =
     nat_le (length bytes) most && list_all (λ part. nat_le (length part) LONGEST_LINE) (parts bytes)
 
--- Byte x, from 1, is the first that breaks a limit: with it the bytes break one, and fewer break none.
+-- Byte x, from 1, is the first that breaks a limit: with it the bytes break one, and fewer break
+-- none.
 pub record IsFirstBreak (most : ℕ) (bytes : List ℕ) (x : ℕ) : Type 0 where
   pub inside : x ≤ length bytes
   pub breaks : is_within most (take x bytes) ≡ false
@@ -37,8 +38,8 @@ least p (suc last) = if p 0 then Some 0 else option_map (λ n. suc n) (least (λ
 abbrev pub first_break : ℕ → List ℕ → Option ℕ
 first_break most bytes = least (λ n. not (is_within most (take n bytes))) (length bytes)
 
--- where byte x is the first that breaks a limit: the lines that ended before it, and then the fault;
--- at one byte the file's limit comes first
+-- where byte x is the first that breaks a limit: the lines that ended before it, and then the
+-- fault; at one byte the file's limit comes first
 abbrev pub answers_before : ℕ → List ℕ → ℕ → FileAnswers
 answers_before most bytes x = record {
   lines = ended_lines (take (x - 1) bytes);

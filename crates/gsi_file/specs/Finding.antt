@@ -32,9 +32,10 @@ FindsLine old new room hand hand' line used room' true =
 FindsLine old new room hand hand' line used room' false =
     AnswersBegin old room hand new (take line hand') room' (drop used hand')
 
--- A line was found. It takes two bytes of those that may be taken, or all. Where it is not the last,
--- a byte of those in hand ends it.
-pub record HasFound (old new : Option Told) (room : ℕ) (hand hand' : List ℕ) (f : Found) : Type 0 where
+-- A line was found. It takes two bytes of those that may be taken, or all. Where it is not the
+-- last, a byte of those in hand ends it.
+pub record HasFound (old new : Option Told) (room : ℕ) (hand hand' : List ℕ) (f : Found)
+    : Type 0 where
   pub line : f.line ≤ f.used
   pub used : f.used ≤ length hand'
   pub ended : f.last ≡ false → f.line < f.used
@@ -46,7 +47,8 @@ abbrev pub BreaksOff : Option Told → Option Told → Type 0
 BreaksOff old new = WhereTold old new (λ o n. HasBrokenOff n)
 
 -- A line was found, or the end, or a fault of the file; a read fails only at the end of the source.
-abbrev pub Finds : Option Told → Option Told → ℕ → List ℕ → List ℕ → Result (Option Found) FileKind → Type 0
+abbrev pub Finds : Option Told → Option Told → ℕ → List ℕ → List ℕ
+    → Result (Option Found) FileKind → Type 0
 Finds old new room hand hand' (Ok (Some f)) = HasFound old new room hand hand' f
 Finds old new room hand hand' (Ok None) = AnswersAre old room hand new (only None)
 Finds old new room hand hand' (Err kind) =

@@ -59,7 +59,8 @@ gives_none (Err e) = true
 
 -- An answer that is no line settles the end or a fault. A line that no byte ended settles the end
 -- too. Once one is settled the reader is not asked again.
-pub record AsksNoMore {A E R : Type 0} (result : Result (Option A) E) (old new : Lines R) : Type 0 where
+pub record AsksNoMore {A E R : Type 0} (result : Result (Option A) E) (old new : Lines R)
+    : Type 0 where
   pub settles : gives_none result ≡ true → is_settled new ≡ true
   pub last : gives_none result ≡ false → bytes_in_hand new ≡ line_found new → is_settled new ≡ true
   pub unread : is_settled old ≡ true → reader_of new ≡ reader_of old
@@ -76,7 +77,8 @@ IsReadFault (Ok x) = ⊥
 IsReadFault (Err (At number kind)) = IsRead kind
 IsReadFault (Err Memory) = ⊥
 
--- A failed read, where nothing was settled before it, comes of a reader that has given all its bytes
--- and fails, where it tells.
-abbrev pub FailsAtItsEnd : {A : Type 0} → Result (Option A) FileFault → Bool → Option Told → Option Told → Type 0
+-- A failed read, where nothing was settled before it, comes of a reader that has given all its
+-- bytes and fails, where it tells.
+abbrev pub FailsAtItsEnd : {A : Type 0} → Result (Option A) FileFault → Bool
+    → Option Told → Option Told → Type 0
 FailsAtItsEnd result settled old new = IsReadFault result → settled ≡ false → BreaksOff old new

@@ -29,7 +29,8 @@ pub fn no_fault_in_a_block()
 /// Each line is a block or has a fault.
 pub fn block_or_fault()
     ensures { (line : List ℕ)
-        → ((block : GsiBlock) × IsBlock line block) ⊎ ((fault : LineFault) × IsLineFault line fault) }
+        → ((block : GsiBlock) × IsBlock line block)
+        ⊎ ((fault : LineFault) × IsLineFault line fault) }
 {}
 
 /// A content that is not empty has one name, the content without its leading zeros.
