@@ -308,9 +308,12 @@ fn the_words_come_in_order(rt: HostRuntime) {
 
 #[test]
 fn digits_alone_are_a_number(rt: HostRuntime) {
-    let rows: [(&[u8], Option<u64>); 6] = [
+    let rows: [(&[u8], Option<u64>); 9] = [
         (b"0", Some(0)),
         (b"0012", Some(12)),
+        (b"12345678", Some(12_345_678)),
+        (b"1234567:", None),
+        (b"/2345678", None),
         (b"9999999999999999", Some(9_999_999_999_999_999)),
         (b"", Some(0)),
         (b"1 ", None),
