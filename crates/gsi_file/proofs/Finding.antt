@@ -1,10 +1,11 @@
 -- The next line of what is in hand and what the source gives.
-use Rattle.std.proofs.Common.{◌≡◌, ℕ, zero, suc, ◌+◌, ◌-◌, ◌<◌, ◌≤◌, Bool, true, false, cond, List, [], ◌∷◌, ◌++◌, length, take, drop, Option, None, Some, refl, sym, ap, subst, ◌∙◌, arith, append_assoc, add-one, length-take, length-drop, length-append, drop-cons, drop-drop, ◌⊎◌, inl, inr}
+use Rattle.std.proofs.Common.{◌≡◌, ℕ, zero, suc, ◌+◌, ◌-◌, ◌<◌, ◌≤◌, Bool, true, false, cond, List, [], ◌∷◌, ◌++◌, length, take, drop, All, Option, None, Some, refl, sym, ap, subst, ◌∙◌, arith, append_assoc, add-one, length-take, length-drop, length-append, drop-cons, drop-drop, ◌⊎◌, inl, inr}
 use Rattle.std.specs.Prelude.{slice_index}
 use Rattle.std.proofs.lemmas.List.{take-append-drop, take-take, take_all, get_or-take, get_or-drop, append-nil}
 use Rattle.std.proofs.lemmas.List.Elements.{All-nil, All-take}
-use Rattle.std.proofs.lemmas.Bool.{true≢false}
+use Rattle.std.proofs.lemmas.Bool.{true≢false, false≢true}
 use Rattle.byte_ends.specs.Source.{Told, HasBrokenOff}
+use Rattle.gsi_word.specs.Words.{IsPrintable}
 use Rattle.gsi_file.specs.declared.file_fault.FileKind.TheVariants.{Read, FileTooLong, LineTooLong}
 use Rattle.gsi_file.specs.Parts.{is_line_end, has_ink, HasNoEnd}
 use Rattle.gsi_file.specs.FileAnswers.{answers_within, line_before}
@@ -173,10 +174,10 @@ pub grown_length : (told told' : Option Told) (h h' : List ℕ) (n : ℕ) → Gr
 grown_length told told' h h' n g = omega (arith, ap length g.now, length-append h g.given)
 
 -- the line found by its end, which is used up with it, and so may be the end behind it
-pub found_ended : (told0 told : Option Told) (room : ℕ) (h0 : List ℕ) (left line used : ℕ) (h : List ℕ) → line < length h → line < left → used ≤ length h → used ≤ left → is_line_end (slice_index h line) ≡ true → has_ink (take line h) ≡ true
+pub found_ended : (told0 told : Option Told) (room : ℕ) (h0 : List ℕ) (left line used : ℕ) (printable : Bool) (h : List ℕ) → line < length h → line < left → used ≤ length h → used ≤ left → is_line_end (slice_index h line) ≡ true → has_ink (take line h) ≡ true → (printable ≡ true → All IsPrintable (take line h))
     → (used ≡ line + 1) ⊎ ((used ≡ line + 2) × (is_line_end (slice_index h (line + 1)) ≡ true)) → Searching told0 told room h0 left line h →
-    HasFound told0 told room h0 h (record { line = line; used = used; room = left - used; last = false })
-found_ended told0 told room h0 left line used h lt less inside fits end ink next s =
+    HasFound told0 told room h0 h (record { line = line; used = used; room = left - used; last = false; printable = printable })
+found_ended told0 told room h0 left line used printable h lt less inside fits end ink tested next s =
     let some : 0 < line = some_byte line h ink in
     let begin = finds told0 told room h0 left line h lt less end ink s in
     let more : line < used = elim next [ inl one ↦ omega (arith, one) | inr two ↦ omega (arith, two.0) ] in
@@ -184,11 +185,11 @@ found_ended told0 told room h0 left line used h lt less inside fits end ink next
       | inl one ↦ subst (λ (k : ℕ). AnswersBegin told0 room h0 told (take line h) (left - k) (drop k h)) (sym one) begin
       | inr two ↦ subst (λ (k : ℕ). AnswersBegin told0 room h0 told (take line h) (left - k) (drop k h)) (sym two.0) (past_next_end told0 told room h0 (take line h) left line h (omega (arith, two.0)) (omega (arith, two.0)) two.1 begin)
     ] in
-    record { line = omega arith; used = inside; ended = λ e. more; takes = omega (arith, s.most, more, some); told = after }
+    record { line = omega arith; used = inside; ended = λ e. more; takes = omega (arith, s.most, more, some); told = after; printable = tested }
 
 -- the line found by the end of the source
 pub found_at_end : (told0 told told' : Option Told) (room : ℕ) (h0 : List ℕ) (left line : ℕ) (h h' : List ℕ) (n : ℕ) → line ≡ length h → n ≡ 0 → has_ink (take line h') ≡ true → Searching told0 told room h0 left line h → Grows told told' h h' n →
-    HasFound told0 told' room h0 h' (record { line = line; used = line; room = 0; last = true })
+    HasFound told0 told' room h0 h' (record { line = line; used = line; room = 0; last = true; printable = false })
 found_at_end told0 told told' room h0 left line h h' n e z ink s g =
     let some : 0 < line = some_byte line h' ink in
-    record { line = omega arith; used = omega (arith, grown_length told told' h h' n g); ended = λ e. absurd (true≢false e); takes = omega (arith, s.most, s.fits); told = ends_by told0 told told' room h0 left line h h' n true e z ink s g }
+    record { line = omega arith; used = omega (arith, grown_length told told' h h' n g); ended = λ e. absurd (true≢false e); takes = omega (arith, s.most, s.fits); told = ends_by told0 told told' room h0 left line h h' n true e z ink s g; printable = λ e. absurd (false≢true e) }

@@ -1,6 +1,7 @@
 -- What looking for the next line does, where the source tells.
-use Rattle.std.specs.Prelude.{◌≡◌, ℕ, ◌+◌, ◌/◌, ◌<◌, ◌≤◌, Bool, true, false, List, ◌++◌, length, take, drop, Option, Some, None, Result, Ok, Err}
+use Rattle.std.specs.Prelude.{◌≡◌, ℕ, ◌+◌, ◌/◌, ◌<◌, ◌≤◌, Bool, true, false, List, ◌++◌, All, length, take, drop, Option, Some, None, Result, Ok, Err}
 use Rattle.byte_ends.specs.Source.{Told, WhereTold, HasBrokenOff}
+use Rattle.gsi_word.specs.Words.{IsPrintable}
 use Rattle.gsi_file.specs.declared.file_fault.FileKind.{FileKind}
 use Rattle.gsi_file.specs.declared.search.Found.{Found}
 use Rattle.gsi_file.specs.FileAnswers.{FileAnswers, answers_within, line_before}
@@ -33,7 +34,7 @@ FindsLine old new room hand hand' line used room' false =
     AnswersBegin old room hand new (take line hand') room' (drop used hand')
 
 -- A line was found. It takes two bytes of those that may be taken, or all. Where it is not the
--- last, a byte of those in hand ends it.
+-- last, a byte of those in hand ends it. Where its bytes are said to be printable, they are.
 pub record HasFound (old new : Option Told) (room : ℕ) (hand hand' : List ℕ) (f : Found)
     : Type 0 where
   pub line : f.line ≤ f.used
@@ -41,6 +42,7 @@ pub record HasFound (old new : Option Told) (room : ℕ) (hand hand' : List ℕ)
   pub ended : f.last ≡ false → f.line < f.used
   pub takes : (f.room + 1) / 2 < (room + 1) / 2
   pub told : FindsLine old new room hand hand' f.line f.used f.room f.last
+  pub printable : f.printable ≡ true → All IsPrintable (take f.line hand')
 
 -- The source has given all its bytes and fails, where it tells.
 abbrev pub BreaksOff : Option Told → Option Told → Type 0

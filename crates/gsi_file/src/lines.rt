@@ -4,7 +4,8 @@
 //! after that the block is lent, and it is seen by the shape that the test has found, so that no
 //! line is read twice.
 
-ghost use Rattle.std.specs.Prelude.{◌≤◌, ◌+◌, ◌/◌, List, ℕ, IfOk, IfErr};
+ghost use Rattle.std.specs.Prelude.{◌≡◌, ◌≤◌, ◌+◌, ◌/◌, List, ℕ, All, true, IfOk, IfErr};
+ghost use Rattle.gsi_word.specs.Words.{IsPrintable};
 ghost use Rattle.gsi_word.specs.Shapes.{IsShape};
 ghost use Rattle.gsi_file.specs.ToCome.{IsFileFault};
 ghost use Rattle.gsi_file.specs.declared.limits.TheConstants.{LONGEST_FILE};
@@ -17,7 +18,7 @@ use crate::line::Line;
 use crate::out_of_memory::OutOfMemory;
 use crate::search::find_line;
 use byte_ends::Source;
-use gsi_word::{Shape, block_in, read_shape};
+use gsi_word::{Shape, block_in, check_printable, read_words};
 use std::alloc::Global;
 
 /// Whether more is to come.
@@ -45,13 +46,20 @@ pub struct Lines<R> {
     ghost counted: { count + (room + 1) / 2 ≤ LONGEST_FILE / 2 },
 }
 
-/// The shape of the block that a line is, or the line's fault.
+/// The shape of the block that a line is, or the line's fault. Its bytes are tested where they
+/// are not known to be printable.
 #[inline(always)]
-fn check_line(line: &[u8]) -> Result<Shape, FileKind>
+fn check_line(line: &[u8], printable: bool) -> Result<Shape, FileKind>
+    requires { printable ≡ true → All IsPrintable line.now }
     ensures shape { IfOk result (λ s. IsShape s line.now) }
     ensures fault { IfErr result (IsFileFault line.now) }
 {
-    match read_shape(line) {
+    if !printable {
+        if let Err(fault) = check_printable(line) {
+            return Err(FileKind::from(fault));
+        }
+    }
+    match read_words(line) {
         Ok(shape) => Ok(shape),
         Err(fault) => Err(FileKind::from(fault)),
     }
@@ -120,6 +128,7 @@ impl<R: Source> Lines<R> {
     }
 
     /// Finds the next line and counts it, and answers the shape of its block.
+    #[inline(always)]
     fn advance(&mut self) -> Result<Option<Shape>, FileFault>
         ensures finds { FindsNext (to_come R.told self.old) result (to_come R.told self.new)
             (line_found self.new) }
@@ -159,7 +168,7 @@ impl<R: Source> Lines<R> {
         };
         self.hand.hold_line(found);
         self.room = found.room;
-        let shape = match check_line(self.hand.line()) {
+        let shape = match check_line(self.hand.line(), found.printable) {
             Ok(shape) => shape,
             Err(kind) => return Err(kind),
         };

@@ -10,6 +10,7 @@ ghost use Rattle.gsi_file.specs.Finding.{Finds};
 use crate::buffer::Buffer;
 use crate::file_fault::FileKind;
 use crate::limits::LONGEST_LINE;
+use crate::line_end::LineEnd;
 use byte_ends::Source;
 
 /// A numbered line at the front of what is in hand.
@@ -23,30 +24,46 @@ pub(crate) struct Found {
     pub(crate) room: usize,
     /// Whether the source has ended with it.
     pub(crate) last: bool,
+    /// Whether all its bytes were found to be printable.
+    pub(crate) printable: bool,
 }
 
 /// A line that a byte has ended, where `left` bytes might be taken at its beginning.
-fn ended(line: usize, used: usize, left: usize) -> Found
+fn ended(end: LineEnd, used: usize, left: usize) -> Found
     requires { used ≤ left }
-    ensures { result ≡ record { line = line; used = used; room = left - used; last = false } }
+    ensures { result ≡ record {
+      line = end.place;
+      used = used;
+      room = left - used;
+      last = false;
+      printable = end.printable;
+    } }
 {
     Found {
-        line,
+        line: end.place,
         used,
         room: left - used,
         last: false,
+        printable: end.printable,
     }
 }
 
 /// A line that the source has ended with.
 fn at_end(line: usize) -> Found
-    ensures { result ≡ record { line = line; used = line; room = 0; last = true } }
+    ensures { result ≡ record {
+      line = line;
+      used = line;
+      room = 0;
+      last = true;
+      printable = false;
+    } }
 {
     Found {
         line,
         used: line,
         room: 0,
         last: true,
+        printable: false,
     }
 }
 
@@ -62,10 +79,11 @@ pub(crate) fn find_line<R: Source>(
     let mut line = 0;
     'search: loop {
         let seen = buffer.len().min(left).min(LONGEST_LINE + 1);
-        line = buffer.line_end(line, seen);
+        let end = buffer.line_end(line, seen);
+        line = end.place;
         if line < seen {
             if buffer.has_ink(line) {
-                return Ok(Some(ended(line, buffer.behind_end(line, seen), left)));
+                return Ok(Some(ended(end, buffer.behind_end(line, seen), left)));
             }
             buffer.drop_front(line + 1);
             left -= line + 1;

@@ -29,7 +29,7 @@ pub use index::{
     CODE_INFORMATION, CODE_NUMBER, HORIZONTAL_DIRECTION, POINT_NUMBER, VERTICAL_ANGLE,
 };
 pub use line_fault::LineFault;
-pub use reading::{block_in, read_block, read_shape};
+pub use reading::{block_in, check_printable, read_block, read_words};
 pub use shape::Shape;
 pub use word::Word;
 pub use words::Words;

@@ -46,18 +46,37 @@ pub fn read_block(line: &[u8]) -> Result<Block<'_>, LineFault>
     Ok(block_in(line, shape))
 }
 
-/// The shape of the block that a line is, or the line's first fault, for a caller that looks at the
-/// words later.
-///
-/// The line comes without its end, as for [`read_block`].
+/// The shape of the block that a line is, or the line's first fault.
 #[inline(always)]
-pub fn read_shape(line: &[u8]) -> Result<Shape, LineFault>
+fn read_shape(line: &[u8]) -> Result<Shape, LineFault>
     ensures shape { IfOk result (λ s. IsShape s line.now) }
     ensures fault { IfErr result (IsLineFault line.now) }
 {
-    if let Err(at) = check_bytes(line) {
-        return Err(LineFault::Byte(at));
+    check_printable(line)?;
+    read_words(line)
+}
+
+/// Whether all bytes may stand in a line, or the fault of the line, at the first that may not.
+pub fn check_printable(line: &[u8]) -> Result<(), LineFault>
+    ensures printable { OnOk result (All IsPrintable line.now) }
+    ensures fault { IfErr result (IsLineFault line.now) }
+{
+    match check_bytes(line) {
+        Ok(()) => Ok(()),
+        Err(at) => Err(LineFault::Byte(at)),
     }
+}
+
+/// The shape of the block that a line is, or the line's first fault, where all its bytes are known
+/// to be printable: for a caller that has tested them, and looks at the words later.
+///
+/// The line comes without its end, as for [`read_block`].
+#[inline(always)]
+pub fn read_words(line: &[u8]) -> Result<Shape, LineFault>
+    requires { All IsPrintable line.now }
+    ensures shape { IfOk result (λ s. IsShape s line.now) }
+    ensures fault { IfErr result (IsLineFault line.now) }
+{
     let bytes = word_bytes(line);
     let width = width_of(line);
     match count_words(bytes, width) {
@@ -200,12 +219,8 @@ fn after_word(bytes: &[u8], width: u8) -> &[u8]
     requires { 7 + width ≤ length bytes.now }
     ensures { result.now ≡ drop (8 + width) bytes.now }
 {
-    let size = CONTENT + width as usize;
-    if bytes.len() == size {
-        &[]
-    } else {
-        &bytes[size + 1..]
-    }
+    let behind = CONTENT + width as usize + 1;
+    &bytes[behind.min(bytes.len())..]
 }
 
 /// Whether there are only blanks.

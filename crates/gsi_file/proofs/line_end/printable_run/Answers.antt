@@ -1,0 +1,17 @@
+use Rattle.std.proofs.Common.{ℕ, cond}
+use Rattle.std.specs.Prelude.{nat_lt}
+use Rattle.std.proofs.lemmas.Simd.{length-chunk, zip2_splat, zip2_splat_left, zip2_of_maps}
+use lib.Lanes.{chunk}
+use Rattle.gsi_file.proofs.Strays.{no_stray, run_is_short, run_is_printable}
+use Rattle.gsi_file.proofs.line_end.printable_run.Goals as goal
+
+pub returns : goal.returns
+returns c =
+    let bytes = c.args.bytes.now in
+    let load = chunk c.args.at 16 bytes in
+    let long = length-chunk c.args.at 16 bytes c.requires in
+    let lanes = zip2_of_maps _ _ _ load (zip2_splat {Y = ℕ} _ load 16 32 long) (zip2_splat_left (λ (a b : ℕ). cond (nat_lt a b) 255 0) 126 16 load long) in
+    record {
+      within = run_is_short bytes c.args.at c.requires c.first_set.result _ _ c.first_set.ensures lanes;
+      printable = run_is_printable bytes c.args.at c.requires c.first_set.result _ _ c.first_set.ensures lanes no_stray;
+    }
