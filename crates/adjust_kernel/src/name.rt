@@ -79,6 +79,15 @@ impl Name {
     {
         self.bytes() == bytes
     }
+
+    /// Whether another name is this one: all that is kept of both is compared at once, for no byte
+    /// of a name is 0.
+    #[inline(always)]
+    pub fn is_same(&self, other: &Name) -> bool
+        ensures { result ≡ bytes_eq self.now other.now }
+    {
+        self.bytes == other.bytes
+    }
 }
 
 impl fmt::Display for Name {
@@ -112,7 +121,7 @@ pub fn is_valid(name: &Name) -> bool
 pub fn same(a: Name, b: Name) -> bool
     ensures { IsTrue result ↔ (a ≡ b) }
 {
-    a == b
+    a.is_same(&b)
 }
 
 #[cfg(test)]

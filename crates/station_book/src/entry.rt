@@ -57,18 +57,11 @@ impl Model for Entry {
     }) };
 }
 
-/// Whether two names are one.
-pub(crate) fn is_same(a: &Name, b: &Name) -> bool
-    ensures { result ≡ bytes_eq a.now b.now }
-{
-    a.bytes() == b.bytes()
-}
-
 /// The place of the target of this name.
 fn position_of(targets: &[Name], name: &Name) -> Option<usize>
     ensures { result ≡ place_of name.now targets.now }
 {
-    targets.iter().position(|target| is_same(target, name))
+    targets.iter().position(|target| target.is_same(name))
 }
 
 /// Whether the target at this place has this name.
@@ -76,40 +69,51 @@ fn is_at(targets: &[Name], name: &Name, place: usize) -> bool
     ensures { result ≡ is_named name.now (slice_get targets.now place) }
 {
     match targets.get(place) {
-        Some(target) => is_same(target, name),
+        Some(target) => target.is_same(name),
         None => false,
+    }
+}
+
+/// The place beside this one: in face II the one before it, else the one after it.
+#[inline(always)]
+fn beside(place: usize, is_second: bool) -> usize {
+    if is_second {
+        place.wrapping_sub(1)
+    } else {
+        place.wrapping_add(1)
     }
 }
 
 /// The place of the target of this name, which is looked for first beside the one that was read
 /// last: targets are read in turn, and in face II mostly backwards.
+#[inline(always)]
 #[tactic(auto, using(crate::proofs::PlacedLaws::placed))]
-fn place_from(targets: &[Name], name: &Name, last: usize) -> Option<usize>
+fn place_from(targets: &[Name], name: &Name, last: usize, is_second: bool) -> Option<usize>
     requires { AllPairs (λ a b. a ≢ b) targets.now }
     ensures { result ≡ place_of name.now targets.now }
 {
-    let after = last.wrapping_add(1);
-    if is_at(targets, name, after) {
-        return Some(after);
+    let next = beside(last, is_second);
+    if is_at(targets, name, next) {
+        return Some(next);
     }
     if is_at(targets, name, last) {
         return Some(last);
     }
-    let before = last.wrapping_sub(1);
-    if is_at(targets, name, before) {
-        return Some(before);
+    let other = beside(last, !is_second);
+    if is_at(targets, name, other) {
+        return Some(other);
     }
     position_of(targets, name)
 }
 
 /// The place of the target of this name.
-fn place_of(targets: &[Name], name: &Name, last: usize) -> Option<usize>
+fn place_of(targets: &[Name], name: &Name, last: usize, is_second: bool) -> Option<usize>
     requires { AllPairs (λ a b. a ≢ b) targets.now }
     ensures place { result ≡ place_of name.now targets.now }
     ensures inside { IfSome result (λ i. i < length targets.now) }
     ensures absent { IfNone result (list_any (λ t. bytes_eq t name.now) targets.now ≡ false) }
 {
-    let place = place_from(targets, name, last);
+    let place = place_from(targets, name, last, is_second);
     place
 }
 
@@ -178,7 +182,7 @@ impl Entry {
         ensures memory { IfErr result (WantsOnly (is_new_to self.old reading)) }
         ensures err { OnErr result (self.new ≡ self.old) }
     {
-        match place_of(&self.targets, &reading.target, self.last) {
+        match place_of(&self.targets, &reading.target, self.last, reading.is_second) {
             Some(place) => {
                 let slot = self.slots[place];
                 match slot_fault(limits, slot, reading) {

@@ -13,7 +13,7 @@ ghost use Rattle.station_book.specs.Entries.{MayEnd, with_set, is_new_to, entry_
 ghost use Rattle.station_book.specs.Refusals.{ExplainsRefusal, WantsOnly};
 
 use crate::bounds::MOST_STATIONS;
-use crate::entry::{Entry, is_same};
+use crate::entry::Entry;
 use crate::fault::{BookKind, Refusal};
 use crate::limits::Limits;
 use crate::sight::Sighting;
@@ -91,7 +91,7 @@ impl Shelf {
         ensures { result ≡ list_any (λ e. bytes_eq name e.0) (last_done self.now.last) }
     {
         match &self.last {
-            Some((last, _)) => is_same(&name, last),
+            Some((last, _)) => name.is_same(last),
             None => false,
         }
     }
