@@ -1,9 +1,11 @@
 -- The name that a content holds is the content without its leading zeros.
-use Rattle.std.proofs.Common.{◌≡◌, ◌≢◌, ℕ, zero, suc, ◌<◌, ◌≤◌, Bool, true, false, eqb, List, [], ◌∷◌, ◌++◌, length, get_or, drop, replicate, ◌⊎◌, inl, inr, ◌↔◌, refl, sym, ap, subst, ◌∙◌, Option, Some, arith}
-use Rattle.std.specs.Prelude.{slice_get, if◌then◌else◌}
+use Rattle.std.proofs.Common.{◌≡◌, ◌≢◌, ℕ, zero, suc, ◌+◌, ◌<◌, ◌≤◌, Bool, true, false, cond, not, eqb, List, [], ◌∷◌, ◌++◌, length, get_or, drop, replicate, ◌⊎◌, inl, inr, ◌↔◌, refl, sym, ap, subst, ◌∙◌, Option, Some, arith}
+use Rattle.std.specs.Prelude.{slice_get, ◌==◌, if◌then◌else◌}
+use Rattle.std.specs.List.{prefix_len}
 use Rattle.std.proofs.lemmas.Bool.{eqb-true, eqb-false, eq-eqb, ne_eqb}
-use Rattle.std.proofs.lemmas.List.{length-append}
+use Rattle.std.proofs.lemmas.List.{length-append, take_all}
 use Rattle.std.proofs.lemmas.Option.{slice_get-get_or}
+use lib.Lanes.{chunk}
 use Rattle.gsi_word.specs.Names.{name_of, IsName}
 
 -- a zero that is not the last byte goes
@@ -45,3 +47,49 @@ name_is (b ∷ c ∷ bytes) some = more_bytes b c bytes (eqb b 48) refl (name_is
 pub name_known : (content name : List ℕ) → 0 < length content → IsName content name ↔ (name ≡ name_of content)
 name_known content name some =
     ((λ h. name_after_zeros h.zeros name h.some_byte h.bare ∙ ap name_of (sym h.text)), (λ e. subst (λ (r : List ℕ). IsName content r) (sym e) (name_is content some)))
+
+-- a content begins with no more zeros than it has, and where it begins with none, none goes
+first_kept : (bytes : List ℕ) → (0 ≡ prefix_len (λ b. b == 48) bytes) ⊎ (1 ≡ length bytes) → (length bytes ≤ 1) ⊎ (get_or bytes 0 0 ≢ 48)
+first_kept [] h = inl (omega arith)
+first_kept (b ∷ bytes) (inr one) = inl (omega (arith, one))
+first_kept (b ∷ bytes) (inl none) = split (b == 48) refl where
+  split : (t : Bool) → (b == 48) ≡ t → (length (b ∷ bytes) ≤ 1) ⊎ (b ≢ 48)
+  split true e = absurd (omega (arith, none ∙ ap (λ (t : Bool). cond t (1 + prefix_len (λ b. b == 48) bytes) 0) e))
+  split false e = inr (eqb-false b 48 e)
+
+abbrev zeros : List ℕ → ℕ
+zeros bytes = prefix_len (λ b. b == 48) bytes
+
+-- the zeros go that a content begins with, or where it is zeros alone, all but one
+pub name_behind : (n : ℕ) (bytes : List ℕ) → n ≤ zeros bytes → n < length bytes → (n ≡ zeros bytes) ⊎ (n + 1 ≡ length bytes) → drop n bytes ≡ name_of bytes
+name_behind zero bytes le lt h = name_kept bytes (first_kept bytes h)
+name_behind (suc n) [] le lt h = absurd (omega (arith, lt))
+name_behind (suc n) (b ∷ bytes) le lt h = split (name_behind n bytes) (b == 48) refl where
+  rest : zeros (b ∷ bytes) ≡ 1 + zeros bytes → (suc n ≡ zeros (b ∷ bytes)) ⊎ (suc n + 1 ≡ length (b ∷ bytes)) → (n ≡ zeros bytes) ⊎ (n + 1 ≡ length bytes)
+  rest more (inl is) = inl (omega (arith, is, more))
+  rest more (inr is) = inr (omega (arith, is))
+
+  split : (n ≤ zeros bytes → n < length bytes → (n ≡ zeros bytes) ⊎ (n + 1 ≡ length bytes) → drop n bytes ≡ name_of bytes) → (t : Bool) → (b == 48) ≡ t → drop n bytes ≡ name_of (b ∷ bytes)
+  split shorter false e = absurd (omega (arith, le, ap (λ (t : Bool). cond t (1 + zeros bytes) 0) e))
+  split shorter true e =
+      let more : zeros (b ∷ bytes) ≡ 1 + zeros bytes = ap (λ (t : Bool). cond t (1 + zeros bytes) 0) e in
+      shorter (omega (arith, le, more)) (omega (arith, lt)) (rest more h)
+      ∙ name_step (b ∷ bytes) (omega (arith, lt)) (eqb-true b 48 e)
+
+not_not : (t : Bool) → not (not t) ≡ t
+not_not true = refl
+not_not false = refl
+
+-- the bytes of a content that are no other than zeros, in a load of them all
+pub zeros_in_load : (n : ℕ) (bytes : List ℕ) → length bytes ≡ n → prefix_len (λ b. not (not (b == 48))) (chunk 0 n bytes) ≡ prefix_len (λ b. b == 48) bytes
+zeros_in_load n bytes e =
+    (λ i. prefix_len (λ b. not_not (b == 48) i) (chunk 0 n bytes)) ∙ ap (λ (xs : List ℕ). prefix_len (λ b. b == 48) xs) (take_all n bytes (omega (arith, e)))
+
+-- a content of either width has some byte
+pub some_byte : (content : List ℕ) → (length content ≡ 8) ⊎ (length content ≡ 16) → 0 < length content
+some_byte content (inl e) = omega (arith, e)
+some_byte content (inr e) = omega (arith, e)
+
+pub long_content : (content : List ℕ) → (length content ≡ 8) ⊎ (length content ≡ 16) → (length content ≡ 8 → ⊥) → length content ≡ 16
+long_content content (inl e) other = absurd (other e)
+long_content content (inr e) other = e

@@ -23,6 +23,7 @@ impl<'a> Block<'a> {
     ghost use Rattle.gsi_word.specs.Words.{IsWord};
     ghost use Rattle.gsi_word.specs.BlockViews.{block_of, words_left};
     ghost use Rattle.gsi_word.specs.FoundWords.{found};
+    ghost use Rattle.gsi_word.specs.declared.found.Found.TheVariants.{One};
 
     /// How many bytes the content of each word has: 8, or 16 in a line that begins with `*`.
     pub fn width(&self) -> u8
@@ -97,8 +98,40 @@ impl<'a> Block<'a> {
         sought
     }
 
-    /// The word of each of two indices, where there is just one, in one pass.
+    /// The word of each of two indices, where there is just one.
+    #[inline(always)]
     pub fn find_two(&self, first: u8, second: u8) -> (Found<'a>, Found<'a>)
+        ensures first { result.0 ≡ found first (block_of self.now).words }
+        ensures second { result.1 ≡ found second (block_of self.now).words }
+    {
+        match self.second_and_third(first, second) {
+            Some((one, other)) => (Found::One(one), Found::One(other)),
+            None => self.search_two(first, second),
+        }
+    }
+
+    /// The second word and the third, where there are three and each of two indices is of just one
+    /// of these: so a reading of a direction and a zenith angle is written.
+    #[inline(always)]
+    fn second_and_third(&self, first: u8, second: u8) -> Option<(Word<'a>, Word<'a>)>
+        ensures first { IfSome result (λ r. One r.0 ≡ found first (block_of self.now).words) }
+        ensures second { IfSome result (λ r. One r.1 ≡ found second (block_of self.now).words) }
+    {
+        if self.count != 3 || first == second {
+            return None;
+        }
+        let begin = self.word_within(0).index();
+        let one = self.word_within(1);
+        let other = self.word_within(2);
+        if begin == first || begin == second || one.index() != first || other.index() != second {
+            return None;
+        }
+        Some((one, other))
+    }
+
+    /// The same of any block, in one pass.
+    #[inline(always)]
+    fn search_two(&self, first: u8, second: u8) -> (Found<'a>, Found<'a>)
         ensures first { result.0 ≡ found first (block_of self.now).words }
         ensures second { result.1 ≡ found second (block_of self.now).words }
     {

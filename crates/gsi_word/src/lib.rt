@@ -20,6 +20,7 @@ mod shape;
 mod tests;
 mod word;
 mod words;
+mod zeros;
 
 pub use angle::AngleFault;
 pub use block::Block;

@@ -6,6 +6,7 @@ ghost use Rattle.gsi_word.specs.Layout.{word_of, HasIndex};
 
 use crate::angle::{AngleFault, GON, LAST_UNIT};
 use crate::decimal::decimal_number;
+use crate::zeros::zeros_before;
 use std::marker::Model;
 
 /// Where the information of a word begins, behind the two digits of its index.
@@ -94,17 +95,15 @@ impl<'a> Word<'a> {
 
     /// The name or code that the content holds: without the zeros before it, at least one byte
     /// kept.
+    #[inline(always)]
     pub fn name(&self) -> &'a [u8]
         ensures value { result.now ≡ name_of self.now.content }
         ensures some_byte { 0 < length result.now }
         ensures short { length result.now ≤ 16 }
         ensures printable { All IsPrintable result.now }
     {
-        let mut name = self.content();
-        while name.len() > 1 && name[0] == b'0' {
-            name = &name[1..];
-        }
-        name
+        let content = self.content();
+        &content[zeros_before(content)..]
     }
 
     /// The angle that the word holds, in units of 0.00001 gon, from 0 to 39,999,999.

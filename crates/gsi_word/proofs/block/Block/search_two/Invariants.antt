@@ -1,7 +1,7 @@
 use Rattle.std.proofs.Common.{◌≡◌, ◌-◌, ◌≤◌, take}
 use Rattle.gsi_word.specs.FoundWords.{found}
 use Rattle.gsi_word.specs.BlockViews.{block_of}
-use Rattle.gsi_word.proofs.block.Block.find_two.Given as goal
+use Rattle.gsi_word.proofs.block.Block.search_two.Given as goal
 
 abbrev pub invariant-loop-word : goal.invariant-loop-word
 invariant-loop-word l = record {

@@ -2,7 +2,7 @@ use Rattle.std.proofs.Common.{sym, ◌∙◌, arith}
 use Rattle.gsi_word.specs.Layout.{words_from}
 use Rattle.gsi_word.proofs.RunLaws.{length_words_from}
 use Rattle.gsi_word.proofs.FoundLaws.{below, found_all}
-use Rattle.gsi_word.proofs.block.Block.find_two.Goals as goal
+use Rattle.gsi_word.proofs.block.Block.search_two.Goals as goal
 
 pub loop-word-preserved : goal.loop-word-preserved
 loop-word-preserved c =
