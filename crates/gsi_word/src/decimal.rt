@@ -5,11 +5,13 @@ ghost use Rattle.std.specs.Char.{is_ascii_digit};
 ghost use Rattle.std.specs.List.{list_all};
 ghost use Rattle.gsi_word.specs.Angles.{decimal_number};
 
+use std::simd::prelude::*;
+
 /// How many digits are read together: those of a content in a GSI-8 line.
 const TOGETHER: usize = 8;
 
-/// The byte of the digit 0.
-const ZERO: u32 = b'0' as u32;
+/// What a digit is worth at each of as many places.
+const WORTH: [u32; TOGETHER] = [10_000_000, 1_000_000, 100_000, 10_000, 1_000, 100, 10, 1];
 
 /// The number that the bytes write, or `None` where one of them is no digit. No bytes write 0.
 #[inline(always)]
@@ -40,7 +42,7 @@ fn number_one_by_one(bytes: &[u8]) -> Option<u64>
     Some(number)
 }
 
-/// The same of eight bytes: one test for all of them, and then their pairs.
+/// The same of eight bytes: one test for all of them, and then the sum of what each digit is worth.
 #[inline(always)]
 fn number_of_eight(bytes: &[u8]) -> Option<u64>
     requires { length bytes.now ≡ 8 }
@@ -49,9 +51,9 @@ fn number_of_eight(bytes: &[u8]) -> Option<u64>
     if !are_digits(bytes) {
         return None;
     }
-    let upper = 100 * pair(bytes, 0) + pair(bytes, 2);
-    let lower = 100 * pair(bytes, 4) + pair(bytes, 6);
-    Some((10_000 * upper + lower) as u64)
+    let digits: u32x8 = u8x8::from_slice(bytes).strict_sub(u8x8::splat(b'0')).cast();
+    let worths = digits.strict_mul(u32x8::from_array(WORTH));
+    Some(worths.strict_reduce_sum() as u64)
 }
 
 /// Whether all bytes are digits, in one pass without an early end.
@@ -64,16 +66,4 @@ fn are_digits(bytes: &[u8]) -> bool
         stray |= !byte.is_ascii_digit();
     }
     !stray
-}
-
-/// The number that the two digits at a place write.
-#[inline(always)]
-fn pair(bytes: &[u8], at: usize) -> u32
-    requires inside { at + 1 < length bytes.now }
-    requires digits { list_all is_ascii_digit bytes.now ≡ true }
-    ensures value { result ≡ 10 * (slice_index bytes.now at - 48)
-        + (slice_index bytes.now (at + 1) - 48) }
-    ensures two_digits { result < 100 }
-{
-    10 * (bytes[at] as u32 - ZERO) + (bytes[at + 1] as u32 - ZERO)
 }
