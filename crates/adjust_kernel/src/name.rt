@@ -3,13 +3,17 @@
 //! A name is a value of fixed size: its bytes, followed by zeros. So it is copied, compared and
 //! hashed without memory, and contracts see it as the list of its bytes.
 
-ghost use Rattle.std.specs.Prelude.{◌≡◌, ℕ, List, ◌↔◌, IfSome, IfNone, IsTrue};
+ghost use Rattle.std.specs.Prelude.{◌≡◌, ◌<◌, ℕ, List, length, drop, ◌↔◌, IfSome, IfNone, IsTrue};
 ghost use Rattle.std.specs.Str.{bytes_eq};
-ghost use Rattle.adjust_kernel.specs.Names.{IsName};
+ghost use Rattle.adjust_kernel.specs.Names.{IsName, padded};
 
 use crate::limits::LONGEST_NAME;
 use std::fmt;
 use std::marker::Model;
+use std::simd::prelude::*;
+
+/// How many bytes are moved as one number.
+const EIGHT: usize = 8;
 
 /// The first byte that a name may hold, a blank.
 pub const FIRST_PRINTABLE: u8 = 0x20;
@@ -65,6 +69,22 @@ impl Name {
         }
     }
 
+    /// The name that some bytes have from this place on, which is known to be one: nothing is
+    /// tested. Where there are eight of them, they are moved as one number.
+    #[inline(always)]
+    pub fn of_end(bytes: &[u8], from: usize) -> Name
+        requires { IsName (drop from bytes.now) }
+        ensures { result ≡ drop from bytes.now }
+    {
+        if bytes.len() == EIGHT {
+            return Name {
+                bytes: end_of_eight(bytes, from),
+                len: bytes.len() - from,
+            };
+        }
+        Name::of_valid(&bytes[from..])
+    }
+
     /// Its bytes.
     pub fn bytes(&self) -> &[u8]
         ensures value { result.now ≡ self.now }
@@ -95,6 +115,18 @@ impl fmt::Display for Name {
     fn fmt<W: fmt::Write>(&self, f: &mut fmt::Formatter<W>) -> fmt::Result {
         f.write_str(std::str::from_utf8(self.bytes()).map_err(|_| fmt::Error)?)
     }
+}
+
+/// The last of eight bytes, from this place on, and then zeros. The first byte is the lowest of a
+/// number, so a shift takes off those before the place.
+#[inline(always)]
+fn end_of_eight(bytes: &[u8], from: usize) -> [u8; LONGEST_NAME]
+    requires eight { length bytes.now ≡ 8 }
+    requires inside { from < 8 }
+    ensures { result ≡ padded (drop from bytes.now) }
+{
+    let number = u64::from_le_bytes(u8x8::from_slice(bytes).to_array());
+    ((number >> (8 * from as u32)) as u128).to_le_bytes()
 }
 
 /// Whether these are the bytes of a name.
@@ -144,6 +176,15 @@ mod tests {
         let name = Name::new(b"S1 ~").expect(&rt, "a name");
         assert_eq!(rt; name.to_string(rt.alloc())?.as_str(), "S1 ~");
         assert_eq!(rt; Name::of_valid(b"S1 ~"), name);
+        assert_eq!(rt; Name::of_end(b"0000S1 ~", 4), name);
+        assert_eq!(rt; Name::of_end(b"000000000000S1 ~", 12), name);
+        assert!(rt; name.is_same(&Name::of_end(b"S1 ~", 0)));
+        assert!(rt; !name.is_same(&Name::of_end(b"S1 ~", 1)));
+        assert_eq!(rt; Name::of_end(b"12345678", 7).bytes(), b"8".as_slice());
+        assert_eq!(rt;
+            Name::of_end(b"12345678", 0).bytes(),
+            b"12345678".as_slice()
+        );
         assert!(rt; name.is(b"S1 ~"));
         assert!(rt; !name.is(b"S1"));
         Ok(())

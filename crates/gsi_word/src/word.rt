@@ -36,7 +36,7 @@ impl<'a> Model for Word<'a> {
 }
 
 impl<'a> Word<'a> {
-    ghost use Rattle.std.specs.Prelude.{◌≡◌, ◌<◌, ◌≤◌, ◌+◌, ◌/◌, ◌%◌, length, All, IfOk, ◌⊎◌};
+    ghost use Rattle.std.specs.Prelude.{◌≡◌, ◌<◌, ◌≤◌, ◌+◌, ◌/◌, ◌%◌, length, drop, All, IfOk, ◌⊎◌};
     ghost use Rattle.gsi_word.specs.Words.{IsGraphic, IsPrintable};
     ghost use Rattle.gsi_word.specs.Names.{name_of};
     ghost use Rattle.gsi_word.specs.Angles.{angle_of};
@@ -102,8 +102,16 @@ impl<'a> Word<'a> {
         ensures short { length result.now ≤ 16 }
         ensures printable { All IsPrintable result.now }
     {
-        let content = self.content();
-        &content[zeros_before(content)..]
+        &self.content()[self.zeros()..]
+    }
+
+    /// How many zeros stand before that name.
+    #[inline(always)]
+    pub fn zeros(&self) -> usize
+        ensures value { drop result self.now.content ≡ name_of self.now.content }
+        ensures some_byte { result < length self.now.content }
+    {
+        zeros_before(self.content())
     }
 
     /// The angle that the word holds, in units of 0.00001 gon, from 0 to 39,999,999.

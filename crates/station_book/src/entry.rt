@@ -167,7 +167,7 @@ impl Entry {
         self.sets.reserve(1)?;
         let last = self.sets.len() as u32 - 1;
         push_pairs(last, &self.slots, &mut self.obs, &mut self.faces)?;
-        self.sets.push(number).unwrap();
+        self.sets.push_reserved(number);
         empty_all(&mut self.slots);
         Ok(())
     }
@@ -217,8 +217,8 @@ impl Entry {
         let _name = reading.target.bytes();
         let slot = with_side(empty_slot(), reading.is_second, reading.sight);
         self.last = self.targets.len();
-        self.slots.push(slot).unwrap();
-        self.targets.push(reading.target).unwrap();
+        self.slots.push_reserved(slot);
+        self.targets.push_reserved(reading.target);
         Ok(())
     }
 

@@ -22,7 +22,7 @@ use gsi_word::{
 fn name_in(word: &Word<'_>) -> Name
     ensures { result ≡ name_of word.now.content }
 {
-    Name::of_valid(word.name())
+    Name::of_end(word.content(), word.zeros())
 }
 
 /// The name of the station that a block of code 10 opens.

@@ -152,8 +152,8 @@ fn push_pair(set: u32, target: u32, slot: Slot, obs: &mut Vec<Obs>, faces: &mut 
         target,
         value: direction_of(first, second),
     };
-    obs.push(one).unwrap();
-    faces.push(faces_of(first, second)).unwrap();
+    obs.push_reserved(one);
+    faces.push_reserved(faces_of(first, second));
 }
 
 /// Appends the observations of a set and their face differences. All growths come first.
