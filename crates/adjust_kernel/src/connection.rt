@@ -1,8 +1,8 @@
 //! Whether the observations hold all sets and targets of a station together.
 //!
 //! A mark spreads from the first target: an observation carries it from its set to its target, or
-//! from its target to its set. The observations are swept until no sweep sets another mark. What
-//! has no mark in the end is joined by no observation to what has one.
+//! from its target to its set. The observations are swept until all have a mark, or no sweep sets
+//! another: what has no mark then is joined by no observation to what has one.
 ghost use Rattle.std.specs.Prelude.{◌≡◌, ℕ, ◌≤◌, ◌<◌, ◌+◌, true, not, List, length, All, IfNone, IfSome, slice_set};
 ghost use Rattle.std.specs.Bool.{OnTrue, OnFalse};
 ghost use Rattle.std.specs.List.{count_by};
@@ -83,6 +83,10 @@ pub(crate) fn is_connected(sets: usize, targets: usize, obs: &[Obs]) -> bool
 {
     let mut marks = [false; MOST_NODES];
     marks[sets] = true;
-    'sweeps: while sweep(&mut marks, sets, targets, obs) {}
+    'sweeps: while sweep(&mut marks, sets, targets, obs) {
+        if are_marked(&marks, sets + targets) {
+            return true;
+        }
+    }
     are_marked(&marks, sets + targets)
 }

@@ -18,16 +18,17 @@ use crate::sheet::Sheet;
 use crate::station::Station;
 
 /// No reading with its full turns is larger than this, in half units.
-const LARGEST_READING: i128 = (LARGEST_TURN as i128 + 1) * TURN as i128;
+const LARGEST_READING: i64 = (LARGEST_TURN as i64 + 1) * TURN as i64;
 
-/// A reading with its full turns, times the denominator.
-fn scaled(denominator: u64, reading: i128) -> i128
+/// A reading with its full turns, times the denominator: both are of 64 bits with a sign, so that
+/// the machine multiplies them at once.
+fn scaled(denominator: u64, reading: i64) -> i128
     requires denominator { denominator ≤ LARGEST_DENOMINATOR }
     requires reading { IsWithin LARGEST_READING reading }
     ensures value { result ≡ (pos denominator *ℤ reading) }
     ensures bound { IsWithin (pos LARGEST_DENOMINATOR *ℤ LARGEST_READING) result }
 {
-    i128::from(denominator) * reading
+    i128::from(denominator as i64) * i128::from(reading)
 }
 
 /// The direction of a target.

@@ -28,21 +28,21 @@ pub struct Orientation {
 /// An observed direction as a sheet states it.
 #[derive(Clone, Copy, Debug, PartialEq, Eq, Drop)]
 pub struct Row {
-    /// The number of the set.
-    pub set: u16,
     /// The target.
     pub target: Name,
     /// The two-face direction in half units, below a full circle.
     pub value: u32,
+    /// The number of the set.
+    pub set: u16,
     /// The full circles that the adjustment adds to it.
     pub turn: i8,
 }
 
 /// A direction with full turns, in half units.
-pub(crate) fn unrolled(value: u32, turn: i8) -> i128
+pub(crate) fn unrolled(value: u32, turn: i8) -> i64
     ensures { result ≡ (pos value +ℤ pos TURN *ℤ turn) }
 {
-    i128::from(value) + i128::from(TURN) * i128::from(turn)
+    i64::from(value) + i64::from(TURN) * i64::from(turn)
 }
 
 impl Row {
@@ -50,7 +50,7 @@ impl Row {
     pub fn unrolled(&self) -> i128
         ensures { result ≡ (pos self.now.value +ℤ pos TURN *ℤ self.now.turn) }
     {
-        unrolled(self.value, self.turn)
+        i128::from(unrolled(self.value, self.turn))
     }
 }
 

@@ -1,31 +1,38 @@
-//! The residuals of a sheet, added up once in a tally, and the first target and the first set whose
-//! sum isn't 0.
+//! The residuals of a sheet, gone through once: their sums in a tally, and the greatest in size. Then
+//! the first target and the first set whose sum isn't 0.
 ghost use Rattle.std.specs.Prelude.{◌≡◌, ◌≢◌, ◌≤◌, ◌<◌, ℕ, pos, List, [], IfNone, IfSome};
 ghost use Rattle.adjust_kernel.specs.Firsts.{IsFirstWhere};
+ghost use Rattle.adjust_kernel.specs.Greatest.{IsGreatest};
 ghost use Rattle.adjust_kernel.specs.Pairs.{ArePaired, choice_stated_by, readings_of};
 ghost use Rattle.adjust_kernel.specs.Readings.{Reading};
 ghost use Rattle.adjust_kernel.specs.Residuals.{Choice, target_sum, set_sum};
 ghost use Rattle.adjust_kernel.specs.Tallies.{all_added};
 
+use crate::greatest::larger_size;
 use crate::limits::{MOST_ROWS, MOST_SETS, MOST_TARGETS};
 use crate::obs::Obs;
 use crate::residual::row_residual;
 use crate::sheet::Sheet;
 use crate::tally::Tally;
 
-/// Adds the scaled residuals of all rows to a tally to which nothing was added, in one pass.
-pub fn add_residuals<T: Tally>(mut tally: T, sheet: &Sheet, obs: &[Obs]) -> T
+/// Adds the scaled residuals of all rows to a tally to which nothing was added. The tally comes back
+/// with the greatest size of a residual.
+pub fn add_residuals<T: Tally>(mut tally: T, sheet: &Sheet, obs: &[Obs]) -> (T, i128)
     requires paired { ArePaired sheet.now obs.now }
     requires nothing { T.StandsFor tally [] }
     requires room { T.room tally ≡ MOST_ROWS }
-    ensures { T.StandsFor result
+    ensures sums { T.StandsFor result.0
         (all_added (choice_stated_by sheet.now) (readings_of obs.now sheet.now.rows)) }
+    ensures greatest { IsGreatest (choice_stated_by sheet.now)
+        (readings_of obs.now sheet.now.rows) result.1 }
 {
+    let mut greatest = 0;
     for row in 0..sheet.rows().len() {
         let residual = row_residual(sheet, obs, row);
         tally.add(obs[row].target, obs[row].set, residual);
+        greatest = larger_size(greatest, residual);
     }
-    tally
+    (tally, greatest)
 }
 
 /// The first target from 0 whose residuals don't add to 0.

@@ -2,22 +2,23 @@
 //!
 //! The sheet is the least-squares adjustment of its readings where the residuals of each target and
 //! of each set add to 0: so nothing is searched for, and no other choice is looked at. The
-//! residuals go through a tally once.
+//! residuals are gone through once, for their sums and for the greatest of them.
 
-ghost use Rattle.std.specs.Prelude.{◌≡◌, ◌≤◌, ◌<◌, ℕ, pos, [], length, Option, Result, OnOk, IfErr, IfNone, IfSome, Err};
+ghost use Rattle.std.specs.Prelude.{◌≡◌, ◌≤◌, ◌<◌, ℕ, pos, [], length, Option, Result, OnOk, IfOk, IfErr, IfNone, IfSome, Err};
 ghost use Rattle.adjust_kernel.specs.declared.accepted.Accepted.{Accepted};
 ghost use Rattle.adjust_kernel.specs.declared.kernel_fault.KernelFault.{KernelFault};
+ghost use Rattle.adjust_kernel.specs.Greatest.{IsGreatest};
 ghost use Rattle.adjust_kernel.specs.Matching.{Matches};
+ghost use Rattle.adjust_kernel.specs.Pairs.{choice_stated_by};
 ghost use Rattle.adjust_kernel.specs.Promises.{TellsOfSquares};
 ghost use Rattle.adjust_kernel.specs.Sheets.{IsSheet};
 ghost use Rattle.adjust_kernel.specs.Stations.{IsStation};
 ghost use Rattle.adjust_kernel.specs.Tallies.{all_added};
-ghost use Rattle.adjust_kernel.specs.Verdict.{IsVerdict, IsFault, TargetsAddUp, SetsAddUp, HoldsTogether, KeepsLimit, IsAcceptance};
+ghost use Rattle.adjust_kernel.specs.Verdict.{IsVerdict, IsFault, TargetsAddUp, SetsAddUp, HoldsTogether, KeepsLimit, IsAcceptance, readings};
 
 use crate::accepted::Accepted;
 use crate::connection::is_connected;
 use crate::excess::first_excess;
-use crate::greatest::greatest_residual;
 use crate::kernel_fault::KernelFault;
 use crate::limits::{LARGEST_RESIDUAL_LIMIT, MOST_ROWS};
 use crate::matching::check_matches;
@@ -85,30 +86,32 @@ fn verdict_of<T: Tally>(
     ensures valid_limit { OnOk result (IfSome residual (λ most. most ≤ LARGEST_RESIDUAL_LIMIT)) }
 {
     check_matches(station, sheet)?;
-    check_sums(tally, station, sheet)?;
+    let greatest = check_sums(tally, station, sheet)?;
     check_connection(station, sheet)?;
     check_limit(station, sheet, residual)?;
-    Ok(acceptance(station, sheet))
+    Ok(acceptance(station, sheet, greatest))
 }
 
-/// Nothing where the residuals of each target and of each set add to 0; if not, the first that
-/// don't.
-fn check_sums<T: Tally>(tally: T, station: &Station, sheet: &Sheet) -> Result<(), KernelFault>
+/// The greatest size of a residual, where the residuals of each target and of each set add to 0; if
+/// not, the first that don't.
+fn check_sums<T: Tally>(tally: T, station: &Station, sheet: &Sheet) -> Result<i128, KernelFault>
     requires nothing { T.StandsFor tally [] }
     requires room { T.room tally ≡ MOST_ROWS }
     requires matches { Matches station.now sheet.now }
     ensures targets { OnOk result (TargetsAddUp station.now sheet.now) }
     ensures sets { OnOk result (SetsAddUp station.now sheet.now) }
+    ensures greatest { IfOk result
+        (IsGreatest (choice_stated_by sheet.now) (readings station.now sheet.now)) }
     ensures err { IfErr result (IsFault station.now sheet.now) }
 {
-    let tally = add_residuals(tally, sheet, station.obs());
+    let (tally, greatest) = add_residuals(tally, sheet, station.obs());
     if let Some(target) = first_uneven_target(&tally, station.targets().len() as u32) {
         return Err(KernelFault::TargetSum(target + 1));
     }
     if let Some(set) = first_uneven_set(&tally, station.sets().len() as u32) {
         return Err(KernelFault::SetSum(set + 1));
     }
-    Ok(())
+    Ok(greatest)
 }
 
 /// Nothing where the observations hold all sets and targets together.
@@ -148,8 +151,8 @@ fn check_limit(
 }
 
 /// What is said of an accepted sheet.
-fn acceptance(station: &Station, sheet: &Sheet) -> Accepted
-    requires matches { Matches station.now sheet.now }
+fn acceptance(station: &Station, sheet: &Sheet, greatest: i128) -> Accepted
+    requires greatest { IsGreatest (choice_stated_by sheet.now) (readings station.now sheet.now) greatest }
     ensures { IsAcceptance station.now sheet.now result }
 {
     Accepted {
@@ -157,7 +160,7 @@ fn acceptance(station: &Station, sheet: &Sheet) -> Accepted
         sets: station.sets().len() as u32,
         targets: station.targets().len() as u32,
         directions: station.obs().len() as u32,
-        greatest: greatest_residual(sheet, station.obs()),
+        greatest,
         denominator: sheet.denominator(),
     }
 }

@@ -1,5 +1,5 @@
 use Rattle.std.proofs.Common.{pos, ◌+ℤ◌, arith, ◌∙◌, ◌≡◌, ap, FitsSigned}
-use mir.Syntax.{w8, w128}
+use mir.Syntax.{w8, w64}
 use mir.Val.{to_z, of_z}
 use Rattle.std.proofs.Math.IntN.{◌*ℤ◌}
 use Rattle.std.proofs.lemmas.Int.{ints, to_z-of_z}
@@ -15,11 +15,11 @@ returns-clause-value c =
     let turn_fits : FitsSigned w8 c.args.row.now.turn = omega (arith, ints, low, high) in
     let value : c.unrolled.result ≡ unrolled (reading_of c.args.obs.now c.args.row.now.turn) =
     c.unrolled.ensures ∙ ap (λ k. pos c.args.obs.now.value +ℤ pos TURN *ℤ k) (to_z-of_z w8 c.args.row.now.turn turn_fits) in
-    let fits : FitsSigned w128 c.unrolled.result = record { sfits = c.unrolled.type_inv } in
+    let fits : FitsSigned w64 c.unrolled.result = record { sfits = c.unrolled.type_inv } in
     let reading : c.scaled-reading.result ≡ pos c.args.sheet.now.denominator *ℤ unrolled (reading_of c.args.obs.now c.args.row.now.turn) =
     c.scaled-reading.ensures.value
-    ∙ ap (λ n. pos n *ℤ to_z w128 (of_z w128 c.unrolled.result)) c.denominator.ensures.value
-    ∙ ap (λ z. pos c.args.sheet.now.denominator *ℤ z) (to_z-of_z w128 c.unrolled.result fits ∙ value) in
+    ∙ ap (λ n. pos n *ℤ to_z w64 (of_z w64 c.unrolled.result)) c.denominator.ensures.value
+    ∙ ap (λ z. pos c.args.sheet.now.denominator *ℤ z) (to_z-of_z w64 c.unrolled.result fits ∙ value) in
     omega (arith, ints)
 
 pub returns-clause-bound : goal.returns-clause-bound
