@@ -51,7 +51,9 @@ fn carry(marks: &mut [bool; MOST_NODES], sets: usize, targets: usize, obs: &Obs)
     }
 }
 
-/// Carries marks along all observations, once each; whether any was carried.
+/// Carries marks along all observations, once each; whether any was carried. Not inlined: in a
+/// function of its own the loop keeps its values in registers.
+#[inline(never)]
 fn sweep(marks: &mut [bool; MOST_NODES], sets: usize, targets: usize, obs: &[Obs]) -> bool
     requires sets { sets ≤ MOST_SETS }
     requires targets { targets ≤ MOST_TARGETS }

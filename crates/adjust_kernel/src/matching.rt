@@ -87,7 +87,8 @@ fn first_other_set(station: &Station, sheet: &Sheet) -> Option<usize>
 }
 
 /// The first place at which sheet and station have different observations, or one of them has
-/// ended.
+/// ended. Not inlined: in a function of its own the loop keeps its values in registers.
+#[inline(never)]
 fn first_other_row(station: &Station, sheet: &Sheet) -> Option<usize>
     ensures none { IfNone result (keys_of sheet.now ≡ observed station.now) }
     ensures some { IfSome result (λ place.

@@ -201,7 +201,9 @@ fn are_orientations(orientations: &[Orientation]) -> bool
         && orientations.iter().all(is_orientation)
 }
 
-/// Whether these are the rows of a sheet.
+/// Whether these are the rows of a sheet. Not inlined: in a function of its own the loop keeps its
+/// values in registers.
+#[inline(never)]
 fn are_rows(rows: &[Row]) -> bool
     ensures { IsTrue result ↔ AreRows rows.now }
 {
