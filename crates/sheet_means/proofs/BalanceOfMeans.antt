@@ -7,7 +7,7 @@ use Rattle.std.proofs.lemmas.Int.{ints}
 use Rattle.sheet_means.proofs.Products.{over_difference, three_factors}
 use Rattle.sheet_means.specs.Totals.{target_total, set_total, whole_total}
 use Rattle.sheet_means.specs.Means.{AreMeans}
-use Rattle.sheet_means.proofs.GridLaws.{sum_below, sum_below-same, sum_below-sub, sum_below-scale, sum_below-const, sum_below-swap, AreGrid, at, sum_of_all, sum_of_target, sum_of_set, whole_by_sets}
+use Rattle.sheet_means.proofs.GridLaws.{sum_below, sum_below-same, sum_below-sub, sum_below-scale, sum_below-const, AreGrid, at, sum_of_target, sum_of_set, whole_by_sets, whole_less}
 
 -- what is left over of a target, and of a set
 target_left : (s t : ℕ) (c f g : ℤ) → pos s *ℤ (pos t *ℤ (c -ℤ f)) -ℤ (pos s *ℤ g -ℤ pos s *ℤ g -ℤ pos s *ℤ (pos t *ℤ f)) -ℤ pos (s * t) *ℤ c ≡ pos 0
@@ -35,12 +35,6 @@ module _ (sets targets : ℕ) (readings : List Reading) (grid : AreGrid sets tar
   abbrev F : ℤ
   F = target_total readings 0
 
-  G_by_targets : G ≡ sum_below targets (λ t. target_total readings t)
-  G_by_targets =
-      sum_of_all sets targets readings grid unrolled
-      ∙ sum_below-swap sets targets x
-      ∙ sum_below-same targets (λ t. sum_below sets (λ s. x s t)) (λ t. target_total readings t) (λ t h. sym (sum_of_target sets targets readings grid unrolled t h))
-
   orientations_sum : sum_below sets c.orientation ≡ pos sets *ℤ G -ℤ pos sets *ℤ G -ℤ pos sets *ℤ (pos targets *ℤ F)
   orientations_sum =
       sum_below-same sets c.orientation (λ s. G -ℤ pos sets *ℤ set_total readings s -ℤ pos targets *ℤ F) means.orientations
@@ -52,7 +46,7 @@ module _ (sets targets : ℕ) (readings : List Reading) (grid : AreGrid sets tar
   directions_sum =
       sum_below-same targets c.direction (λ t. pos targets *ℤ (target_total readings t -ℤ F)) means.directions
       ∙ sum_below-scale targets (pos targets) (λ t. target_total readings t -ℤ F)
-      ∙ ap (λ z. pos targets *ℤ z) (sum_below-sub targets (λ t. target_total readings t) (λ t. F) ∙ (λ i. sym G_by_targets i -ℤ sum_below-const targets F i))
+      ∙ ap (λ z. pos targets *ℤ z) (whole_less sets targets readings grid F)
 
   residual_at : (s t : ℕ) → s < sets → t < targets → residual c (at sets targets readings grid s t) ≡ c.direction t -ℤ c.orientation s -ℤ pos (sets * targets) *ℤ x s t
   residual_at s t h k = let p = grid.at_place s t h k in λ i. c.direction (p.1 i) -ℤ c.orientation (p.0 i) -ℤ pos (means.denominator i) *ℤ x s t

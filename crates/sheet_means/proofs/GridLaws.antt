@@ -9,7 +9,7 @@ use Rattle.std.proofs.lemmas.List.{take_all}
 use Rattle.adjust_kernel.specs.Sums.{int_sum_by, int_sum_where}
 use Rattle.adjust_kernel.specs.Readings.{Reading}
 use Rattle.adjust_kernel.specs.Residuals.{unrolled}
-use Rattle.sheet_means.specs.Totals.{reading_at, set_total, whole_total}
+use Rattle.sheet_means.specs.Totals.{reading_at, target_total, set_total, whole_total}
 use Rattle.sheet_means.proofs.Products.{over_sum}
 use Rattle.sheet_means.proofs.PlaceLaws.{int_sum_by_more}
 use native.Mathlib.Decide.{ℕ_discrete}
@@ -126,6 +126,17 @@ module _ (sets targets : ℕ) (readings : List Reading) (grid : AreGrid sets tar
       (λ j l. sum_below-same targets (λ k. cond (eqb (at j k).set s) (f (at j k)) (pos 0)) (λ k. cond (eqb j s) (f (at j k)) (pos 0)) (λ k m. ap (λ n. cond (eqb n s) (f (at j k)) (pos 0)) (grid.at_place j k l m).0)
       ∙ sum_below-where (eqb j s) targets (λ k. f (at j k)))
       ∙ sum_below-only sets s (λ j. sum_below targets (λ k. f (at j k))) h
+
+  -- all readings are those of the targets together
+  pub whole_by_targets : whole_total readings ≡ sum_below targets (target_total readings)
+  whole_by_targets =
+      sum_of_all unrolled
+      ∙ sum_below-swap sets targets (λ s t. unrolled (at s t))
+      ∙ sum_below-same targets (λ t. sum_below sets (λ s. unrolled (at s t))) (target_total readings) (λ t h. sym (sum_of_target unrolled t h))
+
+  -- all readings, less those of one target as often as there are targets
+  pub whole_less : (z : ℤ) → sum_below targets (λ t. target_total readings t -ℤ z) ≡ whole_total readings -ℤ pos targets *ℤ z
+  whole_less z = sum_below-sub targets (target_total readings) (λ t. z) ∙ (λ i. sym whole_by_targets i -ℤ sum_below-const targets z i)
 
   -- all readings are those of the sets together
   pub whole_by_sets : whole_total readings ≡ sum_below sets (set_total readings)

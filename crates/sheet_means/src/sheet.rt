@@ -64,8 +64,8 @@ pub fn means(alloc: Global, station: &Station) -> Result<Sheet, MeansFault>
         return Err(MeansFault::Incomplete);
     }
     let rows = rows_of(alloc, station)?;
-    let directions = directions_of(alloc, station, &rows)?;
-    let orientations = orientations_of(alloc, station, &rows)?;
+    let (directions, rest) = directions_of(alloc, station, &rows)?;
+    let orientations = orientations_of(alloc, station, &rows, rest)?;
     Ok(sheet_of(station, directions, orientations, rows))
 }
 

@@ -1,5 +1,5 @@
-//! Sums of readings with their full turns.
-ghost use Rattle.std.specs.Prelude.{◌≡◌, ◌<◌, pos, ◌*ℤ◌, length};
+//! Sums of readings with their full turns. All of them fit into 64 bits.
+ghost use Rattle.std.specs.Prelude.{◌≡◌, ◌<◌, pos, ◌+ℤ◌, ◌*ℤ◌, length};
 ghost use Rattle.adjust_kernel.specs.Within.{IsWithin};
 ghost use Rattle.adjust_kernel.specs.Pairs.{readings_of};
 ghost use Rattle.sheet_means.specs.Complete.{IsComplete};
@@ -8,14 +8,21 @@ ghost use Rattle.sheet_means.specs.Totals as Totals;
 ghost use Rattle.adjust_kernel.specs.Residuals as Residuals;
 
 use crate::turn::MOST_TURNS;
-use adjust_kernel::{MOST_ROWS, MOST_SETS, MOST_TARGETS, Row, Station, TURN};
+use adjust_kernel::{MOST_SETS, MOST_TARGETS, Row, Station, TURN};
 
 /// No reading with its full turns is larger than this in a sheet of means, in half units (0.005
 /// mgon each).
-pub const LARGEST_READING: i128 = (MOST_TURNS as i128 + 1) * TURN as i128;
+pub const LARGEST_READING: i64 = (MOST_TURNS as i64 + 1) * TURN as i64;
+
+/// The direction of a row with its full turns, in half units.
+fn unrolled(row: &Row) -> i64
+    ensures { result ≡ (pos row.now.value +ℤ pos TURN *ℤ row.now.turn) }
+{
+    i64::from(row.value) + i64::from(TURN) * i64::from(row.turn)
+}
 
 /// The reading of a set and a target with its full turns, by their places.
-fn reading_at(station: &Station, rows: &[Row], set: usize, target: usize) -> i128
+fn reading_at(station: &Station, rows: &[Row], set: usize, target: usize) -> i64
     requires complete { IsComplete station.now }
     requires rows { AreMeansRows station.now rows.now }
     requires set { set < length station.now.sets }
@@ -25,11 +32,11 @@ fn reading_at(station: &Station, rows: &[Row], set: usize, target: usize) -> i12
         (length station.now.targets) set target) }
     ensures bound { IsWithin LARGEST_READING result }
 {
-    rows[set * station.targets().len() + target].unrolled()
+    unrolled(&rows[set * station.targets().len() + target])
 }
 
 /// The readings of a target, added over all sets.
-pub fn target_total(station: &Station, rows: &[Row], target: usize) -> i128
+pub fn target_total(station: &Station, rows: &[Row], target: usize) -> i64
     requires complete { IsComplete station.now }
     requires rows { AreMeansRows station.now rows.now }
     requires target { target < length station.now.targets }
@@ -44,7 +51,7 @@ pub fn target_total(station: &Station, rows: &[Row], target: usize) -> i128
 }
 
 /// The readings of a set, added over all targets.
-pub fn set_total(station: &Station, rows: &[Row], set: usize) -> i128
+pub fn set_total(station: &Station, rows: &[Row], set: usize) -> i64
     requires complete { IsComplete station.now }
     requires rows { AreMeansRows station.now rows.now }
     requires set { set < length station.now.sets }
@@ -54,20 +61,6 @@ pub fn set_total(station: &Station, rows: &[Row], set: usize) -> i128
     let mut total = 0;
     for target in 0..station.targets().len() {
         total += reading_at(station, rows, set, target);
-    }
-    total
-}
-
-/// All readings added.
-pub fn whole_total(station: &Station, rows: &[Row]) -> i128
-    requires complete { IsComplete station.now }
-    requires rows { AreMeansRows station.now rows.now }
-    ensures value { result ≡ Totals.whole_total (readings_of station.now.obs rows.now) }
-    ensures bound { IsWithin (LARGEST_READING *ℤ pos MOST_ROWS) result }
-{
-    let mut total = 0;
-    for set in 0..station.sets().len() {
-        total += set_total(station, rows, set);
     }
     total
 }

@@ -1,5 +1,5 @@
 use Rattle.std.proofs.Common.{◌≡◌, ℕ, List, length, get_or, pos, FitsSigned, to_z, of_z, arith, ap, ◌∙◌}
-use Rattle.std.specs.Int.{w128}
+use Rattle.std.specs.Int.{w64, w128}
 use Rattle.std.proofs.lemmas.Int.{ints, to_z-of_z}
 use Rattle.std.proofs.Math.IntN.{◌*ℤ◌, ◌-ℤ◌}
 use Rattle.adjust_kernel.specs.Pairs.{readings_of}
@@ -12,18 +12,15 @@ returns c =
     let readings = readings_of station.obs c.args.rows.now in
     let sets = c.sets-sets.ensures.value in
     let share = c.times_sets-share.result in
-    let share_fits : FitsSigned w128 share = record { sfits = c.times_sets-share.type_inv } in
-    let total_fits : FitsSigned w128 c.set_total.result = record { sfits = c.set_total.type_inv } in
-    let one = to_z-of_z w128 c.args.rest c.ranges.rest in
-    let two = to_z-of_z w128 share share_fits in
-    let three = to_z-of_z w128 c.set_total.result total_fits in
+    let share_fits : FitsSigned w64 share = record { sfits = c.times_sets-share.type_inv } in
+    let total_fits : FitsSigned w64 c.set_total.result = record { sfits = c.set_total.type_inv } in
+    let shared = to_z-of_z w64 share share_fits in
+    let total = to_z-of_z w64 c.set_total.result total_fits in
     let w = c.times_sets-share.ensures.bound in
     let b = c.requires.bound in
-    let fits : FitsSigned w128 (c.args.rest -ℤ share) = omega (arith, ints) in
-    let value : to_z w128 (of_z w128 (to_z w128 (of_z w128 c.args.rest) -ℤ to_z w128 (of_z w128 share))) ≡ c.args.rest -ℤ share =
-    (λ i. to_z w128 (of_z w128 (one i -ℤ two i))) ∙ to_z-of_z w128 (c.args.rest -ℤ share) fits in
+    let value : to_z w128 (of_z w128 c.from.result) ≡ c.args.rest -ℤ share = omega (arith, ints, c.from.ensures, shared, w.low, w.high, b.low, b.high) in
     let share_is : share ≡ pos (length station.sets) *ℤ set_total readings c.args.set =
-    c.times_sets-share.ensures.value ∙ (λ i. pos (length (sets i)) *ℤ (three ∙ c.set_total.ensures.value) i) in
+    c.times_sets-share.ensures.value ∙ (λ i. pos (length (sets i)) *ℤ (total ∙ c.set_total.ensures.value) i) in
     let rest_is = c.requires.rest in
     record {
       set = ap (λ (l : List ℕ). get_or l c.args.set 0) sets;

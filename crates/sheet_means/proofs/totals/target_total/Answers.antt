@@ -1,6 +1,6 @@
-use Rattle.std.proofs.Common.{◌≡◌, length, ℕ, to_z, arith, ap, subst, sym, ◌∙◌}
-use Rattle.std.specs.Int.{w128}
-use Rattle.std.proofs.lemmas.Int.{ints}
+use Rattle.std.proofs.Common.{◌≡◌, ◌<◌, length, ℕ, to_z, FitsSigned, arith, ap, subst, sym, ◌∙◌}
+use Rattle.std.specs.Int.{w64}
+use Rattle.std.proofs.lemmas.Int.{ints, to_z-of_z}
 use Rattle.adjust_kernel.specs.Pairs.{readings_of}
 use Rattle.adjust_kernel.specs.Residuals.{unrolled}
 use Rattle.adjust_kernel.specs.Within.{IsWithin}
@@ -11,12 +11,30 @@ use Rattle.sheet_means.proofs.MeansRowLaws.{grid}
 use Rattle.sheet_means.proofs.SumLoops.{sum_more}
 use Rattle.sheet_means.proofs.totals.target_total.Goals as goal
 
+pub overflow_add-total : goal.overflow_add-total
+overflow_add-total c =
+    let end = c.sets-set-end.ensures in
+    let few = end.valid.sets.few in
+    let below : c.loop-set.set < length c.args.station.now.sets = let all = ap length end.value in omega (arith, all, c.loop-set-test.true) in
+    let so_far = c.loop-set.invariant.bound in
+    let low = so_far.low in
+    let high = so_far.high in
+    let next = c.reading_at-total.ensures.bound in
+    let next_low = next.low in
+    let next_high = next.high in
+    let fits : FitsSigned w64 c.reading_at-total.result = record { sfits = c.reading_at-total.type_inv } in
+    let same = to_z-of_z w64 c.reading_at-total.result fits in
+    omega (arith, ints, few, below, low, high, next_low, next_high, same)
+
 pub loop-set-preserved : goal.loop-set-preserved
 loop-set-preserved c =
     let f = λ (k : ℕ). unrolled (reading_at (readings_of c.args.station.now.obs c.args.rows.now) (length c.args.station.now.targets) k c.args.target) in
     let next = c.reading_at-total.ensures in
-    let more = sum_more f LARGEST_READING c.loop-set.set (to_z w128 c.loop-set.total-bits) c.loop-set.invariant (subst (IsWithin LARGEST_READING) next.value next.bound) in
-    record { total_is = omega (arith, ints, more.total_is); bound = omega (arith, ints, more.bound) }
+    let more = sum_more f LARGEST_READING c.loop-set.set (to_z w64 c.loop-set.total-bits) c.loop-set.invariant (subst (IsWithin LARGEST_READING) next.value next.bound) in
+    let end = c.sets-set-end.ensures in
+    let few = end.valid.sets.few in
+    let below : c.loop-set.set < length c.args.station.now.sets = let all = ap length end.value in omega (arith, all, c.loop-set-test.true) in
+    record { total_is = omega (arith, ints, few, below, more.total_is); bound = omega (arith, ints, few, below, more.bound) }
 
 pub returns-clause-value : goal.returns-clause-value
 returns-clause-value c =
