@@ -1,8 +1,9 @@
 -- Lists that agree at each place, or differ at a first one.
-use Rattle.std.proofs.Common.{◌≡◌, ◌≢◌, ℕ, suc, zero, ◌+◌, ◌≤◌, ◌<◌, List, [], ◌∷◌, length, take, Option, Some, None, MatchOption, arith, ap, refl, sym, ◌∙◌, add-one}
+use Rattle.std.proofs.Common.{◌≡◌, ◌≢◌, ℕ, suc, zero, ◌+◌, ◌≤◌, ◌<◌, List, [], ◌∷◌, length, take, get_or, Option, Some, None, MatchOption, arith, ap, refl, sym, ◌∙◌, add-one}
 use Rattle.std.specs.Prelude.{IfNone, IfSome}
 use Rattle.std.specs.List.{slice_get}
 use Rattle.std.proofs.lemmas.List.{take_all}
+use Rattle.std.proofs.lemmas.Option.{slice_get_past, slice_get-get_or}
 use Rattle.adjust_kernel.specs.Firsts.{IsFirstDifference}
 
 module _ {X : Type 0} where
@@ -31,3 +32,15 @@ module _ {X : Type 0} where
       → IfNone r (xs ≡ ys) × IfSome r (IsFirstDifference xs ys)
   first_difference xs ys n None a b h = (sym (take_all n xs a) ∙ agree_to xs ys n (λ k below. h k (omega arith) below) ∙ take_all n ys b, tt)
   first_difference xs ys n (Some i) a b h = (tt, record { before = agree_to xs ys i (λ k below. h.3 k (omega arith) below); differ = h.2 })
+
+  -- lists that agree at each place before both end are one
+  pub same_lists : (xs ys : List X) (n : ℕ) → length xs ≤ n → length ys ≤ n → ((k : ℕ) → k < n → slice_get xs k ≡ slice_get ys k) → xs ≡ ys
+  same_lists xs ys n a b h = sym (take_all n xs a) ∙ agree_to xs ys n h ∙ take_all n ys b
+
+  -- lists that agree before a place differ first at it, where they do
+  pub differ_at : (xs ys : List X) (n : ℕ) → ((k : ℕ) → k < n → slice_get xs k ≡ slice_get ys k) → slice_get xs n ≢ slice_get ys n → IsFirstDifference xs ys n
+  differ_at xs ys n h d = record { before = agree_to xs ys n h; differ = d }
+
+  -- one list has ended where the other has not
+  pub ended_first : (xs ys : List X) (n : ℕ) → X → length xs ≤ n → n < length ys → slice_get xs n ≢ slice_get ys n
+  ended_first xs ys n d a b e = let f : None ≡ Some (get_or ys n d) = sym (slice_get_past xs n a) ∙ e ∙ slice_get-get_or ys n d b in cc

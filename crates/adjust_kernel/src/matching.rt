@@ -1,7 +1,7 @@
 //! Whether a sheet is of a station at all: the same name, targets, sets and observations, place by
 //! place.
 
-ghost use Rattle.std.specs.Prelude.{◌≡◌, ◌↔◌, ◌≤◌, ℕ, pos, length, slice_get, Option, IsTrue, IfNone, IfSome, OnOk, IfErr, Err};
+ghost use Rattle.std.specs.Prelude.{◌≡◌, ◌↔◌, ◌≤◌, ◌<◌, ℕ, pos, length, slice_get, Option, IsTrue, IfNone, IfSome, OnOk, IfErr, Err};
 ghost use Rattle.adjust_kernel.specs.Firsts.{IsFirstDifference};
 ghost use Rattle.adjust_kernel.specs.Matching.{Matches, names_of, numbers_of, keys_of, observed, key_of_row, key_of_obs};
 ghost use Rattle.adjust_kernel.specs.Pairs.{choice_stated_by};
@@ -52,16 +52,14 @@ fn is_row_of(station: &Station, row: &Row, obs: &Obs) -> bool
         && row.value == obs.value
 }
 
-/// Whether sheet and station have one observation at a place, or neither has one there.
+/// Whether sheet and station have one observation at a place where both have one.
 fn is_same_row_at(station: &Station, sheet: &Sheet, place: usize) -> bool
+    requires row { place < length sheet.now.rows }
+    requires obs { place < length station.now.obs }
     ensures { IsTrue result
         ↔ (slice_get (keys_of sheet.now) place ≡ slice_get (observed station.now) place) }
 {
-    match (sheet.rows().get(place), station.obs().get(place)) {
-        (Some(row), Some(obs)) => is_row_of(station, row, obs),
-        (None, None) => true,
-        _ => false,
-    }
+    is_row_of(station, &sheet.rows()[place], &station.obs()[place])
 }
 
 /// The first place at which sheet and station have different targets, or one of them has ended.
@@ -95,8 +93,17 @@ fn first_other_row(station: &Station, sheet: &Sheet) -> Option<usize>
         IsFirstDifference (keys_of sheet.now) (observed station.now) place) }
     ensures bound { IfSome result (λ place. place ≤ MOST_ROWS) }
 {
-    let places = sheet.rows().len().max(station.obs().len());
-    (0..places).find(|&place| !is_same_row_at(station, sheet, place))
+    let rows = sheet.rows().len();
+    let both = rows.min(station.obs().len());
+    for place in 0..both {
+        if !is_same_row_at(station, sheet, place) {
+            return Some(place);
+        }
+    }
+    if rows == station.obs().len() {
+        return None;
+    }
+    Some(both)
 }
 
 /// Whether the direction of the first target is 0.
