@@ -3,6 +3,7 @@ pub mod CanonicalDecimals
 pub mod ShortNumbers
 pub mod WrittenNumbers
 pub mod OneForm
+pub mod LongNumbers
 pub mod RecordFacts
 pub mod FiveColumns
 pub mod NameTests

@@ -4,11 +4,11 @@ ghost use Rattle.std.specs.Prelude.{◌≡◌, true, false, None, Some, IfErr, I
 ghost use Rattle.sheet_format.specs.Columns.{columns_view};
 ghost use Rattle.sheet_format.specs.Drafts as spec;
 ghost use Rattle.sheet_format.specs.Faults as faults;
-ghost use Rattle.sheet_format.specs.Numbers.{is_at_most, is_canonical, natural_of, value_of};
+ghost use Rattle.sheet_format.specs.Numbers.{is_at_most, natural_of};
 
 use crate::columns::Columns;
 use crate::fault::RowKind;
-use crate::number::{is_canonical, natural_within, number_at_most};
+use crate::number::Numeral;
 use crate::version::Version;
 use adjust_kernel::{Direction, LARGEST_SET_NUMBER, LARGEST_TURN, Name, Orientation, Row, TURN};
 
@@ -30,33 +30,38 @@ fn name_of(field: &[u8]) -> Option<Name>
 }
 
 /// The number of a set.
-fn set_number(field: &[u8]) -> Option<u16>
-    requires { is_canonical field.now ≡ true }
-    ensures value { IfSome result (λ number. number ≡ natural_of (value_of field.now)) }
-    ensures within { OnSome result (faults.is_set_number (value_of field.now) ≡ true) }
-    ensures outside { IfNone result (faults.is_set_number (value_of field.now) ≡ false) }
+#[inline(always)]
+fn set_number(number: &Numeral<'_>) -> Option<u16>
+    ensures value { IfSome result (λ set. set ≡ natural_of number.now) }
+    ensures within { OnSome result (faults.is_set_number number.now ≡ true) }
+    ensures outside { IfNone result (faults.is_set_number number.now ≡ false) }
 {
-    natural_within(field, 1, u64::from(LARGEST_SET_NUMBER)).map(|number| number as u16)
+    number
+        .small_within(1, i32::from(LARGEST_SET_NUMBER))
+        .map(|set| set as u16)
 }
 
 /// A direction on the circle, in half units.
-fn circle_value(field: &[u8]) -> Option<u32>
-    requires { is_canonical field.now ≡ true }
-    ensures value { IfSome result (λ number. number ≡ natural_of (value_of field.now)) }
-    ensures within { OnSome result (faults.is_circle_value (value_of field.now) ≡ true) }
-    ensures outside { IfNone result (faults.is_circle_value (value_of field.now) ≡ false) }
+#[inline(always)]
+fn circle_value(number: &Numeral<'_>) -> Option<u32>
+    ensures value { IfSome result (λ value. value ≡ natural_of number.now) }
+    ensures within { OnSome result (faults.is_circle_value number.now ≡ true) }
+    ensures outside { IfNone result (faults.is_circle_value number.now ≡ false) }
 {
-    natural_within(field, 0, u64::from(TURN - 1)).map(|value| value as u32)
+    number
+        .small_within(0, TURN as i32 - 1)
+        .map(|value| value as u32)
 }
 
 /// The full turns of an observation.
-fn full_turns(field: &[u8]) -> Option<i8>
-    requires { is_canonical field.now ≡ true }
-    ensures value { IfSome result (λ number. number ≡ value_of field.now) }
-    ensures within { OnSome result (is_at_most LARGEST_TURN (value_of field.now) ≡ true) }
-    ensures outside { IfNone result (is_at_most LARGEST_TURN (value_of field.now) ≡ false) }
+#[inline(always)]
+fn full_turns(number: &Numeral<'_>) -> Option<i8>
+    ensures value { IfSome result (λ turns. turns ≡ number.now) }
+    ensures within { OnSome result (is_at_most LARGEST_TURN number.now ≡ true) }
+    ensures outside { IfNone result (is_at_most LARGEST_TURN number.now ≡ false) }
 {
-    number_at_most(field, i128::from(LARGEST_TURN)).map(|turns| turns as i8)
+    let most = i32::from(LARGEST_TURN);
+    number.small_within(-most, most).map(|turns| turns as i8)
 }
 
 /// What the columns of the first row state, or their first fault.
@@ -71,12 +76,10 @@ pub(crate) fn header_of(columns: &Columns<'_>) -> Result<Header, RowKind>
         return Err(RowKind::NotEmpty);
     }
     let name = name_of(columns.name).ok_or(RowKind::Name)?;
-    if !is_canonical(columns.value) {
-        return Err(RowKind::Number);
-    }
-    let denominator = natural_within(columns.value, 1, version.largest_denominator()).ok_or(
-        RowKind::Range,
-    )?;
+    let number = Numeral::of(columns.value).ok_or(RowKind::Number)?;
+    let denominator = number
+        .natural_within(1, version.largest_denominator())
+        .ok_or(RowKind::Range)?;
     Ok(Header {
         version,
         name,
@@ -97,10 +100,10 @@ pub(crate) fn direction_of(columns: &Columns<'_>, version: Version) -> Result<Di
         return Err(RowKind::NotEmpty);
     }
     let name = name_of(columns.name).ok_or(RowKind::Name)?;
-    if !is_canonical(columns.value) {
-        return Err(RowKind::Number);
-    }
-    let value = number_at_most(columns.value, version.largest_angle()).ok_or(RowKind::Range)?;
+    let value = Numeral::of(columns.value).ok_or(RowKind::Number)?;
+    let value = value
+        .at_most(version.largest_angle())
+        .ok_or(RowKind::Range)?;
     Ok(Direction { name, value })
 }
 
@@ -118,11 +121,16 @@ pub(crate) fn orientation_of(
     if !columns.name.is_empty() || !columns.turn.is_empty() {
         return Err(RowKind::NotEmpty);
     }
-    if !is_canonical(columns.number) || !is_canonical(columns.value) {
+    let Some(number) = Numeral::of(columns.number) else {
         return Err(RowKind::Number);
-    }
-    let set = set_number(columns.number).ok_or(RowKind::Range)?;
-    let value = number_at_most(columns.value, version.largest_angle()).ok_or(RowKind::Range)?;
+    };
+    let Some(value) = Numeral::of(columns.value) else {
+        return Err(RowKind::Number);
+    };
+    let set = set_number(&number).ok_or(RowKind::Range)?;
+    let value = value
+        .at_most(version.largest_angle())
+        .ok_or(RowKind::Range)?;
     Ok(Orientation { set, value })
 }
 
@@ -133,15 +141,24 @@ pub(crate) fn obs_row_of(columns: &Columns<'_>) -> Result<Row, RowKind>
     ensures err { IfErr result (λ kind. faults.obs_fault (columns_view columns.now) ≡ Some kind) }
 {
     let target = name_of(columns.name).ok_or(RowKind::Name)?;
-    if !is_canonical(columns.number)
-        || !is_canonical(columns.value)
-        || !is_canonical(columns.turn)
-    {
+    let Some(number) = Numeral::of(columns.number) else {
         return Err(RowKind::Number);
-    }
-    let set = set_number(columns.number).ok_or(RowKind::Range)?;
-    let value = circle_value(columns.value).ok_or(RowKind::Range)?;
-    let turn = full_turns(columns.turn).ok_or(RowKind::Range)?;
+    };
+    let Some(value) = Numeral::of(columns.value) else {
+        return Err(RowKind::Number);
+    };
+    let Some(turn) = Numeral::of(columns.turn) else {
+        return Err(RowKind::Number);
+    };
+    let Some(set) = set_number(&number) else {
+        return Err(RowKind::Range);
+    };
+    let Some(value) = circle_value(&value) else {
+        return Err(RowKind::Range);
+    };
+    let Some(turn) = full_turns(&turn) else {
+        return Err(RowKind::Range);
+    };
     Ok(Row {
         set,
         target,
