@@ -1,5 +1,5 @@
-//! The residuals of a sheet, gone through once: their sums in a tally, and the greatest in size. Then
-//! the first target and the first set whose sum isn't 0.
+//! The residuals of a sheet, gone through once: their sums in a tally, and the greatest in size.
+//! Then the first target and the first set whose sum isn't 0.
 ghost use Rattle.std.specs.Prelude.{◌≡◌, ◌≢◌, ◌≤◌, ◌<◌, ℕ, pos, List, [], IfNone, IfSome};
 ghost use Rattle.adjust_kernel.specs.Firsts.{IsFirstWhere};
 ghost use Rattle.adjust_kernel.specs.Greatest.{IsGreatest};
@@ -15,9 +15,9 @@ use crate::residual::row_residual;
 use crate::sheet::Sheet;
 use crate::tally::Tally;
 
-/// Adds the scaled residuals of all rows to a tally to which nothing was added. The tally comes back
-/// with the greatest size of a residual. Not inlined: in a function of its own the loop keeps its
-/// values in registers.
+/// Adds the scaled residuals of all rows to a tally to which nothing was added. The tally comes
+/// back with the greatest size of a residual. Not inlined: in a function of its own the loop keeps
+/// its values in registers.
 #[inline(never)]
 pub fn add_residuals<T: Tally>(mut tally: T, sheet: &Sheet, obs: &[Obs]) -> (T, i128)
     requires paired { ArePaired sheet.now obs.now }

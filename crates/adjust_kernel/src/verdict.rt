@@ -152,7 +152,8 @@ fn check_limit(
 
 /// What is said of an accepted sheet.
 fn acceptance(station: &Station, sheet: &Sheet, greatest: i128) -> Accepted
-    requires greatest { IsGreatest (choice_stated_by sheet.now) (readings station.now sheet.now) greatest }
+    requires greatest { IsGreatest (choice_stated_by sheet.now)
+        (readings station.now sheet.now) greatest }
     ensures { IsAcceptance station.now sheet.now result }
 {
     Accepted {

@@ -11,8 +11,8 @@ pub const HALF_TURN: i64 = TURN as i64 / 2;
 /// The largest number of full turns of a reading in a sheet of means.
 pub const MOST_TURNS: i8 = 2;
 
-/// The full turns that bring a difference of two angles into the half circle: most often none, which
-/// is asked first.
+/// The full turns that bring a difference of two angles into the half circle: most often none,
+/// which is asked first.
 pub fn turn_of(difference: i64) -> i8
     requires { IsWithin (pos TURN *ℤ pos 2) difference }
     ensures value { IsInHalfCircle (difference +ℤ pos TURN *ℤ result) }
