@@ -128,28 +128,6 @@ fn push_set<W: Write + Drop>(
     )
 }
 
-// Writes the row of an observation.
-fn push_obs_row<W: Write + Drop>(writer: &mut Writer<W>, row: &Row) -> Result<(), WriteFault>
-    ensures ok { OnOk result ((text : List ℕ) → spec.HasWritten W.contents writer.old text
-        → spec.HasWritten W.contents writer.new
-        (text ++ row_text default_writer (obs_fields row.now))) }
-    ensures err { IfErr result (λ fault. fault ≡ Memory) }
-{
-    let mut number = Buffer::new();
-    let mut value = Buffer::new();
-    let mut turn = Buffer::new();
-    push_row(
-        writer,
-        &[
-            b"obs".as_slice(),
-            number.format(row.set).as_bytes(),
-            row.target.bytes(),
-            value.format(row.value).as_bytes(),
-            turn.format(row.turn).as_bytes(),
-        ],
-    )
-}
-
 // Writes the rows of the targets.
 fn push_targets<W: Write + Drop>(
     writer: &mut Writer<W>,
@@ -182,15 +160,28 @@ fn push_sets<W: Write + Drop>(
     Ok(())
 }
 
-// Writes the rows of the observations.
+/// Writes the rows of the observations. The numbers of all rows are made into text in the same
+/// place.
 fn push_obs<W: Write + Drop>(writer: &mut Writer<W>, rows: &[Row]) -> Result<(), WriteFault>
     ensures ok { OnOk result ((text : List ℕ) → spec.HasWritten W.contents writer.old text
         → spec.HasWritten W.contents writer.new
         (text ++ spec.rows_text (map obs_fields rows.now))) }
     ensures err { IfErr result (λ fault. fault ≡ Memory) }
 {
+    let mut number = Buffer::new();
+    let mut value = Buffer::new();
+    let mut turn = Buffer::new();
     for row in rows {
-        push_obs_row(writer, row)?;
+        push_row(
+            writer,
+            &[
+                b"obs".as_slice(),
+                number.format(row.set).as_bytes(),
+                row.target.bytes(),
+                value.format(row.value).as_bytes(),
+                turn.format(row.turn).as_bytes(),
+            ],
+        )?;
     }
     Ok(())
 }
