@@ -126,7 +126,8 @@ fn end_of_eight(bytes: &[u8], from: usize) -> [u8; LONGEST_NAME]
     ensures { result ≡ padded (drop from bytes.now) }
 {
     let number = u64::from_le_bytes(u8x8::from_slice(bytes).to_array());
-    ((number >> (8 * from as u32)) as u128).to_le_bytes()
+    let last = number >> (8 * from as u32);
+    u64x2::from_array([last, 0]).to_le_bytes().to_array()
 }
 
 /// Whether these are the bytes of a name.

@@ -1,5 +1,5 @@
 use Rattle.std.proofs.Common.{ℕ, ◌<◌, ◌/◌, ◌^◌, ◌*◌, ap, ◌∙◌, arith}
-use Rattle.std.specs.Int.{from_le_bytes, to_le_bytes, w64, w128}
+use Rattle.std.specs.Int.{from_le_bytes, w64}
 use Rattle.std.proofs.lemmas.List.{take_all}
 use Rattle.std.proofs.lemmas.List.Elements.{All-from_get_or, recursion_from_All}
 use Rattle.adjust_kernel.proofs.EightBytes.{AreBytes, moved}
@@ -11,8 +11,8 @@ returns c =
     let all : AreBytes bytes =
     recursion_from_All (λ b. b < 256) bytes
     (All-from_get_or (λ b. b < 256) bytes 0 (λ i inside. (c.type_inv.bytes i).fits)) in
-    c.to_le_bytes.ensures
-    ∙ ap (λ (n : ℕ). to_le_bytes w128 (n / 2 ^ (8 * c.args.from)))
+    moved bytes c.args.from (c.from_le_bytes-number.result / 2 ^ (8 * c.args.from))
+    c.requires.eight all
+    (ap (λ (n : ℕ). n / 2 ^ (8 * c.args.from))
     (c.from_le_bytes-number.ensures
-    ∙ ap (from_le_bytes w64) (take_all 8 bytes (omega (arith, c.requires.eight))))
-    ∙ moved bytes c.args.from c.requires.eight all
+    ∙ ap (from_le_bytes w64) (take_all 8 bytes (omega (arith, c.requires.eight)))))
