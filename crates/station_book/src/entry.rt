@@ -1,6 +1,6 @@
 //! The last station that has sets.
 
-ghost use Rattle.std.specs.Prelude.{◌≡◌, ◌≢◌, ◌<◌, ◌≤◌, AllPairs, slice_get, None, Some, length, IfOk, IfErr, OnOk, OnErr, IfSome, IfNone, false, nat_le, ◌==◌, [], ◌∷◌};
+ghost use Rattle.std.specs.Prelude.{◌≡◌, ◌<◌, None, Some, length, IfOk, IfErr, OnOk, OnErr, false, nat_le, ◌==◌, [], ◌∷◌};
 ghost use Rattle.std.specs.List.{list_any};
 ghost use Rattle.adjust_kernel.specs.Sheets.{IsSetNumber};
 ghost use Rattle.station_book.specs.Shelves.{survey_of, more_set_faults};
@@ -8,7 +8,7 @@ ghost use Rattle.std.specs.Str.{bytes_eq};
 ghost use Rattle.station_book.specs.Faults.{first_of, when};
 ghost use Rattle.station_book.specs.Slots.{closing_faults};
 ghost use Rattle.station_book.specs.Sights.{AreOnCircle};
-ghost use Rattle.station_book.specs.Entries.{MayEnd, first_entry, with_set, is_named, place_of, is_new_to, entry_faults, with_reading, with_reading_at};
+ghost use Rattle.station_book.specs.Entries.{MayEnd, first_entry, with_set, is_new_to, entry_faults, with_reading, with_reading_at};
 ghost use Rattle.station_book.specs.declared.fault.BookKind.TheVariants as kinds;
 ghost use Rattle.station_book.specs.Refusals.{ExplainsRefusal, WantsOnly};
 
@@ -18,6 +18,7 @@ use crate::limits::Limits;
 use crate::sight::Sighting;
 use crate::slot::{Slot, empty_all, empty_slot, end_fault, push_pairs, slot_fault, with_side};
 use crate::surveyed::Surveyed;
+use crate::targets::Targets;
 use adjust_kernel::{MOST_SETS, MOST_TARGETS, Name, Obs, Station};
 use std::alloc::{AllocError, Global};
 use std::marker::Model;
@@ -26,13 +27,11 @@ use std::marker::Model;
 /// target; those of all earlier sets have become observations.
 #[derive(Drop)]
 pub(crate) struct Entry {
-    targets: Vec<Name>,
+    targets: Targets,
     slots: Vec<Slot>,
     sets: Vec<u16>,
     obs: Vec<Obs>,
     faces: Vec<Faces>,
-    /// The place of the target that was read last: where the next one is looked for first.
-    last: usize,
 }
 
 impl Model for Entry {
@@ -41,7 +40,7 @@ impl Model for Entry {
     ghost Value = { EntryValue };
 
     ghost view = { λ e. record {
-      targets = e.targets.items;
+      targets = e.targets;
       slots = e.slots.items;
       sets = e.sets.items;
       obs = e.obs.items;
@@ -49,72 +48,12 @@ impl Model for Entry {
     } };
 
     ghost invariant = { λ e. IsEntry (record {
-      targets = e.targets.items;
+      targets = e.targets;
       slots = e.slots.items;
       sets = e.sets.items;
       obs = e.obs.items;
       faces = e.faces.items;
     }) };
-}
-
-/// The place of the target of this name.
-fn position_of(targets: &[Name], name: &Name) -> Option<usize>
-    ensures { result ≡ place_of name.now targets.now }
-{
-    targets.iter().position(|target| target.is_same(name))
-}
-
-/// Whether the target at this place has this name.
-fn is_at(targets: &[Name], name: &Name, place: usize) -> bool
-    ensures { result ≡ is_named name.now (slice_get targets.now place) }
-{
-    match targets.get(place) {
-        Some(target) => target.is_same(name),
-        None => false,
-    }
-}
-
-/// The place beside this one: in face II the one before it, else the one after it.
-#[inline(always)]
-fn beside(place: usize, is_second: bool) -> usize {
-    if is_second {
-        place.wrapping_sub(1)
-    } else {
-        place.wrapping_add(1)
-    }
-}
-
-/// The place of the target of this name, which is looked for first beside the one that was read
-/// last: targets are read in turn, and in face II mostly backwards.
-#[inline(always)]
-#[tactic(auto, using(crate::proofs::PlacedLaws::placed))]
-fn place_from(targets: &[Name], name: &Name, last: usize, is_second: bool) -> Option<usize>
-    requires { AllPairs (λ a b. a ≢ b) targets.now }
-    ensures { result ≡ place_of name.now targets.now }
-{
-    let next = beside(last, is_second);
-    if is_at(targets, name, next) {
-        return Some(next);
-    }
-    if is_at(targets, name, last) {
-        return Some(last);
-    }
-    let other = beside(last, !is_second);
-    if is_at(targets, name, other) {
-        return Some(other);
-    }
-    position_of(targets, name)
-}
-
-/// The place of the target of this name.
-fn place_of(targets: &[Name], name: &Name, last: usize, is_second: bool) -> Option<usize>
-    requires { AllPairs (λ a b. a ≢ b) targets.now }
-    ensures place { result ≡ place_of name.now targets.now }
-    ensures inside { IfSome result (λ i. i < length targets.now) }
-    ensures absent { IfNone result (list_any (λ t. bytes_eq t name.now) targets.now ≡ false) }
-{
-    let place = place_from(targets, name, last, is_second);
-    place
 }
 
 impl Entry {
@@ -126,12 +65,11 @@ impl Entry {
         let mut sets = Vec::new(alloc);
         sets.push(number)?;
         Ok(Entry {
-            targets: Vec::new(alloc),
+            targets: Targets::new(alloc),
             slots: Vec::new(alloc),
             sets,
             obs: Vec::new(alloc),
             faces: Vec::new(alloc),
-            last: 0,
         })
     }
 
@@ -182,13 +120,13 @@ impl Entry {
         ensures memory { IfErr result (WantsOnly (is_new_to self.old reading)) }
         ensures err { OnErr result (self.new ≡ self.old) }
     {
-        match place_of(&self.targets, &reading.target, self.last, reading.is_second) {
+        match self.targets.place_of(&reading.target, reading.is_second) {
             Some(place) => {
                 let slot = self.slots[place];
                 match slot_fault(limits, slot, reading) {
                     Some(kind) => Err(Refusal::Kind(kind)),
                     None => {
-                        self.last = place;
+                        self.targets.note(place);
                         self.slots[place] = with_side(slot, reading.is_second, reading.sight);
                         Ok(())
                     }
@@ -212,13 +150,11 @@ impl Entry {
         if self.targets.len() >= MOST_TARGETS {
             return Err(Refusal::Kind(BookKind::TooManyTargets));
         }
-        self.targets.reserve(1)?;
         self.slots.reserve(1)?;
         let _name = reading.target.bytes();
+        self.targets.add(reading.target)?;
         let slot = with_side(empty_slot(), reading.is_second, reading.sight);
-        self.last = self.targets.len();
         self.slots.push_reserved(slot);
-        self.targets.push_reserved(reading.target);
         Ok(())
     }
 
@@ -246,7 +182,6 @@ impl Entry {
             sets,
             mut obs,
             mut faces,
-            last,
         } = self;
         let set = sets.len() as u32 - 1;
         match push_pairs(set, &slots, &mut obs, &mut faces) {
@@ -258,12 +193,11 @@ impl Entry {
                     sets,
                     obs,
                     faces,
-                    last,
                 });
             }
         }
         slots.clear();
-        let station = Station::of_valid(name, targets, sets, obs);
+        let station = Station::of_valid(name, targets.into_names(), sets, obs);
         Ok((Surveyed { station, faces }, slots))
     }
 }
