@@ -6,7 +6,7 @@ plain.rs with `rustc -O` into a temporary folder, compares what both programs pr
 and measures each command on each file:
 
   time           the least of several runs; all programs take turns, in one run of this script
-  instructions   a byte of the field file, less those of an empty one, counted by valgrind
+  instructions   a byte of the field file, less those of the same command on empty files, counted by valgrind
 
 Instructions are the figure to keep: times depend on the machine and on what else it does.
 """
@@ -81,12 +81,13 @@ def build_plain(folder):
     return program
 
 
-def run(command):
+def run(command, statuses=(0,), stderr=None):
     """Runs a command; answers how long it took, in milliseconds."""
+    quiet = {"stdin": subprocess.DEVNULL, "stdout": subprocess.DEVNULL, "stderr": stderr}
     start = time.perf_counter_ns()
-    done = subprocess.run(command, stdin=subprocess.DEVNULL, stdout=subprocess.DEVNULL, close_fds=False)
+    done = subprocess.run(command, close_fds=False, **quiet)
     took = time.perf_counter_ns() - start
-    if done.returncode != 0:
+    if done.returncode not in statuses:
         sys.exit(f"{' '.join(map(str, command))}: status {done.returncode}")
     return took / 1e6
 
@@ -106,9 +107,10 @@ def least_times(commands, runs):
 
 
 def instructions(command, folder):
+    """How many instructions a command runs. Of empty files `means` and `check` refuse."""
     log = folder / "valgrind.log"
     tool = ["valgrind", "--tool=cachegrind", "--cache-sim=no", "--cachegrind-out-file=/dev/null"]
-    run([*tool, f"--log-file={log}", *command])
+    run([*tool, f"--log-file={log}", *command], statuses=(0, 1), stderr=subprocess.DEVNULL)
     return int(re.search(r"I +refs: +([\d,]+)", log.read_text())[1].replace(",", ""))
 
 
@@ -120,12 +122,9 @@ class Bench:
         self.folder = folder
         self.options = options
         self.can_count = shutil.which("valgrind") is not None
-        empty = folder / "empty.gsi"
-        empty.touch()
-        if self.can_count:
-            starts = [[program, "words", empty] for program in programs.values()]
-            starts.append(["cat", empty])
-            self.starts = [instructions(start, folder) for start in starts]
+        self.empty = folder / "empty"
+        self.empty.touch()
+        self.starts = {}
 
     def commands(self, words):
         """The command line of each program, and of `cat` of the field file."""
@@ -139,6 +138,13 @@ class Bench:
             sys.exit(f"the programs print different texts: {' '.join(map(str, words))}")
         return outputs[0]
 
+    def counted_starts(self, words):
+        """The instructions of each program's run of this command on empty files, counted once."""
+        if words[0] not in self.starts:
+            on_empty = [self.empty if isinstance(word, Path) else word for word in words]
+            self.starts[words[0]] = [instructions(command, self.folder) for command in self.commands(on_empty)]
+        return self.starts[words[0]]
+
     def row(self, name, words):
         size = words[1].stat().st_size
         commands = self.commands(words)
@@ -146,8 +152,9 @@ class Bench:
         if self.can_count:
             counts = []
             if self.options.instructions or size <= COUNTED:
+                starts = self.counted_starts(words)
                 totals = [instructions(command, self.folder) for command in commands]
-                counts = [(total - start) / size for total, start in zip(totals, self.starts)]
+                counts = [(total - start) / size for total, start in zip(totals, starts)]
             row += figures(counts, 1) or [""] * (2 * len(commands) - 2)
         return row
 
