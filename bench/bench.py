@@ -106,11 +106,11 @@ def least_times(commands, runs):
     return [min(of_one) for of_one in times]
 
 
-def instructions(command, folder):
-    """How many instructions a command runs. Of empty files `means` and `check` refuse."""
+def instructions(command, folder, statuses=(0,)):
+    """How many instructions a command runs."""
     log = folder / "valgrind.log"
     tool = ["valgrind", "--tool=cachegrind", "--cache-sim=no", "--cachegrind-out-file=/dev/null"]
-    run([*tool, f"--log-file={log}", *command], statuses=(0, 1), stderr=subprocess.DEVNULL)
+    run([*tool, f"--log-file={log}", *command], statuses, None if statuses == (0,) else subprocess.DEVNULL)
     return int(re.search(r"I +refs: +([\d,]+)", log.read_text())[1].replace(",", ""))
 
 
@@ -142,7 +142,9 @@ class Bench:
         """The instructions of each program's run of this command on empty files, counted once."""
         if words[0] not in self.starts:
             on_empty = [self.empty if isinstance(word, Path) else word for word in words]
-            self.starts[words[0]] = [instructions(command, self.folder) for command in self.commands(on_empty)]
+            # Of empty files `means` and `check` refuse.
+            commands = self.commands(on_empty)
+            self.starts[words[0]] = [instructions(command, self.folder, (0, 1)) for command in commands]
         return self.starts[words[0]]
 
     def row(self, name, words):

@@ -20,8 +20,8 @@ use crate::station::Station;
 /// No reading with its full turns is larger than this, in half units.
 const LARGEST_READING: i64 = (LARGEST_TURN as i64 + 1) * TURN as i64;
 
-/// A reading with its full turns, times the denominator: both are of 64 bits with a sign, so that
-/// the machine multiplies them at once.
+/// A reading with its full turns, times the denominator: both fit into 64 bits with a sign, and
+/// the machine multiplies two such numbers at once.
 fn scaled(denominator: u64, reading: i64) -> i128
     requires denominator { denominator ≤ LARGEST_DENOMINATOR }
     requires reading { IsWithin LARGEST_READING reading }

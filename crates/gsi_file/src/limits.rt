@@ -7,4 +7,4 @@ pub const LONGEST_LINE: usize = 1_024;
 pub const LONGEST_FILE: usize = 16_777_216;
 
 /// The bytes of the one buffer that a file is read through.
-pub(crate) const BUFFER: usize = 32_768;
+pub(crate) const BUFFER: usize = 4_096;

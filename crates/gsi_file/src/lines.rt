@@ -55,8 +55,8 @@ fn check_line(line: &[u8], printable: bool) -> Result<Shape, FileKind>
     ensures fault { IfErr result (IsFileFault line.now) }
 {
     if !printable {
-        if let Err(fault) = check_printable(line) {
-            return Err(FileKind::from(fault));
+        if let Err(at) = check_printable(line) {
+            return Err(FileKind::Byte(at));
         }
     }
     match read_words(line) {

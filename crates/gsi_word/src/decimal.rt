@@ -10,7 +10,7 @@ use std::simd::prelude::*;
 /// How many digits are read together: those of a content in a GSI-8 line.
 const TOGETHER: usize = 8;
 
-/// What a digit is worth at each of as many places.
+/// What a digit is worth at each of these places.
 const WORTH: [u32; TOGETHER] = [10_000_000, 1_000_000, 100_000, 10_000, 1_000, 100, 10, 1];
 
 /// The number that the bytes write, or `None` where one of them is no digit. No bytes write 0.

@@ -52,19 +52,10 @@ fn read_shape(line: &[u8]) -> Result<Shape, LineFault>
     ensures shape { IfOk result (λ s. IsShape s line.now) }
     ensures fault { IfErr result (IsLineFault line.now) }
 {
-    check_printable(line)?;
-    read_words(line)
-}
-
-/// Whether all bytes may stand in a line, or the fault of the line, at the first that may not.
-pub fn check_printable(line: &[u8]) -> Result<(), LineFault>
-    ensures printable { OnOk result (All IsPrintable line.now) }
-    ensures fault { IfErr result (IsLineFault line.now) }
-{
-    match check_bytes(line) {
-        Ok(()) => Ok(()),
-        Err(at) => Err(LineFault::Byte(at)),
+    if let Err(at) = check_printable(line) {
+        return Err(LineFault::Byte(at));
     }
+    read_words(line)
 }
 
 /// The shape of the block that a line is, or the line's first fault, where all its bytes are known
@@ -128,7 +119,7 @@ fn has_no_stray(bytes: &[u8]) -> bool
 }
 
 /// Whether all bytes may stand in a line, or the place of the first, from 1, that may not.
-fn check_bytes(line: &[u8]) -> Result<(), usize>
+pub fn check_printable(line: &[u8]) -> Result<(), usize>
     ensures printable { OnOk result (All IsPrintable line.now) }
     ensures fault { IfErr result (IsByteFault line.now) }
 {

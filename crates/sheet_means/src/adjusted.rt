@@ -60,7 +60,7 @@ fn direction_of(station: &Station, target: usize, difference: i64) -> Direction
 }
 
 /// The directions of the targets; and what all sets have in common in their orientations: the
-/// readings of all targets, less those of the first as often.
+/// readings of all targets, less those of the first times the number of targets.
 pub fn directions_of(
     alloc: Global,
     station: &Station,

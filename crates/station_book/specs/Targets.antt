@@ -1,7 +1,8 @@
 -- How the targets of a station are found.
 use Rattle.std.specs.Prelude.{◌≡◌, ℕ, ◌+◌, ◌-◌, ◌*◌, ◌%◌, Bool, false, true, List, length, All, get_or, slice_index}
 
--- what the last byte of a name and the one before it leave
+-- the remainders by 16 of a name's last byte and of the one before it; a name of one byte has it
+-- twice
 abbrev pub kind_of : List ℕ → ℕ
 kind_of name =
     slice_index name (length name - 1) % 16 + 16 * (slice_index name (length name - 2) % 16)

@@ -34,8 +34,8 @@ impl Model for Targets {
     ghost invariant = { λ t. AreMet t.met t.names.items };
 }
 
-/// The kind of a name, by its last byte and the one before it: names that are counted up differ in
-/// these.
+/// The kind of a name, by what its last byte and the one before it leave when divided by 16: names
+/// that are counted up mostly differ in it.
 fn kind_of(name: &Name) -> usize
     ensures value { result ≡ kind_of name.now }
     ensures known { result < KINDS }
