@@ -6,4 +6,3 @@ pub mod FirstBytes
 pub mod Finding
 pub mod AnswerLaws
 pub mod LineFaultLaws
-pub mod Strays

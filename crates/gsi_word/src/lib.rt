@@ -12,8 +12,10 @@ mod block;
 mod decimal;
 mod found;
 mod index;
+mod lanes;
 pub mod laws;
 mod line_fault;
+mod printable;
 mod reading;
 mod shape;
 #[cfg(test)]
@@ -30,7 +32,8 @@ pub use index::{
     CODE_INFORMATION, CODE_NUMBER, HORIZONTAL_DIRECTION, POINT_NUMBER, VERTICAL_ANGLE,
 };
 pub use line_fault::LineFault;
-pub use reading::{block_in, check_printable, read_block, read_words};
+pub use printable::{LOAD, check_printable, printable_run};
+pub use reading::{block_in, read_block, read_words};
 pub use shape::Shape;
 pub use word::Word;
 pub use words::Words;

@@ -1,30 +1,24 @@
 //! Reading a line: is it a block, or what is its first fault?
 //!
 //! A line is looked at twice, from left to right. First all its bytes: whether each may stand in a
-//! line. This loop has no early end, so that the compiler can test many bytes at once. It goes over
-//! a number of bytes that fills its chunks, and then over the last chunk of the line, so that no
-//! bytes are left to be tested one by one; some are tested twice. Only a line that fails is
-//! searched for its first bad byte. Then the words: of printable bytes only the two digits, the
-//! information, the sign and the byte behind the word are left to be tested, and the content is not
-//! looked at again.
+//! line. Then the words: of printable bytes only the two digits, the information, the sign and the
+//! byte behind the word are left to be tested, and the content is not looked at again.
 
-ghost use Rattle.std.specs.Prelude.{◌≡◌, ◌≢◌, ◌↔◌, ◌⊎◌, ◌≤◌, ◌+◌, length, drop, replicate, not, position, All, Any, IsTrue, IfOk, IfErr, OnOk};
+ghost use Rattle.std.specs.Prelude.{◌≡◌, ◌≢◌, ◌↔◌, ◌⊎◌, ◌≤◌, ◌+◌, length, drop, replicate, All, Any, IsTrue, IfOk, IfErr};
 ghost use Rattle.std.specs.Bool.{OnTrue, OnFalse};
 ghost use Rattle.gsi_word.specs.Words.{IsPrintable};
 ghost use Rattle.gsi_word.specs.Blocks.{is_starred, width_of, word_bytes, AreWords, IsBlock};
-ghost use Rattle.gsi_word.specs.LineFaults.{IsByteFault, IsWordFault, IsLineFault};
-ghost use Rattle.gsi_word.specs.Layout.{begins_word, is_printable, is_width, words_from, KeepsWords};
+ghost use Rattle.gsi_word.specs.LineFaults.{IsWordFault, IsLineFault};
+ghost use Rattle.gsi_word.specs.Layout.{begins_word, is_width, words_from, KeepsWords};
 ghost use Rattle.gsi_word.specs.BlockViews.{block_of};
 ghost use Rattle.gsi_word.specs.Shapes.{shaped, IsShape};
 
 use crate::block::Block;
 use crate::index::{CODE_NUMBER, POINT_NUMBER};
 use crate::line_fault::LineFault;
+use crate::printable::check_printable;
 use crate::shape::Shape;
 use crate::word::{CONTENT, INFO, SIGN, index_of};
-
-/// How many bytes are tested together.
-const CHUNK: usize = 16;
 
 /// What a GSI-16 line begins with.
 const STAR: &[u8] = b"*";
@@ -87,56 +81,6 @@ pub fn block_in(line: &[u8], shape: Shape) -> Block<'_>
         width: shape.width,
         count: shape.count,
     }
-}
-
-/// Whether a byte may stand in a line: a blank or a visible character of ASCII.
-fn is_printable(byte: u8) -> bool
-    ensures { result ≡ is_printable byte }
-{
-    (b' '..=b'~').contains(&byte)
-}
-
-/// Whether all bytes may stand in a line.
-fn are_printable(bytes: &[u8]) -> bool
-    ensures { IsTrue result ↔ All IsPrintable bytes.now }
-{
-    if bytes.len() < CHUNK {
-        return has_no_stray(bytes);
-    }
-    let whole = bytes.len() / CHUNK * CHUNK;
-    has_no_stray(&bytes[..whole]) && has_no_stray(&bytes[bytes.len() - CHUNK..])
-}
-
-/// The same, in one pass.
-fn has_no_stray(bytes: &[u8]) -> bool
-    ensures { IsTrue result ↔ All IsPrintable bytes.now }
-{
-    let mut stray = false;
-    for byte in bytes {
-        stray |= !is_printable(*byte);
-    }
-    !stray
-}
-
-/// Whether all bytes may stand in a line, or the place of the first, from 1, that may not.
-pub fn check_printable(line: &[u8]) -> Result<(), usize>
-    ensures printable { OnOk result (All IsPrintable line.now) }
-    ensures fault { IfErr result (IsByteFault line.now) }
-{
-    if are_printable(line) {
-        return Ok(());
-    }
-    match first_stray(line) {
-        Some(place) => Err(place + 1),
-        None => Ok(()),
-    }
-}
-
-/// The place of the first byte, from 0, that may not stand in a line.
-fn first_stray(line: &[u8]) -> Option<usize>
-    ensures { result ≡ position (λ b. not (is_printable b)) line.now }
-{
-    line.iter().position(|byte| !is_printable(*byte))
 }
 
 /// Whether the line is GSI-16.

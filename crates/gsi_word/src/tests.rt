@@ -1,8 +1,8 @@
 //! Worked lines, words, names and angles.
 
 use crate::{
-    AngleFault, CODE_INFORMATION, CODE_NUMBER, Found, HORIZONTAL_DIRECTION, LineFault,
-    POINT_NUMBER, VERTICAL_ANGLE, Word, decimal_number, laws, read_block,
+    AngleFault, CODE_INFORMATION, CODE_NUMBER, Found, HORIZONTAL_DIRECTION, LOAD, LineFault,
+    POINT_NUMBER, VERTICAL_ANGLE, Word, decimal_number, laws, printable_run, read_block,
 };
 use std::process::Abort;
 use std::test::Fail;
@@ -304,6 +304,28 @@ fn the_words_come_in_order(rt: HostRuntime) {
     }
     assert!(rt; words.next().is_none());
     assert!(rt; words.next().is_none());
+}
+
+#[test]
+fn a_load_begins_with_a_run_of_printable_bytes(rt: HostRuntime) {
+    // The bytes, a place and the run.
+    let rows: [(&[u8], usize, usize); 8] = [
+        (b"0123456789ABCDEF", 0, 16),
+        (b" ~ ~ ~ ~ ~ ~ ~ ~", 0, 16),
+        (b"\r123456789ABCDEF", 0, 0),
+        (b"0123456789ABCDE\x7f", 0, 15),
+        (b"01234567\n9ABC\nEF", 0, 8),
+        (b"\n\n0123456789ABCDEF\n", 2, 16),
+        (b"\n0123456789ABCDEF\n", 2, 15),
+        (b"0\xff23456789\x1fBCDEFGHI", 3, 7),
+    ];
+    for (row, (bytes, at, run)) in rows.iter().enumerate() {
+        if bytes.len() >= LOAD && *at <= bytes.len() - LOAD {
+            assert_eq!(rt; printable_run(bytes, *at), *run, "row {row}");
+        } else {
+            assert!(rt; false, "row {row}");
+        }
+    }
 }
 
 #[test]

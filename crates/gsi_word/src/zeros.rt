@@ -1,10 +1,10 @@
 //! The zeros before a name.
 
-ghost use Rattle.std.specs.Prelude.{◌≡◌, ◌<◌, ◌==◌, if◌then◌else◌, length, drop, ◌⊎◌};
-ghost use Rattle.std.specs.Int.{trailing_zeros, w64};
+ghost use Rattle.std.specs.Prelude.{◌≡◌, ◌<◌, ◌==◌, length, drop, ◌⊎◌};
 ghost use Rattle.std.specs.List.{prefix_len};
 ghost use Rattle.gsi_word.specs.Names.{name_of};
 
+use crate::lanes::first_set;
 use std::simd::prelude::*;
 
 /// How many bytes the content of a word has in a GSI-8 line.
@@ -40,17 +40,5 @@ fn leading_zeros(content: &[u8]) -> usize
     } else {
         let others = u8x16::from_slice(content).simd_ne(u8x16::splat(b'0'));
         first_set(others.to_bitmask(), LONG)
-    }
-}
-
-/// The place of the lowest bit of a mask that is set, or how many lanes there are.
-#[inline(always)]
-fn first_set(mask: u64, lanes: usize) -> usize
-    ensures { result ≡ (if mask == 0 then lanes else trailing_zeros w64 mask) }
-{
-    if mask == 0 {
-        lanes
-    } else {
-        mask.trailing_zeros() as usize
     }
 }

@@ -3,7 +3,7 @@ use Rattle.std.specs.List.{list_all}
 use Rattle.std.proofs.lemmas.List.{take_all}
 use Rattle.gsi_word.specs.Layout.{is_printable}
 use Rattle.gsi_word.proofs.PrintableLaws.{printable_from_test, test_from_printable}
-use Rattle.gsi_word.proofs.reading.has_no_stray.Goals as goal
+use Rattle.gsi_word.proofs.printable.has_no_stray.Goals as goal
 
 pub returns : goal.returns
 returns c =

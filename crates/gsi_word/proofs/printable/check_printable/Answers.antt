@@ -3,7 +3,7 @@ use Rattle.std.proofs.lemmas.Bool.{not-true, not-false}
 use Rattle.std.proofs.lemmas.List.Quantifiers.{position-Some}
 use Rattle.gsi_word.proofs.LineLaws.{byte_fault}
 use Rattle.gsi_word.proofs.PrintableLaws.{printable, no_printable, no_stray, is_stray}
-use Rattle.gsi_word.proofs.reading.check_printable.Goals as goal
+use Rattle.gsi_word.proofs.printable.check_printable.Goals as goal
 
 pub returns-in-Some-clause-fault : goal.returns-in-Some-clause-fault
 returns-in-Some-clause-fault c =

@@ -3,7 +3,7 @@ use Rattle.std.proofs.lemmas.List.{take_rest}
 use Rattle.std.proofs.lemmas.List.Elements.{All-drop}
 use Rattle.gsi_word.specs.Words.{IsPrintable}
 use Rattle.gsi_word.proofs.PrintableLaws.{all_of_both}
-use Rattle.gsi_word.proofs.reading.are_printable.Goals as goal
+use Rattle.gsi_word.proofs.printable.are_printable.Goals as goal
 
 pub returns-then-has_no_stray : goal.returns-then-has_no_stray
 returns-then-has_no_stray c =
