@@ -5,13 +5,11 @@ ghost use Rattle.std.specs.Char.{is_ascii_digit};
 ghost use Rattle.std.specs.List.{list_all};
 ghost use Rattle.gsi_word.specs.Angles.{decimal_number};
 
+use crate::word::GSI_8;
 use std::simd::prelude::*;
 
-/// How many digits are read together: those of a content in a GSI-8 line.
-const TOGETHER: usize = 8;
-
-/// What a digit is worth at each of these places.
-const WORTH: [u32; TOGETHER] = [10_000_000, 1_000_000, 100_000, 10_000, 1_000, 100, 10, 1];
+/// What each digit of a content in a GSI-8 line is worth: they are read together.
+const WORTH: [u32; GSI_8] = [10_000_000, 1_000_000, 100_000, 10_000, 1_000, 100, 10, 1];
 
 /// The number that the bytes write, or `None` where one of them is no digit. No bytes write 0.
 #[inline(always)]
@@ -19,7 +17,7 @@ pub fn decimal_number(bytes: &[u8]) -> Option<u64>
     requires { length bytes.now ≤ 16 }
     ensures { result ≡ decimal_number bytes.now }
 {
-    if bytes.len() == TOGETHER {
+    if bytes.len() == GSI_8 {
         number_of_eight(bytes)
     } else {
         number_one_by_one(bytes)

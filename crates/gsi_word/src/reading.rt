@@ -18,16 +18,10 @@ use crate::index::{CODE_NUMBER, POINT_NUMBER};
 use crate::line_fault::LineFault;
 use crate::printable::check_printable;
 use crate::shape::Shape;
-use crate::word::{CONTENT, INFO, SIGN, index_of};
+use crate::word::{CONTENT, GSI_8, GSI_16, INFO, SIGN, index_of};
 
 /// What a GSI-16 line begins with.
 const STAR: &[u8] = b"*";
-
-/// How many bytes the content of a word has in a GSI-8 line.
-const GSI_8: u8 = 8;
-
-/// How many bytes the content of a word has in a GSI-16 line.
-const GSI_16: u8 = 16;
 
 /// The block that a line is, or the line's first fault.
 ///
@@ -95,7 +89,8 @@ fn width_of(line: &[u8]) -> u8
     ensures value { result ≡ width_of line.now }
     ensures known { IsTrue (is_width result) }
 {
-    if is_starred(line) { GSI_16 } else { GSI_8 }
+    let width = if is_starred(line) { GSI_16 } else { GSI_8 };
+    width as u8
 }
 
 /// The part of the line in which its words stand.

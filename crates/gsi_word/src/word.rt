@@ -18,6 +18,12 @@ pub(crate) const SIGN: usize = 6;
 /// Where the content of a word begins, behind the sign.
 pub(crate) const CONTENT: usize = 7;
 
+/// How many bytes the content of a word has in a GSI-8 line.
+pub(crate) const GSI_8: usize = 8;
+
+/// How many bytes the content of a word has in a GSI-16 line.
+pub(crate) const GSI_16: usize = 16;
+
 /// A word of a block: its bytes in the line.
 #[derive(Debug, Drop)]
 pub struct Word<'a> {

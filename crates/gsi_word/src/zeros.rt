@@ -5,13 +5,8 @@ ghost use Rattle.std.specs.List.{prefix_len};
 ghost use Rattle.gsi_word.specs.Names.{name_of};
 
 use crate::lanes::first_set;
+use crate::word::{GSI_8, GSI_16};
 use std::simd::prelude::*;
-
-/// How many bytes the content of a word has in a GSI-8 line.
-const SHORT: usize = 8;
-
-/// How many bytes it has in a GSI-16 line.
-const LONG: usize = 16;
 
 /// How many zeros stand before the name that a content holds, at least one byte kept.
 #[inline(always)]
@@ -34,11 +29,11 @@ fn leading_zeros(content: &[u8]) -> usize
     requires { (length content.now ≡ 8) ⊎ (length content.now ≡ 16) }
     ensures { result ≡ prefix_len (λ b. b == 48) content.now }
 {
-    if content.len() == SHORT {
+    if content.len() == GSI_8 {
         let others = u8x8::from_slice(content).simd_ne(u8x8::splat(b'0'));
-        first_set(others.to_bitmask(), SHORT)
+        first_set(others.to_bitmask(), GSI_8)
     } else {
         let others = u8x16::from_slice(content).simd_ne(u8x16::splat(b'0'));
-        first_set(others.to_bitmask(), LONG)
+        first_set(others.to_bitmask(), GSI_16)
     }
 }

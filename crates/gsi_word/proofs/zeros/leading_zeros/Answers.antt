@@ -6,9 +6,9 @@ use lib.Lanes.{chunk}
 use Rattle.gsi_word.proofs.NameLaws.{zeros_in_load, long_content}
 use Rattle.gsi_word.proofs.zeros.leading_zeros.Goals as goal
 
-pub returns-then-content-eq-SHORT : goal.returns-then-content-eq-SHORT
-returns-then-content-eq-SHORT c =
-    let is = c.if-content-eq-SHORT.true in
+pub returns-then-content-eq-GSI_8 : goal.returns-then-content-eq-GSI_8
+returns-then-content-eq-GSI_8 c =
+    let is = c.if-content-eq-GSI_8.true in
     let v = chunk 0 8 c.args.content.now in
     let all = length-chunk 0 8 c.args.content.now (omega (arith, is)) in
     c.first_set.ensures
@@ -16,12 +16,12 @@ returns-then-content-eq-SHORT c =
     ∙ first_set_mask_l (λ (b : ℕ). not (b == 48)) v 8 all (omega arith)
     ∙ zeros_in_load 8 c.args.content.now is
 
-pub returns-else-content-eq-SHORT : goal.returns-else-content-eq-SHORT
-returns-else-content-eq-SHORT c =
-    let is = long_content c.args.content.now c.requires c.if-content-eq-SHORT.false in
+pub returns-else-content-eq-GSI_8 : goal.returns-else-content-eq-GSI_8
+returns-else-content-eq-GSI_8 c =
+    let is = long_content c.args.content.now c.requires c.if-content-eq-GSI_8.false in
     let v = chunk 0 16 c.args.content.now in
     let all = length-chunk 0 16 c.args.content.now (omega (arith, is)) in
-    c.first_set-else-content-eq-SHORT.ensures
+    c.first_set-else-content-eq-GSI_8.ensures
     ∙ ap (λ (m : ℕ). if m == 0 then 16 else trailing_zeros w64 m) (bitmask_splat w8 (λ a b. not (a == b)) v 16 48 all (omega arith))
     ∙ first_set_mask_l (λ (b : ℕ). not (b == 48)) v 16 all (omega arith)
     ∙ zeros_in_load 16 c.args.content.now is
