@@ -1,8 +1,8 @@
 //! The numbered lines of a field file, one by one.
 //!
 //! A line is found, tested and counted first, and all that a fault changes is written then. Only
-//! after that the block is lent, and it is seen by the shape that the test has found, so that no
-//! line is read twice.
+//! after that the block is lent, and it is seen by the shape that the test has found, so that its
+//! words are not counted again.
 
 ghost use Rattle.std.specs.Prelude.{◌≡◌, ◌≤◌, ◌+◌, ◌/◌, List, ℕ, All, true, IfOk, IfErr};
 ghost use Rattle.gsi_word.specs.Words.{IsPrintable};
