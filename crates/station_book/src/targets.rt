@@ -34,8 +34,10 @@ impl Model for Targets {
     ghost invariant = { λ t. AreMet t.met t.names.items };
 }
 
-/// The kind of a name, by what its last byte and the one before it leave when divided by 16: names
-/// that are counted up mostly differ in it.
+/// The kind of a name, a hash of it: its last two bytes are read as two digits, and of that number
+/// the remainder by 256 is kept. Names that are counted up mostly differ in it. Where two share it,
+/// the later one is looked for among all, and nothing else changes. A name of one byte is read as
+/// if it had that byte twice.
 fn kind_of(name: &Name) -> usize
     ensures value { result ≡ kind_of name.now }
     ensures known { result < KINDS }
@@ -43,7 +45,7 @@ fn kind_of(name: &Name) -> usize
     let bytes = name.bytes();
     let last = bytes[bytes.len() - 1];
     let before = bytes[bytes.len().max(2) - 2];
-    usize::from(last % 16) + 16 * usize::from(before % 16)
+    (10 * usize::from(before) + usize::from(last)) % KINDS
 }
 
 /// The place of the target of this name.
@@ -63,7 +65,8 @@ fn is_at(targets: &[Name], name: &Name, place: usize) -> bool
     }
 }
 
-/// The place beside this one: in face II the one before it, else the one after it.
+/// The place beside this one: in face II the one before it, else the one after it. Whatever it
+/// answers, what is looked for there is compared: it changes the speed alone.
 #[inline(always)]
 fn beside(place: usize, is_second: bool) -> usize {
     if is_second {
