@@ -47,10 +47,10 @@ pub(crate) fn unrolled(value: u32, turn: i8) -> i64
 
 impl Row {
     /// The direction with its full turns, in half units.
-    pub fn unrolled(&self) -> i128
+    pub fn unrolled(&self) -> i64
         ensures { result ≡ (pos self.now.value +ℤ pos TURN *ℤ self.now.turn) }
     {
-        i128::from(unrolled(self.value, self.turn))
+        unrolled(self.value, self.turn)
     }
 }
 

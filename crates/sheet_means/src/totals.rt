@@ -1,5 +1,5 @@
 //! Sums of readings with their full turns. All of them fit into 64 bits.
-ghost use Rattle.std.specs.Prelude.{◌≡◌, ◌<◌, pos, ◌+ℤ◌, ◌*ℤ◌, length};
+ghost use Rattle.std.specs.Prelude.{◌≡◌, ◌<◌, pos, ◌*ℤ◌, length};
 ghost use Rattle.adjust_kernel.specs.Within.{IsWithin};
 ghost use Rattle.adjust_kernel.specs.Pairs.{readings_of};
 ghost use Rattle.sheet_means.specs.Complete.{IsComplete};
@@ -14,13 +14,6 @@ use adjust_kernel::{MOST_SETS, MOST_TARGETS, Row, Station, TURN};
 /// mgon each).
 pub const LARGEST_READING: i64 = (MOST_TURNS as i64 + 1) * TURN as i64;
 
-/// The direction of a row with its full turns, in half units.
-fn unrolled(row: &Row) -> i64
-    ensures { result ≡ (pos row.now.value +ℤ pos TURN *ℤ row.now.turn) }
-{
-    i64::from(row.value) + i64::from(TURN) * i64::from(row.turn)
-}
-
 /// The reading of a set and a target with its full turns, by their places.
 fn reading_at(station: &Station, rows: &[Row], set: usize, target: usize) -> i64
     requires complete { IsComplete station.now }
@@ -32,7 +25,7 @@ fn reading_at(station: &Station, rows: &[Row], set: usize, target: usize) -> i64
         (length station.now.targets) set target) }
     ensures bound { IsWithin LARGEST_READING result }
 {
-    unrolled(&rows[set * station.targets().len() + target])
+    rows[set * station.targets().len() + target].unrolled()
 }
 
 /// The readings of a target, added over all sets.
