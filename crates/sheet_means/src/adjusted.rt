@@ -15,7 +15,7 @@ use std::alloc::{AllocError, Global};
 pub const LARGEST_MEAN: i128 = 4 * LARGEST_READING as i128 * MOST_ROWS as i128;
 
 /// A sum over the sets less another.
-fn less(sum: i64, other: i64) -> i64
+fn subtract(sum: i64, other: i64) -> i64
     requires sum { IsWithin (LARGEST_READING *ℤ pos MOST_SETS) sum }
     requires other { IsWithin (LARGEST_READING *ℤ pos MOST_SETS) other }
     ensures value { result ≡ (sum -ℤ other) }
@@ -83,7 +83,7 @@ pub fn directions_of(
     let mut directions = Vec::with_capacity(alloc, targets)?;
     let mut rest = 0;
     for target in 0..targets {
-        let difference = less(target_total(station, rows, target), first);
+        let difference = subtract(target_total(station, rows, target), first);
         directions.push(direction_of(station, target, difference))?;
         rest += difference;
     }

@@ -16,11 +16,11 @@ use Rattle.sheet_means.proofs.SumLoops.{IsSumTo, sum_more}
 use Rattle.sheet_means.proofs.adjusted.directions_of.Goals as goal
 
 -- the difference of this target's total and the first's
-difference_is : (c : goal.In_ok-push) → c.less-difference.result ≡ target_total (readings_of c.args.station.now.obs c.args.rows.now) c.loop-target.target -ℤ target_total (readings_of c.args.station.now.obs c.args.rows.now) 0
+difference_is : (c : goal.In_ok-push) → c.subtract-difference.result ≡ target_total (readings_of c.args.station.now.obs c.args.rows.now) c.loop-target.target -ℤ target_total (readings_of c.args.station.now.obs c.args.rows.now) 0
 difference_is c =
     let total : FitsSigned w64 c.target_total.result = record { sfits = c.target_total.type_inv } in
     let first : FitsSigned w64 c.target_total-first.result = record { sfits = c.target_total-first.type_inv } in
-    c.less-difference.ensures.value
+    c.subtract-difference.ensures.value
     ∙ (λ i. (to_z-of_z w64 c.target_total.result total ∙ c.target_total.ensures.value) i -ℤ (to_z-of_z w64 c.target_total-first.result first ∙ c.target_total-first.ensures.value) i)
 
 pub overflow_add-rest : goal.overflow_add-rest
@@ -29,10 +29,10 @@ overflow_add-rest c =
     let below : c.loop-target.target < length c.args.station.now.targets = let all = ap length c.targets-targets.ensures.value in omega (arith, all, c.loop-target-test.true) in
     let low = c.loop-target.invariant.sum.bound.low in
     let high = c.loop-target.invariant.sum.bound.high in
-    let next_low = c.less-difference.ensures.bound.low in
-    let next_high = c.less-difference.ensures.bound.high in
-    let fits : FitsSigned w64 c.less-difference.result = record { sfits = c.less-difference.type_inv } in
-    let same = to_z-of_z w64 c.less-difference.result fits in
+    let next_low = c.subtract-difference.ensures.bound.low in
+    let next_high = c.subtract-difference.ensures.bound.high in
+    let fits : FitsSigned w64 c.subtract-difference.result = record { sfits = c.subtract-difference.type_inv } in
+    let same = to_z-of_z w64 c.subtract-difference.result fits in
     omega (arith, ints, few, below, low, high, next_low, next_high, same)
 
 pub loop-target-preserved : goal.loop-target-preserved
@@ -45,10 +45,10 @@ loop-target-preserved c =
     let t = c.loop-target.target in
     let few = c.targets-targets.ensures.valid.targets.few in
     let below : t < length station.targets = let all = ap length c.targets-targets.ensures.value in omega (arith, all, c.loop-target-test.true) in
-    let fits : FitsSigned w64 c.less-difference.result = record { sfits = c.less-difference.type_inv } in
-    let same = to_z-of_z w64 c.less-difference.result fits in
+    let fits : FitsSigned w64 c.subtract-difference.result = record { sfits = c.subtract-difference.type_inv } in
+    let same = to_z-of_z w64 c.subtract-difference.result fits in
     let difference = difference_is c in
-    let more = sum_more f most t (to_z w64 c.loop-target.rest-bits) c.loop-target.invariant.sum (subst (IsWithin most) difference c.less-difference.ensures.bound) in
+    let more = sum_more f most t (to_z w64 c.loop-target.rest-bits) c.loop-target.invariant.sum (subst (IsWithin most) difference c.subtract-difference.ensures.bound) in
     let direction : P t c.direction_of.result = record {
       name = c.direction_of.ensures.name;
       value = c.direction_of.ensures.value ∙ (λ i. pos (length station.targets) *ℤ (same ∙ difference) i);
