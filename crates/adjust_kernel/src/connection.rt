@@ -51,8 +51,7 @@ fn carry(marks: &mut [bool; MOST_NODES], sets: usize, targets: usize, obs: &Obs)
     }
 }
 
-/// Carries marks along all observations, once each; whether any was carried. Not inlined: in a
-/// function of its own the loop keeps its values in registers.
+/// Carries marks along all observations, once each; whether any was carried.
 #[inline(never)]
 fn sweep(marks: &mut [bool; MOST_NODES], sets: usize, targets: usize, obs: &[Obs]) -> bool
     requires sets { sets ≤ MOST_SETS }

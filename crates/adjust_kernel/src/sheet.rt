@@ -201,8 +201,7 @@ fn are_orientations(orientations: &[Orientation]) -> bool
         && orientations.iter().all(is_orientation)
 }
 
-/// Whether these are the rows of a sheet. Not inlined: in a function of its own the loop keeps its
-/// values in registers.
+/// Whether these are the rows of a sheet.
 #[inline(never)]
 fn are_rows(rows: &[Row]) -> bool
     ensures { IsTrue result ↔ AreRows rows.now }

@@ -16,8 +16,7 @@ use crate::sheet::Sheet;
 use crate::tally::Tally;
 
 /// Adds the scaled residuals of all rows to a tally to which nothing was added. The tally comes
-/// back with the greatest size of a residual. Not inlined: in a function of its own the loop keeps
-/// its values in registers.
+/// back with the greatest size of a residual.
 #[inline(never)]
 pub fn add_residuals<T: Tally>(mut tally: T, sheet: &Sheet, obs: &[Obs]) -> (T, i128)
     requires paired { ArePaired sheet.now obs.now }

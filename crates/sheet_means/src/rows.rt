@@ -30,8 +30,7 @@ fn row_of(station: &Station, obs: &Obs) -> Row
     }
 }
 
-/// The rows of a complete station. Not inlined: in a function of its own the loop keeps its values
-/// in registers.
+/// The rows of a complete station.
 #[inline(never)]
 pub fn rows_of(alloc: Global, station: &Station) -> Result<Vec<Row>, AllocError>
     requires complete { IsComplete station.now }
