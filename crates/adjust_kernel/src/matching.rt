@@ -11,7 +11,6 @@ ghost use Rattle.adjust_kernel.specs.Verdict.{IsFault};
 
 use crate::kernel_fault::KernelFault;
 use crate::limits::{MOST_ROWS, MOST_SETS, MOST_TARGETS};
-use crate::name::same;
 use crate::obs::Obs;
 use crate::row::Row;
 use crate::sheet::Sheet;
@@ -23,7 +22,7 @@ fn is_same_target_at(station: &Station, sheet: &Sheet, place: usize) -> bool
         ↔ (slice_get (names_of sheet.now) place ≡ slice_get station.now.targets place) }
 {
     match (sheet.directions().get(place), station.targets().get(place)) {
-        (Some(direction), Some(target)) => same(direction.name, *target),
+        (Some(direction), Some(target)) => direction.name.is_same(target),
         (None, None) => true,
         _ => false,
     }
@@ -48,7 +47,7 @@ fn is_row_of(station: &Station, row: &Row, obs: &Obs) -> bool
         ↔ (key_of_row row.now ≡ key_of_obs station.now.sets station.now.targets obs.now) }
 {
     row.set == station.sets()[obs.set as usize]
-        && same(row.target, station.targets()[obs.target as usize])
+        && row.target.is_same(&station.targets()[obs.target as usize])
         && row.value == obs.value
 }
 
@@ -85,7 +84,7 @@ fn first_other_set(station: &Station, sheet: &Sheet) -> Option<usize>
 }
 
 /// The first place at which sheet and station have different observations, or one of them has
-/// ended. Not inlined: in a function of its own the loop keeps its values in registers.
+/// ended.
 #[inline(never)]
 fn first_other_row(station: &Station, sheet: &Sheet) -> Option<usize>
     ensures none { IfNone result (keys_of sheet.now ≡ observed station.now) }
@@ -121,7 +120,7 @@ pub fn check_matches(station: &Station, sheet: &Sheet) -> Result<(), KernelFault
     ensures valid_station { IsStation station.now }
     ensures valid_sheet { IsSheet sheet.now }
 {
-    if !same(sheet.name(), station.name()) {
+    if !sheet.name().is_same(&station.name()) {
         return Err(KernelFault::Name);
     }
     if let Some(place) = first_other_target(station, sheet) {

@@ -104,7 +104,8 @@ impl Name {
     /// of a name is 0.
     #[inline(always)]
     pub fn is_same(&self, other: &Name) -> bool
-        ensures { result ≡ bytes_eq self.now other.now }
+        ensures value { result ≡ bytes_eq self.now other.now }
+        ensures same { IsTrue result ↔ (self.now ≡ other.now) }
     {
         self.bytes == other.bytes
     }
@@ -148,13 +149,6 @@ pub fn is_valid(name: &Name) -> bool
 {
     let _ = &name.len;
     true
-}
-
-/// Whether two names are one.
-pub fn same(a: Name, b: Name) -> bool
-    ensures { IsTrue result ↔ (a ≡ b) }
-{
-    a.is_same(&b)
 }
 
 #[cfg(test)]

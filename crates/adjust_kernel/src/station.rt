@@ -4,7 +4,7 @@ ghost use Rattle.std.specs.Prelude.{◌≡◌, ◌≢◌, ◌↔◌, ◌≤◌, 
 ghost use Rattle.adjust_kernel.specs.Stations.{IsStation, AreTargets, AreSets, station_of};
 
 use crate::limits::{MOST_ROWS, MOST_SETS, MOST_TARGETS};
-use crate::name::{Name, is_valid, same};
+use crate::name::{Name, is_valid};
 use crate::obs::{Obs, are_obs};
 use crate::row::is_set_number;
 use std::marker::Model;
@@ -123,7 +123,7 @@ fn are_different_names(names: &[Name]) -> bool
 {
     for place in 0..names.len() {
         let name = names[place];
-        if names[..place].iter().any(|earlier| same(*earlier, name)) {
+        if names[..place].iter().any(|earlier| earlier.is_same(&name)) {
             return false;
         }
     }
