@@ -85,19 +85,10 @@ fn short_number(field: &[u8]) -> Option<i64>
     ensures none { IfNone result (spec.is_canonical field.now ≡ false) }
 {
     match field {
-        [b'0', rest @ ..] => if rest.is_empty() { Some(0) } else { None },
-        [b'-', digits @ ..] => {
-            let Some(number) = positive_of(digits) else {
-                return None;
-            };
-            Some(-(number as i64))
-        }
-        _ => {
-            let Some(number) = positive_of(field) else {
-                return None;
-            };
-            Some(number as i64)
-        }
+        [b'0'] => Some(0),
+        [b'0', ..] => None,
+        [b'-', digits @ ..] => positive_of(digits).map(|number| -(number as i64)),
+        _ => positive_of(field).map(|number| number as i64),
     }
 }
 
