@@ -5,6 +5,7 @@ ghost use Rattle.sheet_format.specs.Columns.{columns_view};
 ghost use Rattle.sheet_format.specs.Drafts as spec;
 ghost use Rattle.sheet_format.specs.Faults as faults;
 ghost use Rattle.sheet_format.specs.Numbers.{is_at_most, natural_of};
+ghost use Rattle.sheet_format.specs.Versions.{largest_angle};
 
 use crate::columns::Columns;
 use crate::fault::RowKind;
@@ -64,6 +65,16 @@ fn full_turns(number: &Numeral<'_>) -> Option<i8>
     number.small_within(-most, most).map(|turns| turns as i8)
 }
 
+/// An adjusted direction or orientation, in half units times the denominator.
+#[inline(always)]
+fn angle(number: &Numeral<'_>, version: Version) -> Option<i128>
+    ensures value { IfSome result (λ angle. angle ≡ number.now) }
+    ensures within { OnSome result (is_at_most (largest_angle version) number.now ≡ true) }
+    ensures outside { IfNone result (is_at_most (largest_angle version) number.now ≡ false) }
+{
+    number.at_most(version.largest_angle())
+}
+
 /// What the columns of the first row state, or their first fault.
 pub(crate) fn header_of(columns: &Columns<'_>) -> Result<Header, RowKind>
     ensures faultless { OnOk result (faults.sheet_row_fault (columns_view columns.now) ≡ None) }
@@ -101,9 +112,7 @@ pub(crate) fn direction_of(columns: &Columns<'_>, version: Version) -> Result<Di
     }
     let name = name_of(columns.name).ok_or(RowKind::Name)?;
     let value = Numeral::of(columns.value).ok_or(RowKind::Number)?;
-    let value = value
-        .at_most(version.largest_angle())
-        .ok_or(RowKind::Range)?;
+    let value = angle(&value, version).ok_or(RowKind::Range)?;
     Ok(Direction { name, value })
 }
 
@@ -121,16 +130,10 @@ pub(crate) fn orientation_of(
     if !columns.name.is_empty() || !columns.turn.is_empty() {
         return Err(RowKind::NotEmpty);
     }
-    let Some(number) = Numeral::of(columns.number) else {
-        return Err(RowKind::Number);
-    };
-    let Some(value) = Numeral::of(columns.value) else {
-        return Err(RowKind::Number);
-    };
+    let number = Numeral::of(columns.number).ok_or(RowKind::Number)?;
+    let value = Numeral::of(columns.value).ok_or(RowKind::Number)?;
     let set = set_number(&number).ok_or(RowKind::Range)?;
-    let value = value
-        .at_most(version.largest_angle())
-        .ok_or(RowKind::Range)?;
+    let value = angle(&value, version).ok_or(RowKind::Range)?;
     Ok(Orientation { set, value })
 }
 
@@ -141,24 +144,12 @@ pub(crate) fn obs_row_of(columns: &Columns<'_>) -> Result<Row, RowKind>
     ensures err { IfErr result (λ kind. faults.obs_fault (columns_view columns.now) ≡ Some kind) }
 {
     let target = name_of(columns.name).ok_or(RowKind::Name)?;
-    let Some(number) = Numeral::of(columns.number) else {
-        return Err(RowKind::Number);
-    };
-    let Some(value) = Numeral::of(columns.value) else {
-        return Err(RowKind::Number);
-    };
-    let Some(turn) = Numeral::of(columns.turn) else {
-        return Err(RowKind::Number);
-    };
-    let Some(set) = set_number(&number) else {
-        return Err(RowKind::Range);
-    };
-    let Some(value) = circle_value(&value) else {
-        return Err(RowKind::Range);
-    };
-    let Some(turn) = full_turns(&turn) else {
-        return Err(RowKind::Range);
-    };
+    let number = Numeral::of(columns.number).ok_or(RowKind::Number)?;
+    let value = Numeral::of(columns.value).ok_or(RowKind::Number)?;
+    let turn = Numeral::of(columns.turn).ok_or(RowKind::Number)?;
+    let set = set_number(&number).ok_or(RowKind::Range)?;
+    let value = circle_value(&value).ok_or(RowKind::Range)?;
+    let turn = full_turns(&turn).ok_or(RowKind::Range)?;
     Ok(Row {
         set,
         target,
