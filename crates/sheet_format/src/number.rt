@@ -87,8 +87,8 @@ fn short_number(field: &[u8]) -> Option<i64>
     match field {
         [b'0'] => Some(0),
         [b'0', ..] => None,
-        [b'-', digits @ ..] => positive_of(digits).map(|number| -(number as i64)),
-        _ => positive_of(field).map(|number| number as i64),
+        [b'-', digits @ ..] => Some(-(positive_of(digits)? as i64)),
+        _ => Some(positive_of(field)? as i64),
     }
 }
 
@@ -143,9 +143,7 @@ impl<'a> Numeral<'a> {
             }
             return Some(Numeral { field, short: 0 });
         }
-        let Some(short) = short_number(field) else {
-            return None;
-        };
+        let short = short_number(field)?;
         Some(Numeral { field, short })
     }
 
