@@ -13,6 +13,9 @@ use std::marker::Model;
 /// How many kinds of names are told apart.
 const KINDS: usize = 256;
 
+/// The byte behind the digits.
+const BEHIND_NINE: u8 = b'9' + 1;
+
 /// The targets of a station, in the order of their first readings.
 #[derive(Drop)]
 pub(crate) struct Targets {
@@ -35,16 +38,17 @@ impl Model for Targets {
 }
 
 /// The kind of a name, a hash of it: its last two bytes are read as two digits, and of that number
-/// the remainder by 256 is kept. Names that are counted up mostly differ in it. Where two share it,
-/// the later one is looked for among all, and nothing else changes. A name of one byte is read as
-/// if it had that byte twice.
+/// the remainder by 256 is kept. The byte before the last counts at most as the one behind `9`, so
+/// that `T1` and `41` differ; of a name of one byte it is that byte. Names that are counted up
+/// mostly differ in it. Where two share it, the later one is looked for among all, and nothing else
+/// changes.
 fn kind_of(name: &Name) -> usize
     ensures value { result ≡ kind_of name.now }
     ensures known { result < KINDS }
 {
     let bytes = name.bytes();
     let last = bytes[bytes.len() - 1];
-    let before = bytes[bytes.len().max(2) - 2];
+    let before = bytes[bytes.len().max(2) - 2].min(BEHIND_NINE);
     (10 * usize::from(before) + usize::from(last)) % KINDS
 }
 
