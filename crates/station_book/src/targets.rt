@@ -144,7 +144,8 @@ impl Targets {
         place
     }
 
-    /// Notes that the target at this place was read.
+    /// Notes that the target at this place was read: the next one is looked for first beside it. This
+    /// too changes the speed alone, so that no clause says it.
     #[inline(always)]
     pub(crate) fn note(&mut self, place: usize)
         ensures { self.new ≡ self.old }
