@@ -112,6 +112,10 @@ impl Name {
 }
 
 impl fmt::Display for Name {
+    ghost use Rattle.std.specs.Prelude.{Some};
+
+    ghost output = { λ name. Some name };
+
     /// Its bytes, which are ASCII, as text.
     fn fmt<W: fmt::Write>(&self, f: &mut fmt::Formatter<W>) -> fmt::Result {
         f.write_str(std::str::from_utf8(self.bytes()).map_err(|_| fmt::Error)?)
