@@ -1,4 +1,4 @@
-use Rattle.std.proofs.Common.{◌≡◌, ◌+◌, ◌<◌, ℕ, ℤ, List, length, pos, FitsSigned, to_z, of_z, arith, ap, sym, subst, ◌∙◌}
+use Rattle.std.proofs.Common.{◌≡◌, ◌+◌, ◌<◌, ℕ, List, length, pos, FitsSigned, to_z, arith, ap, sym, subst, ◌∙◌}
 use Rattle.std.specs.Int.{w64}
 use Rattle.std.proofs.lemmas.Int.{ints, to_z-of_z}
 use Rattle.std.proofs.Math.IntN.{◌*ℤ◌, ◌-ℤ◌}
@@ -12,7 +12,7 @@ use Rattle.sheet_means.specs.Totals.{target_total}
 use Rattle.sheet_means.proofs.EachLaws.{each_more}
 use Rattle.sheet_means.proofs.GridLaws.{sum_below, whole_less}
 use Rattle.sheet_means.proofs.MeansRowLaws.{grid}
-use Rattle.sheet_means.proofs.SumLoops.{IsSumTo, sum_more}
+use Rattle.sheet_means.proofs.SumLoops.{sum_more}
 use Rattle.sheet_means.proofs.adjusted.directions_of.Goals as goal
 
 -- the difference of this target's total and the first's
