@@ -10,12 +10,27 @@ from pathlib import Path
 ROOT = Path(__file__).resolve().parent.parent
 COUNTS = re.compile(r"^(\d+) passed, (\d+) failed$")
 
+# The memory that a check of any crate stays within, in bytes.
+MEMORY_OF_A_CHECK = 5 * 2**30
+
+
+def environment():
+    """The environment of `rt ci`, with one check at a time for each processor, as far as memory goes.
+
+    By itself `rt ci` keeps the largest crate back until all the memory is free that it might take, and
+    then proves it last and alone. RT_JOBS of the caller stands.
+    """
+    memory = os.sysconf("SC_PAGE_SIZE") * os.sysconf("SC_PHYS_PAGES")
+    checks = max(1, min(len(os.sched_getaffinity(0)), memory // MEMORY_OF_A_CHECK))
+    return {"RT_JOBS": str(checks), **os.environ}
+
 
 def proofs_passed_and_failed():
     """Runs `rt ci`, shows what it prints, and answers its counts; a run with no counts is one failure."""
     command = [os.environ.get("RT", "rt"), "ci"]
     counts = None
-    with subprocess.Popen(command, cwd=ROOT, stdout=subprocess.PIPE, stderr=subprocess.STDOUT, text=True) as gate:
+    streams = {"stdout": subprocess.PIPE, "stderr": subprocess.STDOUT, "text": True}
+    with subprocess.Popen(command, cwd=ROOT, env=environment(), **streams) as gate:
         for line in gate.stdout:
             print(line, end="", flush=True)
             if found := COUNTS.match(line):
