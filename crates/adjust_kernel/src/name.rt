@@ -93,13 +93,6 @@ impl Name {
         &self.bytes[..self.len]
     }
 
-    /// Whether these are its bytes.
-    pub fn is(&self, bytes: &[u8]) -> bool
-        ensures { result ≡ bytes_eq self.now bytes.now }
-    {
-        self.bytes() == bytes
-    }
-
     /// Whether another name is this one: all that is kept of both is compared at once, for no byte
     /// of a name is 0.
     #[inline(always)]
@@ -118,7 +111,7 @@ impl fmt::Display for Name {
 
     /// Its bytes, which are ASCII, as text.
     fn fmt<W: fmt::Write>(&self, f: &mut fmt::Formatter<W>) -> fmt::Result {
-        f.write_str(std::str::from_utf8(self.bytes()).map_err(|_| fmt::Error)?)
+        f.pad(std::str::from_utf8(self.bytes()).map_err(|_| fmt::Error)?)
     }
 }
 
@@ -174,6 +167,7 @@ mod tests {
     fn a_name_shows_its_bytes_as_text(rt: HostRuntime) -> Result<(), Fail> {
         let name = Name::new(b"S1 ~").expect(&rt, "a name");
         assert_eq!(rt; name.to_string(rt.alloc())?.as_str(), "S1 ~");
+        assert_eq!(rt; format!(in rt.alloc(); "{name:>6}")?.as_str(), "  S1 ~");
         assert_eq!(rt; Name::of_valid(b"S1 ~"), name);
         assert_eq!(rt; Name::of_end(b"0000S1 ~", 4), name);
         assert_eq!(rt; Name::of_end(b"000000000000S1 ~", 12), name);
@@ -184,8 +178,6 @@ mod tests {
             Name::of_end(b"12345678", 0).bytes(),
             b"12345678".as_slice()
         );
-        assert!(rt; name.is(b"S1 ~"));
-        assert!(rt; !name.is(b"S1"));
         Ok(())
     }
 }

@@ -495,10 +495,10 @@ fn the_residual_of_each_row_is_told(rt: HostRuntime) -> Result<(), Fail> {
         }
     }
     let (name, targets, sets, obs) = station.into_parts();
-    assert!(rt; name.is(b"S1"));
+    assert_eq!(rt; name.bytes(), b"S1".as_slice());
     assert_eq!(rt; (targets.len(), sets.len(), obs.len()), (2, 2, 4));
     let (name, denominator, directions, orientations, rows) = sheet.into_parts();
-    assert!(rt; name.is(b"S1"));
+    assert_eq!(rt; name.bytes(), b"S1".as_slice());
     assert_eq!(rt; (denominator, directions.len()), (4, 2));
     assert_eq!(rt; (orientations.len(), rows.len()), (2, 4));
     Ok(())
