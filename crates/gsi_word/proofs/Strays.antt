@@ -24,12 +24,13 @@ either true above e = inl refl
 either false true e = inr refl
 either false false e = absurd (false≢true e)
 
--- the lane of a byte that is printable is not set
-pub unset : (b : ℕ) → top 7 (lane (nat_lt b 32) (nat_lt 126 b)) ≡ false → IsPrintable b
-unset b e = let both = neither (nat_lt b 32) (nat_lt 126 b) e in (ltb-false _ _ both.0, ltb-false _ _ both.1)
+-- a byte whose lane is not set is printable
+pub printable_where_unset : (b : ℕ) → top 7 (lane (nat_lt b 32) (nat_lt 126 b)) ≡ false → IsPrintable b
+printable_where_unset b e = let both = neither (nat_lt b 32) (nat_lt 126 b) e in (ltb-false _ _ both.0, ltb-false _ _ both.1)
 
-pub set : (b : ℕ) → top 7 (lane (nat_lt b 32) (nat_lt 126 b)) ≡ true → ¬ IsPrintable b
-set b e p = elim (either (nat_lt b 32) (nat_lt 126 b) e) [
+-- a byte whose lane is set is not printable
+pub stray_where_set : (b : ℕ) → top 7 (lane (nat_lt b 32) (nat_lt 126 b)) ≡ true → ¬ IsPrintable b
+stray_where_set b e p = elim (either (nat_lt b 32) (nat_lt 126 b) e) [
   | inl below ↦ let lt = ltb-true _ _ below in omega (arith, lt, p.0)
   | inr above ↦ let lt = ltb-true _ _ above in omega (arith, lt, p.1)
 ]
