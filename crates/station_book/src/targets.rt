@@ -39,9 +39,9 @@ impl Model for Targets {
 
 /// The kind of a name, a hash of it: its last two bytes are read as two digits, and of that number
 /// the remainder by 256 is kept. The byte before the last counts at most as the one behind `9`, so
-/// that `T1` and `41` differ; of a name of one byte it is that byte. Names that are counted up
-/// mostly differ in it. Where two share it, the later one is looked for among all, and nothing else
-/// changes.
+/// that no letter is taken for a digit; of a name of one byte it is that byte. Names that are
+/// counted up mostly differ in it. Where two share it, the later one is looked for among all, and
+/// nothing else changes.
 fn kind_of(name: &Name) -> usize
     ensures value { result ≡ kind_of name.now }
     ensures known { result < KINDS }
