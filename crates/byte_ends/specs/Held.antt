@@ -22,6 +22,10 @@ held_flush_fails h = h.flush_fails
 abbrev pub has_failed : Held → Bool
 has_failed h = h.has_failed
 
+-- whether all that was written is handed on
+abbrev pub is_handed_on : Held → Bool
+is_handed_on h = h.is_handed_on
+
 -- It takes `room` bytes more, at most `step` of them for each write, and where `flush_fails` each
 -- flush fails.
 pub record IsSetTo (h : Held) (room step : ℕ) (flush_fails : Bool) : Type 0 where

@@ -9,3 +9,7 @@ writer_of s = s.writer
 -- whether a call of it has failed
 abbrev pub has_failed : {W : Type 0} → OfWrite W → Bool
 has_failed s = s.has_failed
+
+-- whether all that was written is handed on
+abbrev pub is_handed_on : {W : Type 0} → OfWrite W → Bool
+is_handed_on s = s.is_handed_on

@@ -1,5 +1,5 @@
 -- What a script tells and how it gives it.
-use Rattle.std.specs.Prelude.{ℕ}
+use Rattle.std.specs.Prelude.{ℕ, Bool}
 use Rattle.byte_ends.specs.declared.script.Script.{Script}
 use Rattle.byte_ends.specs.Source.{Told}
 
@@ -10,3 +10,7 @@ script_told s = record { bytes = s.rest.now; fails = s.fails }
 -- the most bytes that it gives for one read
 abbrev pub script_step : Script → ℕ
 script_step s = s.step
+
+-- whether a read of it has failed
+abbrev pub script_failed : Script → Bool
+script_failed s = s.has_failed

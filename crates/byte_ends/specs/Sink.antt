@@ -1,6 +1,6 @@
 -- What a write does to a sink.
 use Rattle.std.specs.Io.KnownBytes.{Appends}
-use Rattle.std.specs.Prelude.{ℕ, ◌<◌, ◌≤◌, Bool, true, List, take, ⊤, Option, Result, Ok, Err}
+use Rattle.std.specs.Prelude.{ℕ, zero, suc, ◌<◌, ◌≤◌, Bool, true, false, List, take, ⊤, Option, Result, Ok, Err}
 
 -- A write takes at most the bytes that it was given, and of some bytes at least one.
 abbrev pub TakesSome : {E : Type 0} → Result ℕ E → ℕ → Type 0
@@ -11,6 +11,21 @@ TakesSome (Err e) len = ⊤
 abbrev pub failed_after : {T E : Type 0} → Bool → Result T E → Bool
 failed_after old (Ok x) = old
 failed_after old (Err e) = true
+
+-- whether all that was written is handed on after so many more bytes were taken: only where none was
+abbrev pub handed_on_after : Bool → ℕ → Bool
+handed_on_after old zero = old
+handed_on_after old (suc n) = false
+
+-- the same after a write: one that failed took no byte
+abbrev pub handed_on_by_write : {E : Type 0} → Bool → Result ℕ E → Bool
+handed_on_by_write old (Ok n) = handed_on_after old n
+handed_on_by_write old (Err e) = old
+
+-- the same after a flush: one that failed handed nothing on
+abbrev pub handed_on_by_flush : {T E : Type 0} → Bool → Result T E → Bool
+handed_on_by_flush old (Ok x) = true
+handed_on_by_flush old (Err e) = old
 
 -- Known bytes grow by some of the first of these bytes.
 abbrev pub AppendsSome : Option (List ℕ) → Option (List ℕ) → List ℕ → Type 0

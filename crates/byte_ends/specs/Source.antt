@@ -1,5 +1,5 @@
 -- What a source tells, and what a read does to it.
-use Rattle.std.specs.Prelude.{◌≡◌, ℕ, ◌<◌, Bool, true, false, List, [], ◌++◌, length, take, ⊤, Option, Some, None, Result, Ok, Err}
+use Rattle.std.specs.Prelude.{◌≡◌, ℕ, ◌<◌, Bool, true, false, List, [], ◌++◌, length, take, ⊤, Option, Some, None, IfSome, Result, Ok, Err}
 
 -- the bytes that a source still gives, and whether it then fails
 pub record Told : Type 0 where
@@ -27,21 +27,45 @@ pub record Gives (old new : Told) (given : List ℕ) (room : ℕ) : Type 0 where
   pub same : new.fails ≡ old.fails
   pub end : given ≡ [] → 0 < room → HasEnded new
 
--- Nothing is given, and with some room a read fails only at the end of a source that fails.
-pub record Fails (old new : Told) (room : ℕ) : Type 0 where
+-- Nothing is given: a read fails only at the end of a source that fails.
+pub record Fails (old new : Told) : Type 0 where
   pub unchanged : new ≡ old
-  pub end : 0 < room → HasBrokenOff new
+  pub end : HasBrokenOff new
 
 -- what a read into this buffer did to a source that tells
 abbrev pub AfterRead : {E : Type 0} → Told → Told → Result ℕ E → List ℕ → Type 0
 AfterRead old new (Ok n) buf = Gives old new (take n buf) (length buf)
-AfterRead old new (Err e) buf = Fails old new (length buf)
+AfterRead old new (Err e) buf = Fails old new
 
 -- what a read into this buffer did, where the source tells
 abbrev pub Reads : {E : Type 0} → Option Told → Option Told → Result ℕ E → List ℕ → Type 0
 Reads old new r buf = WhereTold old new (λ o n. AfterRead o n r buf)
 
+-- no byte is left, and the source ends
+abbrev pub ended : Told
+ended = record { bytes = []; fails = false }
+
+-- no byte is left, and the source fails
+abbrev pub broken_off : Told
+broken_off = record { bytes = []; fails = true }
+
+-- An end, of a read with some room, and a failure are told from then on, by every source: no byte
+-- comes after them, but the same end or failure again.
+abbrev pub TellsOver : {E : Type 0} → Option Told → Result ℕ E → ℕ → Type 0
+TellsOver new (Ok n) room = n ≡ 0 → 0 < room → new ≡ Some ended
+TellsOver new (Err e) room = new ≡ Some broken_off
+
 -- By some reads a source that tells has given these bytes: they come before what it still gives.
 abbrev pub HasGiven : Option Told → Option Told → List ℕ → Type 0
 HasGiven old new given =
     WhereTold old new (λ o n. (o.bytes ≡ given ++ n.bytes) × (n.fails ≡ o.fails))
+
+-- The source may still give these bytes and this end: where it tells, what it tells and no other.
+abbrev pub MayGive : Option Told → Told → Type 0
+MayGive told gives = IfSome told (λ known. gives ≡ known)
+
+-- Whatever the source may give after some reads, there is something that it might give before them,
+-- so that this holds of the two.
+abbrev pub Through : Option Told → Option Told → (Told → Told → Type 0) → Type 0
+Through old new P = (after : Told) → MayGive new after
+    → (before : Told) × MayGive old before × P before after

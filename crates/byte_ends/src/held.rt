@@ -1,6 +1,6 @@
 ghost use Rattle.std.specs.Prelude.{◌≡◌, ◌<◌, ◌≤◌, ◌+◌, ℕ, Bool, List, Option, Some, length, vec_len, vec_capacity, IfOk};
 ghost use Rattle.std.specs.Io.KnownBytes.{WriteAppends};
-ghost use Rattle.byte_ends.specs.Sink.{TakesSome, failed_after};
+ghost use Rattle.byte_ends.specs.Sink.{TakesSome, failed_after, handed_on_by_write, handed_on_by_flush};
 
 use crate::failed::Failed;
 use crate::out_of_memory::OutOfMemory;
@@ -15,12 +15,14 @@ pub struct Held {
     step: usize,
     flush_fails: bool,
     has_failed: bool,
+    /// Whether a flush has come after the last byte that was taken.
+    is_handed_on: bool,
     ghost steps: { 0 < step },
     ghost has_room: { vec_len bytes + room ≤ vec_capacity bytes },
 }
 
 impl Held {
-    ghost use Rattle.std.specs.Prelude.{[], false};
+    ghost use Rattle.std.specs.Prelude.{[], true, false};
     ghost use Rattle.byte_ends.specs.Held.{IsSetTo};
 
     /// Takes `room` bytes in all, at most `step` for each write; each flush fails or none does.
@@ -35,6 +37,7 @@ impl Held {
         requires { 0 < step }
         ensures empty { IfOk result (λ h. ⟦<Held as Sink>⟧.holds h ≡ Some []) }
         ensures unfailed { IfOk result (λ h. ⟦<Held as Sink>⟧.failed h ≡ false) }
+        ensures handed_on { IfOk result (λ h. ⟦<Held as Sink>⟧.handed_on h ≡ true) }
         ensures set { IfOk result (λ h. IsSetTo h room step flush_fails) }
     {
         match Vec::with_capacity(alloc, room) {
@@ -44,6 +47,7 @@ impl Held {
                 step,
                 flush_fails,
                 has_failed: false,
+                is_handed_on: true,
             }),
             Err(_) => Err(OutOfMemory),
         }
@@ -59,17 +63,21 @@ impl Held {
 
 impl Sink for Held {
     ghost use Rattle.std.specs.Prelude.{◌-◌, ◌↔◌, min, true, IsErr, MatchResult};
-    ghost use Rattle.byte_ends.specs.Held.{held_bytes, held_room, held_step, held_flush_fails, has_failed, IsSetTo};
+    ghost use Rattle.byte_ends.specs.Held.{held_bytes, held_room, held_step, held_flush_fails, has_failed, is_handed_on, IsSetTo};
 
     ghost failed = { λ s. has_failed s };
 
     ghost holds = { λ s. Some (held_bytes s) };
+
+    ghost handed_on = { λ s. is_handed_on s };
 
     fn write(&mut self, bytes: &[u8]) -> Result<usize, Failed>
         ensures takes { TakesSome result (length bytes.now) }
         ensures failed { has_failed self.new ≡ failed_after (has_failed self.old) result }
         ensures holds { WriteAppends (Some (held_bytes self.old)) (Some (held_bytes self.new))
             result bytes.now }
+        ensures handed_on { is_handed_on self.new
+            ≡ handed_on_by_write (is_handed_on self.old) result }
         ensures count { IfOk result (λ n. n ≡ min (held_step self.old)
             (min (held_room self.old) (length bytes.now))) }
         ensures full { IsErr result ↔ ((held_room self.old ≡ 0) × (0 < length bytes.now)) }
@@ -87,6 +95,9 @@ impl Sink for Held {
         match self.bytes.extend_from_slice(&bytes[..n]) {
             Ok(()) => {
                 self.room -= n;
+                if n > 0 {
+                    self.is_handed_on = false;
+                }
                 Ok(n)
             }
             Err(_) => {
@@ -99,6 +110,8 @@ impl Sink for Held {
     fn flush(&mut self) -> Result<(), Failed>
         ensures failed { has_failed self.new ≡ failed_after (has_failed self.old) result }
         ensures holds { Some (held_bytes self.new) ≡ Some (held_bytes self.old) }
+        ensures handed_on { is_handed_on self.new
+            ≡ handed_on_by_flush (is_handed_on self.old) result }
         ensures fails { IsErr result ↔ (held_flush_fails self.old ≡ true) }
         ensures set { IsSetTo self.new (held_room self.old) (held_step self.old)
             (held_flush_fails self.old) }
@@ -107,6 +120,7 @@ impl Sink for Held {
             self.has_failed = true;
             return Err(Failed);
         }
+        self.is_handed_on = true;
         Ok(())
     }
 }

@@ -1,6 +1,6 @@
 ghost use Rattle.std.specs.Prelude.{◌≡◌, ◌<◌, ℕ, Bool, List, Option, None, length};
 ghost use Rattle.std.specs.Io.KnownBytes.{WriteAppends, Keeps};
-ghost use Rattle.byte_ends.specs.Sink.{TakesSome, failed_after};
+ghost use Rattle.byte_ends.specs.Sink.{TakesSome, failed_after, handed_on_by_write, handed_on_by_flush};
 
 use crate::failed::Failed;
 use crate::sink::Sink;
@@ -11,19 +11,23 @@ use std::io::Write;
 pub struct OfWrite<W> {
     writer: W,
     has_failed: bool,
+    /// Whether a flush has come after the last byte that was taken.
+    is_handed_on: bool,
 }
 
 impl<W: Write + Drop> OfWrite<W> {
-    ghost use Rattle.std.specs.Prelude.{false};
+    ghost use Rattle.std.specs.Prelude.{true, false};
     ghost use Rattle.byte_ends.specs.OfWrite.{writer_of};
 
     pub fn new(writer: W) -> OfWrite<W>
         ensures writer { writer_of result ≡ writer }
         ensures unfailed { ⟦<OfWrite<W> as Sink>⟧.failed result ≡ false }
+        ensures handed_on { ⟦<OfWrite<W> as Sink>⟧.handed_on result ≡ true }
     {
         OfWrite {
             writer,
             has_failed: false,
+            is_handed_on: true,
         }
     }
 
@@ -36,20 +40,29 @@ impl<W: Write + Drop> OfWrite<W> {
 }
 
 impl<W: Write + Drop> Sink for OfWrite<W> {
-    ghost use Rattle.byte_ends.specs.OfWrite.{writer_of, has_failed};
+    ghost use Rattle.byte_ends.specs.OfWrite.{writer_of, has_failed, is_handed_on};
 
     ghost failed = { λ s. has_failed s };
 
     ghost holds = { λ _. None };
 
+    ghost handed_on = { λ s. is_handed_on s };
+
     fn write(&mut self, bytes: &[u8]) -> Result<usize, Failed>
         ensures takes { TakesSome result (length bytes.now) }
         ensures failed { has_failed self.new ≡ failed_after (has_failed self.old) result }
+        ensures handed_on { is_handed_on self.new
+            ≡ handed_on_by_write (is_handed_on self.old) result }
         ensures passes_on { WriteAppends (W.contents (writer_of self.old))
             (W.contents (writer_of self.new)) result bytes.now }
     {
         match self.writer.write(bytes) {
-            Ok(n) if n > 0 || bytes.is_empty() => Ok(n),
+            Ok(n) if n > 0 || bytes.is_empty() => {
+                if n > 0 {
+                    self.is_handed_on = false;
+                }
+                Ok(n)
+            }
             _ => {
                 self.has_failed = true;
                 Err(Failed)
@@ -59,11 +72,16 @@ impl<W: Write + Drop> Sink for OfWrite<W> {
 
     fn flush(&mut self) -> Result<(), Failed>
         ensures failed { has_failed self.new ≡ failed_after (has_failed self.old) result }
+        ensures handed_on { is_handed_on self.new
+            ≡ handed_on_by_flush (is_handed_on self.old) result }
         ensures passes_on { Keeps (W.contents (writer_of self.old))
             (W.contents (writer_of self.new)) }
     {
         match self.writer.flush() {
-            Ok(()) => Ok(()),
+            Ok(()) => {
+                self.is_handed_on = true;
+                Ok(())
+            }
             Err(_) => {
                 self.has_failed = true;
                 Err(Failed)

@@ -1,6 +1,6 @@
 ghost use Rattle.std.specs.Prelude.{◌≡◌, ◌<◌, ◌+◌, ℕ, Bool, List, Option, OnOk, OnErr, length};
 ghost use Rattle.std.specs.Io.KnownBytes.{WriteAppends, Appends};
-ghost use Rattle.byte_ends.specs.Sink.{TakesSome, failed_after, AppendsSome};
+ghost use Rattle.byte_ends.specs.Sink.{TakesSome, failed_after, handed_on_after, handed_on_by_write, handed_on_by_flush, AppendsSome};
 
 use crate::failed::Failed;
 
@@ -12,23 +12,30 @@ pub trait Sink {
     // The bytes that it holds, or nothing.
     ghost holds: { Self → Option (List ℕ) };
 
+    // Whether all that was written to it has been handed on by a flush.
+    ghost handed_on: { Self → Bool };
+
     /// Writes once, the first bytes of these, and answers how many it took: of some bytes at least
     /// one.
     fn write(&mut self, bytes: &[u8]) -> Result<usize, Failed>
         ensures takes { TakesSome result (length bytes.now) }
         ensures failed { failed self.new ≡ failed_after (failed self.old) result }
-        ensures holds { WriteAppends (holds self.old) (holds self.new) result bytes.now };
+        ensures holds { WriteAppends (holds self.old) (holds self.new) result bytes.now }
+        ensures handed_on { handed_on self.new ≡ handed_on_by_write (handed_on self.old) result };
 
     /// Hands on what was written so far.
     fn flush(&mut self) -> Result<(), Failed>
         ensures failed { failed self.new ≡ failed_after (failed self.old) result }
-        ensures holds { holds self.new ≡ holds self.old };
+        ensures holds { holds self.new ≡ holds self.old }
+        ensures handed_on { handed_on self.new ≡ handed_on_by_flush (handed_on self.old) result };
 
     /// Writes all the bytes, or fails with some of the first written.
     final fn write_all(&mut self, bytes: &[u8]) -> Result<(), Failed>
     where
         Self: Sized,
         ensures failed { failed self.new ≡ failed_after (failed self.old) result }
+        ensures handed_on { OnOk result (handed_on self.new
+            ≡ handed_on_after (handed_on self.old) (length bytes.now)) }
         ensures ok { OnOk result (Appends (holds self.old) (holds self.new) bytes.now) }
         ensures err { OnErr result (AppendsSome (holds self.old) (holds self.new) bytes.now) }
     {
@@ -37,5 +44,21 @@ pub trait Sink {
             written += self.write(&bytes[written..])?;
         }
         Ok(())
+    }
+}
+
+impl<S: Sink> Sink for &mut S {
+    ghost failed = { λ s. S.failed s.now };
+
+    ghost holds = { λ s. S.holds s.now };
+
+    ghost handed_on = { λ s. S.handed_on s.now };
+
+    fn write(&mut self, bytes: &[u8]) -> Result<usize, Failed> {
+        Sink::write(&mut **self, bytes)
+    }
+
+    fn flush(&mut self) -> Result<(), Failed> {
+        Sink::flush(&mut **self)
     }
 }

@@ -1,23 +1,36 @@
-ghost use Rattle.std.specs.Prelude.{◌≤◌, Option, IfOk, length};
-ghost use Rattle.byte_ends.specs.Source.{Told, Reads};
+ghost use Rattle.std.specs.Prelude.{◌≡◌, ◌≤◌, Bool, Option, IfOk, length};
+ghost use Rattle.byte_ends.specs.Sink.{failed_after};
+ghost use Rattle.byte_ends.specs.Source.{Told, Reads, TellsOver};
 
 use crate::failed::Failed;
 
 /// What bytes are read from.
+///
+/// A source that has ended or failed is over: no byte comes after that, but the same end or failure
+/// again.
 pub trait Source: Drop {
-    // The bytes left in it and whether it fails behind them; or nothing is told.
+    // The bytes left in it and whether it fails behind them, where that is known: of a source that
+    // tells from its beginning, and of any other once it is over.
     ghost told: { Self → Option Told };
+
+    // Whether a read of it has failed.
+    ghost failed: { Self → Bool };
 
     /// Reads once, into the front of `buf`, and answers how many bytes came.
     ///
-    /// From a read into some room `Ok(0)` is the end, and `Failed` comes for any cause.
+    /// From a read into some room `Ok(0)` is the end, and `Failed` comes for any cause. A read into
+    /// no room gives no byte, and its `Ok(0)` says nothing.
     fn read(&mut self, buf: &mut [u8]) -> Result<usize, Failed>
         ensures bound { IfOk result (λ n. n ≤ length buf.new) }
-        ensures reads { Reads (told self.old) (told self.new) result buf.new };
+        ensures reads { Reads (told self.old) (told self.new) result buf.new }
+        ensures over { TellsOver (told self.new) result (length buf.new) }
+        ensures failed { failed self.new ≡ failed_after (failed self.old) result };
 }
 
 impl<S: Source> Source for &mut S {
     ghost told = { λ s. S.told s.now };
+
+    ghost failed = { λ s. S.failed s.now };
 
     fn read(&mut self, buf: &mut [u8]) -> Result<usize, Failed> {
         Source::read(&mut **self, buf)
