@@ -1,8 +1,8 @@
 -- A read behind the first bytes of a buffer.
-use Rattle.std.proofs.Common.{◌≡◌, ℕ, suc, ◌+◌, ◌-◌, ◌<◌, ◌≤◌, List, [], ◌∷◌, ◌++◌, length, take, drop, Option, None, Some, Result, Ok, Err, slice_range, MatchResult, refl, sym, ap, ◌∙◌, arith, length-take, drop-drop}
+use Rattle.std.proofs.Common.{◌≡◌, ℕ, suc, ◌+◌, ◌-◌, ◌<◌, ◌≤◌, List, [], ◌∷◌, ◌++◌, length, take, drop, Option, None, Some, Result, Ok, Err, slice_range, MatchResult, refl, sym, ap, subst, ◌∙◌, arith, length-take, drop-drop}
 use Rattle.std.specs.Prelude.{IfOk}
 use Rattle.std.proofs.lemmas.List.{drop-take, take-append-le}
-use Rattle.byte_ends.specs.Source.{Told, Reads}
+use Rattle.byte_ends.specs.Source.{Told, Reads, AfterRead, TellsOver, MayGive, Through, ended, broken_off}
 use Rattle.byte_ends.specs.declared.failed.Failed.{Failed}
 use Rattle.gsi_file.specs.Filling.{Grows, GivesTold, FailsTold}
 
@@ -22,7 +22,7 @@ fails_told None new mid e some h = tt
 fails_told (Some old) None mid e some h = h
 fails_told (Some old) (Some new) mid e some h =
     let same : new ≡ old = h.unchanged in
-    let end = h.end some in
+    let end = h.end in
     ((sym (ap (λ (t : Told). t.bytes) same) ∙ end.0, sym (ap (λ (t : Told). t.fails) same) ∙ end.1), same)
 
 pub reads_behind : (old new : Option Told) (pre mid post : List ℕ) (held : ℕ) (r : Result ℕ Failed) → length pre ≡ held → 0 < length mid → IfOk r (λ n. n ≤ length mid) → Reads old new r mid →
@@ -51,3 +51,30 @@ slice_range_behind xs a e n le =
 
 pub range_length : (xs : List ℕ) (a e : ℕ) → length (slice_range xs a e) ≤ e - a
 range_length xs a e = omega (arith, length-take (e - a) (drop a xs))
+
+-- a read, of whatever the source gives after it
+over_known : (new : Option Told) (end after : Told) → new ≡ Some end → MayGive new after → after ≡ end
+over_known None end after e may = cc
+over_known (Some t) end after e may = may ∙ some_is e
+  where
+    some_is : Some t ≡ Some end → t ≡ end
+    some_is e = cc
+
+no_bytes : (n : ℕ) (buf : List ℕ) → take n buf ≡ [] → 0 < length buf → n ≡ 0
+no_bytes n buf e some = omega (arith, ap length e, length-take n buf)
+
+pub reads_as : (old new : Option Told) (buf : List ℕ) (r : Result ℕ Failed) → Reads old new r buf → TellsOver new r (length buf) → Through old new (λ o n. AfterRead o n r buf)
+reads_as None new buf (Ok n) h over after may = (
+  record { bytes = take n buf ++ after.bytes; fails = after.fails },
+  tt,
+  record {
+    next = refl;
+    same = refl;
+    end = λ none some. let e : after ≡ ended = over_known new ended after (over (no_bytes n buf none some) some) may in (ap (λ (t : Told). t.bytes) e, ap (λ (t : Told). t.fails) e);
+  },
+)
+reads_as None new buf (Err e') h over after may =
+    let e : after ≡ broken_off = over_known new broken_off after over may in
+    (after, tt, record { unchanged = refl; end = (ap (λ (t : Told). t.bytes) e, ap (λ (t : Told). t.fails) e) })
+reads_as (Some o) None buf r h over after may = absurd h
+reads_as (Some o) (Some n) buf r h over after may = (o, refl, subst (λ (t : Told). AfterRead o t r buf) (sym may) h)

@@ -6,3 +6,4 @@ pub mod FirstBytes
 pub mod Finding
 pub mod AnswerLaws
 pub mod LineFaultLaws
+pub mod FaultsToCome

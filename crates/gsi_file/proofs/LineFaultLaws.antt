@@ -1,20 +1,15 @@
 -- The fault of a line, as one of the file: one at most, and none in a block.
-use Rattle.std.proofs.Common.{◌≡◌, ℕ, List, ◌⊎◌, inl, inr, refl, sym, ap, ◌∙◌}
+use Rattle.std.proofs.Common.{◌≡◌, ℕ, Bool, List, ◌⊎◌, inl, inr, refl, sym, ap, ◌∙◌}
 use Rattle.gsi_word.specs.Blocks.{GsiBlock, IsBlock}
 use Rattle.gsi_word.specs.LineFaults.{IsLineFault}
 use Rattle.gsi_word.specs.declared.line_fault.LineFault.{LineFault}
 use Rattle.gsi_word.specs.declared.line_fault.LineFault.TheVariants as line
-use Rattle.gsi_file.specs.ToCome.{IsFileFault}
+use Rattle.gsi_file.specs.ToCome.{IsFileFault, kind_of}
+use Rattle.gsi_file.specs.Failing.{failed_at}
 use Rattle.gsi_file.specs.declared.file_fault.FileKind.{FileKind}
 use Rattle.gsi_file.specs.declared.file_fault.FileKind.TheVariants.{Read, FileTooLong, LineTooLong, Byte, Word, FirstWord}
 
--- a fault of a line as one of the file
-abbrev kind_of : LineFault → FileKind
-kind_of (line.Byte at) = Byte at
-kind_of (line.Word nth) = Word nth
-kind_of line.FirstWord = FirstWord
-
-as_file_fault : (l : List ℕ) (f : LineFault) → IsLineFault l f → IsFileFault l (kind_of f)
+pub as_file_fault : (l : List ℕ) (f : LineFault) → IsLineFault l f → IsFileFault l (kind_of f)
 as_file_fault l (line.Byte at) h = h
 as_file_fault l (line.Word nth) h = h
 as_file_fault l line.FirstWord h = h
@@ -44,3 +39,9 @@ block_or_kind either l = elim (either l) [
   | inl block ↦ inl block
   | inr fault ↦ inr (kind_of fault.0, as_file_fault l fault.0 fault.1)
 ]
+
+-- no fault of a line is a failed read
+pub unread : (old : Bool) (f : LineFault) → failed_at old (kind_of f) ≡ old
+unread old (line.Byte at) = refl
+unread old (line.Word nth) = refl
+unread old line.FirstWord = refl

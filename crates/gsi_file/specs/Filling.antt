@@ -1,5 +1,5 @@
 -- What filling the buffer does, where the source tells.
-use Rattle.std.specs.Prelude.{◌≡◌, ℕ, List, ◌++◌, length, Option, Result, Ok, Err}
+use Rattle.std.specs.Prelude.{◌≡◌, ℕ, ◌+◌, List, ◌++◌, length, take, Option, Result, Ok, Err, MatchResult}
 use Rattle.byte_ends.specs.Source.{Told, WhereTold, Gives, HasBrokenOff}
 
 -- The source gave these bytes, where it tells.
@@ -16,6 +16,13 @@ pub record Grows (old new : Option Told) (hand hand' : List ℕ) (n : ℕ) : Typ
 -- The source has broken off and is unchanged, where it tells.
 abbrev pub FailsTold : Option Told → Option Told → Type 0
 FailsTold old new = WhereTold old new (λ o n. HasBrokenOff o × (n ≡ o))
+
+-- what reading behind the first bytes of a buffer did
+abbrev pub ReadsBehind : {E : Type 0} → Option Told → Option Told → ℕ → List ℕ → List ℕ
+    → Result ℕ E → Type 0
+ReadsBehind old new held buf buf' r = MatchResult r
+    (λ n. Grows old new (take held buf) (take (held + n) buf') n)
+    (λ _. (take held buf' ≡ take held buf) × FailsTold old new)
 
 -- what reading behind the bytes in hand did
 abbrev pub Fills : {E : Type 0} → Option Told → Option Told → List ℕ → List ℕ → Result ℕ E → Type 0

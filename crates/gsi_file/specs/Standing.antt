@@ -30,6 +30,11 @@ settled_in (Failed kind) = true
 abbrev pub to_come : {R : Type 0} → (R → Option Told) → Lines R → ToCome
 to_come told l = comes_in l.state l.count l.room (unused l.hand) (told l.reader)
 
+-- A reader that still gives this, whether it tells or not: what is to come of lines where theirs
+-- does is `to_come (gives t)`.
+abbrev pub gives : {R : Type 0} → Told → R → Option Told
+gives t reader = Some t
+
 -- the reader, as it stands
 abbrev pub reader_of : {R : Type 0} → Lines R → R
 reader_of l = l.reader

@@ -6,6 +6,7 @@ use Rattle.gsi_word.specs.BlockViews.{block_of}
 use Rattle.gsi_word.specs.Shapes.{IsShape}
 use Rattle.gsi_word.specs.declared.shape.Shape.{Shape}
 use Rattle.gsi_word.specs.LineFaults.{IsLineFault}
+use Rattle.gsi_word.specs.declared.line_fault.LineFault.{LineFault}
 use Rattle.gsi_word.specs.declared.line_fault.LineFault.TheVariants as line
 use Rattle.gsi_file.specs.declared.line.Line.{Line}
 use Rattle.gsi_file.specs.declared.file_fault.FileKind.{FileKind}
@@ -19,6 +20,12 @@ use Rattle.gsi_file.specs.FileAnswers.{FileAnswers, line_before}
 pub record ToCome : Type 0 where
   pub number : ℕ
   pub answers : Option FileAnswers
+
+-- a fault of a line as one of the file
+abbrev pub kind_of : LineFault → FileKind
+kind_of (line.Byte at) = Byte at
+kind_of (line.Word nth) = Word nth
+kind_of line.FirstWord = FirstWord
 
 -- The line, which is no block, has this fault.
 abbrev pub IsFileFault : List ℕ → FileKind → Type 0

@@ -1,8 +1,7 @@
 //! Why a field file gives no more lines.
 
-ghost use Rattle.std.specs.Prelude.{List, ℕ};
-ghost use Rattle.gsi_word.specs.LineFaults.{IsLineFault};
-ghost use Rattle.gsi_file.specs.ToCome.{IsFileFault};
+ghost use Rattle.std.specs.Prelude.{◌≡◌};
+ghost use Rattle.gsi_file.specs.ToCome.{kind_of};
 
 use crate::limits::{LONGEST_FILE, LONGEST_LINE};
 use gsi_word::LineFault;
@@ -37,7 +36,7 @@ pub enum FileKind {
 
 impl From<LineFault> for FileKind {
     fn from(fault: LineFault) -> FileKind
-        ensures { (line : List ℕ) → IsLineFault line fault → IsFileFault line result }
+        ensures { result ≡ kind_of fault }
     {
         match fault {
             LineFault::Byte(at) => FileKind::Byte(at),

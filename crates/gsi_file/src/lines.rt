@@ -4,9 +4,10 @@
 //! after that the block is lent, and it is seen by the shape that the test has found, so that its
 //! words are not counted again.
 
-ghost use Rattle.std.specs.Prelude.{◌≡◌, ◌≤◌, ◌+◌, ◌/◌, List, ℕ, All, true, IfOk, IfErr};
+ghost use Rattle.std.specs.Prelude.{◌≡◌, ◌≤◌, ◌+◌, ◌/◌, Bool, List, ℕ, All, true, IfOk, IfErr};
 ghost use Rattle.gsi_word.specs.Words.{IsPrintable};
 ghost use Rattle.gsi_word.specs.Shapes.{IsShape};
+ghost use Rattle.gsi_file.specs.Failing.{failed_at, failed_by, failed_in};
 ghost use Rattle.gsi_file.specs.ToCome.{IsFileFault};
 ghost use Rattle.gsi_file.specs.declared.limits.TheConstants.{LONGEST_FILE};
 
@@ -53,6 +54,7 @@ fn check_line(line: &[u8], printable: bool) -> Result<Shape, FileKind>
     requires { printable ≡ true → All IsPrintable line.now }
     ensures shape { IfOk result (λ s. IsShape s line.now) }
     ensures fault { IfErr result (IsFileFault line.now) }
+    ensures unread { IfErr result (λ kind. (old : Bool) → failed_at old kind ≡ old) }
 {
     if !printable {
         if let Err(at) = check_printable(line) {
@@ -73,7 +75,8 @@ impl<R: Source> Lines<R> {
     ghost use Rattle.gsi_file.specs.FileAnswers.{file_answers};
     ghost use Rattle.gsi_file.specs.ToCome.{ToCome, Answers, FindsNext, FindsBlock, IsRead};
     ghost use Rattle.gsi_file.specs.Finding.{BreaksOff};
-    ghost use Rattle.gsi_file.specs.Standing.{to_come, reader_of, AsksNoMore, line_found, bytes_left, is_settled, Progresses, FailsAtItsEnd};
+    ghost use Rattle.gsi_file.specs.Standing.{to_come, gives, reader_of, AsksNoMore, line_found, bytes_left, is_settled, Progresses, FailsAtItsEnd};
+    ghost use Rattle.byte_ends.specs.Source.{Told, Through};
 
     /// Takes the one buffer, and reads nothing. Where there is no memory the reader is dropped.
     pub fn new(alloc: Global, reader: R) -> Result<Lines<R>, OutOfMemory>
@@ -82,6 +85,8 @@ impl<R: Source> Lines<R> {
         ensures room { IfOk result (λ l. bytes_left l ≡ LONGEST_FILE) }
         ensures answers { IfSome (R.told reader) (λ told. IfOk result
             (λ l. (to_come R.told l).answers ≡ Some (file_answers told))) }
+        ensures whatever { IfOk result (λ l. (told : Told)
+            → to_come (gives told) l ≡ record { number = 0; answers = Some (file_answers told) }) }
     {
         match Buffer::new(alloc) {
             Ok(buffer) => Ok(Lines {
@@ -108,6 +113,10 @@ impl<R: Source> Lines<R> {
     /// After the end each call answers `None`, and after a fault the same fault. It takes no
     /// memory: the line stands in the buffer that `new` took, so the next can't be asked for while
     /// it is held.
+    ///
+    /// A failed read is answered where one failed in this call or before it, and nowhere else. That
+    /// is so of a reader that tells nothing, too; and whatever such a reader gives later, the
+    /// answers of all calls are those of one file, in its order.
     #[inline(always)]
     pub fn next(&mut self) -> Result<Option<Line<'_>>, FileFault>
         ensures* after { sem 𝓛 (Rests (the_row R.row) self.entry (λ new.
@@ -115,7 +124,11 @@ impl<R: Source> Lines<R> {
             × Progresses result (bytes_left self.old) (bytes_left new)
             × AsksNoMore result self.old new
             × FailsAtItsEnd result (is_settled self.old)
-            (R.told (reader_of self.old)) (R.told (reader_of new)))) }
+            (R.told (reader_of self.old)) (R.told (reader_of new))
+            × (R.failed (reader_of new)
+            ≡ failed_in (is_settled self.old) (R.failed (reader_of self.old)) result)
+            × Through (R.told (reader_of self.old)) (R.told (reader_of new)) (λ before after.
+            Answers (to_come (gives before) self.old) result (to_come (gives after) new)))) }
     {
         match self.advance()? {
             Some(shape) => {
@@ -132,10 +145,15 @@ impl<R: Source> Lines<R> {
     fn advance(&mut self) -> Result<Option<Shape>, FileFault>
         ensures finds { FindsNext (to_come R.told self.old) result (to_come R.told self.new)
             (line_found self.new) }
+        ensures through { Through (R.told (reader_of self.old)) (R.told (reader_of self.new))
+            (λ before after. FindsNext (to_come (gives before) self.old) result
+            (to_come (gives after) self.new) (line_found self.new)) }
         ensures settled { AsksNoMore result self.old self.new }
         ensures progress { Progresses result (bytes_left self.old) (bytes_left self.new) }
         ensures fails { FailsAtItsEnd result (is_settled self.old)
             (R.told (reader_of self.old)) (R.told (reader_of self.new)) }
+        ensures failed { R.failed (reader_of self.new)
+            ≡ failed_in (is_settled self.old) (R.failed (reader_of self.old)) result }
     {
         match self.state {
             State::Open => {}
@@ -156,10 +174,15 @@ impl<R: Source> Lines<R> {
         requires { is_settled self.old ≡ false }
         ensures finds { FindsBlock (to_come R.told self.old) result (to_come R.told self.new)
             (line_found self.new) }
+        ensures through { Through (R.told (reader_of self.old)) (R.told (reader_of self.new))
+            (λ before after. FindsBlock (to_come (gives before) self.old) result
+            (to_come (gives after) self.new) (line_found self.new)) }
         ensures settled { OnOk result (AsksNoMore result self.old self.new) }
         ensures progress { Progresses result (bytes_left self.old) (bytes_left self.new) }
         ensures fails { IfErr result (λ kind. IsRead kind
             → BreaksOff (R.told (reader_of self.old)) (R.told (reader_of self.new))) }
+        ensures failed { R.failed (reader_of self.new)
+            ≡ failed_by (R.failed (reader_of self.old)) result }
     {
         self.hand.give_up_line();
         let Some(found) = find_line(&mut self.reader, &mut self.hand.buffer, self.room)? else {

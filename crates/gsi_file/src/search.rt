@@ -4,7 +4,9 @@
 //! looks no further than one byte past the longest line, nor past what may still be taken of the
 //! file, so at the same byte the file's limit comes first.
 
-ghost use Rattle.std.specs.Prelude.{◌≡◌, ◌≤◌, ◌-◌, true, false};
+ghost use Rattle.std.specs.Prelude.{◌≡◌, ◌≤◌, ◌-◌, Some, true, false};
+ghost use Rattle.byte_ends.specs.Source.{Through};
+ghost use Rattle.gsi_file.specs.Failing.{failed_by};
 ghost use Rattle.gsi_file.specs.Finding.{Finds};
 
 use crate::buffer::Buffer;
@@ -73,7 +75,11 @@ pub(crate) fn find_line<R: Source>(
     buffer: &mut Buffer,
     room: usize,
 ) -> Result<Option<Found>, FileKind>
-    ensures { Finds (R.told reader.old) (R.told reader.new) room buffer.old buffer.new result }
+    ensures finds { Finds (R.told reader.old) (R.told reader.new) room buffer.old buffer.new
+        result }
+    ensures through { Through (R.told reader.old) (R.told reader.new) (λ before after.
+        Finds (Some before) (Some after) room buffer.old buffer.new result) }
+    ensures failed { R.failed reader.new ≡ failed_by (R.failed reader.old) result }
 {
     let mut left = room;
     let mut line = 0;

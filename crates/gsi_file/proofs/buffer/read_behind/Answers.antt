@@ -1,5 +1,5 @@
-use Rattle.std.proofs.Common.{ℕ, take, arith, length-take, length-drop}
-use Rattle.gsi_file.proofs.Behind.{reads_behind}
+use Rattle.std.proofs.Common.{ℕ, Some, take, arith, length-take, length-drop}
+use Rattle.gsi_file.proofs.Behind.{reads_as, reads_behind}
 use Rattle.gsi_file.proofs.buffer.read_behind.Goals as goal
 
 pub returns-clause-read : goal.returns-clause-read
@@ -7,3 +7,10 @@ returns-clause-read g c =
     let s = c.args.buffer.now in
     let held = c.args.held in
     reads_behind (g.R.Source.told c.args.from.now) (g.R.Source.told c.read.new.self) (take held s) c.read.new.buf _ held c.read.result (omega (arith, length-take held s, c.requires)) (omega (arith, c.read.auto.buf, c.requires, length-take {A = ℕ}, length-drop {A = ℕ})) c.read.ensures.bound c.read.ensures.reads
+
+pub returns-clause-through : goal.returns-clause-through
+returns-clause-through g c after may =
+    let s = c.args.buffer.now in
+    let held = c.args.held in
+    let x = reads_as (g.R.Source.told c.args.from.now) (g.R.Source.told c.read.new.self) c.read.new.buf c.read.result c.read.ensures.reads c.read.ensures.over after may in
+    (x.0, x.1, reads_behind (Some x.0) (Some after) (take held s) c.read.new.buf _ held c.read.result (omega (arith, length-take held s, c.requires)) (omega (arith, c.read.auto.buf, c.requires, length-take {A = ℕ}, length-drop {A = ℕ})) c.read.ensures.bound x.2)

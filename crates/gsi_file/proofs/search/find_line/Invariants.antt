@@ -1,9 +1,15 @@
-use Rattle.std.proofs.Common.{◌+◌, ◌-◌, ◌*◌, length}
+use Rattle.std.proofs.Common.{◌≡◌, ◌+◌, ◌-◌, ◌*◌, Some, length}
+use Rattle.byte_ends.specs.Source.{Through}
+use Rattle.gsi_file.specs.Finding.{SameAnswers}
 use Rattle.gsi_file.proofs.Finding.{Searching}
 use Rattle.gsi_file.proofs.search.find_line.Given as goal
 
 abbrev pub invariant-search : goal.invariant-search
-invariant-search g l = Searching (g.R.Source.told l.fn.reader) (g.R.Source.told l.reader) l.fn.room l.fn.buffer l.left l.line l.buffer
+invariant-search g l = record {
+  searching : Searching (g.R.Source.told l.fn.reader) (g.R.Source.told l.reader) l.fn.room l.fn.buffer l.left l.line l.buffer;
+  through : Through (g.R.Source.told l.fn.reader) (g.R.Source.told l.reader) (λ before after. SameAnswers (Some before) l.fn.room l.fn.buffer (Some after) l.left l.buffer);
+  unfailed : g.R.Source.failed l.reader ≡ g.R.Source.failed l.fn.reader;
+}
 
 abbrev pub decreases-search : goal.decreases-search
 decreases-search g l = 2 * (l.left - l.line) + (1 - (length l.buffer - l.line))
