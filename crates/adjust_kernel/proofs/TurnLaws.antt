@@ -27,8 +27,8 @@ use Rattle.adjust_kernel.proofs.ChangeBounds.{MOST_CHANGE, changes_in}
 use Rattle.adjust_kernel.proofs.NearLaws.{IsNear, EndsAreNear, AllAreNear, all_near}
 use native.Mathlib.Decide.{dec_lt}
 
--- what stands where a sheet is accepted under a residual limit
-pub record IsAcceptedUnder (limit sets targets : ℕ) (c : Choice) (readings : List Reading) : Type 0 where
+-- what stands where a sheet's sets and targets are held together and its residuals keep a limit
+pub record IsHeldUnder (limit sets targets : ℕ) (c : Choice) (readings : List Reading) : Type 0 where
   pub denominator : 1 ≤ c.denominator
   pub some : 0 < targets
   pub sets_in : sets ≤ MOST_SETS
@@ -36,9 +36,13 @@ pub record IsAcceptedUnder (limit sets targets : ℕ) (c : Choice) (readings : L
   pub limit_in : limit ≤ LARGEST_RESIDUAL_LIMIT
   pub readings_in : length readings ≤ MOST_ROWS
   pub placed : All (IsPlaced sets targets) readings
-  pub balanced : IsBalanced c readings
   pub connected : IsConnected sets targets readings
   pub limited : IsLimited limit c readings
+
+-- what stands where a sheet is accepted under a residual limit
+pub record IsAcceptedUnder (limit sets targets : ℕ) (c : Choice) (readings : List Reading) : Type 0 where
+  pub held : IsHeldUnder limit sets targets c readings
+  pub balanced : IsBalanced c readings
 
 change_is : (d e v : ℕ) (a a' o o' k k' : ℤ)
     → pos d *ℤ (a' -ℤ o' -ℤ pos e *ℤ (pos v +ℤ pos TURN *ℤ k')) -ℤ pos e *ℤ (a -ℤ o -ℤ pos d *ℤ (pos v +ℤ pos TURN *ℤ k))
@@ -74,7 +78,7 @@ within_three j u x y z a b c =
     let p = a.low in let q = a.high in let r = b.low in let s = b.high in let v = c.low in let w = c.high in
     record { low = omega (arith, ints); high = omega (arith, ints) }
 
-module _ (limit sets targets : ℕ) (c : Choice) (readings : List Reading) (a : IsAcceptedUnder limit sets targets c readings)
+module _ (limit sets targets : ℕ) (c : Choice) (readings : List Reading) (a : IsHeldUnder limit sets targets c readings)
     (other : Choice) (turns : List ℤ) (long : length turns ≡ length readings) (fraction : 1 ≤ other.denominator)
     (not_greater : IsNoLargerSum other (with_turns readings turns) c readings) where
   abbrev unit : ℕ
@@ -171,28 +175,28 @@ module _ (limit sets targets : ℕ) (c : Choice) (readings : List Reading) (a : 
   }
 
 -- turns of targets and sets are taken up by directions and orientations
-taken_up : (e v : ℕ) (a o k mt ms : ℤ) → (a -ℤ pos (e * TURN) *ℤ mt) -ℤ (o -ℤ pos (e * TURN) *ℤ ms) -ℤ pos e *ℤ (pos v +ℤ pos TURN *ℤ k) ≡ a -ℤ o -ℤ pos e *ℤ (pos v +ℤ pos TURN *ℤ (k +ℤ mt -ℤ ms))
+pub taken_up : (e v : ℕ) (a o k mt ms : ℤ) → (a -ℤ pos (e * TURN) *ℤ mt) -ℤ (o -ℤ pos (e * TURN) *ℤ ms) -ℤ pos e *ℤ (pos v +ℤ pos TURN *ℤ k) ≡ a -ℤ o -ℤ pos e *ℤ (pos v +ℤ pos TURN *ℤ (k +ℤ mt -ℤ ms))
 taken_up e v a o k mt ms =
     let q = num (pos (e * TURN)) in
     same_value ((num a ⊖ q ⊗ num mt) ⊖ (num o ⊖ q ⊗ num ms) ⊖ num (pos e) ⊗ (num (pos v) ⊕ num (pos TURN) ⊗ num k))
     (num a ⊖ num o ⊖ num (pos e) ⊗ (num (pos v) ⊕ num (pos TURN) ⊗ (num k ⊕ num mt ⊖ num ms))) (omega arith)
 
 module _ (other : Choice) (of_target of_set : ℕ → ℤ) where
-  abbrev taken : Choice
+  abbrev pub taken : Choice
   taken = record {
     denominator = other.denominator;
     direction = λ t. other.direction t -ℤ pos (other.denominator * TURN) *ℤ of_target t;
     orientation = λ s. other.orientation s -ℤ pos (other.denominator * TURN) *ℤ of_set s;
   }
 
-  taken_squares : (readings : List Reading) → sum_of_squares taken readings ≡ sum_of_squares other (with_turns readings (map (λ r. r.turn +ℤ of_target r.target -ℤ of_set r.set) readings))
+  pub taken_squares : (readings : List Reading) → sum_of_squares taken readings ≡ sum_of_squares other (with_turns readings (map (λ r. r.turn +ℤ of_target r.target -ℤ of_set r.set) readings))
   taken_squares [] = refl
   taken_squares (r ∷ readings) = λ i. squared (taken_up other.denominator r.value (other.direction r.target) (other.orientation r.set) r.turn (of_target r.target) (of_set r.set) i) +ℤ taken_squares readings i
 
 pub limited_is_least_over_turns : (limit sets targets : ℕ) (c : Choice) (readings : List Reading) → IsAcceptedUnder limit sets targets c readings → IsLeastOverTurns c readings
 limited_is_least_over_turns limit sets targets c readings a other turns long h =
     by_lt_z (sum_beside c other (with_turns readings turns)) (sum_beside other c readings)
-    (λ lt. let t = turned limit sets targets c readings a other turns long h (omega (arith, ints)) in
+    (λ lt. let t = turned limit sets targets c readings a.held other turns long h (omega (arith, ints)) in
     let e : sum_beside c (taken other t.of_target t.of_set) readings ≡ sum_beside c other (with_turns readings turns) =
     ap (λ z. pos (c.denominator * c.denominator) *ℤ z) (taken_squares other t.of_target t.of_set readings ∙ ap (λ (ks : List ℤ). sum_of_squares other (with_turns readings ks)) (sym t.turns_are)) in
     let k = balanced_is_least c readings a.balanced (taken other t.of_target t.of_set) h in
@@ -200,4 +204,4 @@ limited_is_least_over_turns limit sets targets c readings a other turns long h =
     (λ le. le)
 
 pub limited_equal_only_turned : (limit sets targets : ℕ) (c : Choice) (readings : List Reading) → IsAcceptedUnder limit sets targets c readings → OnlyTurnedWhole c readings
-limited_equal_only_turned limit sets targets c readings a other turns long h e = turned limit sets targets c readings a other turns long h (omega (arith, ints))
+limited_equal_only_turned limit sets targets c readings a other turns long h e = turned limit sets targets c readings a.held other turns long h (omega (arith, ints))

@@ -29,6 +29,7 @@ unrolled r = pos r.value +ℤ pos TURN *ℤ r.turn
 abbrev pub residual : Choice → Reading → ℤ
 residual c r = c.direction r.target -ℤ c.orientation r.set -ℤ pos c.denominator *ℤ unrolled r
 
+-- the sum of the squares of the residuals (textbook), times the square of the denominator
 abbrev pub sum_of_squares : Choice → List Reading → ℤ
 sum_of_squares c readings = int_sum_by (λ r. squared (residual c r)) readings
 

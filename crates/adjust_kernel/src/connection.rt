@@ -72,7 +72,7 @@ fn sweep(marks: &mut [bool; MOST_NODES], sets: usize, targets: usize, obs: &[Obs
 
 /// Whether the sets and targets can't be divided into two parts, neither of them empty, with no
 /// observation between. Takes no memory.
-pub(crate) fn is_connected(sets: usize, targets: usize, obs: &[Obs]) -> bool
+pub fn is_connected(sets: usize, targets: usize, obs: &[Obs]) -> bool
     requires sets { sets ≤ MOST_SETS }
     requires targets { (0 < targets) × (targets ≤ MOST_TARGETS) }
     requires obs { All (IsObs sets targets) obs.now }

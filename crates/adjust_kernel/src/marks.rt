@@ -6,10 +6,10 @@ ghost use Rattle.adjust_kernel.specs.Marks.{mark};
 use crate::limits::{MOST_SETS, MOST_TARGETS};
 
 /// A set at place s is node s; a target at place t is node sets + t.
-pub(crate) const MOST_NODES: usize = MOST_SETS + MOST_TARGETS;
+pub const MOST_NODES: usize = MOST_SETS + MOST_TARGETS;
 
 /// Whether each of the first nodes has a mark.
-pub(crate) fn are_marked(marks: &[bool], nodes: usize) -> bool
+pub fn are_marked(marks: &[bool], nodes: usize) -> bool
     requires { nodes ≤ length marks.now }
     ensures all { OnTrue result ((n : ℕ) → n < nodes → mark marks.now n ≡ true) }
     ensures some_not { OnFalse result ((n : ℕ) × (n < nodes) × (mark marks.now n ≡ false)) }

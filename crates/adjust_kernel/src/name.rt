@@ -106,10 +106,13 @@ impl Name {
 
 impl fmt::Display for Name {
     ghost use Rattle.std.specs.Prelude.{Some};
+    ghost use Rattle.std.specs.Fmt.{padded as filled};
 
     ghost output = { λ name. Some name };
 
-    /// Its bytes, which are ASCII, as text.
+    ghost styled_output = { λ name style. Some (filled style name) };
+
+    /// Its bytes, which are ASCII, as text, cut and filled as the hole asks.
     fn fmt<W: fmt::Write>(&self, f: &mut fmt::Formatter<W>) -> fmt::Result {
         f.pad(std::str::from_utf8(self.bytes()).map_err(|_| fmt::Error)?)
     }

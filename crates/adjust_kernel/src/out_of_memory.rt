@@ -1,8 +1,8 @@
-//! Want of memory.
+//! Out of memory.
 
 use thiserror::Error;
 
-/// Memory ran out.
+/// There was no memory for what a tally holds: run it again with more.
 #[derive(Clone, Copy, Debug, PartialEq, Eq, Drop, Error)]
-#[error("out of memory")]
+#[error("out of memory: run it again with more")]
 pub struct OutOfMemory;

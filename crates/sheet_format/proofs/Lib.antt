@@ -1,4 +1,3 @@
-pub mod Bounds
 pub mod CanonicalDecimals
 pub mod ShortNumbers
 pub mod WrittenNumbers

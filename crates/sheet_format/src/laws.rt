@@ -1,11 +1,13 @@
 //! Laws of the definitions that contracts cite. The functions do nothing.
 
-ghost use Rattle.std.specs.Prelude.{◌≡◌, ◌⊎◌, List, ℕ};
+ghost use Rattle.std.specs.Prelude.{◌≡◌, ◌⊎◌, List, ℕ, pos};
 ghost use Rattle.adjust_kernel.specs.Sheets.{IsSheet, SheetValue};
 ghost use Rattle.sheet_format.specs.Faults.{IsSheetFault};
 ghost use Rattle.sheet_format.specs.Rows.{IsSheetText};
 ghost use Rattle.sheet_format.specs.Texts as spec;
 ghost use Rattle.sheet_format.specs.declared.fault.SheetFault.{SheetFault};
+ghost use Rattle.sheet_format.specs.declared.reading.TheConstants.{LONGEST_SHEET};
+ghost use Rattle.sheet_format.specs.declared.version.TheConstants.{LARGEST_ANGLE_OF_ONE, LARGEST_DENOMINATOR_OF_ONE};
 
 /// Bytes stand for one sheet at most.
 pub fn one_sheet()
@@ -34,4 +36,12 @@ pub fn some_answer()
 /// The text that a sheet is written as stands for it.
 pub fn text_stands()
     ensures { (sheet : SheetValue) → IsSheet sheet → IsSheetText (spec.sheet_text sheet) sheet }
+{}
+
+/// The bounds of a sheet's text: its bytes, and what version 1 narrows. The other ranges are the
+/// kernel's.
+pub fn limits()
+    ensures bytes { LONGEST_SHEET ≡ 1_048_576 }
+    ensures denominator_of_one { LARGEST_DENOMINATOR_OF_ONE ≡ 1_000_000_000 }
+    ensures angle_of_one { LARGEST_ANGLE_OF_ONE ≡ pos 1_000_000_000_000_000_000 }
 {}

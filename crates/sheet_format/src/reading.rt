@@ -5,14 +5,15 @@
 
 ghost use Rattle.std.specs.Prelude.{◌≡◌, ◌≤◌, ◌⊎◌, length, Err, IfErr, IfOk, Ok};
 ghost use Rattle.adjust_kernel.specs.Sheets.{SheetValue};
-ghost use Rattle.sheet_format.specs.Faults.{IsFaultOrMemory, IsSheetFault};
+ghost use Rattle.csv.specs.Reading.{error_kind};
+ghost use Rattle.sheet_format.specs.Faults.{IsFaultOrMemory, IsMemoryOrInput, IsSheetFault};
 ghost use Rattle.sheet_format.specs.Rows.{IsSheetText};
 ghost use Rattle.sheet_format.specs.declared.fault.SheetFault.TheVariants.{Memory};
 
 use crate::draft::{Draft, Refusal};
 use crate::fault::{RowKind, SheetFault};
 use adjust_kernel::Sheet;
-use csv::{ByteRecord, ReaderBuilder};
+use csv::{ByteRecord, Error, ErrorKind, ReaderBuilder};
 use std::alloc::Global;
 
 /// The most bytes of a sheet.
@@ -37,7 +38,7 @@ pub fn read_sheet(alloc: Global, bytes: &[u8]) -> Result<Sheet, SheetFault>
     read_rows(alloc, bytes)
 }
 
-// The sheet of bytes that are not too many, or the fault of their rows.
+/// The sheet of bytes that are not too many, or the fault of their rows.
 fn read_rows(alloc: Global, bytes: &[u8]) -> Result<Sheet, SheetFault>
     requires { length bytes.now ≤ LONGEST_SHEET }
     ensures sheet { IfOk result (λ sheet. IsSheetText bytes.now sheet) }
@@ -50,8 +51,9 @@ fn read_rows(alloc: Global, bytes: &[u8]) -> Result<Sheet, SheetFault>
     let mut draft = Draft::new(alloc);
     let mut row = ByteRecord::new(alloc);
     'rows: loop {
-        let Ok(found) = reader.read_byte_record(&mut row) else {
-            return Err(SheetFault::Memory);
+        let found = match reader.read_byte_record(&mut row) {
+            Ok(found) => found,
+            Err(error) => return Err(fault_of(error)),
         };
         let number = draft.taken() + 1;
         if !found {
@@ -65,5 +67,19 @@ fn read_rows(alloc: Global, bytes: &[u8]) -> Result<Sheet, SheetFault>
             Err(Refusal::Fault(kind)) => return Err(SheetFault::Row(number, kind)),
             Err(Refusal::Memory) => return Err(SheetFault::Memory),
         }
+    }
+}
+
+/// The answer to an error of `csv`: out of memory.
+///
+/// No other error comes where rows are read as bytes and may be of any length, but for one of the
+/// input. Bytes in memory have none, and `csv` leaves it open over any reader.
+fn fault_of(error: Error) -> SheetFault
+    requires { IsMemoryOrInput (error_kind error) }
+    ensures { result ≡ Memory }
+{
+    match error.into_kind() {
+        ErrorKind::OutOfMemory | ErrorKind::Io(_) => SheetFault::Memory,
+        _ => unreachable!(),
     }
 }

@@ -12,8 +12,8 @@ pub enum MeansFault {
     /// that takes incomplete sets.
     #[error("some target was not observed in some set")]
     Incomplete,
-    /// Memory ran out.
-    #[error("out of memory")]
+    /// There was no memory for the sheet: run it again with more.
+    #[error("out of memory: run it again with more")]
     Memory,
 }
 

@@ -8,7 +8,8 @@
 //! `rt test` runs it. `rt try --test` watches over memory itself, and ends the test in place of
 //! refusing.
 
-use super::{SHEET, changed, text_of};
+use super::worked::changed;
+use super::{SHEET, answer_of, expect_same};
 use crate::{SheetFault, WriteFault, read_sheet, write_sheet};
 use adjust_kernel::Sheet;
 use byte_ends::Held;
@@ -51,84 +52,67 @@ fn hoard_of_all_but(alloc: Global, spare: Vec<u8>) -> Vec<Vec<u8>> {
     hoard
 }
 
-/// Whether two answers of `read_sheet` are one, without memory.
-fn is_same(a: &Result<Sheet, SheetFault>, b: &Result<Sheet, SheetFault>) -> bool {
-    match (a, b) {
-        (Ok(a), Ok(b)) => {
-            a.name() == b.name()
-                && a.denominator() == b.denominator()
-                && a.directions() == b.directions()
-                && a.orientations() == b.orientations()
-                && a.rows() == b.rows()
-        }
-        (Err(a), Err(b)) => a == b,
-        _ => false,
-    }
-}
-
-/// Reads a text with more and more memory: it is want of memory until it is the answer.
-fn expect_read_with_memory(rt: &impl Abort, alloc: Global, text: &str) -> Result<(), Fail> {
-    let bytes = text.as_bytes();
-    let ample = read_sheet(alloc, bytes);
-    let spare = Vec::<u8>::with_capacity(alloc, SPARE)?;
-    let hoard = hoard_of_all_but(alloc, spare);
+/// Reads a text with more and more memory. Gives how often it was refused, and the first other
+/// answer.
+fn read_with_more(alloc: Global, bytes: &[u8]) -> (u32, Result<Sheet, SheetFault>) {
     let mut refused = 0u32;
-    let mut is_answered = false;
     for run in 0..SPARE / STEP {
         let plug = Vec::<u8>::with_capacity(alloc, SPARE.saturating_sub(STEP * run));
         let answer = read_sheet(alloc, bytes);
         drop(plug);
-        if let Err(SheetFault::Memory) = answer {
-            refused = refused.saturating_add(1);
-        } else {
-            is_answered = is_same(&answer, &ample);
-            break;
+        match answer {
+            Err(SheetFault::Memory) => refused = refused.saturating_add(1),
+            answer => return (refused, answer),
         }
     }
+    (refused, Err(SheetFault::Memory))
+}
+
+/// With little memory a read is refused; with more and more its answer is this one in the end.
+fn expect_read(rt: &impl Abort, alloc: Global, text: &str, expected: &str) -> Result<(), Fail> {
+    let spare = Vec::<u8>::with_capacity(alloc, SPARE)?;
+    let hoard = hoard_of_all_but(alloc, spare);
+    let (refused, answer) = read_with_more(alloc, text.as_bytes());
     drop(hoard);
-    assert!(rt; refused > 0, "never refused");
-    assert!(rt; is_answered, "another answer after {refused} refusals");
+    assert!(rt; refused > 0);
+    let found = answer_of(alloc, answer)?;
+    expect_same(rt, found.as_str(), expected, text);
     Ok(())
 }
 
 #[test]
 fn each_growth_of_a_read_is_refused_in_turn(rt: HostRuntime) -> Result<(), Fail> {
-    let alloc = rt.alloc();
-    expect_read_with_memory(&rt, alloc, text_of(alloc, &SHEET, "\n")?.as_str())?;
-    let faulty = changed(alloc, 9, "obs,2,B,80000000,0")?;
-    expect_read_with_memory(&rt, alloc, faulty.as_str())
+    expect_read(&rt, rt.alloc(), SHEET, SHEET)?;
+    let faulty = changed(rt.alloc(), 9, "obs,2,B,80000000,0")?;
+    expect_read(&rt, rt.alloc(), faulty.as_str(), "Row(9, Range)")
 }
 
-/// Writes a sheet with more and more memory: it is want of memory, with nothing written, until it
-/// is written whole.
-fn expect_written_with_memory(rt: &impl Abort, alloc: Global, text: &str) -> Result<(), Fail> {
-    let sheet = read_sheet(alloc, text.as_bytes())?;
-    let mut held = Held::new(alloc, text.len(), 1_000, false)?;
-    let spare = Vec::<u8>::with_capacity(alloc, SPARE)?;
-    let hoard = hoard_of_all_but(alloc, spare);
+/// Writes a sheet with more and more memory. Gives how often it was refused, with nothing written,
+/// before it was not.
+fn write_with_more(alloc: Global, sheet: &Sheet, held: &mut Held) -> u32 {
     let mut refused = 0u32;
-    let mut is_written = false;
     for run in 0..SPARE / STEP {
         let plug = Vec::<u8>::with_capacity(alloc, SPARE.saturating_sub(STEP * run));
-        let answer = write_sheet(alloc, &sheet, &mut held);
+        let answer = write_sheet(alloc, sheet, held);
         drop(plug);
-        if let Err(WriteFault::Memory) = answer
-            && held.bytes().is_empty()
-        {
-            refused = refused.saturating_add(1);
-        } else {
-            is_written = answer.is_ok() && held.bytes() == text.as_bytes();
-            break;
+        if answer != Err(WriteFault::Memory) || !held.bytes().is_empty() {
+            return refused;
         }
+        refused = refused.saturating_add(1);
     }
-    drop(hoard);
-    assert!(rt; refused > 0, "never refused");
-    assert!(rt; is_written, "not written after {refused} refusals");
-    Ok(())
+    refused
 }
 
 #[test]
 fn each_growth_of_a_write_is_refused_in_turn(rt: HostRuntime) -> Result<(), Fail> {
     let alloc = rt.alloc();
-    expect_written_with_memory(&rt, alloc, text_of(alloc, &SHEET, "\n")?.as_str())
+    let sheet = read_sheet(alloc, SHEET.as_bytes())?;
+    let mut held = Held::new(alloc, 1_000, 1_000, false)?;
+    let spare = Vec::<u8>::with_capacity(alloc, SPARE)?;
+    let hoard = hoard_of_all_but(alloc, spare);
+    let refused = write_with_more(alloc, &sheet, &mut held);
+    drop(hoard);
+    assert!(rt; refused > 0);
+    assert!(rt; held.bytes() == SHEET.as_bytes());
+    Ok(())
 }

@@ -1,76 +1,159 @@
-//! Sheets of many sizes, with ample memory: none is refused for want of it.
+//! Sheets of all sizes, with ample memory: none is refused for want of it.
 
-use super::{NUMBERS, SHEET, counted, expect_answer, expect_written_again, text_of};
-use adjust_kernel::{MOST_SETS, MOST_TARGETS};
+use super::{SHEET, answer_of, expect_answer, expect_same, written};
+use crate::{LONGEST_SHEET, read_sheet};
+use adjust_kernel::{
+    Direction, LARGEST_SET_NUMBER, LARGEST_TURN, LONGEST_NAME, MOST_ROWS, MOST_SETS, MOST_TARGETS,
+    Name, Orientation, Row, Sheet, TURN,
+};
+use std::alloc::{AllocError, Global};
+use std::process::Abort;
 use std::test::Fail;
 
-#[test]
-fn each_number_of_targets_and_of_sets_is_read_and_written(rt: HostRuntime) -> Result<(), Fail> {
-    let alloc = rt.alloc();
-    for targets in 1..=MOST_TARGETS as u32 {
-        expect_written_again(&rt, alloc, counted(alloc, targets, 1, targets)?.as_str())?;
+/// A number below 2^40 that seems to come by chance, the same in each run.
+fn chance(seed: u64) -> u64 {
+    seed.wrapping_add(1).wrapping_mul(0x9E37_79B9_7F4A_7C15) >> 24
+}
+
+/// A name of any bytes that a name may hold. From 16 seeds in a row come names of each length.
+fn name(rt: &impl Abort, seed: u64) -> Name {
+    let mut bytes = [b' '; LONGEST_NAME];
+    let mut mixed = chance(seed);
+    for byte in &mut bytes {
+        *byte = b' ' + (mixed % 95) as u8;
+        mixed = chance(mixed);
     }
-    for sets in 1..=MOST_SETS as u32 {
-        expect_written_again(&rt, alloc, counted(alloc, 2, sets, 2 * sets)?.as_str())?;
+    let length = seed as usize % LONGEST_NAME + 1;
+    Name::new(&bytes[..length]).expect(rt, "a name")
+}
+
+/// A direction or orientation with any number of digits.
+fn angle(seed: u64) -> i128 {
+    let size = (i128::from(chance(seed)) * 900_000_000) >> (seed % 70) as u32;
+    if chance(seed) % 2 == 0 { size } else { -size }
+}
+
+fn directions(
+    rt: &impl Abort,
+    alloc: Global,
+    count: usize,
+    seed: u64,
+) -> Result<Vec<Direction>, AllocError> {
+    let mut directions = Vec::new(alloc);
+    for place in 0..count as u64 {
+        let seed = seed.wrapping_add(place);
+        directions.push(Direction {
+            name: name(rt, seed),
+            value: angle(seed),
+        })?;
     }
+    Ok(directions)
+}
+
+/// The orientations of sets with numbers in a row; after the largest number comes the smallest.
+fn orientations(alloc: Global, count: usize, seed: u64) -> Result<Vec<Orientation>, AllocError> {
+    let mut orientations = Vec::new(alloc);
+    for place in 0..count as u64 {
+        let seed = seed.wrapping_add(place);
+        orientations.push(Orientation {
+            set: (seed % u64::from(LARGEST_SET_NUMBER)) as u16 + 1,
+            value: angle(seed),
+        })?;
+    }
+    Ok(orientations)
+}
+
+fn rows(rt: &impl Abort, alloc: Global, count: usize, seed: u64) -> Result<Vec<Row>, AllocError> {
+    let mut rows = Vec::new(alloc);
+    for place in 0..count as u64 {
+        let seed = seed.wrapping_add(place);
+        rows.push(Row {
+            set: (chance(seed) % u64::from(LARGEST_SET_NUMBER)) as u16 + 1,
+            target: name(rt, seed),
+            value: (chance(seed) % u64::from(TURN)) as u32,
+            turn: (seed % 19) as i8 - LARGEST_TURN,
+        })?;
+    }
+    Ok(rows)
+}
+
+/// Makes a sheet of a seed, writes it, and reads what is written.
+fn expect_written_and_read(
+    rt: &impl Abort,
+    alloc: Global,
+    targets: usize,
+    sets: usize,
+    observations: usize,
+    seed: u64,
+) -> Result<(), Fail> {
+    let sheet = Sheet::new(
+        name(rt, seed),
+        chance(seed) % 1_000_000_000 + 1,
+        directions(rt, alloc, targets, seed)?,
+        orientations(alloc, sets, seed)?,
+        rows(rt, alloc, observations, seed)?,
+    );
+    let text = written(alloc, &sheet.expect(rt, "a sheet"))?;
+    read_sheet(alloc, text.bytes())?;
     Ok(())
 }
 
 #[test]
-fn each_number_of_rows_up_to_some_hundred_is_read_and_written(rt: HostRuntime) -> Result<(), Fail> {
-    let alloc = rt.alloc();
-    for rows in 1..=600 {
-        expect_written_again(&rt, alloc, counted(alloc, 3, 2, rows)?.as_str())?;
-    }
-    for rows in [1_023, 1_024, 1_025, 2_047, 2_048, 2_049, 3_000, 3_999] {
-        expect_written_again(&rt, alloc, counted(alloc, 3, 2, rows)?.as_str())?;
-    }
-    Ok(())
-}
-
-/// The bytes of the shortest row of an observation, with its line feed.
-const SHORTEST_ROW: &str = "obs,1,A,0,0\n";
-
-/// Names of 1 to 12 bytes: with them and whole rows a sheet has any length.
-const NAMES: [&str; 12] = [
-    "A",
-    "AB",
-    "ABC",
-    "ABCD",
-    "ABCDE",
-    "ABCDEF",
-    "ABCDEFG",
-    "ABCDEFGH",
-    "ABCDEFGHI",
-    "ABCDEFGHIJ",
-    "ABCDEFGHIJK",
-    "ABCDEFGHIJKL",
-];
-
-#[test]
-fn a_sheet_of_each_length_is_read_and_written(rt: HostRuntime) -> Result<(), Fail> {
-    let alloc = rt.alloc();
-    let mut rows = String::new(alloc);
-    for _ in 0..300 {
-        rows.push_str(SHORTEST_ROW)?;
-        for name in NAMES {
-            let text = format!(in alloc; "sheet,1,{name},1,\ntarget,,A,0,\nset,1,,0,\n{rows}")?;
-            expect_written_again(&rt, alloc, text.as_str())?;
+fn each_number_of_targets_and_of_sets_is_written_and_read(rt: HostRuntime) -> Result<(), Fail> {
+    for targets in 1..=MOST_TARGETS {
+        for sets in 1..=MOST_SETS {
+            let seed = (targets * MOST_SETS + sets) as u64;
+            expect_written_and_read(&rt, rt.alloc(), targets, sets, 1, seed)?;
         }
     }
     Ok(())
 }
 
 #[test]
-fn empty_lines_and_blanks_of_each_length_are_read(rt: HostRuntime) -> Result<(), Fail> {
-    let alloc = rt.alloc();
-    let mut sheet = text_of(alloc, &SHEET, "\n")?;
-    let mut blanks = String::new(alloc);
-    for _ in 0..4_000 {
-        sheet.push_str("\n")?;
-        expect_answer(&rt, alloc, sheet.as_str(), NUMBERS)?;
-        blanks.push_str(" ")?;
-        expect_answer(&rt, alloc, blanks.as_str(), "Row(1, Fields)")?;
+fn each_number_of_observations_is_written_and_read(rt: HostRuntime) -> Result<(), Fail> {
+    for observations in 1..=MOST_ROWS {
+        expect_written_and_read(&rt, rt.alloc(), 3, 2, observations, observations as u64)?;
     }
     Ok(())
+}
+
+#[test]
+fn each_number_of_a_set_is_written_and_read(rt: HostRuntime) -> Result<(), Fail> {
+    for sheet in 0..250 {
+        expect_written_and_read(&rt, rt.alloc(), 1, MOST_SETS, 1, 40 * sheet)?;
+    }
+    Ok(())
+}
+
+/// A sheet of so many bytes that ends with empty lines is read as without them.
+fn expect_read_with_empty_lines(rt: &impl Abort, alloc: Global, length: usize) -> Result<(), Fail> {
+    let mut text = Vec::new(alloc);
+    text.extend_from_slice(SHEET.as_bytes())?;
+    text.resize(length, b'\n')?;
+    let found = answer_of(alloc, read_sheet(alloc, text.as_slice()))?;
+    expect_same(rt, found.as_str(), SHEET, "a sheet with empty lines");
+    Ok(())
+}
+
+#[test]
+fn a_text_of_any_length_is_read(rt: HostRuntime) -> Result<(), Fail> {
+    for length in SHEET.len()..5_000 {
+        expect_read_with_empty_lines(&rt, rt.alloc(), length)?;
+    }
+    for seed in 0..500 {
+        let length = SHEET.len() + chance(seed) as usize % (LONGEST_SHEET - SHEET.len());
+        expect_read_with_empty_lines(&rt, rt.alloc(), length)?;
+    }
+    expect_read_with_empty_lines(&rt, rt.alloc(), LONGEST_SHEET)
+}
+
+#[test]
+fn blanks_are_a_row_of_one_field_up_to_the_longest_sheet(rt: HostRuntime) -> Result<(), Fail> {
+    let mut blanks = String::new(rt.alloc());
+    for _ in 0..LONGEST_SHEET {
+        blanks.push_str(" ")?;
+    }
+    expect_answer(&rt, rt.alloc(), blanks.as_str(), "Row(1, Fields)")?;
+    blanks.push_str(" ")?;
+    expect_answer(&rt, rt.alloc(), blanks.as_str(), "TooLong")
 }

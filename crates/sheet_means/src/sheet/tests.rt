@@ -2,13 +2,13 @@
 
 use super::means;
 use crate::fault::MeansFault;
-use adjust_kernel::{Name, Obs, Sheet, Station, check};
+use adjust_kernel::{LARGEST_SET_NUMBER, LONGEST_NAME, Name, Obs, Sheet, Station, check};
 use std::alloc::Global;
 use std::process::Abort;
 use std::test::Fail;
 
-// Values of the observations, set by set and within a set target by target; and the sheet of means:
-// directions, orientations, turns, and its greatest residual.
+/// Values of the observations, set by set and within a set target by target; and the sheet of means:
+/// directions, orientations, turns, and its greatest residual.
 #[derive(Clone, Copy)]
 struct Worked<'a> {
     targets: u32,
@@ -19,15 +19,19 @@ struct Worked<'a> {
     greatest: i128,
 }
 
+/// A name of each length in turn, and another one for each number up to 1,000.
 fn name(rt: &impl Abort, number: u32) -> Name {
-    let digits = [b'0' + (number / 10 % 10) as u8, b'0' + (number % 10) as u8];
-    Name::new(&digits).expect(rt, "a name")
+    let mut bytes = [b'A'; LONGEST_NAME];
+    bytes[0] = b'0' + (number / 16 % 64) as u8;
+    Name::new(&bytes[..number as usize % LONGEST_NAME + 1]).expect(rt, "a name")
 }
 
-// A station of this many sets and targets, with these observations: set, target, value.
+/// A station of this many sets, numbered from `first` on, and targets, with these observations: set,
+/// target, value.
 fn station_of(
     rt: &impl Abort,
     alloc: Global,
+    first: u16,
     sets: u16,
     targets: u32,
     observed: &[(u32, u32, u32)],
@@ -37,8 +41,8 @@ fn station_of(
         names.push(name(rt, target))?;
     }
     let mut numbers = Vec::new(alloc);
-    for number in 1..=sets {
-        numbers.push(number)?;
+    for place in 0..sets {
+        numbers.push(first.saturating_add(place))?;
     }
     let mut obs = Vec::new(alloc);
     for (set, target, value) in observed {
@@ -48,7 +52,7 @@ fn station_of(
             value: *value,
         })?;
     }
-    let station = Station::new(Name::new(b"S1").expect(rt, "a name"), names, numbers, obs);
+    let station = Station::new(name(rt, u32::from(first)), names, numbers, obs);
     Ok(station.expect(rt, "a station"))
 }
 
@@ -136,25 +140,38 @@ fn complete_sets_have_the_sheet_of_their_means(rt: HostRuntime) -> Result<(), Fa
             observed.push((place / case.targets, place % case.targets, *value))?;
         }
         let sets = case.orientations.len() as u16;
-        let station = station_of(&rt, rt.alloc(), sets, case.targets, &observed)?;
+        let station = station_of(&rt, rt.alloc(), 1, sets, case.targets, &observed)?;
         let sheet = means(rt.alloc(), &station).expect(&rt, "a sheet");
         assert_sheet(&rt, &station, &sheet, case);
     }
     Ok(())
 }
 
-// The same directions in each set: target by target 2,000 half units more.
-fn even_station(rt: &impl Abort, alloc: Global, sets: u8, targets: u8) -> Result<Station, Fail> {
+/// The same directions in each set: target by target 2,000 half units more.
+fn even_station(
+    rt: &impl Abort,
+    alloc: Global,
+    first: u16,
+    sets: u8,
+    targets: u8,
+) -> Result<Station, Fail> {
     let mut observed = Vec::new(alloc);
     for set in 0..u32::from(sets) {
         for target in 0..u32::from(targets) {
             observed.push((set, target, 2_000 * (target + 1)))?;
         }
     }
-    station_of(rt, alloc, u16::from(sets), u32::from(targets), &observed)
+    station_of(
+        rt,
+        alloc,
+        first,
+        u16::from(sets),
+        u32::from(targets),
+        &observed,
+    )
 }
 
-// The sheet has no residual, so that its directions and orientations are those that were observed.
+/// The sheet has no residual, so that its directions and orientations are those that were observed.
 fn assert_even(rt: &impl Abort, station: &Station, sheet: &Sheet, sets: u8, targets: u8) {
     let accepted = check(station, sheet, None).expect(rt, "accepted");
     assert_eq!(rt; accepted.sets, u32::from(sets));
@@ -164,15 +181,39 @@ fn assert_even(rt: &impl Abort, station: &Station, sheet: &Sheet, sets: u8, targ
     assert_eq!(rt; accepted.greatest, 0);
 }
 
-/// With memory there is a sheet of every size: of 1 to 40 sets, of 1 to 100 targets, and of 40 sets
-/// of 100 targets in the end.
+fn expect_even(
+    rt: &impl Abort,
+    alloc: Global,
+    first: u16,
+    sets: u8,
+    targets: u8,
+) -> Result<(), Fail> {
+    let station = even_station(rt, alloc, first, sets, targets)?;
+    let sheet = means(alloc, &station).expect(rt, "a sheet");
+    assert_even(rt, &station, &sheet, sets, targets);
+    Ok(())
+}
+
+/// With memory there is a sheet of each number of sets and of each number of targets: four numbers
+/// of sets for each number of targets. Names have each length.
 #[test]
 fn stations_of_every_size_have_even_means(rt: HostRuntime) -> Result<(), Fail> {
     for targets in 1..=100u8 {
-        let sets = 40 - (100 - targets) % 40;
-        let station = even_station(&rt, rt.alloc(), sets, targets)?;
-        let sheet = means(rt.alloc(), &station).expect(&rt, "a sheet");
-        assert_even(&rt, &station, &sheet, sets, targets);
+        for ten in 0..4u8 {
+            let sets = 10 * ten + targets % 10 + 1;
+            let first = u16::from(targets) * 97 + u16::from(sets);
+            expect_even(&rt, rt.alloc(), first, sets, targets)?;
+        }
+    }
+    Ok(())
+}
+
+/// With memory there is a sheet whatever number a set has.
+#[test]
+fn sets_of_every_number_have_even_means(rt: HostRuntime) -> Result<(), Fail> {
+    for block in 0..250u16 {
+        let first = (40 * block + 1).min(LARGEST_SET_NUMBER - 39);
+        expect_even(&rt, rt.alloc(), first, 40, 2)?;
     }
     Ok(())
 }
@@ -187,7 +228,7 @@ const SIZES: usize = 37;
 /// lists takes, so that each list is refused in turn.
 const STEP: usize = 16;
 
-// Holds all memory that there is, but for a spare block that it gives back at the end.
+/// Holds all memory that there is, but for a spare block that it gives back at the end.
 fn hoard_of_all_but(alloc: Global, spare: Vec<u8>) -> Vec<Vec<u8>> {
     let mut hoard: Vec<Vec<u8>> = Vec::new(alloc);
     if hoard.reserve(BLOCKS).is_err() {
@@ -216,7 +257,7 @@ fn hoard_of_all_but(alloc: Global, spare: Vec<u8>) -> Vec<Vec<u8>> {
 #[test]
 fn each_refused_growth_is_want_of_memory(rt: HostRuntime) -> Result<(), Fail> {
     let (sets, targets) = (3u8, 5u8);
-    let station = even_station(&rt, rt.alloc(), sets, targets)?;
+    let station = even_station(&rt, rt.alloc(), 1, sets, targets)?;
     for tries in 0..200usize {
         let spare = Vec::<u8>::with_capacity(rt.alloc(), STEP * tries)?;
         let held = hoard_of_all_but(rt.alloc(), spare);
@@ -258,7 +299,7 @@ fn a_missing_observation_is_no_complete_station(rt: HostRuntime) -> Result<(), F
         ),
     ];
     for (sets, targets, observed) in &cases {
-        let station = station_of(&rt, rt.alloc(), *sets, *targets, observed)?;
+        let station = station_of(&rt, rt.alloc(), 1, *sets, *targets, observed)?;
         match means(rt.alloc(), &station) {
             Ok(_) => assert!(rt; false, "no sheet"),
             Err(fault) => assert_eq!(rt; fault, MeansFault::Incomplete),

@@ -25,11 +25,12 @@ rows-init c =
       length (strip_bom c.args.bytes.now) + 1,
       omega arith,
       read-begin (records_of c.args.bytes.now),
+      rw e at fr.flexible,
     )
 
 pub rows-preserved : goal.rows-preserved
 rows-preserved c =
-    let (trim, ready, config, well, y, source, n, room, read) = c.rows.invariant in
+    let (trim, ready, config, well, y, source, n, room, read, flexible) = c.rows.invariant in
     let got = rw c.if-not-found.false at (c.in-Ok.ensures.reads trim ready) in
     let row = fields_of c.read_byte_record.new.row in
     let (z, at_z, next) = row-read (λ (b : Bor (List ℕ)). Some b.now) c.rows.reader c.read_byte_record.new.self row y config source got in
@@ -37,11 +38,11 @@ rows-preserved c =
     let rest = records_from default_config m c.read_byte_record.new.self.state z in
     let here = subst (HasRead (records_of c.args.bytes.now) c.rows.draft) {y = row ∷ rest} more read in
     let after = read-more (records_of c.args.bytes.now) c.rows.draft c.take_row.new.self row rest here c.in-Ok-take_row.ensures.faultless c.in-Ok-take_row.ensures.taken in
-    (got.3 ∙ trim, inl (c.in-Ok.ensures.ready trim), got.2 ∙ config, well2, z, at_z, m, room2, after)
+    (got.3 ∙ trim, inl (c.in-Ok.ensures.ready trim), got.2 ∙ config, well2, z, at_z, m, room2, after, c.in-Ok.ensures.flexible ∙ flexible)
 
 pub returns-in-Err-Fault-clause-fault : goal.returns-in-Err-Fault-clause-fault
 returns-in-Err-Fault-clause-fault c =
-    let (trim, ready, config, well, y, source, n, room, read) = c.rows.invariant in
+    let (trim, ready, config, well, y, source, n, room, read, flexible) = c.rows.invariant in
     let got = rw c.if-not-found.false at (c.in-Ok.ensures.reads trim ready) in
     let row = fields_of c.read_byte_record.new.row in
     let (z, at_z, next) = row-read (λ (b : Bor (List ℕ)). Some b.now) c.rows.reader c.read_byte_record.new.self row y config source got in
@@ -54,7 +55,7 @@ returns-in-Err-Fault-clause-fault c =
 
 pub returns-in-None-clause-fault : goal.returns-in-None-clause-fault
 returns-in-None-clause-fault c =
-    let (trim, ready, config, well, y, source, n, room, read) = c.rows.invariant in
+    let (trim, ready, config, well, y, source, n, room, read, flexible) = c.rows.invariant in
     let got = rw c.if-not-found.true at (c.in-Ok.ensures.reads trim ready) in
     let end = rows-end (λ (b : Bor (List ℕ)). Some b.now) c.rows.reader c.read_byte_record.new.self (fields_of c.read_byte_record.new.row) default_config y config source got in
     let here = subst (HasRead (records_of c.args.bytes.now) c.rows.draft) (records-end n c.rows.reader.state y end) read in
@@ -63,7 +64,7 @@ returns-in-None-clause-fault c =
 
 pub returns-in-Some-clause-sheet : goal.returns-in-Some-clause-sheet
 returns-in-Some-clause-sheet c =
-    let (trim, ready, config, well, y, source, n, room, read) = c.rows.invariant in
+    let (trim, ready, config, well, y, source, n, room, read, flexible) = c.rows.invariant in
     let got = rw c.if-not-found.true at (c.in-Ok.ensures.reads trim ready) in
     let end = rows-end (λ (b : Bor (List ℕ)). Some b.now) c.rows.reader c.read_byte_record.new.self (fields_of c.read_byte_record.new.row) default_config y config source got in
     let here = subst (HasRead (records_of c.args.bytes.now) c.rows.draft) (records-end n c.rows.reader.state y end) read in
@@ -71,7 +72,7 @@ returns-in-Some-clause-sheet c =
 
 pub rows-smaller : goal.rows-smaller
 rows-smaller c =
-    let (trim, ready, config, well, y, source, n, room, read) = c.rows.invariant in
+    let (trim, ready, config, well, y, source, n, room, read, flexible) = c.rows.invariant in
     let got = rw c.if-not-found.false at (c.in-Ok.ensures.reads trim ready) in
     let row = fields_of c.read_byte_record.new.row in
     let (z, at_z, next) = row-read (λ (b : Bor (List ℕ)). Some b.now) c.rows.reader c.read_byte_record.new.self row y config source got in
