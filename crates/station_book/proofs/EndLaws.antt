@@ -4,7 +4,7 @@ use Rattle.std.proofs.Common.{◌≡◌, ℕ, ◌++◌, Bool, true, false, ◌&&
 use Rattle.std.specs.List.{list_any, list_all, AllByRecursion}
 use Rattle.std.specs.Str.{bytes_eq}
 use Rattle.std.proofs.lemmas.Bool.{false≢true}
-use Rattle.std.proofs.lemmas.List.{reverse-append}
+use Rattle.std.proofs.lemmas.List.{reverse-append, reverse-reverse}
 use Rattle.std.proofs.lemmas.Slice.Eq.{bytes_eq-Decides}
 use Rattle.station_book.specs.declared.fault.BookKind.TheVariants as kinds
 use Rattle.station_book.specs.declared.stage.Stage.{Stage}
@@ -12,11 +12,11 @@ use Rattle.station_book.specs.declared.stage.Stage.TheVariants.{Outside, Station
 use Rattle.station_book.specs.Faults.{when, first_of, open_sets, open_readings, has_one_face, fault_at_end, face_at}
 use Rattle.station_book.specs.Slots.{is_unread, is_single}
 use Rattle.station_book.specs.Entries.{EntryValue}
-use Rattle.station_book.specs.Shelves.{Surveys, Last, ShelfValue, entry_of, last_of, all_done, surveys_of}
+use Rattle.station_book.specs.Shelves.{ShelfValue, last_of, survey_of, surveys_of}
 use Rattle.station_book.specs.Stations.{SurveyedStation}
 use Rattle.station_book.specs.Kept.{Kept, ending}
 use Rattle.station_book.specs.Places.{History, Place, station, opening, is_empty, is_open, reading_in, sets_of, station_readings, target_at}
-use Rattle.station_book.specs.Keeps.{sighted, slot_of, slots_of, IsEntryWith, StandsAt, IsComputed, AreDone, StandWith, Stand, stations_in, IsStage}
+use Rattle.station_book.specs.Keeps.{sighted, slot_of, slots_of, IsEntryWith, StandsAt, IsComputed, Stand, stations_in, IsStage}
 use Rattle.station_book.specs.Standing.{StandsFor}
 use Rattle.station_book.proofs.Membership.{In, any_to}
 use Rattle.station_book.proofs.StepLaws.{open_targets}
@@ -24,7 +24,7 @@ use Rattle.station_book.proofs.FaceLaws as faces
 use Rattle.station_book.proofs.FaceLaws.{IsKept, some_there}
 use Rattle.station_book.proofs.KeptLaws.{open_kept}
 use Rattle.station_book.proofs.CoupleLaws.{open_in_set}
-use Rattle.station_book.proofs.StandLaws.{Parted, parted, HasOpenSet, open_set, open_has_set, are_done}
+use Rattle.station_book.proofs.StandLaws.{Parted, parted, HasOpenSet, open_set, open_has_set, survey_is}
 
 pub some_sighted : (o : Option Place) → is_some (sighted o) ≡ is_some o
 some_sighted None = refl
@@ -104,16 +104,15 @@ slots_kept shelf past now h = by (parted past) where
       (station_readings (station past) past) x) set.sets k in
       e.slots ∙ ap (slots_of (open_targets past)) (open_in_set past)
 
-  with_last : (sts : List Place) (last : Last)
-      → StandWith past (station past ∷ sts) last (reverse shelf.done)
-      → (entry_of last).slots ≡ slots_of (open_targets past) (open_readings past)
-  with_last sts None k = absurd k
-  with_last sts (Some y) k = head y k.0
+  of_newest : (sts : List Place) (es : ShelfValue) → Stand past (station past ∷ sts) es
+      → (last_of es).slots ≡ slots_of (open_targets past) (open_readings past)
+  of_newest sts [] k = absurd k
+  of_newest sts (y ∷ es) k = head y k.0
 
   by : Parted past → (last_of shelf).slots ≡ slots_of (open_targets past) (open_readings past)
   by (inl p) = let bad : is_empty (open_sets past) ≡ true = ap is_empty p.0 in absurd
       (false≢true (sym (open_has_set past now) ∙ bad))
-  by (inr p) = with_last p.rest shelf.last
+  by (inr p) = of_newest p.rest shelf
       (subst (λ (sts : List Place). Stand past sts shelf) p.stations h)
 
 closed_end : (past : History) → is_open past ≡ false → fault_at_end past ≡ None
@@ -151,12 +150,12 @@ AreComputed h (st ∷ sts) [] = ⊥
 AreComputed h (st ∷ sts) (s ∷ ss) = IsComputed st (sets_of st h) (station_readings st h) s
     × AreComputed h sts ss
 
-answers : (h : History) (sts : List Place) (es : Surveys) → AreDone h sts es
-    → AreComputed h sts (map (λ e. e.1) es)
+answers : (h : History) (sts : List Place) (es : ShelfValue) → Stand h sts es
+    → AreComputed h sts (map survey_of es)
 answers h [] [] k = tt
 answers h [] (e ∷ es) k = k
 answers h (st ∷ sts) [] k = k
-answers h (st ∷ sts) (e ∷ es) k = (k.0.1, answers h sts es k.1)
+answers h (st ∷ sts) (e ∷ es) k = (survey_is h st e k.0, answers h sts es k.1)
 
 map_snoc : {X Y : Type 0} (f : X → Y) (xs : List X) (x : X)
     → map f (xs ++ x ∷ []) ≡ map f xs ++ f x ∷ []
@@ -173,6 +172,6 @@ pub same_stations : (k : Kept) (past : History) → StandsFor k.limits k past
     → AreComputed past (stations_in past) (reverse (surveys_of k.shelf))
 same_stations k past h =
     subst (λ (ss : List SurveyedStation). AreComputed past (stations_in past) ss)
-    (map_reverse (λ e. e.1) (all_done k.shelf))
-    (answers past (stations_in past) (reverse (all_done k.shelf))
-    (are_done past (stations_in past) k.shelf h.stations))
+    (ap (map survey_of) (sym (reverse-reverse k.shelf))
+    ∙ map_reverse survey_of (reverse k.shelf))
+    (answers past (stations_in past) k.shelf h.stations)

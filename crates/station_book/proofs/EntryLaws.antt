@@ -300,18 +300,9 @@ pub target_kept : (s : Sighting) (e : EntryValue) (targets : List (List ℕ)) (s
       faces =
           e.faces;
     })
-target_kept s e targets slots et es h new few named low =
-    subst (λ (ts : List (List ℕ)). IsEntry
-    (record { targets = ts; slots = slots; sets = e.sets; obs = e.obs; faces = e.faces }))
-    (sym et)
-    (subst (λ (ss : List Slot). IsEntry
-    (record {
-      targets = e.targets ++ s.target ∷ [];
-      slots = ss;
-      sets = e.sets;
-      obs = e.obs;
-      faces = e.faces;
-    })) (sym es) (target_is_entry s e h new few named low))
+target_kept s e targets slots et es h new few named low = subst IsEntry
+    (λ i. record { targets = sym et i; slots = sym es i; sets = e.sets; obs = e.obs; faces = e.faces })
+    (target_is_entry s e h new few named low)
 
 pub reading_kept : (s : Sighting) (e : EntryValue) (i : ℕ) (new : Slot)
     → new ≡ with_side s.is_second s.sight (slot_at e.slots i) → IsEntry e → i < length e.slots
@@ -320,66 +311,22 @@ reading_kept s e i new same h inside low = subst
     (λ (n : Slot). IsEntry (record e { slots = set e.slots i n })) (sym same)
     (reading_is_entry s e i h inside low)
 
-pub set_kept : (n : ℕ) (e : EntryValue) (slots : List Slot) (sets : List ℕ) (obs : List Obs)
-    (faces : List Faces) → slots ≡ replicate (length e.slots) empty_slot → sets ≡ e.sets ++ n ∷ []
+pub set_kept : (n : ℕ) (e : EntryValue) (targets : List (List ℕ)) (slots : List Slot)
+    (sets : List ℕ) (obs : List Obs) (faces : List Faces) → targets ≡ e.targets
+    → slots ≡ replicate (length e.slots) empty_slot → sets ≡ e.sets ++ n ∷ []
     → obs ≡ (closed e).obs → faces ≡ (closed e).faces
     → IsEntry e → MayEnd e → list_any (λ m. eqb m n) e.sets ≡ false → length e.sets < 40
     → IsSetNumber n → IsEntry
-    (record { targets = e.targets; slots = slots; sets = sets; obs = obs; faces = faces })
-set_kept n e slots sets obs faces el es eo ef h may new few number =
-    let k = set_is_entry n e h may new few number in
-    let whole : IsEntry (record {
-      targets = e.targets;
-      slots = replicate
-          (length e.slots) empty_slot;
-      sets = e.sets ++ n ∷ [];
-      obs = (closed e).obs;
-      faces =
-          (closed e).faces;
-    }) = record {
-      same_length = k.same_length;
-      paired = k.paired;
-      few_targets = k.few_targets;
-      some_set = k.some_set;
-      few_sets = k.few_sets;
-      angles = k.angles;
-      names = k.names;
-      different = k.different;
-      numbers = k.numbers;
-      different_sets = k.different_sets;
-      sound = k.sound;
-    } in
-    subst (λ (ss : List Slot). IsEntry
-    (record { targets = e.targets; slots = ss; sets = sets; obs = obs; faces = faces }))
-    (sym el)
-    (subst (λ (ns : List ℕ). IsEntry
-    (record {
-      targets = e.targets;
-      slots = replicate
-          (length e.slots) empty_slot;
-      sets = ns;
-      obs = obs;
-      faces = faces;
-    })) (sym es)
-    (subst (λ (os : List Obs). IsEntry
-    (record {
-      targets = e.targets;
-      slots = replicate
-          (length e.slots) empty_slot;
-      sets = e.sets ++ n ∷ [];
-      obs = os;
-      faces = faces;
-    })) (sym eo)
-    (subst (λ (fs : List Faces). IsEntry
-    (record {
-      targets = e.targets;
-      slots = replicate
-          (length e.slots) empty_slot;
-      sets = e.sets ++ n ∷ [];
-      obs = (closed e).obs;
-      faces = fs;
-    }))
-    (sym ef) whole)))
+    (record { targets = targets; slots = slots; sets = sets; obs = obs; faces = faces })
+set_kept n e targets slots sets obs faces et el es eo ef h may new few number = subst IsEntry
+    (λ i. record {
+      targets = sym et i;
+      slots = sym el i;
+      sets = sym es i;
+      obs = sym eo i;
+      faces = sym ef i;
+    })
+    (set_is_entry n e h may new few number)
 
 -- the fault of a new target, as that of a reading
 pub fault_moved : {X : Type 0} (limits : FaceLimits) (e now : EntryValue) (s : Sighting)

@@ -1,11 +1,10 @@
 -- The fault of a block of code 20 by what is kept is its fault by the blocks before it.
-use Rattle.std.proofs.Common.{◌≡◌, ℕ, suc, Bool, true, false, cond, leb, eqb, ◌&&◌, ◌||◌, List, [], ◌∷◌, ◌++◌, length, map, reverse, Option, Some, None, is_none, refl, sym, ap, ◌∙◌, inl, inr, ◌⊎◌, subst, arith}
+use Rattle.std.proofs.Common.{◌≡◌, ℕ, suc, Bool, true, false, cond, leb, eqb, ◌&&◌, ◌||◌, List, [], ◌∷◌, ◌++◌, length, map, Option, Some, None, is_none, refl, sym, ap, ◌∙◌, inl, inr, ◌⊎◌, subst, arith}
 use Rattle.std.specs.List.{list_any}
 use Rattle.std.specs.Str.{bytes_eq}
 use Rattle.std.proofs.lemmas.Bool.{cases_Bool, false≢true}
-use Rattle.std.proofs.lemmas.List.{length-append, length-map, length-reverse, reverse-append}
+use Rattle.std.proofs.lemmas.List.{length-append, length-map}
 use Rattle.std.proofs.lemmas.List.Folds.{list_any-append}
-use Rattle.std.proofs.lemmas.Slice.Eq.{bytes_eq-Decides}
 use Rattle.station_book.specs.declared.fault.BookKind.{BookKind}
 use Rattle.station_book.specs.declared.fault.BookKind.TheVariants as kinds
 use Rattle.station_book.specs.Limits.{FaceLimits}
@@ -16,18 +15,18 @@ use Rattle.station_book.specs.Faults.{when, first_of, open_sets, had_sets, same_
 use Rattle.station_book.specs.Kept.{then_fault}
 use Rattle.station_book.specs.Roles.{role_of}
 use Rattle.station_book.specs.Entries.{EntryValue}
-use Rattle.station_book.specs.Shelves.{Surveys, Last, ShelfValue, entry_of, last_of, all_done, is_known, first_set_faults, more_set_faults}
+use Rattle.station_book.specs.Shelves.{ShelfValue, last_of, is_known, first_set_faults, more_set_faults}
 use Rattle.station_book.specs.Kept as kept
 use Rattle.gsi_word.specs.Blocks.{GsiBlock}
 use Rattle.station_book.specs.Blocks.{opens_station, opens_set, closes_set, is_sight, has_two, number}
-use Rattle.station_book.specs.Places.{History, Place, last, before, station, is_empty, is_open, first_sets, station_readings}
-use Rattle.station_book.specs.Keeps.{numbers_in, IsEntryOf, IsEntryWith, AreDone, StandWith, Stand, IsStage, stations_in, number_at}
+use Rattle.station_book.specs.Places.{History, Place, last, before, station, is_empty, is_open, first_sets, sets_of, station_readings}
+use Rattle.station_book.specs.Keeps.{numbers_in, IsEntryOf, IsEntryWith, Stand, IsStage, stations_in, number_at}
 use Rattle.station_book.specs.Standing.{StandsFor}
-use Rattle.station_book.proofs.Membership.{same_test}
+use Rattle.station_book.proofs.Membership.{same_bytes}
 use Rattle.station_book.proofs.StepLaws.{sets-other}
 use Rattle.station_book.proofs.KeptLaws.{none_stands, none_when}
 use Rattle.station_book.proofs.StationLaws.{had_sets_by_names}
-use Rattle.station_book.proofs.StandLaws.{Parted, parted, open_has_set, are_done}
+use Rattle.station_book.proofs.StandLaws.{Parted, parted, open_has_set}
 use Rattle.station_book.proofs.TakeLaws.{station_as, set_as, then_second}
 use Rattle.station_book.proofs.OnceLaws.{no_had_sets}
 use Rattle.station_book.proofs.EndLaws.{same_end}
@@ -60,16 +59,16 @@ open_entry shelf past some h = by (parted past) where
         (station_readings (station past) past) x.0 e) (sym l) k;
   }
 
-  of_last : (sts : List Place) (last : Last)
-      → StandWith past (station past ∷ sts) last (reverse shelf.done) → shelf.last ≡ last
-      → HasOpenEntry past shelf
-  of_last sts None k e = absurd k
-  of_last sts (Some y) k e = of_sets y (open_sets past) refl (ap (λ (o : Last). entry_of o) e) k.0
+  of_newest : (sts : List Place) (es : ShelfValue) → Stand past (station past ∷ sts) es
+      → shelf ≡ es → HasOpenEntry past shelf
+  of_newest sts [] k e = absurd k
+  of_newest sts (y ∷ es) k e = of_sets y (open_sets past) refl
+      (ap (λ (o : ShelfValue). last_of o) e) k.0
 
   by : Parted past → HasOpenEntry past shelf
   by (inl p) = let bad : is_empty (open_sets past) ≡ true = ap is_empty p.0 in absurd
       (false≢true (sym some ∙ bad))
-  by (inr p) = of_last p.rest shelf.last
+  by (inr p) = of_newest p.rest shelf
       (subst (λ (sts : List Place). Stand past sts shelf) p.stations h) refl
 
 -- the faults of a block of code 20, in two parts
@@ -121,28 +120,25 @@ any_last : {X : Type 0} (p : X → Bool) (xs : List X) (x : X)
     → list_any p (xs ++ x ∷ []) ≡ (p x || list_any p xs)
 any_last p xs x = list_any-append p xs (x ∷ []) ∙ or_turned (list_any p xs) (p x)
 
-any_reverse : {X : Type 0} (p : X → Bool) (xs : List X) → list_any p (reverse xs) ≡ list_any p xs
-any_reverse p [] = refl
-any_reverse p (x ∷ xs) = ap (list_any p) (reverse-append (x ∷ []) xs) ∙ any_last p (reverse xs) x
-    ∙ ap (λ v. p x || v) (any_reverse p xs)
-
-same_bytes : (a b : List ℕ) → bytes_eq a b ≡ bytes_eq b a
-same_bytes a b = same_test (bytes_eq a b) (bytes_eq b a) (turned a b) (turned b a) where
-  turned : (x y : List ℕ) → bytes_eq x y ≡ true → bytes_eq y x ≡ true
-  turned x y e = (bytes_eq-Decides y x).1 (sym ((bytes_eq-Decides x y).0 e))
+-- what is kept of a station has its name
+kept_name : (st : Place) (sets readings : List Place) (e : List ℕ × EntryValue)
+    → IsEntryWith st sets readings e → name_at st ≡ Some e.0
+kept_name st [] readings e k = absurd k
+kept_name st (set ∷ rest) readings e k = k.named_so
 
 -- a station with sets has a name exactly where one that is kept has it
-known_names : (past : History) (name : List ℕ) (sts : List Place) (es : Surveys)
-    → AreDone past sts es
+known_names : (past : History) (name : List ℕ) (sts : List Place) (es : ShelfValue)
+    → Stand past sts es
     → list_any (λ st. same_name (name_at st) (Some name)) sts ≡ list_any (λ e. bytes_eq name e.0) es
 known_names past name [] [] h = refl
 known_names past name [] (e ∷ es) h = absurd h
 known_names past name (st ∷ sts) [] h = absurd h
 known_names past name (st ∷ sts) (e ∷ es) h =
-    λ i. (ap (λ n. same_name n (Some name)) h.0.0 ∙ same_bytes e.0 name) i || known_names past name
-    sts es h.1 i
+    λ i. (ap (λ n. same_name n (Some name))
+    (kept_name st (sets_of st past) (station_readings st past) e h.0)
+    ∙ same_bytes e.0 name) i || known_names past name sts es h.1 i
 
-one_each : (past : History) (sts : List Place) (es : Surveys) → AreDone past sts es
+one_each : (past : History) (sts : List Place) (es : ShelfValue) → Stand past sts es
     → length sts ≡ length es
 one_each past [] [] h = refl
 one_each past [] (e ∷ es) h = absurd h
@@ -151,10 +147,9 @@ one_each past (st ∷ sts) (e ∷ es) h = ap suc (one_each past sts es h.1)
 
 -- as many stations have sets as are kept
 count_stations : (shelf : ShelfValue) (past : History) → Stand past (stations_in past) shelf
-    → length (first_sets past) ≡ length (all_done shelf)
+    → length (first_sets past) ≡ length shelf
 count_stations shelf past h = sym (length-map (first_sets past) (λ s. station (before s)))
-    ∙ one_each past (stations_in past) (reverse (all_done shelf))
-    (are_done past (stations_in past) shelf h) ∙ length-reverse (all_done shelf)
+    ∙ one_each past (stations_in past) shelf h
 
 -- StationTwice before the first set of a station
 known_station : (shelf : ShelfValue) (past : History) (name : List ℕ) → open_sets past ≡ []
@@ -165,9 +160,7 @@ known_station shelf past name none is h =
     ∙ (λ i. list_any (λ s. same_name (name_at (station (before s))) (is i)) (first_sets past))
     ∙ sym (any_map (λ st. same_name (name_at st) (Some name)) (λ s. station (before s))
     (first_sets past))
-    ∙ known_names past name (stations_in past) (reverse (all_done shelf))
-    (are_done past (stations_in past) shelf h)
-    ∙ any_reverse (λ e. bytes_eq name e.0) (all_done shelf)
+    ∙ known_names past name (stations_in past) shelf h
 
 -- the numbers of a station's sets
 any_numbers : (n : ℕ) (sets : List Place)
@@ -237,7 +230,7 @@ first_opening : (shelf : ShelfValue) (past : History) (name : List ℕ) (n : ℕ
 first_opening shelf past name n inside is none h =
     let had = known_station shelf past name none is h in
     let count = count_stations shelf past h in
-    first_set_tests (is_known name shelf) (leb 1000 (length (all_done shelf)))
+    first_set_tests (is_known name shelf) (leb 1000 (length shelf))
     ∙ sym (λ i. first_of (tests (inside i) false (had i)
     (list_any (λ s. same_number (number_at s) (Some n)) (none i))
     (is_empty (none i) && leb 1000 (count i)) (leb 40 (length (none i)))))

@@ -1,21 +1,22 @@
--- What is kept of a station stands for it: after its first set, after a further set, and, where the
--- station is closed, after any block.
-use Rattle.std.proofs.Common.{◌≡◌, ℕ, suc, ◌-◌, ◌<◌, ◌≤◌, Bool, true, false, cond, ◌&&◌, ◌||◌, List, [], ◌∷◌, ◌++◌, length, map, filter, reverse, replicate, Some, None, refl, sym, ap, ◌∙◌, inl, inr, ◌⊎◌, subst, arith}
+-- What is kept of a station stands for it: after its first set, after a further set, and, where
+-- another station is open, after any block.
+use Rattle.std.proofs.Common.{◌≡◌, ℕ, suc, ◌-◌, ◌<◌, ◌≤◌, Bool, true, false, cond, ◌&&◌, ◌||◌, List, [], ◌∷◌, ◌++◌, length, map, filter, replicate, Some, refl, sym, ap, ◌∙◌, inl, inr, ◌⊎◌, subst, arith}
 use Rattle.std.specs.List.{AllByRecursion}
 use Rattle.std.proofs.lemmas.Bool.{cases_Bool, false≢true, and_parts, ne_eqb, eq-eqb}
-use Rattle.std.proofs.lemmas.List.{append-nil, length-append, reverse-append}
+use Rattle.std.proofs.lemmas.List.{length-append}
 use Rattle.station_book.specs.Slots.{empty_slot, obs_of, faces_of}
 use Rattle.station_book.specs.Entries.{EntryValue, first_entry, with_set, with_reading}
 use Rattle.station_book.specs.declared.sight.Sighting.{Sighting}
 use Rattle.station_book.proofs.ReadingLaws.{Says, IsInNone, reading_stands}
-use Rattle.station_book.specs.Shelves.{Surveys, Last, ShelfValue, survey_of, last_done, all_done, with_station}
+use Rattle.station_book.specs.Shelves.{ShelfValue, survey_of, with_station}
 use Rattle.station_book.proofs.CoupleLaws.{none_in_later}
+use Rattle.station_book.proofs.NewestLaws.{HasNewest}
 use Rattle.gsi_word.specs.Blocks.{GsiBlock}
 use Rattle.station_book.specs.Blocks.{number, opens_station, opens_set, closes_set, is_opening, is_sight}
 use Rattle.station_book.specs.Places.{History, Place, places, last, before, station, opening, is_empty, is_open, is_set, is_reading, is_same, sets_of, station_readings, first_sets}
-use Rattle.station_book.specs.Stations.{SurveyedStation, in_set}
+use Rattle.station_book.specs.Stations.{in_set}
 use Rattle.station_book.specs.Faults.{open_sets, name_at}
-use Rattle.station_book.specs.Keeps.{slots_of, targets_in, obs_in, faces_in, numbers_in, IsEntryOf, IsEntryWith, StandsAt, IsComputed, DoneAt, AreDone, StandWith, stations_in, Stand, number_at}
+use Rattle.station_book.specs.Keeps.{slots_of, targets_in, obs_in, faces_in, numbers_in, IsEntryOf, IsEntryWith, StandsAt, IsComputed, stations_in, Stand, number_at}
 use Rattle.station_book.proofs.PlaceLaws.{length-last, belonging-more, belonging-same, belonging-fresh}
 use Rattle.station_book.proofs.OlderLaws.{belonging-older, owners_in_order}
 use Rattle.station_book.proofs.CodeLaws.{no_set_at_station}
@@ -80,67 +81,44 @@ set_stands st set newest older readings name n e numbered none h = record {
       (ap length h.slots ∙ length_map _ (targets_in readings))
       ∙ sym (no_readings (targets_in readings)) ∙ ap (slots_of (targets_in readings)) (sym none)
 
--- what the station gives once its last set is closed
-survey_is : (h : History) (st : Place) (e : List ℕ × EntryValue) → StandsAt h st e
-    → DoneAt h st (e.0, survey_of e)
+-- what a station gives once its last set is closed
+pub survey_is : (h : History) (st : Place) (e : List ℕ × EntryValue) → StandsAt h st e
+    → IsComputed st (sets_of st h) (station_readings st h) (survey_of e)
 survey_is h st e k = by (sets_of st h) refl k where
   by : (sets : List Place) → sets_of st h ≡ sets → IsEntryWith st sets (station_readings st h) e
-      → DoneAt h st (e.0, survey_of e)
+      → IsComputed st (sets_of st h) (station_readings st h) (survey_of e)
   by [] s k = absurd k
   by (newest ∷ older) s k =
       let count : length e.1.sets ≡ suc (length older) = sym (length_map (λ n. Some n) e.1.sets)
       ∙ ap length k.numbers ∙ length_numbers (newest ∷ older) in
-      let last : length e.1.sets - 1 ≡ length older = omega (arith, count) in (
-        k.named_so,
-        record {
-          named_so = k.named_so;
-          targets = k.targets;
-          numbers = k.numbers ∙ ap numbers_in (sym s);
-          obs = (λ i. k.obs i ++ obs_of (last i) (k.slots i))
-              ∙ ap (obs_in (targets_in (station_readings st h)) (station_readings st h)) (sym s);
-          faces = (λ i. k.faces i ++ faces_of (k.slots i))
-              ∙ ap (faces_in (targets_in (station_readings st h)) (station_readings st h)) (sym s);
-        },
-      )
+      let last : length e.1.sets - 1 ≡ length older = omega (arith, count) in record {
+        named_so = k.named_so;
+        targets = k.targets;
+        numbers = k.numbers ∙ ap numbers_in (sym s);
+        obs = (λ i. k.obs i ++ obs_of (last i) (k.slots i))
+            ∙ ap (obs_in (targets_in (station_readings st h)) (station_readings st h)) (sym s);
+        faces = (λ i. k.faces i ++ faces_of (k.slots i))
+            ∙ ap (faces_in (targets_in (station_readings st h)) (station_readings st h)) (sym s);
+      }
 
-with_done : (h : History) (sts : List Place) (last : Last) (es : Surveys) → StandWith h sts last es
-    → AreDone h sts (last_done last ++ es)
-with_done h [] None es k = k
-with_done h [] (Some e) es k = absurd k
-with_done h (st ∷ sts) None es k = absurd k
-with_done h (st ∷ sts) (Some e) es k = (survey_is h st e k.0, k.1)
-
-newest_done : (es : Surveys) (last : Last)
-    → reverse (es ++ last_done last) ≡ last_done last ++ reverse es
-newest_done es None = ap reverse (append-nil es)
-newest_done es (Some e) = reverse-append es ((e.0, survey_of e) ∷ [])
-
--- what all stations give once the last set is closed
-pub are_done : (h : History) (sts : List Place) (s : ShelfValue) → Stand h sts s
-    → AreDone h sts (reverse (all_done s))
-are_done h sts s k = subst (λ (es : Surveys). AreDone h sts es) (sym (newest_done s.done s.last))
-    (with_done h sts s.last (reverse s.done) k)
-
--- A closed station: a block by which its sets and readings stay as they are changes nothing of it.
-done_stays : (st : Place) (e : List ℕ × SurveyedStation) (b : GsiBlock) (past : History)
+-- A block by which the sets and readings of a station stay as they are changes nothing of it.
+stays : (st : Place) (e : List ℕ × EntryValue) (b : GsiBlock) (past : History)
     → sets_of st (b ∷ past) ≡ sets_of st past
-    → station_readings st (b ∷ past) ≡ station_readings st past → DoneAt past st e
-    → DoneAt (b ∷ past) st e
-done_stays st e b past sets readings h = (h.0, is) where
-  is : IsComputed st (sets_of st (b ∷ past)) (station_readings st (b ∷ past)) e.1
-  is =
-      subst (λ (ss : List Place). IsComputed st ss (station_readings st (b ∷ past)) e.1) (sym sets)
-      (subst (λ (rs : List Place). IsComputed st (sets_of st past) rs e.1) (sym readings) h.1)
+    → station_readings st (b ∷ past) ≡ station_readings st past → StandsAt past st e
+    → StandsAt (b ∷ past) st e
+stays st e b past sets readings h =
+    subst (λ (ss : List Place). IsEntryWith st ss (station_readings st (b ∷ past)) e) (sym sets)
+    (subst (λ (rs : List Place). IsEntryWith st (sets_of st past) rs e) (sym readings) h)
 
 -- Whatever block comes, what is kept of the stations before the open one stays as it is.
-pub older_stay : (sts : List Place) (es : Surveys) (b : GsiBlock) (past : History)
-    → AllByRecursion (λ st. length st < length (station past)) sts → AreDone past sts es
-    → AreDone (b ∷ past) sts es
+pub older_stay : (sts : List Place) (es : ShelfValue) (b : GsiBlock) (past : History)
+    → AllByRecursion (λ st. length st < length (station past)) sts → Stand past sts es
+    → Stand (b ∷ past) sts es
 older_stay [] [] b past all h = tt
 older_stay [] (e ∷ es) b past all h = h
 older_stay (st ∷ sts) [] b past all h = h
 older_stay (st ∷ sts) (e ∷ es) b past all h = (
-  done_stays st e b past (belonging-older opens_station is_set st b past all.0)
+  stays st e b past (belonging-older opens_station is_set st b past all.0)
       (belonging-older opens_station is_reading st b past all.0) h.0,
   older_stay sts es b past
       all.1 h.1,
@@ -200,34 +178,17 @@ idle p kind owner b past e = ap
       rest : List Place
       rest = filter (λ place. kind place && is_same (last p (before place)) owner) (places past)
 
-idle_stands : (st : Place) (e : List ℕ × EntryValue) (b : GsiBlock) (past : History)
-    → opens_set b ≡ false → is_reading (b ∷ past) ≡ false → StandsAt past st e
-    → StandsAt (b ∷ past) st e
-idle_stands st e b past n r h =
-    subst (λ (sets : List Place). IsEntryWith st sets (station_readings st (b ∷ past)) e)
-    (sym (idle opens_station is_set st b past n))
-    (subst (λ (rs : List Place). IsEntryWith st (sets_of st past) rs e)
-    (sym (idle opens_station is_reading st b past r)) h)
-
-done_idle : (sts : List Place) (es : Surveys) (b : GsiBlock) (past : History) → opens_set b ≡ false
-    → is_reading (b ∷ past) ≡ false → AreDone past sts es → AreDone (b ∷ past) sts es
-done_idle [] [] b past n r h = tt
-done_idle [] (e ∷ es) b past n r h = h
-done_idle (st ∷ sts) [] b past n r h = h
-done_idle (st ∷ sts) (e ∷ es) b past n r h = (
-  done_stays st e b past (idle opens_station is_set st b past n)
+all_idle : (sts : List Place) (es : ShelfValue) (b : GsiBlock) (past : History)
+    → opens_set b ≡ false → is_reading (b ∷ past) ≡ false → Stand past sts es
+    → Stand (b ∷ past) sts es
+all_idle [] [] b past n r h = tt
+all_idle [] (e ∷ es) b past n r h = h
+all_idle (st ∷ sts) [] b past n r h = h
+all_idle (st ∷ sts) (e ∷ es) b past n r h = (
+  stays st e b past (idle opens_station is_set st b past n)
       (idle opens_station is_reading st b past r) h.0,
-  done_idle sts es b past n r h.1,
+  all_idle sts es b past n r h.1,
 )
-
-all_idle : (sts : List Place) (last : Last) (es : Surveys) (b : GsiBlock) (past : History)
-    → opens_set b ≡ false → is_reading (b ∷ past) ≡ false → StandWith past sts last es
-    → StandWith (b ∷ past) sts last es
-all_idle [] None es b past n r h = done_idle [] es b past n r h
-all_idle [] (Some e) es b past n r h = h
-all_idle (st ∷ sts) None es b past n r h = h
-all_idle (st ∷ sts) (Some e) es b past n r h =
-    (idle_stands st e b past n r h.0, done_idle sts es b past n r h.1)
 
 same_stations : (b : GsiBlock) (past : History) → opens_set b ≡ false
     → stations_in (b ∷ past) ≡ stations_in past
@@ -241,7 +202,7 @@ pub stand_idle : (s : ShelfValue) (b : GsiBlock) (past : History) → opens_set 
     → Stand (b ∷ past) (stations_in (b ∷ past)) s
 stand_idle s b past n r h = subst (λ (sts : List Place). Stand (b ∷ past) sts s)
     (sym (same_stations b past n))
-    (all_idle (stations_in past) s.last (reverse s.done) b past n r h)
+    (all_idle (stations_in past) s b past n r h)
 
 -- the stations with sets: those before the open one, and the open one where it has a set
 pub record HasOpenLast (past : History) : Type 0 where
@@ -371,8 +332,7 @@ pub stand_first : (shelf : ShelfValue) (b : GsiBlock) (past : History) (name : L
 stand_first shelf b past name n s set none named_so numbered h =
     subst (λ (sts : List Place). Stand (b ∷ past) sts (with_station name n shelf)) (sym stations) (
       head,
-      older_stay (stations_in past) (reverse (all_done shelf)) b past older
-          (are_done past (stations_in past) shelf h),
+      older_stay (stations_in past) shelf b past older h,
     )
   where
     stations : stations_in (b ∷ past) ≡ station past ∷ stations_in past
@@ -409,11 +369,11 @@ none_to_come b past st = none_in_later
     (λ place. is_reading place && is_same (station (before place)) st) (b ∷ past) past (omega arith)
 
 -- all stations after a further set of the open one
-pub stand_further : (x : List ℕ × EntryValue) (es : Surveys) (b : GsiBlock) (past : History) (n : ℕ)
+pub stand_further : (x : List ℕ × EntryValue) (es : ShelfValue) (b : GsiBlock) (past : History) (n : ℕ)
     → opens_station b ≡ false → opens_set b ≡ true → is_empty (open_sets past) ≡ false
     → number b ≡ Some n
-    → StandWith past (stations_in past) (Some x) es
-    → StandWith (b ∷ past) (stations_in (b ∷ past)) (Some (x.0, with_set n x.1)) es
+    → Stand past (stations_in past) (x ∷ es)
+    → Stand (b ∷ past) (stations_in (b ∷ past)) ((x.0, with_set n x.1) ∷ es)
 stand_further x es b past n s set some numbered h = by (parted past) where
   further : (sets : List Place)
       → IsEntryWith (station past) sets (station_readings (station past) past) x
@@ -436,32 +396,31 @@ stand_further x es b past n s set some numbered h = by (parted past) where
       (subst (λ (rs : List Place). IsEntryWith (station past) ((b ∷ past) ∷ open_sets past) rs
       (x.0, with_set n x.1)) (sym readings) (further (open_sets past) k))
 
-  by : Parted past → StandWith (b ∷ past) (stations_in (b ∷ past)) (Some (x.0, with_set n x.1)) es
+  by : Parted past → Stand (b ∷ past) (stations_in (b ∷ past)) ((x.0, with_set n x.1) ∷ es)
   by (inl p) = let bad : is_empty (open_sets past) ≡ true = ap is_empty p.0 in absurd
       (false≢true (sym some ∙ bad))
   by (inr p) =
       let same : stations_in (b ∷ past) ≡ stations_in past = ap
       (λ v. map (λ t. station (before t))
       (cond v ((b ∷ past) ∷ first_sets past) (first_sets past))) (λ i. set i && some i) in
-      let k = subst (λ (sts : List Place). StandWith past sts (Some x) es) p.stations h in
-      subst (λ (sts : List Place). StandWith (b ∷ past) sts (Some (x.0, with_set n x.1)) es)
+      let k = subst (λ (sts : List Place). Stand past sts (x ∷ es)) p.stations h in
+      subst (λ (sts : List Place). Stand (b ∷ past) sts ((x.0, with_set n x.1) ∷ es))
       (sym (same ∙ p.stations)) (head k.0, older_stay p.rest es b past p.older k.1)
 
--- Where the open station has a set, there is a last station.
-pub last_there : (s : ShelfValue) (past : History) → is_empty (open_sets past) ≡ false
-    → Stand past (stations_in past) s → (x : List ℕ × EntryValue) × (s.last ≡ Some x)
-last_there s past some h = by (parted past) where
-  of_last : (st : Place) (sts : List Place) (last : Last)
-      → StandWith past (st ∷ sts) last (reverse s.done) → s.last ≡ last
-      → (x : List ℕ × EntryValue) × (s.last ≡ Some x)
-  of_last st sts None k e = absurd k
-  of_last st sts (Some x) k e = (x, e)
+-- Where the open station has a set, a station is kept.
+pub newest_there : (s : ShelfValue) (past : History) → is_empty (open_sets past) ≡ false
+    → Stand past (stations_in past) s → HasNewest s
+newest_there s past some h = by (parted past) where
+  of_first : (st : Place) (sts : List Place) (es : ShelfValue) → Stand past (st ∷ sts) es
+      → HasNewest es
+  of_first st sts [] k = absurd k
+  of_first st sts (x ∷ es) k = record { newest = x; older = es; is = refl }
 
-  by : Parted past → (x : List ℕ × EntryValue) × (s.last ≡ Some x)
+  by : Parted past → HasNewest s
   by (inl p) = let bad : is_empty (open_sets past) ≡ true = ap is_empty p.0 in absurd
       (false≢true (sym some ∙ bad))
-  by (inr p) = of_last (station past) p.rest s.last
-      (subst (λ (sts : List Place). Stand past sts s) p.stations h) refl
+  by (inr p) = of_first (station past) p.rest s
+      (subst (λ (sts : List Place). Stand past sts s) p.stations h)
 
 -- The sets of the open station, where a set is open: the open one and those before it.
 pub record HasOpenSet (past : History) : Type 0 where
@@ -529,11 +488,11 @@ in_none b past readings (s ∷ older) all = (
 )
 
 -- all stations after a reading
-pub stand_reading : (x : List ℕ × EntryValue) (es : Surveys) (b : GsiBlock) (past : History)
+pub stand_reading : (x : List ℕ × EntryValue) (es : ShelfValue) (b : GsiBlock) (past : History)
     (s : Sighting) → is_opening b ≡ false → is_reading (b ∷ past) ≡ true → is_open past ≡ true
     → Says s (b ∷ past)
-    → StandWith past (stations_in past) (Some x) es
-    → StandWith (b ∷ past) (stations_in (b ∷ past)) (Some (x.0, with_reading s x.1)) es
+    → Stand past (stations_in past) (x ∷ es)
+    → Stand (b ∷ past) (stations_in (b ∷ past)) ((x.0, with_reading s x.1) ∷ es)
 stand_reading x es b past s o reading now says h = by (parted past) where
   no_station : opens_station b ≡ false
   no_station = sight_opens_no_station b o
@@ -576,12 +535,11 @@ stand_reading x es b past s o reading now says h = by (parted past) where
       (b ∷ past) x.0 x.1 s says (mine (station_readings (station past) past))
       (in_none b past (station_readings (station past) past) set.older set.before_it) old))
 
-  by : Parted past → StandWith (b ∷ past) (stations_in (b ∷ past))
-      (Some (x.0, with_reading s x.1)) es
+  by : Parted past → Stand (b ∷ past) (stations_in (b ∷ past)) ((x.0, with_reading s x.1) ∷ es)
   by (inl p) = let bad : is_empty (open_sets past) ≡ true = ap is_empty p.0 in absurd
       (false≢true (sym (open_has_set past now) ∙ bad))
   by (inr p) =
-      let k = subst (λ (sts : List Place). StandWith past sts (Some x) es) p.stations h in
-      subst (λ (sts : List Place). StandWith (b ∷ past) sts (Some (x.0, with_reading s x.1)) es)
+      let k = subst (λ (sts : List Place). Stand past sts (x ∷ es)) p.stations h in
+      subst (λ (sts : List Place). Stand (b ∷ past) sts ((x.0, with_reading s x.1) ∷ es))
       (sym (same_stations b past no_set ∙ p.stations))
       (head k.0, older_stay p.rest es b past p.older k.1)

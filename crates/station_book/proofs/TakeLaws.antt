@@ -1,6 +1,5 @@
 -- After a block without fault, what is kept stands for the blocks with it.
-use Rattle.std.proofs.Common.{◌≡◌, ℕ, ◌+◌, Bool, true, false, cond, not, ltb, ◌&&◌, ◌||◌, List, [], ◌∷◌, reverse, Option, Some, None, is_none, Result, Ok, Err, refl, sym, ap, ◌∙◌, subst, arith}
-use Rattle.std.specs.Option.{option_map}
+use Rattle.std.proofs.Common.{◌≡◌, ℕ, ◌+◌, Bool, true, false, cond, not, ltb, ◌&&◌, ◌||◌, List, [], ◌∷◌, Option, Some, None, is_none, Result, Ok, Err, refl, sym, ap, ◌∙◌, subst, arith}
 use Rattle.gsi_word.specs.Names.{name_of}
 use Rattle.gsi_word.specs.declared.found.Found.{Found}
 use Rattle.gsi_word.specs.declared.found.Found.TheVariants.{Absent, One, Twice}
@@ -15,12 +14,12 @@ use Rattle.station_book.specs.Faults.{station_faults, when, first_of, open_sets,
 use Rattle.station_book.specs.Kept.{then_fault}
 use Rattle.station_book.specs.Roles.{role_of, is_station, is_set_code, is_close, is_measurement}
 use Rattle.station_book.specs.Entries.{with_set, with_reading}
-use Rattle.station_book.specs.Shelves.{Last, ShelfValue, change_last}
+use Rattle.station_book.specs.Shelves.{ShelfValue, change_last}
 use Rattle.station_book.specs.Kept as kept
 use Rattle.gsi_word.specs.Blocks.{GsiBlock}
 use Rattle.station_book.specs.Blocks.{opens_station, opens_set, closes_set, is_opening, is_sight, named, number, sight, is_of_face, found, is_absent, is_twice, name_found, has_two, lacks}
 use Rattle.station_book.specs.Places.{History, last, station, is_empty, is_open, is_reading}
-use Rattle.station_book.specs.Keeps.{IsStage, Stand, StandWith, stations_in}
+use Rattle.station_book.specs.Keeps.{IsStage, Stand, stations_in}
 use Rattle.station_book.specs.Readings as said
 use Rattle.station_book.specs.Standing.{StandsFor}
 use Rattle.station_book.proofs.RoleLaws.{station_is, set_is, close_is, sight_is}
@@ -29,7 +28,7 @@ use Rattle.station_book.specs.Limits.{FaceLimits}
 use Rattle.station_book.proofs.FaceLaws.{one_face}
 use Rattle.station_book.proofs.KeptLaws.{none_stands, none_when}
 use Rattle.station_book.proofs.ReadingLaws.{Says}
-use Rattle.station_book.proofs.StandLaws.{stand_idle, stand_first, stand_further, stand_reading, open_has_set, last_there}
+use Rattle.station_book.proofs.StandLaws.{stand_idle, stand_first, stand_further, stand_reading, open_has_set, newest_there}
 
 -- what a role says of the tests
 pub station_as : (b : GsiBlock) (r : Role) → role_of b ≡ r → opens_station b ≡ is_station r
@@ -114,11 +113,11 @@ further_taken : (shelf : ShelfValue) (b : GsiBlock) (past : History) (n : ℕ) �
     → Stand (b ∷ past) (stations_in (b ∷ past)) (change_last (with_set n) shelf)
 further_taken shelf b past n r e some h =
     let k = is_set_block b r in
-    let (x, last) = last_there shelf past some h in
-    subst (λ (o : Last). StandWith (b ∷ past) (stations_in (b ∷ past))
-    (option_map (λ p. (p.0, with_set n p.1)) o) (reverse shelf.done)) (sym last)
-    (stand_further x (reverse shelf.done) b past n k.0 k.1 some e
-    (subst (λ (o : Last). StandWith past (stations_in past) o (reverse shelf.done)) last h))
+    let x = newest_there shelf past some h in
+    subst (λ (s : ShelfValue). Stand (b ∷ past) (stations_in (b ∷ past))
+    (change_last (with_set n) s)) (sym x.is)
+    (stand_further x.newest x.older b past n k.0 k.1 some e
+    (subst (λ (s : ShelfValue). Stand past (stations_in past) s) x.is h))
 
 -- a block of code 20
 pub set_taken : (shelf : ShelfValue) (b : GsiBlock) (past : History) (stage : Stage) (n : Option ℕ)
@@ -222,12 +221,12 @@ in_set_taken shelf b past (Ok (Some s)) r e now kind h =
     let w = was_read b s e in
     let seen : is_sight b ≡ true = sight_as b roles.Measurement r ∙ ap not w.has_direction in
     let reading : is_reading (b ∷ past) ≡ true = (λ i. seen i && now i) in
-    let (x, last) = last_there shelf past (open_has_set past now) h in
-    subst (λ (o : Last). StandWith (b ∷ past) (stations_in (b ∷ past))
-    (option_map (λ p. (p.0, with_reading s p.1)) o) (reverse shelf.done)) (sym last)
-    (stand_reading x (reverse shelf.done) b past s (opening_as b roles.Measurement r) reading now
-    (says b past s w) (subst
-    (λ (o : Last). StandWith past (stations_in past) o (reverse shelf.done)) last h))
+    let x = newest_there shelf past (open_has_set past now) h in
+    subst (λ (o : ShelfValue). Stand (b ∷ past) (stations_in (b ∷ past))
+    (change_last (with_reading s) o)) (sym x.is)
+    (stand_reading x.newest x.older b past s (opening_as b roles.Measurement r) reading now
+    (says b past s w)
+    (subst (λ (o : ShelfValue). Stand past (stations_in past) o) x.is h))
 
 no_err : (limits : FaceLimits) (shelf : ShelfValue) (o : Result (Option Sighting) BookKind)
     → kept.measured limits shelf o ≡ None → (k : BookKind) → o ≡ Err k → ⊥

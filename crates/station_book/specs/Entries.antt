@@ -1,4 +1,4 @@
--- What a book keeps of the last station that has sets.
+-- What a book keeps of a station that has sets.
 use Rattle.std.specs.Prelude.{◌≡◌, ℕ, ◌-◌, ◌≤◌, nat_le, Bool, false, is_none, List, [], ◌∷◌, ◌++◌, length, Option, Some, None, All, AllPairs, ◌≢◌, position, replicate, slice_set}
 use Rattle.std.specs.Str.{bytes_eq}
 use Rattle.adjust_kernel.specs.declared.obs.Obs.{Obs}

@@ -1,6 +1,6 @@
 -- What is kept of the stations, and where the book stands, by the blocks before: station by
 -- station, from the sets and the readings that are the station's.
-use Rattle.std.specs.Prelude.{◌≡◌, ℕ, true, false, List, [], ◌∷◌, ◌++◌, length, map, Option, Some, None, reverse}
+use Rattle.std.specs.Prelude.{◌≡◌, ℕ, true, false, List, [], ◌∷◌, ◌++◌, length, map, Option, Some, None}
 use Rattle.std.specs.Option.{option_map}
 use Rattle.adjust_kernel.specs.declared.obs.Obs.{Obs}
 use Rattle.station_book.specs.declared.faces.Faces.{Faces}
@@ -10,7 +10,7 @@ use Rattle.station_book.specs.declared.stage.Stage.{Stage}
 use Rattle.station_book.specs.declared.stage.Stage.TheVariants.{Outside, Station, BetweenSets, InSet}
 use Rattle.station_book.specs.Slots.{obs_of, faces_of}
 use Rattle.station_book.specs.Entries.{EntryValue}
-use Rattle.station_book.specs.Shelves.{Surveys, Last, ShelfValue}
+use Rattle.station_book.specs.Shelves.{ShelfValue}
 use Rattle.station_book.specs.Blocks.{number, face_one, face_two}
 use Rattle.station_book.specs.Places.{History, Place, before, station, is_empty, is_open, sets_of, station_readings, first_sets, distinct, reading_in, target_at, at}
 use Rattle.station_book.specs.Stations.{SurveyedStation, in_set}
@@ -76,8 +76,7 @@ StandsAt h st e = IsEntryWith st (sets_of st h) (station_readings st h) e
 abbrev pub stations_in : History → List Place
 stations_in h = map (λ s. station (before s)) (first_sets h)
 
--- what will be answered of a station that another one followed, and that has these sets and
--- readings, the newest first
+-- what will be answered of a station that has these sets and readings, the newest first
 pub record IsComputed (st : Place) (sets readings : List Place) (s : SurveyedStation) : Type 0 where
   pub named_so : name_at st ≡ Some s.station.name
   pub targets : s.station.targets ≡ targets_in readings
@@ -85,28 +84,12 @@ pub record IsComputed (st : Place) (sets readings : List Place) (s : SurveyedSta
   pub obs : s.station.obs ≡ obs_in (targets_in readings) readings sets
   pub faces : s.faces ≡ faces_in (targets_in readings) readings sets
 
--- what will be answered of the station that this block with code 10 opens, kept by its name
-abbrev pub DoneAt : History → Place → List ℕ × SurveyedStation → Type 0
-DoneAt h st e = (name_at st ≡ Some e.0) × IsComputed st (sets_of st h) (station_readings st h) e.1
-
--- the same for stations that were followed; both lists come the newest first
-abbrev pub AreDone : History → List Place → Surveys → Type 0
-AreDone h [] [] = Unit {0}
-AreDone h [] (e ∷ es) = ⊥
-AreDone h (st ∷ sts) [] = ⊥
-AreDone h (st ∷ sts) (e ∷ es) = DoneAt h st e × AreDone h sts es
-
--- The newest station is kept as the last, the others as what will be answered; all come the
--- newest first.
-abbrev pub StandWith : History → List Place → Last → Surveys → Type 0
-StandWith h [] None es = AreDone h [] es
-StandWith h [] (Some e) es = ⊥
-StandWith h (st ∷ sts) None es = ⊥
-StandWith h (st ∷ sts) (Some e) es = StandsAt h st e × AreDone h sts es
-
--- each station that has sets is kept; those of the blocks come the newest first
+-- Each station that has sets is kept; both lists come the newest first.
 abbrev pub Stand : History → List Place → ShelfValue → Type 0
-Stand h sts s = StandWith h sts s.last (reverse s.done)
+Stand h [] [] = Unit {0}
+Stand h [] (e ∷ es) = ⊥
+Stand h (st ∷ sts) [] = ⊥
+Stand h (st ∷ sts) (e ∷ es) = StandsAt h st e × Stand h sts es
 
 -- where the book stands in the file
 abbrev pub IsStage : Stage → History → Type 0

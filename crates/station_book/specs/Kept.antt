@@ -1,5 +1,5 @@
 -- What a book keeps, and what each kind of block does to it.
-use Rattle.std.specs.Prelude.{ℕ, ◌+◌, Bool, true, false, ◌&&◌, if◌then◌else◌, Result, Ok, Err, List, Option, Some, None, IsSome}
+use Rattle.std.specs.Prelude.{ℕ, ◌+◌, Bool, true, false, ◌&&◌, if◌then◌else◌, Result, Ok, Err, List, Option, Some, None, ◌<◌, length}
 use Rattle.station_book.specs.declared.fault.BookKind.{BookKind}
 use Rattle.station_book.specs.declared.fault.BookKind.TheVariants as kinds
 use Rattle.station_book.specs.Limits.{FaceLimits}
@@ -15,7 +15,7 @@ use Rattle.station_book.specs.Blocks.{has_two, named, number}
 use Rattle.station_book.specs.Readings.{read}
 use Rattle.station_book.specs.Slots.{closing_faults}
 use Rattle.station_book.specs.Entries.{with_set, is_new_to, entry_faults, with_reading}
-use Rattle.station_book.specs.Shelves.{ShelfValue, Last, last_of, LastMayEnd, change_last, with_station, first_set_faults, more_set_faults}
+use Rattle.station_book.specs.Shelves.{ShelfValue, last_of, LastMayEnd, change_last, with_station, first_set_faults, more_set_faults}
 
 -- what a book keeps: its limits, how many blocks it took, where it stands, and its stations with
 -- sets
@@ -132,21 +132,21 @@ after_as Other b k = k
 abbrev pub after : GsiBlock → Kept → Kept
 after b k = after_as (role_of b) b (record k { taken = k.taken + 1 })
 
--- Where a station has a set, there is a last one.
-abbrev pub HasLast : Stage → Last → Type 0
-HasLast Outside last = Unit {0}
-HasLast (Station name) last = Unit {0}
-HasLast BetweenSets last = IsSome last
-HasLast InSet last = IsSome last
+-- Where the open station has a set, there is a station.
+abbrev pub HasLast : Stage → ShelfValue → Type 0
+HasLast Outside s = Unit {0}
+HasLast (Station name) s = Unit {0}
+HasLast BetweenSets s = 0 < length s
+HasLast InSet s = 0 < length s
 
 -- Where no set is open, the last one may end.
-abbrev pub RestMayEnd : Stage → Last → Type 0
-RestMayEnd Outside last = LastMayEnd last
-RestMayEnd (Station name) last = LastMayEnd last
-RestMayEnd BetweenSets last = LastMayEnd last
-RestMayEnd InSet last = Unit {0}
+abbrev pub RestMayEnd : Stage → ShelfValue → Type 0
+RestMayEnd Outside s = LastMayEnd s
+RestMayEnd (Station name) s = LastMayEnd s
+RestMayEnd BetweenSets s = LastMayEnd s
+RestMayEnd InSet s = Unit {0}
 
 -- what always holds of a book's stage and stations
 pub record IsBook (stage : Stage) (s : ShelfValue) : Type 0 where
-  pub has_last : HasLast stage s.last
-  pub rest : RestMayEnd stage s.last
+  pub has_last : HasLast stage s
+  pub rest : RestMayEnd stage s

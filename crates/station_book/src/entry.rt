@@ -1,7 +1,8 @@
-//! The last station that has sets.
+//! A station that has sets.
 
-ghost use Rattle.std.specs.Prelude.{◌≡◌, ◌<◌, None, Some, length, IfOk, IfErr, OnOk, OnErr, false, nat_le, ◌==◌, [], ◌∷◌};
+ghost use Rattle.std.specs.Prelude.{◌≡◌, ◌<◌, None, length, IfOk, IfErr, OnOk, OnErr, false, nat_le, ◌==◌, [], ◌∷◌};
 ghost use Rattle.std.specs.List.{list_any};
+ghost use Rattle.adjust_kernel.specs.Names.{IsName};
 ghost use Rattle.adjust_kernel.specs.Sheets.{IsSetNumber};
 ghost use Rattle.station_book.specs.Shelves.{survey_of, more_set_faults};
 ghost use Rattle.std.specs.Str.{bytes_eq};
@@ -16,19 +17,18 @@ use crate::faces::Faces;
 use crate::fault::{BookKind, Refusal};
 use crate::limits::Limits;
 use crate::sight::Sighting;
-use crate::slot::{Slot, empty_all, empty_slot, end_fault, push_pairs, slot_fault, with_side};
+use crate::slot::{empty_slot, end_fault, push_pairs, slot_fault, with_side};
 use crate::surveyed::Surveyed;
 use crate::targets::Targets;
 use adjust_kernel::{MOST_SETS, MOST_TARGETS, Name, Obs, Station};
 use std::alloc::{AllocError, Global};
 use std::marker::Model;
 
-/// What a book keeps of the last station that has sets. The readings of its last set are kept by
-/// target; those of all earlier sets have become observations.
+/// What a book keeps of a station that has sets. The readings of its last set are kept by target;
+/// those of all earlier sets have become observations.
 #[derive(Drop)]
 pub(crate) struct Entry {
     targets: Targets,
-    slots: Vec<Slot>,
     sets: Vec<u16>,
     obs: Vec<Obs>,
     faces: Vec<Faces>,
@@ -40,16 +40,16 @@ impl Model for Entry {
     ghost Value = { EntryValue };
 
     ghost view = { λ e. record {
-      targets = e.targets;
-      slots = e.slots.items;
+      targets = e.targets.names;
+      slots = e.targets.slots;
       sets = e.sets.items;
       obs = e.obs.items;
       faces = e.faces.items;
     } };
 
     ghost invariant = { λ e. IsEntry (record {
-      targets = e.targets;
-      slots = e.slots.items;
+      targets = e.targets.names;
+      slots = e.targets.slots;
       sets = e.sets.items;
       obs = e.obs.items;
       faces = e.faces.items;
@@ -66,7 +66,6 @@ impl Entry {
         sets.push(number)?;
         Ok(Entry {
             targets: Targets::new(alloc),
-            slots: Vec::new(alloc),
             sets,
             obs: Vec::new(alloc),
             faces: Vec::new(alloc),
@@ -77,7 +76,7 @@ impl Entry {
     pub(crate) fn end_fault(&self) -> Option<BookKind>
         ensures { result ≡ first_of (closing_faults self.now.slots) }
     {
-        end_fault(&self.slots)
+        end_fault(self.targets.slots())
     }
 
     /// The fault of a further set of this number, if it has one.
@@ -104,9 +103,9 @@ impl Entry {
     {
         self.sets.reserve(1)?;
         let last = self.sets.len() as u32 - 1;
-        push_pairs(last, &self.slots, &mut self.obs, &mut self.faces)?;
+        push_pairs(last, self.targets.slots(), &mut self.obs, &mut self.faces)?;
         self.sets.push_reserved(number);
-        empty_all(&mut self.slots);
+        self.targets.empty_slots();
         Ok(())
     }
 
@@ -122,12 +121,12 @@ impl Entry {
     {
         match self.targets.place_of(&reading.target, reading.is_second) {
             Some(place) => {
-                let slot = self.slots[place];
+                let slot = self.targets.slot(place);
                 match slot_fault(limits, slot, reading) {
                     Some(kind) => Err(Refusal::Kind(kind)),
                     None => {
-                        self.targets.note(place);
-                        self.slots[place] = with_side(slot, reading.is_second, reading.sight);
+                        let slot = with_side(slot, reading.is_second, reading.sight);
+                        self.targets.set(place, slot);
                         Ok(())
                     }
                 }
@@ -150,54 +149,29 @@ impl Entry {
         if self.targets.len() >= MOST_TARGETS {
             return Err(Refusal::Kind(BookKind::TooManyTargets));
         }
-        self.slots.reserve(1)?;
         let _name = reading.target.bytes();
-        self.targets.add(reading.target)?;
         let slot = with_side(empty_slot(), reading.is_second, reading.sight);
-        self.slots.push_reserved(slot);
+        self.targets.add(reading.target, slot)?;
         Ok(())
     }
 
-    /// Takes this list, which is empty, for the readings.
-    pub(crate) fn use_list(&mut self, slots: Vec<Slot>)
-        requires unread { self.old.slots ≡ [] }
-        requires empty { slots.items ≡ [] }
-        ensures { self.new ≡ self.old }
-    {
-        self.slots = slots;
-    }
-
-    /// The station with the observations of all its sets, and its list of readings, emptied. Where
-    /// memory is wanting, it comes back as it was.
-    pub(crate) fn close(self, name: Name) -> Result<(Surveyed, Vec<Slot>), Entry>
+    /// The station of this name with the observations of all its sets.
+    pub(crate) fn close(self, alloc: Global, name: Name) -> Result<Surveyed, AllocError>
         requires { MayEnd self }
-        ensures station { IfOk result (λ r. r.0 ≡ survey_of (name, self)) }
-        ensures list { IfOk result (λ r. r.1.items ≡ []) }
-        ensures err { IfErr result (λ e. e ≡ self) }
+        ensures station { IfOk result (λ s. s ≡ survey_of (name, self)) }
+        ensures named { IfOk result (λ s. IsName s.station.name) }
     {
         let _name = name.bytes();
         let Entry {
             targets,
-            mut slots,
             sets,
             mut obs,
             mut faces,
         } = self;
+        let names = targets.names(alloc)?;
         let set = sets.len() as u32 - 1;
-        match push_pairs(set, &slots, &mut obs, &mut faces) {
-            Ok(()) => {}
-            Err(_) => {
-                return Err(Entry {
-                    targets,
-                    slots,
-                    sets,
-                    obs,
-                    faces,
-                });
-            }
-        }
-        slots.clear();
-        let station = Station::of_valid(name, targets.into_names(), sets, obs);
-        Ok((Surveyed { station, faces }, slots))
+        push_pairs(set, targets.slots(), &mut obs, &mut faces)?;
+        let station = Station::of_valid(name, names, sets, obs);
+        Ok(Surveyed { station, faces })
     }
 }

@@ -33,7 +33,7 @@ pub(crate) fn station_name(block: &Block<'_>) -> Result<Name, BookKind>
     ensures fault { IfErr result (λ k. first_of (station_faults (block_of block.now)) ≡ Some k) }
 {
     match block.find(CODE_INFORMATION) {
-        Found::Twice => Err(BookKind::WordTwice(CODE_INFORMATION)),
+        Found::Twice => Err(BookKind::WordTwice(u32::from(CODE_INFORMATION))),
         Found::Absent => Err(BookKind::StationName),
         Found::One(word) => Ok(name_in(&word)),
     }
@@ -62,7 +62,7 @@ pub(crate) fn set_number(block: &Block<'_>) -> Result<Option<u16>, BookKind>
         (λ k. when (has_two 42 (block_of block.now)) (kinds.WordTwice 42) ≡ Some k) }
 {
     match block.find(CODE_INFORMATION) {
-        Found::Twice => Err(BookKind::WordTwice(CODE_INFORMATION)),
+        Found::Twice => Err(BookKind::WordTwice(u32::from(CODE_INFORMATION))),
         Found::Absent => Ok(None),
         Found::One(word) => Ok(number_of(word.name())),
     }
@@ -102,12 +102,12 @@ pub(crate) fn read(block: &Block<'_>) -> Result<Option<Sighting>, BookKind>
     let (direction, zenith) = block.find_two(HORIZONTAL_DIRECTION, VERTICAL_ANGLE);
     let direction = match direction {
         Found::Absent => return Ok(None),
-        Found::Twice => return Err(BookKind::WordTwice(HORIZONTAL_DIRECTION)),
+        Found::Twice => return Err(BookKind::WordTwice(u32::from(HORIZONTAL_DIRECTION))),
         Found::One(word) => word,
     };
     let zenith = match zenith {
         Found::Absent => return Err(BookKind::NoZenith),
-        Found::Twice => return Err(BookKind::WordTwice(VERTICAL_ANGLE)),
+        Found::Twice => return Err(BookKind::WordTwice(u32::from(VERTICAL_ANGLE))),
         Found::One(word) => word,
     };
     let hz = direction.angle().map_err(BookKind::Hz)?;

@@ -1,11 +1,11 @@
 //! The stations that have sets, by name.
 
-ghost use Rattle.std.specs.Prelude.{◌≡◌, ◌<◌, ◌++◌, ◌∷◌, [], false, length, None, IsSome, IfErr, IfOk, OnOk, OnErr, ◌==◌};
+ghost use Rattle.std.specs.Prelude.{◌≡◌, ◌<◌, ◌≤◌, ◌+◌, ◌++◌, ◌∷◌, [], false, length, None, IfErr, IfOk, OnOk, OnErr, ◌==◌};
 ghost use Rattle.std.specs.List.{list_any};
 ghost use Rattle.std.specs.Str.{bytes_eq};
 ghost use Rattle.indexmap.specs.IndexMap.{spare};
 ghost use Rattle.adjust_kernel.specs.Sheets.{IsSetNumber};
-ghost use Rattle.station_book.specs.Shelves.{empty_shelf, last_done, all_done, surveys_of, with_station, LastMayEnd, first_set_faults, last_of, change_last, is_known, more_set_faults};
+ghost use Rattle.station_book.specs.Shelves.{empty_shelf, surveys_of, with_station, LastMayEnd, first_set_faults, last_of, change_last, is_known, more_set_faults};
 ghost use Rattle.station_book.specs.Faults.{first_of};
 ghost use Rattle.station_book.specs.Slots.{closing_faults};
 ghost use Rattle.station_book.specs.Sights.{AreOnCircle};
@@ -17,7 +17,6 @@ use crate::entry::Entry;
 use crate::fault::{BookKind, Refusal};
 use crate::limits::Limits;
 use crate::sight::Sighting;
-use crate::slot::Slot;
 use crate::stations::Stations;
 use crate::surveyed::Surveyed;
 use adjust_kernel::Name;
@@ -25,33 +24,32 @@ use indexmap::IndexMap;
 use std::alloc::{AllocError, Global};
 use std::marker::Model;
 
-/// The stations that have sets, in the order of their first sets: of those that another one
-/// followed, what will be answered; and the last, to which blocks may still add. So readings are
-/// kept by target for one set alone, in one list that is used again.
+/// The stations that have sets, in the order of their first sets. Blocks add to the last one.
 #[derive(Drop)]
 pub(crate) struct Shelf {
     alloc: Global,
-    done: IndexMap<Name, Surveyed>,
-    last: Option<(Name, Entry)>,
+    stations: IndexMap<Name, Entry>,
 }
 
 impl Model for Shelf {
-    ghost use Rattle.station_book.specs.Shelves.{ShelfValue, IsShelf};
+    ghost use Rattle.std.specs.Prelude.{reverse};
+    ghost use Rattle.station_book.specs.Shelves.{ShelfValue, OlderMayEnd};
 
     ghost Value = { ShelfValue };
 
-    ghost view = { λ s. record { done = s.done.entries; last = s.last } };
+    ghost view = { λ s. reverse s.stations.entries };
 
-    ghost invariant = { λ s. IsShelf (record { done = s.done.entries; last = s.last }) };
+    ghost invariant = { λ s. OlderMayEnd (reverse s.stations.entries) };
 }
 
-/// Keeps what will be answered of a station more. There is room for it.
-fn keep(done: &mut IndexMap<Name, Surveyed>, name: Name, surveyed: Surveyed)
-    requires room { 0 < spare done.old }
-    requires new { list_any (λ e. bytes_eq name e.0) done.old.entries ≡ false }
-    ensures { done.new.entries ≡ done.old.entries ++ (name, surveyed) ∷ [] }
+/// Keeps what a station more gave. There is room for it.
+fn keep(kept: &mut IndexMap<Name, Surveyed>, name: Name, surveyed: Surveyed)
+    requires room { 0 < spare kept.old }
+    requires new { list_any (λ e. bytes_eq name e.0) kept.old.entries ≡ false }
+    ensures entries { kept.new.entries ≡ kept.old.entries ++ (name, surveyed) ∷ [] }
+    ensures room { spare kept.old ≤ spare kept.new + 1 }
 {
-    match done.insert(name, surveyed) {
+    match kept.insert(name, surveyed) {
         Ok(_) => {}
         Err(_) => unreachable!(),
     }
@@ -64,110 +62,60 @@ impl Shelf {
     {
         Shelf {
             alloc,
-            done: IndexMap::new(alloc),
-            last: None,
+            stations: IndexMap::new(alloc),
         }
     }
 
     /// How many stations there are.
     fn len(&self) -> usize
-        ensures { result ≡ length (all_done self.now) }
+        ensures { result ≡ length self.now }
     {
-        match self.last {
-            Some(_) => self.done.len() + 1,
-            None => self.done.len(),
-        }
-    }
-
-    /// Whether a station that another one followed has this name.
-    fn has_done(&self, name: Name) -> bool
-        ensures { result ≡ list_any (λ e. bytes_eq name e.0) self.now.done }
-    {
-        self.done.contains_key(&name)
-    }
-
-    /// Whether the last station has this name.
-    fn is_last(&self, name: Name) -> bool
-        ensures { result ≡ list_any (λ e. bytes_eq name e.0) (last_done self.now.last) }
-    {
-        match &self.last {
-            Some((last, _)) => name.is_same(last),
-            None => false,
-        }
+        self.stations.len()
     }
 
     /// Whether a station has this name.
     fn knows(&self, name: Name) -> bool
         ensures { result ≡ is_known name self.now }
     {
-        self.has_done(name) || self.is_last(name)
+        self.stations.contains_key(&name)
+    }
+
+    /// The last station.
+    #[inline(always)]
+    fn last(&self) -> &Entry
+        requires { 0 < length self.now }
+        ensures { result.now ≡ last_of self.now }
+    {
+        match self.stations.last() {
+            Some((_, entry)) => entry,
+            None => unreachable!(),
+        }
     }
 
     /// The fault of the last set, if it ends here.
     pub(crate) fn end_fault(&self) -> Option<BookKind>
-        requires { IsSome self.now.last }
+        requires { 0 < length self.now }
         ensures { result ≡ first_of (closing_faults (last_of self.now).slots) }
     {
-        match &self.last {
-            Some((_, entry)) => entry.end_fault(),
-            None => unreachable!(),
-        }
+        self.last().end_fault()
     }
 
-    /// The fault of a further set of the last station, if it has one.
-    pub(crate) fn set_fault(&self, number: u16) -> Option<BookKind>
-        requires { IsSome self.now.last }
-        ensures { result ≡ first_of (more_set_faults (last_of self.now) number) }
-    {
-        match &self.last {
-            Some((_, entry)) => entry.set_fault(number),
-            None => unreachable!(),
-        }
-    }
-
-    /// Closes the last station, so that there is none, and gives its list of readings, emptied. All
-    /// growths come first.
-    fn close_last(&mut self) -> Result<Vec<Slot>, AllocError>
-        requires { LastMayEnd self.old.last }
-        ensures ok { OnOk result (self.new ≡ record { done = all_done self.old; last = None }) }
-        ensures list { IfOk result (λ slots. slots.items ≡ []) }
-        ensures err { OnErr result (self.new ≡ self.old) }
-    {
-        self.done.reserve(1)?;
-        match self.last.take() {
-            None => Ok(Vec::new(self.alloc)),
-            Some((name, entry)) => match entry.close(name) {
-                Ok((surveyed, slots)) => {
-                    keep(&mut self.done, name, surveyed);
-                    Ok(slots)
-                }
-                Err(entry) => {
-                    self.last = Some((name, entry));
-                    Err(AllocError)
-                }
-            },
-        }
-    }
-
-    /// A station with its first set, in the list of readings of the one before it. All growths come
-    /// first.
+    /// A station with its first set.
     fn add_station(&mut self, name: Name, number: u16) -> Result<(), AllocError>
-        requires may_end { LastMayEnd self.old.last }
+        requires may_end { LastMayEnd self.old }
         requires new { is_known name self.old ≡ false }
         requires number { IsSetNumber number }
         ensures ok { OnOk result (self.new ≡ with_station name number self.old) }
         ensures err { OnErr result (self.new ≡ self.old) }
     {
-        let mut entry = Entry::first(self.alloc, number)?;
-        let slots = self.close_last()?;
-        entry.use_list(slots);
-        self.last = Some((name, entry));
+        let entry = Entry::first(self.alloc, number)?;
+        self.stations.insert(name, entry)?;
         Ok(())
     }
 
     /// A further set of the last station.
-    pub(crate) fn add_set(&mut self, number: u16) -> Result<(), AllocError>
-        requires some { IsSome self.old.last }
+    fn add_set(&mut self, number: u16) -> Result<(), AllocError>
+        requires some { 0 < length self.old }
         requires room { length (last_of self.old).sets < 40 }
         requires may_end { MayEnd (last_of self.old) }
         requires new { list_any (λ m. m == number) (last_of self.old).sets ≡ false }
@@ -175,15 +123,15 @@ impl Shelf {
         ensures ok { OnOk result (self.new ≡ change_last (with_set number) self.old) }
         ensures err { OnErr result (self.new ≡ self.old) }
     {
-        match &mut self.last {
-            Some((_, entry)) => entry.add_set(number),
+        match self.stations.last_mut() {
+            Some(entry) => entry.add_set(number),
             None => unreachable!(),
         }
     }
 
     /// Opens the first set of a station.
     pub(crate) fn open_first(&mut self, name: Name, number: u16) -> Result<(), Refusal>
-        requires may_end { LastMayEnd self.old.last }
+        requires may_end { LastMayEnd self.old }
         requires number { IsSetNumber number }
         ensures clean { OnOk result (first_of (first_set_faults name self.old) ≡ None) }
         ensures ok { OnOk result (self.new ≡ with_station name number self.old) }
@@ -202,7 +150,7 @@ impl Shelf {
 
     /// Opens a further set of the last station.
     pub(crate) fn open_further(&mut self, number: u16) -> Result<(), Refusal>
-        requires some { IsSome self.old.last }
+        requires some { 0 < length self.old }
         requires may_end { MayEnd (last_of self.old) }
         requires number { IsSetNumber number }
         ensures clean { OnOk result (first_of (more_set_faults (last_of self.old) number) ≡ None) }
@@ -211,7 +159,7 @@ impl Shelf {
             (ExplainsRefusal (first_of (more_set_faults (last_of self.old) number))) }
         ensures err { OnErr result (self.new ≡ self.old) }
     {
-        if let Some(kind) = self.set_fault(number) {
+        if let Some(kind) = self.last().set_fault(number) {
             return Err(Refusal::Kind(kind));
         }
         self.add_set(number)?;
@@ -220,7 +168,7 @@ impl Shelf {
 
     /// A reading in the last set of the last station.
     pub(crate) fn take_reading(&mut self, limits: Limits, reading: Sighting) -> Result<(), Refusal>
-        requires some { IsSome self.old.last }
+        requires some { 0 < length self.old }
         requires angle { AreOnCircle reading.sight }
         ensures clean { OnOk result
             (first_of (entry_faults limits (last_of self.old) reading) ≡ None) }
@@ -230,24 +178,23 @@ impl Shelf {
         ensures memory { IfErr result (WantsOnly (is_new_to (last_of self.old) reading)) }
         ensures err { OnErr result (self.new ≡ self.old) }
     {
-        match &mut self.last {
-            Some((_, entry)) => entry.take_reading(limits, reading),
+        match self.stations.last_mut() {
+            Some(entry) => entry.take_reading(limits, reading),
             None => unreachable!(),
         }
     }
 
     /// The stations, with the observations of all sets.
     pub(crate) fn finish(self) -> Result<Stations, AllocError>
-        requires { LastMayEnd self.last }
+        requires { LastMayEnd self }
         ensures { IfOk result (λ s. s ≡ surveys_of self) }
     {
-        let mut shelf = self;
-        shelf.close_last()?;
-        let Shelf { alloc, done, .. } = shelf;
-        let mut surveyed = Vec::new(alloc);
-        let mut rest = done.into_iter();
-        'stations: while let Some((_, station)) = rest.next() {
-            surveyed.push(station)?;
+        let Shelf { alloc, stations } = self;
+        let mut surveyed = IndexMap::with_capacity(alloc, stations.len())?;
+        let mut rest = stations.into_iter();
+        'stations: while let Some((name, entry)) = rest.next() {
+            let station = entry.close(alloc, name)?;
+            keep(&mut surveyed, name, station);
         }
         Ok(Stations { surveyed })
     }

@@ -1,6 +1,6 @@
 //! The readings of a set, by target.
 
-ghost use Rattle.std.specs.Prelude.{◌≡◌, ◌≤◌, ◌<◌, ◌+◌, ◌++◌, length, All, OnOk, OnErr, replicate, vec_len};
+ghost use Rattle.std.specs.Prelude.{◌≡◌, ◌≤◌, ◌<◌, ◌+◌, ◌++◌, length, All, OnOk, OnErr, vec_len};
 ghost use Rattle.std.specs.Vec.{vec_capacity};
 ghost use Rattle.std.specs.List.{list_any, list_all};
 ghost use Rattle.std.specs.Option.{option_to_list};
@@ -176,13 +176,4 @@ pub(crate) fn push_pairs(
         push_pair(set, place as u32, *slot, obs, faces);
     }
     Ok(())
-}
-
-/// Takes all readings out.
-pub(crate) fn empty_all(slots: &mut [Slot])
-    ensures { slots.new ≡ replicate (length slots.old) empty_slot }
-{
-    'slots: for slot in slots.iter_mut() {
-        *slot = empty_slot();
-    }
 }

@@ -1,9 +1,13 @@
-use Rattle.std.proofs.Common.{◌≡◌, ◌++◌, length, map}
-use Rattle.station_book.specs.Shelves.{surveys_of}
+use Rattle.std.proofs.Common.{◌≤◌, length, reverse}
+use Rattle.indexmap.specs.IndexMap.{spare}
+use Rattle.station_book.proofs.ClosingLaws.{IsClosing}
 use Rattle.station_book.proofs.shelf.Shelf.finish.Given as goal
 
 abbrev pub invariant-stations : goal.invariant-stations
-invariant-stations l = l.surveyed.items ++ map (λ e. e.1) l.rest ≡ surveys_of l.fn.self
+invariant-stations l = record {
+  closing : IsClosing (reverse l.fn.self) l.surveyed.entries l.rest;
+  room : length l.rest ≤ spare l.surveyed;
+}
 
 abbrev pub decreases-stations : goal.decreases-stations
 decreases-stations l = length l.rest

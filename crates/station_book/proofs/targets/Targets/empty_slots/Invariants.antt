@@ -1,0 +1,13 @@
+use Rattle.std.proofs.Common.{◌≡◌, ℕ, ◌<◌, get_or, length}
+use Rattle.std.specs.Map.{keys_of, values_of}
+use Rattle.station_book.specs.Slots.{empty_slot}
+use Rattle.station_book.proofs.targets.Targets.empty_slots.Given as goal
+
+abbrev pub invariant-slots : goal.invariant-slots
+invariant-slots l = record {
+  names : keys_of l.self-inside.slots.entries ≡ l.fn.self.names;
+  size : length l.self-inside.slots.entries ≡ l.place-end;
+  whole : length l.fn.self.slots ≡ l.place-end;
+  empty : (k : ℕ) → k < l.place
+      → get_or (values_of l.self-inside.slots.entries) k empty_slot ≡ empty_slot;
+}

@@ -1,0 +1,12 @@
+use Rattle.std.proofs.Common.{slice_set, ap, ◌∙◌}
+use Rattle.station_book.specs.Targets.{TargetsValue}
+use Rattle.station_book.proofs.TargetLaws.{same_keys, set_value}
+use Rattle.station_book.proofs.targets.Targets.set.Goals as goal
+
+pub returns-clause-names : goal.returns-clause-names
+returns-clause-names c = same_keys c.self.inside.slots.entries c.args.place c.args.slot
+    ∙ ap (λ (t : TargetsValue). t.names) c.self.view_is
+
+pub returns-clause-slots : goal.returns-clause-slots
+returns-clause-slots c = set_value c.self.inside.slots.entries c.args.place c.args.slot
+    ∙ ap (λ (t : TargetsValue). slice_set t.slots c.args.place c.args.slot) c.self.view_is
