@@ -6,7 +6,7 @@ use Rattle.std.specs.List.{AllZip, Contains}
 use Rattle.std.proofs.lemmas.List.{reverse-reverse}
 use Rattle.byte_ends.specs.Source.{Told}
 use Rattle.gsi_word.specs.Blocks.{GsiBlock, IsBlock}
-use Rattle.gsi_file.specs.FileAnswers.{file_answers}
+use Rattle.gsi_file.specs.FileAnswers.{FileAnswers}
 use Rattle.gsi_file.specs.declared.file_fault.FileKind.{FileKind}
 use Rattle.adjust_kernel.specs.Sheets.{SheetValue}
 use Rattle.adjust_kernel.specs.declared.accepted.Accepted.{Accepted}
@@ -21,10 +21,9 @@ use Rattle.adjust_kernel.specs.Matching.{Key, observed}
 use Rattle.station_book.specs.Stations.{SurveyedStation, AreStations, station_named}
 use Rattle.station_check.specs.declared.fault.Fault.{Fault}
 use Rattle.station_check.specs.Records.{ComesTo, at_end}
-use Rattle.station_check.specs.Surveys.{IsSurvey, Surveys}
+use Rattle.station_check.specs.Surveys.{IsSurvey}
 use Rattle.station_check.specs.Accepted.{IsAccepted}
 use Rattle.station_check.specs.Judged.{IsJudgedSheet, IfKernels}
-use Rattle.station_check.specs.Telling.{WhereBothTell}
 
 -- Lines and the end after them come to these blocks: they are the blocks of the lines behind those
 -- before them, and no fault stands.
@@ -72,19 +71,19 @@ abbrev pub KeepsResiduals : Type 0
 KeepsResiduals = (station : StationValue) (sheet : SheetValue) (limit : Option ℕ) → IsAcceptedSheet station sheet limit → IfSome limit (KeepsLimit station sheet)
 
 -- A sheet that was judged well is accepted.
-pub accepted_of : FindsIts → IsJustRecorded → HasRecordedFaces → KeepsResiduals → (limits : FaceLimits) (most : Option ℕ) (gsi told : Told) (stations : List SurveyedStation) (a : Accepted) → AreLimits limits → IsSurvey limits (file_answers gsi) stations → IsJudgedSheet stations most told (Ok a)
-    → IsAccepted limits most gsi told a
-accepted_of finds recorded beside keeps limits most gsi told stations a small survey judged =
+pub accepted_of : FindsIts → IsJustRecorded → HasRecordedFaces → KeepsResiduals → (limits : FaceLimits) (most : Option ℕ) (file : FileAnswers) (told : Told) (stations : List SurveyedStation) (a : Accepted) → AreLimits limits → IsSurvey limits file stations → IsJudgedSheet stations most told (Ok a)
+    → IsAccepted limits most file told a
+accepted_of finds recorded beside keeps limits most file told stations a small survey judged =
     let blocks = survey.blocks in
     let its = judged.judged.its in
     let name = judged.sheet.name in
-    let well = came_well limits [] (file_answers gsi).lines (file_answers gsi).last blocks tt survey.file in
+    let well = came_well limits [] file.lines file.last blocks tt survey.file in
     let in_order : well.more ≡ reverse blocks = sym (ap reverse well.split ∙ reverse-reverse well.more) in
     let found = (finds limits blocks stations name its well.faultless survey.stations_are).0 judged.judged.named in
     record {
       blocks = blocks;
       ended = well.ended;
-      lines = subst (λ (bs : List GsiBlock). AllZip IsBlock (file_answers gsi).lines bs) in_order well.each;
+      lines = subst (λ (bs : List GsiBlock). AllZip IsBlock file.lines bs) in_order well.each;
       faultless = well.faultless;
       closed = well.closed;
       bytes = judged.bytes;
@@ -115,12 +114,10 @@ accepted_of finds recorded beside keeps limits most gsi told stations a small su
 
 -- what the law `acceptance` says
 abbrev pub Accepts : Type 0
-Accepts = (limits : FaceLimits) (most : Option ℕ) (gsi told : Told) (stations : List SurveyedStation) (a : Accepted) → AreLimits limits → IsSurvey limits (file_answers gsi) stations → IsJudgedSheet stations most told (Ok a) → IsAccepted limits most gsi told a
+Accepts = (limits : FaceLimits) (most : Option ℕ) (file : FileAnswers) (told : Told) (stations : List SurveyedStation) (a : Accepted) → AreLimits limits → IsSurvey limits file stations → IsJudgedSheet stations most told (Ok a) → IsAccepted limits most file told a
 
--- the same of an answer, where both readers tell
-pub accepted_so : Accepts → (limits : FaceLimits) → AreLimits limits → (most : Option ℕ) (gsi told : Option Told) (stations : List SurveyedStation) (r : Result Accepted Fault) → IfSome gsi (λ file. Surveys limits (file_answers file) (Ok stations))
-    → IfSome told (λ stated. IfKernels (IsJudgedSheet stations most stated) r) → WhereBothTell gsi told (λ file stated. IfOk r (IsAccepted limits most file stated))
-accepted_so accepts limits small most None told stations r s j = tt
-accepted_so accepts limits small most (Some file) None stations r s j = tt
-accepted_so accepts limits small most (Some file) (Some stated) stations (Ok a) s j = accepts limits most file stated stations a small s j
-accepted_so accepts limits small most (Some file) (Some stated) stations (Err fault) s j = tt
+-- the same of an answer
+pub accepted_so : Accepts → (limits : FaceLimits) → AreLimits limits → (most : Option ℕ) (file : FileAnswers) (told : Told) (stations : List SurveyedStation) (r : Result Accepted Fault) → IsSurvey limits file stations
+    → IfKernels (IsJudgedSheet stations most told) r → IfOk r (IsAccepted limits most file told)
+accepted_so accepts limits small most file told stations (Ok a) s j = accepts limits most file told stations a small s j
+accepted_so accepts limits small most file told stations (Err fault) s j = tt

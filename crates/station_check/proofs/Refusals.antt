@@ -1,9 +1,9 @@
 -- From what a field file and a sheet come to, to what a refusal says.
 use Rattle.std.proofs.Common.{◌≡◌, ℕ, List, [], Option, Some, None, Result, Ok, Err, refl, sym, subst, ◌∙◌, ◌⊎◌, inl, inr}
-use Rattle.std.specs.Prelude.{IfSome, IfErr}
+use Rattle.std.specs.Prelude.{IfErr}
 use Rattle.byte_ends.specs.Source.{Told}
 use Rattle.byte_ends.specs.Input.{Input, input_within, Ended, BrokeOff, RanPast}
-use Rattle.gsi_file.specs.FileAnswers.{FileAnswers, file_answers}
+use Rattle.gsi_file.specs.FileAnswers.{FileAnswers}
 use Rattle.adjust_kernel.specs.Sheets.{SheetValue}
 use Rattle.adjust_kernel.specs.Verdict.{IsVerdict}
 use Rattle.adjust_kernel.specs.declared.accepted.Accepted.{Accepted}
@@ -23,8 +23,7 @@ use Rattle.station_check.specs.Verdicts.{ByStation, BySheet, by_kernel}
 use Rattle.station_check.specs.Judged.{IsJudgedSheet, IfKernels}
 use Rattle.station_check.specs.Causes.{IsOfFile, IsOfSheet, IsOfCheck}
 use Rattle.station_check.specs.Records.{FileComesTo}
-use Rattle.station_check.specs.Refused.{IsFaultOfInput, IsFileFirst, TellsOfFile, TellsOfSheet, IsRefusedByName, IsRefusedByKernel, TellsOfRefusal}
-use Rattle.station_check.specs.Telling.{WhereBothTell}
+use Rattle.station_check.specs.Refused.{IsFaultOfInput, IsFileFirst, IsRefusedByName, IsRefusedByKernel, TellsOfRefusal}
 use Rattle.station_check.proofs.Acceptance.{FindsIts, came_well}
 use Rattle.station_check.proofs.FirstFaultLaws.{is_first}
 use Rattle.station_check.proofs.Named.{has_name}
@@ -90,23 +89,11 @@ name_says stations most (Ended bytes) (inr h) = record {
   none = none_found (station_named h.sheet.name stations) (by_station_alone (station_named h.sheet.name stations) h.sheet most NoStation h.verdict);
 }
 
--- What is said of the sheet's own faults.
-pub sheet_says : (stations : List SurveyedStation) (most : Option ℕ) (told : Told) (fault : Fault) → BySheet stations most (input_within LONGEST_SHEET told) (Err fault) → TellsOfSheet told fault
-sheet_says stations most told (Gsi fault) h = tt
-sheet_says stations most told (Book fault) h = tt
-sheet_says stations most told SheetRead h = read_says stations most (input_within LONGEST_SHEET told) h
-sheet_says stations most told (Sheet fault) h = text_says stations most (input_within LONGEST_SHEET told) fault h
-sheet_says stations most told NoStation h = tt
-sheet_says stations most told (Means fault) h = tt
-sheet_says stations most told (Kernel fault) h = tt
-sheet_says stations most told Write h = tt
-sheet_says stations most told Memory h = tt
-
 -- A sheet of a name that no station has is refused so.
-unnamed : FindsIts → (limits : FaceLimits) (gsi told : Told) (stations : List SurveyedStation) → IsSurvey limits (file_answers gsi) stations → FindsNone stations (input_within LONGEST_SHEET told) → IsRefusedByName limits gsi told
-unnamed finds limits gsi told stations survey found =
+unnamed : FindsIts → (limits : FaceLimits) (file : FileAnswers) (told : Told) (stations : List SurveyedStation) → IsSurvey limits file stations → FindsNone stations (input_within LONGEST_SHEET told) → IsRefusedByName limits file told
+unnamed finds limits file told stations survey found =
     let blocks = survey.blocks in
-    let well = came_well limits [] (file_answers gsi).lines (file_answers gsi).last blocks tt survey.file in
+    let well = came_well limits [] file.lines file.last blocks tt survey.file in
     record {
       stations = stations;
       survey = survey;
@@ -119,8 +106,8 @@ unnamed finds limits gsi told stations survey found =
     }
 
 -- A sheet that was judged badly is refused so.
-judged_badly : (limits : FaceLimits) (most : Option ℕ) (gsi told : Told) (stations : List SurveyedStation) (fault : KernelFault) → IsSurvey limits (file_answers gsi) stations → IsJudgedSheet stations most told (Err fault) → IsRefusedByKernel limits most gsi told fault
-judged_badly limits most gsi told stations fault survey judged = record {
+judged_badly : (limits : FaceLimits) (most : Option ℕ) (file : FileAnswers) (told : Told) (stations : List SurveyedStation) (fault : KernelFault) → IsSurvey limits file stations → IsJudgedSheet stations most told (Err fault) → IsRefusedByKernel limits most file told fault
+judged_badly limits most file told stations fault survey judged = record {
   stations = stations;
   survey = survey;
   bytes = judged.bytes;
@@ -134,133 +121,76 @@ judged_badly limits most gsi told stations fault survey judged = record {
 }
 
 -- what a refusal from the sheet on says
-pub refused_of : FindsIts → (limits : FaceLimits) (most : Option ℕ) (gsi told : Told) (stations : List SurveyedStation) (fault : Fault) → IsSurvey limits (file_answers gsi) stations → IsOfSheet fault
-    → IfKernels (IsJudgedSheet stations most told) (Err fault) → BySheet stations most (input_within LONGEST_SHEET told) (Err fault) → TellsOfRefusal limits most gsi told fault
-refused_of finds limits most gsi told stations (Gsi fault) s o j h = absurd o
-refused_of finds limits most gsi told stations (Book fault) s o j h = absurd o
-refused_of finds limits most gsi told stations SheetRead s o j h = record { stations = stations; survey = s; broke_off = read_says stations most (input_within LONGEST_SHEET told) h }
-refused_of finds limits most gsi told stations (Sheet fault) s o j h = record { stations = stations; survey = s; first = text_says stations most (input_within LONGEST_SHEET told) fault h }
-refused_of finds limits most gsi told stations NoStation s o j h = unnamed finds limits gsi told stations s (name_says stations most (input_within LONGEST_SHEET told) h)
-refused_of finds limits most gsi told stations (Means fault) s o j h = absurd o
-refused_of finds limits most gsi told stations (Kernel fault) s o j h = judged_badly limits most gsi told stations fault s j
-refused_of finds limits most gsi told stations Write s o j h = absurd o
-refused_of finds limits most gsi told stations Memory s o j h = tt
+pub refused_of : FindsIts → (limits : FaceLimits) (most : Option ℕ) (file : FileAnswers) (told : Told) (stations : List SurveyedStation) (fault : Fault) → IsSurvey limits file stations → IsOfSheet fault
+    → IfKernels (IsJudgedSheet stations most told) (Err fault) → BySheet stations most (input_within LONGEST_SHEET told) (Err fault) → TellsOfRefusal limits most file told fault
+refused_of finds limits most file told stations (Gsi fault) s o j h = absurd o
+refused_of finds limits most file told stations (Book fault) s o j h = absurd o
+refused_of finds limits most file told stations SheetRead s o j h = record { stations = stations; survey = s; broke_off = read_says stations most (input_within LONGEST_SHEET told) h }
+refused_of finds limits most file told stations (Sheet fault) s o j h = record { stations = stations; survey = s; first = text_says stations most (input_within LONGEST_SHEET told) fault h }
+refused_of finds limits most file told stations NoStation s o j h = unnamed finds limits file told stations s (name_says stations most (input_within LONGEST_SHEET told) h)
+refused_of finds limits most file told stations (Means fault) s o j h = absurd o
+refused_of finds limits most file told stations (Kernel fault) s o j h = judged_badly limits most file told stations fault s j
+refused_of finds limits most file told stations Write s o j h = absurd o
+refused_of finds limits most file told stations Memory s o j h = tt
 
 -- what the law `refusal` says
 abbrev pub Refuses : Type 0
-Refuses = (limits : FaceLimits) (most : Option ℕ) (gsi told : Told) (stations : List SurveyedStation) (fault : Fault) → IsSurvey limits (file_answers gsi) stations → IsOfSheet fault
-    → IfKernels (IsJudgedSheet stations most told) (Err fault) → BySheet stations most (input_within LONGEST_SHEET told) (Err fault) → TellsOfRefusal limits most gsi told fault
+Refuses = (limits : FaceLimits) (most : Option ℕ) (file : FileAnswers) (told : Told) (stations : List SurveyedStation) (fault : Fault) → IsSurvey limits file stations → IsOfSheet fault
+    → IfKernels (IsJudgedSheet stations most told) (Err fault) → BySheet stations most (input_within LONGEST_SHEET told) (Err fault) → TellsOfRefusal limits most file told fault
 
 -- the answer by a sheet is its verdict, or that there was no memory
-abbrev pub AnswersSheet : List SurveyedStation → Option ℕ → Option Told → Result Accepted Fault → Type 0
-AnswersSheet stations most told r = IfSome told (λ stated. (r ≡ Err Memory) ⊎ BySheet stations most (input_within LONGEST_SHEET stated) r)
+abbrev pub AnswersSheet : List SurveyedStation → Option ℕ → Told → Result Accepted Fault → Type 0
+AnswersSheet stations most told r = (r ≡ Err Memory) ⊎ BySheet stations most (input_within LONGEST_SHEET told) r
 
-by_answer : Refuses → (limits : FaceLimits) (most : Option ℕ) (gsi told : Told) (stations : List SurveyedStation) (fault : Fault) → IsSurvey limits (file_answers gsi) stations → IsOfSheet fault
-    → IfKernels (IsJudgedSheet stations most told) (Err fault) → (◌≡◌ {A = Result Accepted Fault} (Err fault) (Err Memory)) ⊎ BySheet stations most (input_within LONGEST_SHEET told) (Err fault) → TellsOfRefusal limits most gsi told fault
-by_answer refuses limits most gsi told stations fault s o j (inl e) =
+by_answer : Refuses → (limits : FaceLimits) (most : Option ℕ) (file : FileAnswers) (told : Told) (stations : List SurveyedStation) (fault : Fault) → IsSurvey limits file stations → IsOfSheet fault
+    → IfKernels (IsJudgedSheet stations most told) (Err fault) → (◌≡◌ {A = Result Accepted Fault} (Err fault) (Err Memory)) ⊎ BySheet stations most (input_within LONGEST_SHEET told) (Err fault) → TellsOfRefusal limits most file told fault
+by_answer refuses limits most file told stations fault s o j (inl e) =
     let same : Memory ≡ fault = cc in
-    subst (λ (f : Fault). TellsOfRefusal limits most gsi told f) same tt
-by_answer refuses limits most gsi told stations fault s o j (inr h) = refuses limits most gsi told stations fault s o j h
+    subst (λ (f : Fault). TellsOfRefusal limits most file told f) same tt
+by_answer refuses limits most file told stations fault s o j (inr h) = refuses limits most file told stations fault s o j h
 
--- A refusal of a sheet says so, where both readers tell.
-pub refused_so : Refuses → (limits : FaceLimits) (most : Option ℕ) (gsi told : Option Told) (stations : List SurveyedStation) (r : Result Accepted Fault) → IfSome gsi (λ file. Surveys limits (file_answers file) (Ok stations))
-    → IfErr r IsOfSheet → IfSome told (λ stated. IfKernels (IsJudgedSheet stations most stated) r) → AnswersSheet stations most told r → WhereBothTell gsi told (λ file stated. IfErr r (TellsOfRefusal limits most file stated))
-refused_so refuses limits most None told stations r s o j h = tt
-refused_so refuses limits most (Some file) None stations r s o j h = tt
-refused_so refuses limits most (Some file) (Some stated) stations (Ok a) s o j h = tt
-refused_so refuses limits most (Some file) (Some stated) stations (Err fault) s o j h = by_answer refuses limits most file stated stations fault s o j h
+-- A refusal of a sheet says so.
+pub refused_so : Refuses → (limits : FaceLimits) (most : Option ℕ) (file : FileAnswers) (told : Told) (stations : List SurveyedStation) (r : Result Accepted Fault) → IsSurvey limits file stations
+    → IfErr r IsOfSheet → IfKernels (IsJudgedSheet stations most told) r → AnswersSheet stations most told r → IfErr r (TellsOfRefusal limits most file told)
+refused_so refuses limits most file told stations (Ok a) s o j h = tt
+refused_so refuses limits most file told stations (Err fault) s o j h = by_answer refuses limits most file told stations fault s o j h
 
--- A fault of the field file is told, where both readers tell.
-told_of_file : (limits : FaceLimits) (most : Option ℕ) (gsi told : Told) (fault : Fault) → IsOfFile fault → Surveys limits (file_answers gsi) (Err fault) → TellsOfRefusal limits most gsi told fault
-told_of_file limits most gsi told (Gsi fault) o h = is_first limits (file_answers gsi) (Gsi fault) h
-told_of_file limits most gsi told (Book fault) o h = is_first limits (file_answers gsi) (Book fault) h
-told_of_file limits most gsi told SheetRead o h = absurd o
-told_of_file limits most gsi told (Sheet fault) o h = absurd o
-told_of_file limits most gsi told NoStation o h = absurd o
-told_of_file limits most gsi told (Means fault) o h = absurd o
-told_of_file limits most gsi told (Kernel fault) o h = absurd o
-told_of_file limits most gsi told Write o h = absurd o
-told_of_file limits most gsi told Memory o h = tt
-
-pub file_refused_so : (limits : FaceLimits) (most : Option ℕ) (gsi told : Option Told) (fault : Fault) → IsOfFile fault → IfSome gsi (λ file. Surveys limits (file_answers file) (Err fault))
-    → WhereBothTell gsi told (λ file stated. TellsOfRefusal limits most file stated fault)
-file_refused_so limits most None told fault o h = tt
-file_refused_so limits most (Some file) None fault o h = tt
-file_refused_so limits most (Some file) (Some stated) fault o h = told_of_file limits most file stated fault o h
-
--- A fault of the field file is its first, where its reader tells.
-of_file : (limits : FaceLimits) (gsi : Told) (fault : Fault) → IsOfFile fault → Surveys limits (file_answers gsi) (Err fault) → TellsOfFile limits gsi fault
-of_file limits gsi (Gsi fault) o h = is_first limits (file_answers gsi) (Gsi fault) h
-of_file limits gsi (Book fault) o h = is_first limits (file_answers gsi) (Book fault) h
-of_file limits gsi SheetRead o h = tt
-of_file limits gsi (Sheet fault) o h = tt
-of_file limits gsi NoStation o h = tt
-of_file limits gsi (Means fault) o h = tt
-of_file limits gsi (Kernel fault) o h = tt
-of_file limits gsi Write o h = tt
-of_file limits gsi Memory o h = tt
-
-pub of_file_so : (limits : FaceLimits) (gsi : Option Told) (fault : Fault) → IsOfFile fault → IfSome gsi (λ file. Surveys limits (file_answers file) (Err fault)) → IfSome gsi (λ file. TellsOfFile limits file fault)
-of_file_so limits None fault o h = tt
-of_file_so limits (Some file) fault o h = of_file limits file fault o h
-
-sheet_by_answer : (stations : List SurveyedStation) (most : Option ℕ) (told : Told) (fault : Fault) → (◌≡◌ {A = Result Accepted Fault} (Err fault) (Err Memory)) ⊎ BySheet stations most (input_within LONGEST_SHEET told) (Err fault) → TellsOfSheet told fault
-sheet_by_answer stations most told fault (inl e) =
-    let same : Memory ≡ fault = cc in
-    subst (λ (f : Fault). TellsOfSheet told f) same tt
-sheet_by_answer stations most told fault (inr h) = sheet_says stations most told fault h
-
--- A fault of the sheet's bytes is theirs, where the sheet's reader tells.
-pub sheet_so : (stations : List SurveyedStation) (most : Option ℕ) (told : Option Told) (r : Result Accepted Fault) → AnswersSheet stations most told r → IfSome told (λ stated. IfErr r (TellsOfSheet stated))
-sheet_so stations most None r h = tt
-sheet_so stations most (Some stated) (Ok a) h = tt
-sheet_so stations most (Some stated) (Err fault) h = sheet_by_answer stations most stated fault h
-
--- A fault of the field file is none of the sheet.
-file_alone : (told : Told) (fault : Fault) → IsOfFile fault → TellsOfSheet told fault
-file_alone told (Gsi fault) o = tt
-file_alone told (Book fault) o = tt
-file_alone told SheetRead o = absurd o
-file_alone told (Sheet fault) o = absurd o
-file_alone told NoStation o = tt
-file_alone told (Means fault) o = tt
-file_alone told (Kernel fault) o = tt
-file_alone told Write o = tt
-file_alone told Memory o = tt
-
-pub file_alone_so : (told : Option Told) (fault : Fault) → IsOfFile fault → IfSome told (λ stated. TellsOfSheet stated fault)
-file_alone_so None fault o = tt
-file_alone_so (Some stated) fault o = file_alone stated fault o
+-- A fault of the field file is told.
+pub told_of_file : (limits : FaceLimits) (most : Option ℕ) (file : FileAnswers) (told : Told) (fault : Fault) → IsOfFile fault → Surveys limits file (Err fault) → TellsOfRefusal limits most file told fault
+told_of_file limits most file told (Gsi fault) o h = is_first limits file (Gsi fault) h
+told_of_file limits most file told (Book fault) o h = is_first limits file (Book fault) h
+told_of_file limits most file told SheetRead o h = absurd o
+told_of_file limits most file told (Sheet fault) o h = absurd o
+told_of_file limits most file told NoStation o h = absurd o
+told_of_file limits most file told (Means fault) o h = absurd o
+told_of_file limits most file told (Kernel fault) o h = absurd o
+told_of_file limits most file told Write o h = absurd o
+told_of_file limits most file told Memory o h = tt
 
 -- A file comes to one thing at most.
 abbrev pub HasOneOutcome : Type 0
 HasOneOutcome = (limits : FaceLimits) (answers : FileAnswers) (r s : Result History Fault) → FileComesTo limits answers r → FileComesTo limits answers s → r ≡ s
 
 -- A file that ended without a fault comes to none.
-pub none_first_so : HasOneOutcome → (limits : FaceLimits) (gsi : Option Told) (stations : List SurveyedStation) (r : Result Accepted Fault) → IfSome gsi (λ file. Surveys limits (file_answers file) (Ok stations)) → IfSome gsi (λ file. IsFileFirst limits file r)
-none_first_so one limits None stations r s = tt
-none_first_so one limits (Some file) stations r s =
-    λ fault h. let e : Ok s.blocks ≡ Err fault = one limits (file_answers file) (Ok s.blocks) (Err fault) s.file h in cc
+pub none_first : HasOneOutcome → (limits : FaceLimits) (file : FileAnswers) (stations : List SurveyedStation) (r : Result Accepted Fault) → IsSurvey limits file stations → IsFileFirst limits file r
+none_first one limits file stations r s =
+    λ fault h. let e : Ok s.blocks ≡ Err fault = one limits file (Ok s.blocks) (Err fault) s.file h in cc
 
 -- The fault that is answered is the one that the file comes to.
-its_first : HasOneOutcome → (limits : FaceLimits) (gsi : Told) (fault : Fault) → FileComesTo limits (file_answers gsi) (Err fault) → IsFileFirst limits gsi (Err fault)
-its_first one limits gsi fault k =
-    λ other h. let e : Err fault ≡ Err other = one limits (file_answers gsi) (Err fault) (Err other) k h in inr cc
+its_first : HasOneOutcome → (limits : FaceLimits) (file : FileAnswers) (fault : Fault) → FileComesTo limits file (Err fault) → IsFileFirst limits file (Err fault)
+its_first one limits file fault k =
+    λ other h. let e : Err fault ≡ Err other = one limits file (Err fault) (Err other) k h in inr cc
 
-first : HasOneOutcome → (limits : FaceLimits) (gsi : Told) (fault : Fault) → Surveys limits (file_answers gsi) (Err fault) → IsFileFirst limits gsi (Err fault)
-first one limits gsi (Gsi fault) h = its_first one limits gsi (Gsi fault) h
-first one limits gsi (Book fault) h = its_first one limits gsi (Book fault) h
-first one limits gsi SheetRead h = its_first one limits gsi SheetRead h
-first one limits gsi (Sheet fault) h = its_first one limits gsi (Sheet fault) h
-first one limits gsi NoStation h = its_first one limits gsi NoStation h
-first one limits gsi (Means fault) h = its_first one limits gsi (Means fault) h
-first one limits gsi (Kernel fault) h = its_first one limits gsi (Kernel fault) h
-first one limits gsi Write h = its_first one limits gsi Write h
-first one limits gsi Memory h = λ other k. inl refl
-
-pub first_so : HasOneOutcome → (limits : FaceLimits) (gsi : Option Told) (fault : Fault) → IfSome gsi (λ file. Surveys limits (file_answers file) (Err fault)) → IfSome gsi (λ file. IsFileFirst limits file (Err fault))
-first_so one limits None fault h = tt
-first_so one limits (Some file) fault h = first one limits file fault h
+pub first : HasOneOutcome → (limits : FaceLimits) (file : FileAnswers) (fault : Fault) → Surveys limits file (Err fault) → IsFileFirst limits file (Err fault)
+first one limits file (Gsi fault) h = its_first one limits file (Gsi fault) h
+first one limits file (Book fault) h = its_first one limits file (Book fault) h
+first one limits file SheetRead h = its_first one limits file SheetRead h
+first one limits file (Sheet fault) h = its_first one limits file (Sheet fault) h
+first one limits file NoStation h = its_first one limits file NoStation h
+first one limits file (Means fault) h = its_first one limits file (Means fault) h
+first one limits file (Kernel fault) h = its_first one limits file (Kernel fault) h
+first one limits file Write h = its_first one limits file Write h
+first one limits file Memory h = λ other k. inl refl
 
 -- The kernel's fault by the station of the sheet's name is never that the sheet is of another.
 pub of_its_station : (stations : List SurveyedStation) (its : SurveyedStation) (sheet : SheetValue) (most : Option ℕ) (fault : KernelFault) → station_named sheet.name stations ≡ Some its → IsVerdict its.station sheet most (Err fault) → IsOfSheet (Kernel fault)

@@ -3,7 +3,7 @@ use Rattle.std.proofs.Common.{◌≡◌, ℕ, ◌≤◌, List, [], length, Optio
 use Rattle.std.specs.List.{Contains}
 use Rattle.byte_ends.specs.Source.{Told}
 use Rattle.byte_ends.specs.Input.{Input, input_within, Ended, BrokeOff, RanPast}
-use Rattle.gsi_file.specs.FileAnswers.{file_answers}
+use Rattle.gsi_file.specs.FileAnswers.{FileAnswers}
 use Rattle.adjust_kernel.specs.Sheets.{SheetValue}
 use Rattle.adjust_kernel.specs.Stations.{StationValue}
 use Rattle.adjust_kernel.specs.Verdict.{IsVerdict}
@@ -59,18 +59,18 @@ by_sheet some stations most (BrokeOff bytes) observed = (Err SheetRead, refl)
 by_sheet some stations most RanPast observed = (Err (Sheet sheet.TooLong), refl)
 by_sheet some stations most (Ended bytes) observed = by_bytes some stations most bytes observed (some.sheet bytes)
 
-by_file : SomeEach → (limits : FaceLimits) → AreLimits limits → (most : Option ℕ) (gsi told : Told) (came : Result History Fault) → FileComesTo limits (file_answers gsi) came → (r : Result Accepted Fault) × ByFile limits most came told r
-by_file some limits small most gsi told (Err fault) h = (Err fault, refl)
-by_file some limits small most gsi told (Ok blocks) h =
-    let well = came_well limits [] (file_answers gsi).lines (file_answers gsi).last blocks tt h in
+by_file : SomeEach → (limits : FaceLimits) → AreLimits limits → (most : Option ℕ) (file : FileAnswers) (told : Told) (came : Result History Fault) → FileComesTo limits file came → (r : Result Accepted Fault) × ByFile limits most came told r
+by_file some limits small most file told (Err fault) h = (Err fault, refl)
+by_file some limits small most file told (Ok blocks) h =
+    let well = came_well limits [] file.lines file.last blocks tt h in
     let survey = some.survey limits blocks small well.faultless in
     let verdict = by_sheet some survey.0 most (input_within LONGEST_SHEET told) (λ name s e.
     some.observation limits blocks survey.0 s (record { blocks = well.faultless; ending = well.closed }) survey.1 ((some.finds limits blocks survey.0 name s well.faultless survey.1).0 e).0) in
     (verdict.0, (survey.0, survey.1, verdict.1))
 
--- what two readers tell has a verdict
-pub some_verdict : SomeEach → (limits : FaceLimits) (most : Option ℕ) (gsi told : Told) → AreLimits limits → (r : Result Accepted Fault) × IsWholeVerdict limits most gsi told r
-some_verdict some limits most gsi told small =
-    let came = some_end some.line limits [] (file_answers gsi).lines (file_answers gsi).last in
-    let verdict = by_file some limits small most gsi told came.0 came.1 in
-    (verdict.0, record { came = came.0; file = came.1; verdict = verdict.1 })
+-- what came of two readers has a verdict
+pub some_verdict : SomeEach → (limits : FaceLimits) (most : Option ℕ) (file : FileAnswers) (told : Told) → AreLimits limits → (r : Result Accepted Fault) × IsWholeVerdict limits most file told r
+some_verdict some limits most file told small =
+    let came = some_end some.line limits [] file.lines file.last in
+    let verdict = by_file some limits small most file told came.0 came.1 in
+    (verdict.0, record { came = came.0; comes = came.1; verdict = verdict.1 })

@@ -7,7 +7,7 @@ use Rattle.std.specs.List.{AllZip, Contains}
 use Rattle.byte_ends.specs.Source.{Told}
 use Rattle.byte_ends.specs.Input.{input_within, Ended}
 use Rattle.gsi_word.specs.Blocks.{IsBlock}
-use Rattle.gsi_file.specs.FileAnswers.{file_answers}
+use Rattle.gsi_file.specs.FileAnswers.{FileAnswers}
 use Rattle.adjust_kernel.specs.Least.{IsLeast, IsUnique}
 use Rattle.adjust_kernel.specs.Matching.{Key, Matches, keys_of}
 use Rattle.adjust_kernel.specs.Pairs.{choice_stated_by}
@@ -23,20 +23,20 @@ use Rattle.station_book.specs.Places.{History}
 use Rattle.station_book.specs.Recorded.{IsRecorded, IsRecordedWith}
 use Rattle.station_book.specs.Stations.{SurveyedStation, AreStations}
 
--- Of what two readers tell, this is the acceptance; `most` is the residual limit in half units,
--- where one is stated.
-pub record IsAccepted (limits : FaceLimits) (most : Option ℕ) (gsi told : Told) (a : Accepted)
-    : Type 0 where
+-- Of these lines and the end after them, and of these bytes of a sheet and how they end, this is
+-- the acceptance; `most` is the residual limit in half units, where one is stated.
+pub record IsAccepted (limits : FaceLimits) (most : Option ℕ) (file : FileAnswers) (stated : Told)
+    (a : Accepted) : Type 0 where
   -- The field file was read to its end, and its numbered lines are these blocks, the newest first.
   pub blocks : History
-  pub ended : (file_answers gsi).last ≡ None
-  pub lines : AllZip IsBlock (file_answers gsi).lines (reverse blocks)
+  pub ended : file.last ≡ None
+  pub lines : AllZip IsBlock file.lines (reverse blocks)
   -- No fault stands at any of them, nor at the end.
   pub faultless : IsWithoutFault limits blocks
   pub closed : fault_at_end blocks ≡ None
   -- The sheet was read to its end, and its bytes state this sheet.
   pub bytes : List ℕ
-  pub whole : input_within LONGEST_SHEET told ≡ Ended bytes
+  pub whole : input_within LONGEST_SHEET stated ≡ Ended bytes
   pub sheet : SheetValue
   pub states : IsSheetText bytes sheet
   -- Its station: of the stations of these blocks the one that has the sheet's name.

@@ -2,6 +2,8 @@
 -- is answered as `Memory`, and `Write` only where a call of the writer failed.
 use Rattle.std.specs.Prelude.{◌≡◌, Bool, true, Result, Ok, Err}
 use Rattle.gsi_file.specs.declared.file_fault.FileFault.TheVariants as file
+use Rattle.gsi_file.specs.declared.file_fault.FileKind.{FileKind}
+use Rattle.gsi_file.specs.declared.file_fault.FileKind.TheVariants as kind
 use Rattle.adjust_kernel.specs.declared.kernel_fault.KernelFault.TheVariants as kernel
 use Rattle.station_book.specs.declared.fault.BookFault.{BookFault}
 use Rattle.station_book.specs.declared.fault.BookFault.TheVariants as book
@@ -78,3 +80,25 @@ abbrev pub IsUnwritten : {A W : Type 0} → Result A Fault → W → W → Type 
 IsUnwritten (Ok x) old new = Unit {0}
 IsUnwritten (Err Write) old new = Unit {0}
 IsUnwritten (Err fault) old new = new ≡ old
+
+-- With Ok all that was written was handed on, after its last byte.
+abbrev pub HandsOn : {A : Type 0} → Result A Fault → Bool → Type 0
+HandsOn (Ok x) handed_on = handed_on ≡ true
+HandsOn (Err fault) handed_on = Unit {0}
+
+-- The same of words, where a fault of the file stands behind those before it.
+abbrev pub HandsWordsOn : {A : Type 0} → Result A Fault → Bool → Type 0
+HandsWordsOn (Ok x) handed_on = handed_on ≡ true
+HandsWordsOn (Err (Gsi fault)) handed_on = handed_on ≡ true
+HandsWordsOn (Err fault) handed_on = Unit {0}
+
+-- A fault of the field file that is no failed read is answered where none failed.
+abbrev pub NoReadFailed : FileKind → Bool → Bool → Type 0
+NoReadFailed kind.Read old new = Unit {0}
+NoReadFailed other old new = new ≡ old
+
+-- No read of the field file failed, where another answer is given than that one did.
+abbrev pub PassesNoFailure : {A : Type 0} → Result A Fault → Bool → Bool → Type 0
+PassesNoFailure (Ok x) old new = new ≡ old
+PassesNoFailure (Err (Gsi (file.At number what))) old new = NoReadFailed what old new
+PassesNoFailure (Err fault) old new = new ≡ old

@@ -1,5 +1,5 @@
 -- The kernel's verdict on a sheet, as it came about.
-use Rattle.std.specs.Prelude.{◌≡◌, ℕ, List, Option, Some, Result, Ok, Err, OnOk}
+use Rattle.std.specs.Prelude.{◌≡◌, ◌⊎◌, ℕ, List, Option, Some, Result, Ok, Err, OnOk}
 use Rattle.byte_ends.specs.Source.{Told}
 use Rattle.byte_ends.specs.Input.{input_within, Ended}
 use Rattle.adjust_kernel.specs.Matching.{Matches}
@@ -12,7 +12,8 @@ use Rattle.sheet_format.specs.Rows.{IsSheetText}
 use Rattle.sheet_format.specs.declared.reading.TheConstants.{LONGEST_SHEET}
 use Rattle.station_book.specs.Stations.{SurveyedStation, station_named}
 use Rattle.station_check.specs.declared.fault.Fault.{Fault}
-use Rattle.station_check.specs.declared.fault.Fault.TheVariants.{Kernel}
+use Rattle.station_check.specs.declared.fault.Fault.TheVariants.{Kernel, Memory}
+use Rattle.station_check.specs.Verdicts.{BySheet}
 
 -- Of these stations the one of the sheet's name was found, and the kernel gave this verdict, which
 -- tells of least squares what the kernel's verdicts tell.
@@ -25,10 +26,10 @@ pub record IsJudged (stations : List SurveyedStation) (most : Option ℕ) (sheet
   pub squares : TellsOfSquares its.station sheet most v
 
 -- The sheet was read to its end, its bytes state this sheet, and it was judged so.
-pub record IsJudgedSheet (stations : List SurveyedStation) (most : Option ℕ) (told : Told)
+pub record IsJudgedSheet (stations : List SurveyedStation) (most : Option ℕ) (stated : Told)
     (v : Result Accepted KernelFault) : Type 0 where
   pub bytes : List ℕ
-  pub whole : input_within LONGEST_SHEET told ≡ Ended bytes
+  pub whole : input_within LONGEST_SHEET stated ≡ Ended bytes
   pub sheet : SheetValue
   pub states : IsSheetText bytes sheet
   pub judged : IsJudged stations most sheet v
@@ -38,3 +39,10 @@ abbrev pub IfKernels : (Result Accepted KernelFault → Type 0) → Result Accep
 IfKernels P (Ok accepted) = P (Ok accepted)
 IfKernels P (Err (Kernel fault)) = P (Err fault)
 IfKernels P (Err fault) = Unit {0}
+
+-- The answer on a sheet of these bytes, by these stations: its verdict, or that there was no
+-- memory; and a verdict of the kernel came about as it must.
+pub record IsChecked (stations : List SurveyedStation) (most : Option ℕ) (stated : Told)
+    (r : Result Accepted Fault) : Type 0 where
+  pub verdict : (r ≡ Err Memory) ⊎ BySheet stations most (input_within LONGEST_SHEET stated) r
+  pub judged : IfKernels (IsJudgedSheet stations most stated) r

@@ -3,7 +3,7 @@ use Rattle.std.specs.Prelude.{◌≡◌, ◌≢◌, ◌⊎◌, ℕ, List, Option
 use Rattle.std.specs.List.{Contains}
 use Rattle.byte_ends.specs.Source.{Told}
 use Rattle.byte_ends.specs.Input.{Input, input_within, Ended, BrokeOff, RanPast}
-use Rattle.gsi_file.specs.FileAnswers.{file_answers}
+use Rattle.gsi_file.specs.FileAnswers.{FileAnswers}
 use Rattle.adjust_kernel.specs.Promises.{TellsOfSquares}
 use Rattle.adjust_kernel.specs.Sheets.{SheetValue}
 use Rattle.adjust_kernel.specs.Verdict.{IsVerdict}
@@ -24,16 +24,16 @@ use Rattle.station_check.specs.Records.{FileComesTo}
 use Rattle.station_check.specs.Surveys.{IsSurvey}
 
 -- A fault of the field file is its first, whatever the sheet is.
-abbrev pub TellsOfFile : FaceLimits → Told → Fault → Type 0
-TellsOfFile limits gsi (Gsi fault) = IsFirstFault limits (file_answers gsi) (Gsi fault)
-TellsOfFile limits gsi (Book fault) = IsFirstFault limits (file_answers gsi) (Book fault)
-TellsOfFile limits gsi fault = Unit {0}
+abbrev pub TellsOfFile : FaceLimits → FileAnswers → Fault → Type 0
+TellsOfFile limits file (Gsi fault) = IsFirstFault limits file (Gsi fault)
+TellsOfFile limits file (Book fault) = IsFirstFault limits file (Book fault)
+TellsOfFile limits file fault = Unit {0}
 
 -- Where the field file comes to a fault, that is the answer, whatever the sheet is, unless there
 -- was no memory.
-abbrev pub IsFileFirst : FaceLimits → Told → Result Accepted Fault → Type 0
-IsFileFirst limits gsi r =
-    (fault : Fault) → FileComesTo limits (file_answers gsi) (Err fault)
+abbrev pub IsFileFirst : FaceLimits → FileAnswers → Result Accepted Fault → Type 0
+IsFileFirst limits file r =
+    (fault : Fault) → FileComesTo limits file (Err fault)
     → (r ≡ Err Memory) ⊎ (r ≡ Err fault)
 
 -- The sheet's reader is not asked where the field file has a fault.
@@ -44,7 +44,7 @@ IsUnreadAtFileFault r old new = Unit {0}
 
 -- The sheet's reader gave these bytes, no more than a sheet may have, and then failed.
 abbrev pub BreaksOff : Told → Type 0
-BreaksOff told = (bytes : List ℕ) × (input_within LONGEST_SHEET told ≡ BrokeOff bytes)
+BreaksOff stated = (bytes : List ℕ) × (input_within LONGEST_SHEET stated ≡ BrokeOff bytes)
 
 -- This is the first fault of what came of the sheet's reader: there are too many bytes, or it is
 -- that of the bytes.
@@ -53,50 +53,44 @@ IsFaultOfInput (Ended bytes) fault = IsSheetFault bytes fault
 IsFaultOfInput (BrokeOff bytes) fault = ⊥
 IsFaultOfInput RanPast fault = fault ≡ sheet.TooLong
 
--- A fault of the sheet's bytes is the one that its reader's bytes have, whatever the field file is.
-abbrev pub TellsOfSheet : Told → Fault → Type 0
-TellsOfSheet told SheetRead = BreaksOff told
-TellsOfSheet told (Sheet fault) = IsFaultOfInput (input_within LONGEST_SHEET told) fault
-TellsOfSheet told fault = Unit {0}
-
--- Of what two readers tell, a read of the sheet failed.
-pub record IsRefusedByRead (limits : FaceLimits) (gsi told : Told) : Type 0 where
+-- A read of the sheet failed.
+pub record IsRefusedByRead (limits : FaceLimits) (file : FileAnswers) (stated : Told) : Type 0 where
   -- The field file ended without a fault, and has these stations.
   pub stations : List SurveyedStation
-  pub survey : IsSurvey limits (file_answers gsi) stations
-  pub broke_off : BreaksOff told
+  pub survey : IsSurvey limits file stations
+  pub broke_off : BreaksOff stated
 
--- Of what two readers tell, the sheet's bytes have this first fault.
-pub record IsRefusedByText (limits : FaceLimits) (gsi told : Told) (fault : SheetFault)
+-- The sheet's bytes have this first fault.
+pub record IsRefusedByText (limits : FaceLimits) (file : FileAnswers) (stated : Told) (fault : SheetFault)
     : Type 0 where
   -- The field file ended without a fault, and has these stations.
   pub stations : List SurveyedStation
-  pub survey : IsSurvey limits (file_answers gsi) stations
-  pub first : IsFaultOfInput (input_within LONGEST_SHEET told) fault
+  pub survey : IsSurvey limits file stations
+  pub first : IsFaultOfInput (input_within LONGEST_SHEET stated) fault
 
--- Of what two readers tell, the field file has no station of the sheet's name.
-pub record IsRefusedByName (limits : FaceLimits) (gsi told : Told) : Type 0 where
+-- The field file has no station of the sheet's name.
+pub record IsRefusedByName (limits : FaceLimits) (file : FileAnswers) (stated : Told) : Type 0 where
   -- The field file ended without a fault, and has these stations.
   pub stations : List SurveyedStation
-  pub survey : IsSurvey limits (file_answers gsi) stations
+  pub survey : IsSurvey limits file stations
   -- The sheet was read to its end, and its bytes state this sheet.
   pub bytes : List ℕ
-  pub whole : input_within LONGEST_SHEET told ≡ Ended bytes
+  pub whole : input_within LONGEST_SHEET stated ≡ Ended bytes
   pub sheet : SheetValue
   pub states : IsSheetText bytes sheet
   -- None of the stations has its name.
   pub absent : (other : SurveyedStation) → Contains stations other
       → other.station.name ≢ sheet.name
 
--- Of what two readers tell, the kernel refuses the sheet with this fault.
-pub record IsRefusedByKernel (limits : FaceLimits) (most : Option ℕ) (gsi told : Told)
-    (fault : KernelFault) : Type 0 where
+-- The kernel refuses the sheet with this fault.
+pub record IsRefusedByKernel (limits : FaceLimits) (most : Option ℕ) (file : FileAnswers)
+    (stated : Told) (fault : KernelFault) : Type 0 where
   -- The field file ended without a fault, and has these stations.
   pub stations : List SurveyedStation
-  pub survey : IsSurvey limits (file_answers gsi) stations
+  pub survey : IsSurvey limits file stations
   -- The sheet was read to its end, and its bytes state this sheet.
   pub bytes : List ℕ
-  pub whole : input_within LONGEST_SHEET told ≡ Ended bytes
+  pub whole : input_within LONGEST_SHEET stated ≡ Ended bytes
   pub sheet : SheetValue
   pub states : IsSheetText bytes sheet
   -- The fault is the first that stands of the sheet and the station of its name.
@@ -108,12 +102,12 @@ pub record IsRefusedByKernel (limits : FaceLimits) (most : Option ℕ) (gsi told
   pub squares : TellsOfSquares its.station sheet most (Err fault)
 
 -- What a refusal tells, fault by fault.
-abbrev pub TellsOfRefusal : FaceLimits → Option ℕ → Told → Told → Fault → Type 0
-TellsOfRefusal limits most gsi told (Gsi fault) = TellsOfFile limits gsi (Gsi fault)
-TellsOfRefusal limits most gsi told (Book fault) = TellsOfFile limits gsi (Book fault)
-TellsOfRefusal limits most gsi told SheetRead = IsRefusedByRead limits gsi told
-TellsOfRefusal limits most gsi told (Sheet fault) = IsRefusedByText limits gsi told fault
-TellsOfRefusal limits most gsi told NoStation = IsRefusedByName limits gsi told
-TellsOfRefusal limits most gsi told (Kernel fault) = IsRefusedByKernel limits most gsi told fault
-TellsOfRefusal limits most gsi told Memory = Unit {0}
-TellsOfRefusal limits most gsi told fault = ⊥
+abbrev pub TellsOfRefusal : FaceLimits → Option ℕ → FileAnswers → Told → Fault → Type 0
+TellsOfRefusal limits most file stated (Gsi fault) = TellsOfFile limits file (Gsi fault)
+TellsOfRefusal limits most file stated (Book fault) = TellsOfFile limits file (Book fault)
+TellsOfRefusal limits most file stated SheetRead = IsRefusedByRead limits file stated
+TellsOfRefusal limits most file stated (Sheet fault) = IsRefusedByText limits file stated fault
+TellsOfRefusal limits most file stated NoStation = IsRefusedByName limits file stated
+TellsOfRefusal limits most file stated (Kernel fault) = IsRefusedByKernel limits most file stated fault
+TellsOfRefusal limits most file stated Memory = Unit {0}
+TellsOfRefusal limits most file stated fault = ⊥

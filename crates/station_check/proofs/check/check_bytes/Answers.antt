@@ -1,46 +1,37 @@
-use Rattle.std.proofs.Common.{Err, rules}
-use Rattle.station_check.specs.Telling.{WhereBothTell}
-use Rattle.station_check.specs.Verdicts.{AnswersVerdict}
-use Rattle.station_check.proofs.Acceptance.{accepted_so}
-use Rattle.station_check.proofs.OneVerdict.{only_so}
-use Rattle.station_check.proofs.Refusals.{refused_so, file_refused_so, of_file_so, sheet_so, file_alone_so, none_first_so, first_so, of_check}
+use Rattle.std.proofs.Common.{Err}
+use Rattle.byte_ends.specs.Source.{Told}
+use Rattle.gsi_file.specs.FileAnswers.{file_answers}
+use Rattle.station_check.specs.Came.{SomeBytesCame}
+use Rattle.station_check.specs.Judged.{IsChecked}
+use Rattle.station_check.specs.Promise.{KeepsPromise}
+use Rattle.station_check.specs.Surveys.{Surveys}
+use Rattle.station_check.proofs.Coming.{came_so, anything_came}
+use Rattle.station_check.proofs.Leaving.{left_alone}
+use Rattle.station_check.proofs.Promises.{PromiseLaws, promise_by_sheet, promise_by_file}
+use Rattle.station_check.proofs.Refusals.{of_check}
 use Rattle.station_check.proofs.check.check_bytes.Goals as goal
 
-pub returns-in-Ok-clause-accepted : goal.returns-in-Ok-clause-accepted
-returns-in-Ok-clause-accepted g c =
-    accepted_so c.acceptance.ensures c.args.limits c.are_limits.ensures c.args.residual _ _ c.in-Ok.stations c.check_sheet.result c.in-Ok.ensures.surveys c.check_sheet.ensures.judged
+pub returns-in-Ok-clause-promise : goal.returns-in-Ok-clause-promise
+returns-in-Ok-clause-promise g c =
+    let laws : PromiseLaws c.args.limits = record { accepts = c.acceptance.ensures; refuses = c.refusal.ensures; one_verdict = c.one_verdict.ensures; one_outcome = c.one_outcome.ensures.one; small = c.are_limits.ensures } in
+    came_so _ (λ (gsi : Told). Surveys c.args.limits (file_answers gsi) c.survey.result)
+    (λ (gsi : Told). SomeBytesCame (g.Q.Source.told c.args.sheet.now) (λ (stated : Told). KeepsPromise c.args.limits c.args.residual (file_answers gsi) stated c.check_sheet.result))
+    c.survey.ensures.surveys
+    (λ gsi s. came_so _ (λ (stated : Told). IsChecked c.in-Ok.stations c.args.residual stated c.check_sheet.result)
+    (λ (stated : Told). KeepsPromise c.args.limits c.args.residual (file_answers gsi) stated c.check_sheet.result) c.check_sheet.ensures.checks
+    (λ stated checked. promise_by_sheet c.args.limits laws c.args.residual (file_answers gsi) stated c.in-Ok.stations c.check_sheet.result (rw c.in-Ok.is at s) c.check_sheet.ensures.of_sheet checked))
 
-pub returns-in-Ok-clause-no_other : goal.returns-in-Ok-clause-no_other
-returns-in-Ok-clause-no_other g c =
-    let verdict : WhereBothTell (g.R.Source.told c.args.gsi) (g.Q.Source.told c.args.sheet.now) (λ file stated. AnswersVerdict c.args.limits c.args.residual file stated c.check_sheet.result) = search rules in
-    only_so c.one_verdict.ensures c.args.limits c.args.residual _ _ c.check_sheet.result c.are_limits.ensures verdict
-
-pub returns-in-Err-clause-no_other : goal.returns-in-Err-clause-no_other
-returns-in-Err-clause-no_other g c =
-    let verdict : WhereBothTell (g.R.Source.told c.args.gsi) (g.Q.Source.told c.args.sheet.now) (λ file stated. AnswersVerdict c.args.limits c.args.residual file stated (Err c.in-Err.fault)) = search rules in
-    only_so c.one_verdict.ensures c.args.limits c.args.residual _ _ (Err c.in-Err.fault) c.are_limits.ensures verdict
-
-pub returns-in-Ok-clause-refused : goal.returns-in-Ok-clause-refused
-returns-in-Ok-clause-refused g c =
-    refused_so c.refusal.ensures c.args.limits c.args.residual _ _ c.in-Ok.stations c.check_sheet.result c.in-Ok.ensures.surveys c.check_sheet.ensures.of_sheet c.check_sheet.ensures.judged c.check_sheet.ensures.verdict
-
-pub returns-in-Err-clause-refused : goal.returns-in-Err-clause-refused
-returns-in-Err-clause-refused g c = file_refused_so c.args.limits c.args.residual _ _ c.in-Err.fault c.in-Err.ensures.of_file c.in-Err.ensures.surveys
-
-pub returns-in-Err-clause-of_file : goal.returns-in-Err-clause-of_file
-returns-in-Err-clause-of_file g c = of_file_so c.args.limits _ c.in-Err.fault c.in-Err.ensures.of_file c.in-Err.ensures.surveys
-
-pub returns-in-Ok-clause-file_first : goal.returns-in-Ok-clause-file_first
-returns-in-Ok-clause-file_first g c = none_first_so c.one_outcome.ensures.one c.args.limits _ c.in-Ok.stations c.check_sheet.result c.in-Ok.ensures.surveys
-
-pub returns-in-Err-clause-file_first : goal.returns-in-Err-clause-file_first
-returns-in-Err-clause-file_first g c = first_so c.one_outcome.ensures.one c.args.limits _ c.in-Err.fault c.in-Err.ensures.surveys
-
-pub returns-in-Ok-clause-of_sheet : goal.returns-in-Ok-clause-of_sheet
-returns-in-Ok-clause-of_sheet g c = sheet_so c.in-Ok.stations c.args.residual _ c.check_sheet.result c.check_sheet.ensures.verdict
-
-pub returns-in-Err-clause-of_sheet : goal.returns-in-Err-clause-of_sheet
-returns-in-Err-clause-of_sheet g c = file_alone_so _ c.in-Err.fault c.in-Err.ensures.of_file
+pub returns-in-Err-clause-promise : goal.returns-in-Err-clause-promise
+returns-in-Err-clause-promise g c =
+    let laws : PromiseLaws c.args.limits = record { accepts = c.acceptance.ensures; refuses = c.refusal.ensures; one_verdict = c.one_verdict.ensures; one_outcome = c.one_outcome.ensures.one; small = c.are_limits.ensures } in
+    came_so _ (λ (gsi : Told). Surveys c.args.limits (file_answers gsi) (Err c.in-Err.fault))
+    (λ (gsi : Told). SomeBytesCame (g.Q.Source.told c.args.sheet.now) (λ (stated : Told). KeepsPromise c.args.limits c.args.residual (file_answers gsi) stated (Err c.in-Err.fault)))
+    c.in-Err.ensures.surveys
+    (λ gsi s. anything_came _ (λ (stated : Told). KeepsPromise c.args.limits c.args.residual (file_answers gsi) stated (Err c.in-Err.fault))
+    (λ stated. promise_by_file c.args.limits laws c.args.residual (file_answers gsi) stated c.in-Err.fault c.in-Err.ensures.of_file s))
 
 pub returns-in-Ok-clause-of_check : goal.returns-in-Ok-clause-of_check
 returns-in-Ok-clause-of_check g c = of_check c.check_sheet.result c.check_sheet.ensures.of_sheet
+
+pub returns-in-Err-clause-reader : goal.returns-in-Err-clause-reader
+returns-in-Err-clause-reader g c = left_alone c.in-Err.fault (g.Q.Source.told c.args.sheet.now) (g.Q.Source.failed c.args.sheet.now) c.in-Err.ensures.of_file

@@ -1,0 +1,72 @@
+-- From what a field file and a sheet come to, to the promise of a check.
+use Rattle.std.proofs.Common.{◌≡◌, ℕ, List, Option, Ok, Err, refl, ◌⊎◌, inl, inr}
+use Rattle.std.specs.Prelude.{Result, IfErr}
+use Rattle.byte_ends.specs.Source.{Told}
+use Rattle.byte_ends.specs.Input.{input_within}
+use Rattle.gsi_file.specs.FileAnswers.{FileAnswers}
+use Rattle.adjust_kernel.specs.declared.accepted.Accepted.{Accepted}
+use Rattle.sheet_format.specs.declared.reading.TheConstants.{LONGEST_SHEET}
+use Rattle.station_book.specs.Limits.{FaceLimits, AreLimits}
+use Rattle.station_book.specs.Stations.{SurveyedStation}
+use Rattle.station_check.specs.declared.fault.Fault.{Fault}
+use Rattle.station_check.specs.declared.fault.Fault.TheVariants.{Gsi, Book, SheetRead, Sheet, NoStation, Means, Kernel, Write, Memory}
+use Rattle.station_check.specs.Causes.{IsOfFile, IsOfSheet}
+use Rattle.station_check.specs.Judged.{IsChecked}
+use Rattle.station_check.specs.Promise.{KeepsPromise}
+use Rattle.station_check.specs.Surveys.{Surveys, IsSurvey}
+use Rattle.station_check.specs.Verdicts.{BySheet, AnswersVerdict}
+use Rattle.station_check.proofs.Acceptance.{Accepts, accepted_so}
+use Rattle.station_check.proofs.OneVerdict.{HasOneVerdict, only_verdict}
+use Rattle.station_check.proofs.Refusals.{Refuses, HasOneOutcome, refused_so, told_of_file, none_first, first}
+
+-- the laws that the promise rests on
+pub record PromiseLaws (limits : FaceLimits) : Type 0 where
+  pub accepts : Accepts
+  pub refuses : Refuses
+  pub one_verdict : HasOneVerdict
+  pub one_outcome : HasOneOutcome
+  pub small : AreLimits limits
+
+-- the whole verdict on a sheet that was checked by a file's stations
+verdict_of : (limits : FaceLimits) (most : Option ℕ) (file : FileAnswers) (stated : Told) (stations : List SurveyedStation) (r : Result Accepted Fault) → IsSurvey limits file stations → IsChecked stations most stated r → AnswersVerdict limits most file stated r
+verdict_of limits most file stated stations r s c = by_checked c.verdict where
+  by_checked : (r ≡ Err Memory) ⊎ BySheet stations most (input_within LONGEST_SHEET stated) r → AnswersVerdict limits most file stated r
+  by_checked (inl e) = inl e
+  by_checked (inr h) = inr (record { came = Ok s.blocks; comes = s.file; verdict = (stations, s.stations_are, h) })
+
+-- The promise, where the field file has stations.
+pub promise_by_sheet : (limits : FaceLimits) → PromiseLaws limits → (most : Option ℕ) (file : FileAnswers) (stated : Told) (stations : List SurveyedStation) (r : Result Accepted Fault) → IsSurvey limits file stations → IfErr r IsOfSheet → IsChecked stations most stated r
+    → KeepsPromise limits most file stated r
+promise_by_sheet limits laws most file stated stations r s o c =
+    let verdict = verdict_of limits most file stated stations r s c in
+    record {
+      accepted = accepted_so laws.accepts limits laws.small most file stated stations r s c.judged;
+      refused = refused_so laws.refuses limits most file stated stations r s o c.judged c.verdict;
+      verdict = verdict;
+      no_other = only_verdict laws.one_verdict limits most file stated r laws.small verdict;
+      file_first = none_first laws.one_outcome limits file stations r s;
+    }
+
+-- the whole verdict, where the field file has a fault
+file_verdict : (limits : FaceLimits) (most : Option ℕ) (file : FileAnswers) (stated : Told) (fault : Fault) → Surveys limits file (Err fault) → AnswersVerdict limits most file stated (Err fault)
+file_verdict limits most file stated Memory h = inl refl
+file_verdict limits most file stated (Gsi fault) h = inr (record { came = Err (Gsi fault); comes = h; verdict = refl })
+file_verdict limits most file stated (Book fault) h = inr (record { came = Err (Book fault); comes = h; verdict = refl })
+file_verdict limits most file stated SheetRead h = inr (record { came = Err SheetRead; comes = h; verdict = refl })
+file_verdict limits most file stated (Sheet fault) h = inr (record { came = Err (Sheet fault); comes = h; verdict = refl })
+file_verdict limits most file stated NoStation h = inr (record { came = Err NoStation; comes = h; verdict = refl })
+file_verdict limits most file stated (Means fault) h = inr (record { came = Err (Means fault); comes = h; verdict = refl })
+file_verdict limits most file stated (Kernel fault) h = inr (record { came = Err (Kernel fault); comes = h; verdict = refl })
+file_verdict limits most file stated Write h = inr (record { came = Err Write; comes = h; verdict = refl })
+
+-- The promise, where the field file has a fault.
+pub promise_by_file : (limits : FaceLimits) → PromiseLaws limits → (most : Option ℕ) (file : FileAnswers) (stated : Told) (fault : Fault) → IsOfFile fault → Surveys limits file (Err fault) → KeepsPromise limits most file stated (Err fault)
+promise_by_file limits laws most file stated fault o h =
+    let verdict = file_verdict limits most file stated fault h in
+    record {
+      accepted = tt;
+      refused = told_of_file limits most file stated fault o h;
+      verdict = verdict;
+      no_other = only_verdict laws.one_verdict limits most file stated (Err fault) laws.small verdict;
+      file_first = first laws.one_outcome limits file fault h;
+    }

@@ -1,0 +1,18 @@
+use Rattle.std.proofs.Common.{Err, ap}
+use Rattle.byte_ends.specs.Source.{Told}
+use Rattle.gsi_file.specs.FileAnswers.{FileAnswers, file_answers}
+use Rattle.gsi_file.specs.ToCome.{ToCome}
+use Rattle.gsi_file.specs.Standing.{to_come, gives}
+use Rattle.station_check.specs.declared.fault.Fault.TheVariants.{Memory}
+use Rattle.station_check.specs.Surveys.{Surveys}
+use Rattle.station_check.proofs.Coming.{anything_came, lines_came}
+use Rattle.station_check.proofs.survey.survey.Goals as goal
+
+pub returns-in-Err-clause-surveys : goal.returns-in-Err-clause-surveys
+returns-in-Err-clause-surveys g c = anything_came _ (λ (gsi : Told). Surveys c.args.limits (file_answers gsi) (Err Memory)) (λ gsi. tt)
+
+pub returns-clause-surveys : goal.returns-clause-surveys
+returns-clause-surveys g c = lines_came _ _ (λ (gsi : Told). to_come (gives gsi) c.in-Ok.lines) (λ (file : FileAnswers). Surveys c.args.limits file c.survey_lines.result) (ap g.R.Source.told c.in-Ok.ensures.unread) c.in-Ok.ensures.whatever c.survey_lines.ensures.surveys
+
+pub survey_lines-requires : goal.survey_lines-requires
+survey_lines-requires g c = λ gsi. ap (λ (next : ToCome). next.number) (c.in-Ok.ensures.whatever gsi)

@@ -1,0 +1,23 @@
+-- What a check promises of its answer.
+use Rattle.std.specs.Prelude.{ℕ, Option, Result, IfOk, IfErr}
+use Rattle.byte_ends.specs.Source.{Told}
+use Rattle.gsi_file.specs.FileAnswers.{FileAnswers}
+use Rattle.adjust_kernel.specs.declared.accepted.Accepted.{Accepted}
+use Rattle.station_book.specs.Limits.{FaceLimits}
+use Rattle.station_check.specs.declared.fault.Fault.{Fault}
+use Rattle.station_check.specs.Accepted.{IsAccepted}
+use Rattle.station_check.specs.Refused.{TellsOfRefusal, IsFileFirst}
+use Rattle.station_check.specs.Verdicts.{AnswersVerdict, IsOnlyVerdict}
+
+-- The answer on a field file of these lines, and a sheet of these bytes. `most` is the residual
+-- limit in half units, where one is stated.
+pub record KeepsPromise (limits : FaceLimits) (most : Option ℕ) (file : FileAnswers)
+    (stated : Told) (r : Result Accepted Fault) : Type 0 where
+  -- What an acceptance says, and what each refusal says.
+  pub accepted : IfOk r (IsAccepted limits most file stated)
+  pub refused : IfErr r (TellsOfRefusal limits most file stated)
+  -- The answer is the whole verdict, and no other verdict stands, want of memory aside.
+  pub verdict : AnswersVerdict limits most file stated r
+  pub no_other : IsOnlyVerdict limits most file stated r
+  -- Where the field file comes to a fault, that is the answer, whatever the sheet is.
+  pub file_first : IsFileFirst limits file r

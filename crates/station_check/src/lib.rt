@@ -1,0 +1,58 @@
+//! The check of a sheet against the field file of its station, from end to end, and what else is
+//! printed of field files.
+//!
+//! | Call | Does |
+//! |---|---|
+//! | `check_bytes` | accepts a sheet, or answers the first fault of the field file or of the sheet |
+//! | `check_slices` | the same of bytes that are at hand |
+//! | `write_means` | writes the sheet of a station whose sets are complete: means |
+//! | `write_list` | writes the stations of a field file, their directions and face differences |
+//! | `write_words` | writes the words of a field file |
+//! | `run_check`, `run_means`, `run_list`, `run_words` | the same as commands: a line of the verdict or the text, the line of a refusal, and the exit status |
+//!
+//! Each reads its bytes from a `Source` and writes to a `Sink`, which may be a file, a slice, or what
+//! a caller makes of them. The promise of the whole is the contract of `check_bytes`.
+//!
+//! A caller who has a field file and a sheet at hand:
+//!
+//! ```
+//! use adjust_kernel::Accepted;
+//! use station_book::Limits;
+//! use station_check::{Fault, check_slices};
+//! use std::alloc::Global;
+//!
+//! fn checked(alloc: Global, gsi: &[u8], sheet: &[u8], limits: Limits) -> Result<Accepted, Fault> {
+//!     check_slices(alloc, gsi, sheet, limits, None)
+//! }
+//! ```
+#![tactic(auto)]
+
+mod accepted;
+mod check;
+mod fault;
+mod label;
+pub mod laws;
+mod list;
+mod list_lines;
+mod means;
+mod page;
+mod put;
+mod refused;
+mod runs;
+mod sheet_input;
+mod survey;
+mod verdict_line;
+mod whole_text;
+mod word_line;
+mod words;
+
+pub use accepted::accepted_line;
+pub use check::{check_bytes, check_slices};
+pub use fault::Fault;
+pub use list::write_list;
+pub use means::write_means;
+pub use refused::refusal_line;
+pub use runs::{DONE, REFUSED, refuse, run_check, run_list, run_means, run_words};
+pub use verdict_line::{LONGEST_VERDICT_LINE, VerdictLine};
+pub use whole_text::write_whole;
+pub use words::write_words;

@@ -1,0 +1,220 @@
+//! The line of a refusal: it names the fault, and where it stands.
+
+ghost use Rattle.std.specs.Prelude.{◌≡◌, ◌≤◌, ◌+◌, ◌++◌};
+ghost use Rattle.arrayvec.specs.ArrayVec.{array_vec_len};
+ghost use Rattle.station_check.specs.FaultTexts.{file_kind_text, file_fault_text, angle_fault_text, book_kind_text, book_fault_text, row_kind_text, sheet_fault_text, means_fault_text, kernel_fault_text, fault_text};
+ghost use Rattle.station_check.specs.VerdictLines.{refusal_line};
+
+use crate::fault::Fault;
+use crate::verdict_line::{VerdictLine, add, add_numbered};
+use adjust_kernel::KernelFault;
+use gsi_file::{FileFault, FileKind};
+use gsi_word::AngleFault;
+use itoa::Buffer;
+use sheet_format::{RowKind, SheetFault};
+use sheet_means::MeansFault;
+use station_book::{BookFault, BookKind};
+
+/// The line of a refusal, with its line feed.
+pub fn refusal_line(fault: Fault) -> VerdictLine
+    ensures { result.items ≡ refusal_line fault }
+{
+    let mut line = VerdictLine::new();
+    add(&mut line, b"refused: ");
+    add_fault(&mut line, fault);
+    add(&mut line, b"\n");
+    line
+}
+
+/// Adds the text of a fault.
+fn add_fault(line: &mut VerdictLine, fault: Fault)
+    requires { array_vec_len line.old ≤ 12 }
+    ensures items { line.new.items ≡ line.old.items ++ fault_text fault }
+    ensures len { array_vec_len line.new ≤ array_vec_len line.old + 110 }
+{
+    match fault {
+        Fault::Gsi(fault) => add_file_fault(line, fault),
+        Fault::Book(fault) => add_book_fault(line, fault),
+        Fault::SheetRead => add(line, b"sheet: Read"),
+        Fault::Sheet(fault) => add_sheet_fault(line, fault),
+        Fault::NoStation => add(line, b"no station"),
+        Fault::Means(fault) => add_means_fault(line, fault),
+        Fault::Kernel(fault) => {
+            add(line, b"kernel: ");
+            add_kernel_fault(line, fault);
+        }
+        Fault::Write => add(line, b"write failed"),
+        Fault::Memory => add(line, b"out of memory"),
+    }
+}
+
+/// Adds the name of a fault of the file, and the number that it carries.
+fn add_file_kind(line: &mut VerdictLine, kind: FileKind)
+    requires { array_vec_len line.old ≤ 60 }
+    ensures items { line.new.items ≡ line.old.items ++ file_kind_text kind }
+    ensures len { array_vec_len line.new ≤ array_vec_len line.old + 60 }
+{
+    let mut digits = Buffer::new();
+    match kind {
+        FileKind::Read => add(line, b"Read"),
+        FileKind::FileTooLong => add(line, b"FileTooLong"),
+        FileKind::LineTooLong => add(line, b"LineTooLong"),
+        FileKind::Byte(at) => {
+            add(line, b"Byte ");
+            add(line, digits.format(at).as_bytes());
+        }
+        FileKind::Word(nth) => {
+            add(line, b"Word ");
+            add(line, digits.format(nth).as_bytes());
+        }
+        FileKind::FirstWord => add(line, b"FirstWord"),
+    }
+}
+
+/// Adds a fault of the file, after its block.
+fn add_file_fault(line: &mut VerdictLine, fault: FileFault)
+    requires { array_vec_len line.old ≤ 12 }
+    ensures items { line.new.items ≡ line.old.items ++ file_fault_text fault }
+    ensures len { array_vec_len line.new ≤ array_vec_len line.old + 110 }
+{
+    match fault {
+        FileFault::At(number, kind) => {
+            add_numbered(line, b"block ", number);
+            add(line, b": ");
+            add_file_kind(line, kind);
+        }
+        FileFault::Memory => add(line, b"out of memory"),
+    }
+}
+
+/// Adds the name of a fault of an angle.
+fn add_angle_fault(line: &mut VerdictLine, fault: AngleFault)
+    requires { array_vec_len line.old ≤ 60 }
+    ensures items { line.new.items ≡ line.old.items ++ angle_fault_text fault }
+    ensures len { array_vec_len line.new ≤ array_vec_len line.old + 10 }
+{
+    match fault {
+        AngleFault::Unit => add(line, b"Unit"),
+        AngleFault::InputMode => add(line, b"InputMode"),
+        AngleFault::Sign => add(line, b"Sign"),
+        AngleFault::Digits => add(line, b"Digits"),
+        AngleFault::Range => add(line, b"Range"),
+    }
+}
+
+/// Adds the name of a fault of the book, and what it carries.
+fn add_book_kind(line: &mut VerdictLine, kind: BookKind)
+    requires { array_vec_len line.old ≤ 50 }
+    ensures items { line.new.items ≡ line.old.items ++ book_kind_text kind }
+    ensures len { array_vec_len line.new ≤ array_vec_len line.old + 20 }
+{
+    match kind {
+        BookKind::EmptySet => add(line, b"EmptySet"),
+        BookKind::OneFace => add(line, b"OneFace"),
+        BookKind::WordTwice(index) => add_numbered(line, b"WordTwice ", index),
+        BookKind::StationName => add(line, b"StationName"),
+        BookKind::SetOutside => add(line, b"SetOutside"),
+        BookKind::SetNumber => add(line, b"SetNumber"),
+        BookKind::StationTwice => add(line, b"StationTwice"),
+        BookKind::SetTwice => add(line, b"SetTwice"),
+        BookKind::TooManyStations => add(line, b"TooManyStations"),
+        BookKind::TooManySets => add(line, b"TooManySets"),
+        BookKind::NoZenith => add(line, b"NoZenith"),
+        BookKind::Hz(fault) => {
+            add(line, b"Hz ");
+            add_angle_fault(line, fault);
+        }
+        BookKind::Zenith(fault) => {
+            add(line, b"Zenith ");
+            add_angle_fault(line, fault);
+        }
+        BookKind::FaceUnclear => add(line, b"FaceUnclear"),
+        BookKind::FaceTwice => add(line, b"FaceTwice"),
+        BookKind::TooManyTargets => add(line, b"TooManyTargets"),
+        BookKind::TwoC => add(line, b"TwoC"),
+        BookKind::TwoI => add(line, b"TwoI"),
+    }
+}
+
+/// Adds a fault of the book, after its block.
+fn add_book_fault(line: &mut VerdictLine, fault: BookFault)
+    requires { array_vec_len line.old ≤ 12 }
+    ensures items { line.new.items ≡ line.old.items ++ book_fault_text fault }
+    ensures len { array_vec_len line.new ≤ array_vec_len line.old + 60 }
+{
+    match fault {
+        BookFault::At(number, kind) => {
+            add_numbered(line, b"block ", number);
+            add(line, b": ");
+            add_book_kind(line, kind);
+        }
+        BookFault::Memory => add(line, b"out of memory"),
+    }
+}
+
+/// Adds the name of a fault of a row.
+fn add_row_kind(line: &mut VerdictLine, kind: RowKind)
+    requires { array_vec_len line.old ≤ 60 }
+    ensures items { line.new.items ≡ line.old.items ++ row_kind_text kind }
+    ensures len { array_vec_len line.new ≤ array_vec_len line.old + 10 }
+{
+    match kind {
+        RowKind::Fields => add(line, b"Fields"),
+        RowKind::Kind => add(line, b"Kind"),
+        RowKind::Version => add(line, b"Version"),
+        RowKind::NotEmpty => add(line, b"NotEmpty"),
+        RowKind::Name => add(line, b"Name"),
+        RowKind::Number => add(line, b"Number"),
+        RowKind::Range => add(line, b"Range"),
+        RowKind::TooMany => add(line, b"TooMany"),
+        RowKind::Unfinished => add(line, b"Unfinished"),
+    }
+}
+
+/// Adds a fault of the sheet, after its row.
+fn add_sheet_fault(line: &mut VerdictLine, fault: SheetFault)
+    requires { array_vec_len line.old ≤ 12 }
+    ensures items { line.new.items ≡ line.old.items ++ sheet_fault_text fault }
+    ensures len { array_vec_len line.new ≤ array_vec_len line.old + 60 }
+{
+    match fault {
+        SheetFault::TooLong => add(line, b"sheet: TooLong"),
+        SheetFault::Row(number, kind) => {
+            add_numbered(line, b"sheet row ", number);
+            add(line, b": ");
+            add_row_kind(line, kind);
+        }
+        SheetFault::Memory => add(line, b"out of memory"),
+    }
+}
+
+/// Adds a fault of the means.
+fn add_means_fault(line: &mut VerdictLine, fault: MeansFault)
+    requires { array_vec_len line.old ≤ 12 }
+    ensures items { line.new.items ≡ line.old.items ++ means_fault_text fault }
+    ensures len { array_vec_len line.new ≤ array_vec_len line.old + 60 }
+{
+    match fault {
+        MeansFault::Incomplete => add(line, b"means: Incomplete"),
+        MeansFault::Memory => add(line, b"out of memory"),
+    }
+}
+
+/// Adds the name of a fault of the kernel, and the number that it carries.
+fn add_kernel_fault(line: &mut VerdictLine, fault: KernelFault)
+    requires { array_vec_len line.old ≤ 20 }
+    ensures items { line.new.items ≡ line.old.items ++ kernel_fault_text fault }
+    ensures len { array_vec_len line.new ≤ array_vec_len line.old + 20 }
+{
+    match fault {
+        KernelFault::Name => add(line, b"Name"),
+        KernelFault::TargetRow(n) => add_numbered(line, b"TargetRow ", n),
+        KernelFault::SetRow(n) => add_numbered(line, b"SetRow ", n),
+        KernelFault::ObsRow(n) => add_numbered(line, b"ObsRow ", n),
+        KernelFault::Datum => add(line, b"Datum"),
+        KernelFault::TargetSum(n) => add_numbered(line, b"TargetSum ", n),
+        KernelFault::SetSum(n) => add_numbered(line, b"SetSum ", n),
+        KernelFault::NotConnected => add(line, b"NotConnected"),
+        KernelFault::Residual(n) => add_numbered(line, b"Residual ", n),
+    }
+}

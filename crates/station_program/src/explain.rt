@@ -1,0 +1,125 @@
+//! What is printed of faults: the names of all, or what one of them means.
+
+ghost use Rattle.station_check.specs.Endings.{EndsWith};
+ghost use Rattle.station_program.specs.Explaining.{IsExplainRun};
+
+use crate::explanations::{Explanation, explanations};
+use byte_ends::Sink;
+use station_check::{DONE, Fault, refuse, write_whole};
+use std::alloc::{AllocError, Global};
+
+/// Prints what a fault means, or the names of all faults, and answers the exit status: 0 where all
+/// was written, else 1, with the line of a refusal on `err`.
+pub fn run_explain<W: Sink, E: Sink>(
+    alloc: Global,
+    fault: Option<&Explanation>,
+    out: &mut W,
+    err: &mut E,
+) -> u8
+    ensures { EndsWith {A = Unit {0}} (IsExplainRun W.failed out.old out.new)
+        result E.failed E.holds err.old err.new }
+{
+    match print(alloc, fault, out) {
+        Ok(()) => DONE,
+        Err(fault) => refuse(fault, err),
+    }
+}
+
+/// Prints what a fault means, or the names of all faults. The text is made in memory, written, and
+/// flushed once.
+fn print<W: Sink>(alloc: Global, fault: Option<&Explanation>, out: &mut W) -> Result<(), Fault>
+    ensures { IsExplainRun W.failed out.old out.new result }
+{
+    let text = match fault {
+        Some(fault) => explanation_text(alloc, fault),
+        None => list_of_names(alloc),
+    };
+    let text = match text {
+        Ok(text) => text,
+        Err(_) => return Err(Fault::Memory),
+    };
+    match write_whole(out, text.as_bytes()) {
+        Ok(()) => Ok(()),
+        Err(_) => Err(Fault::Write),
+    }
+}
+
+/// The names of all faults, one a line, each with its meaning.
+fn list_of_names(alloc: Global) -> Result<String, AllocError> {
+    listed(alloc, None)
+}
+
+/// The names near a text, one a line, each with its meaning: those that have it as a part, or are a
+/// part of it, in capitals or small letters.
+pub fn list_of_near_names(alloc: Global, text: &str) -> Result<String, AllocError> {
+    listed(alloc, Some(text))
+}
+
+/// The names near a text, or all where there is no text, one a line, each with its meaning.
+fn listed(alloc: Global, near: Option<&str>) -> Result<String, AllocError> {
+    let mut text = String::new(alloc);
+    for group in explanations() {
+        add_group(&mut text, group, near)?;
+    }
+    Ok(text)
+}
+
+/// Adds the lines of a group of faults.
+fn add_group(
+    text: &mut String,
+    group: &[Explanation],
+    near: Option<&str>,
+) -> Result<(), AllocError> {
+    for entry in group {
+        add_names(text, entry, near)?;
+    }
+    Ok(())
+}
+
+/// Adds a line for each name of a fault that is listed. The longest name has 16 bytes.
+fn add_names(text: &mut String, entry: &Explanation, near: Option<&str>) -> Result<(), AllocError> {
+    for name in entry.names {
+        if near.is_none_or(|part| is_near(name, part)) {
+            writeln!(text, "{name:<16}  {}", entry.meaning)?;
+        }
+    }
+    Ok(())
+}
+
+/// Whether one of two texts is a part of the other.
+fn is_near(name: &str, text: &str) -> bool {
+    is_part(text, name) || is_part(name, text)
+}
+
+/// Whether a text of some bytes stands in another, in capitals or small letters.
+fn is_part(part: &str, whole: &str) -> bool {
+    let part = part.as_bytes();
+    if part.is_empty() {
+        return false;
+    }
+    whole
+        .as_bytes()
+        .windows(part.len())
+        .any(|found| found.eq_ignore_ascii_case(part))
+}
+
+/// What a fault means: its names, when it comes, a line that names it, and what to do.
+fn explanation_text(alloc: Global, entry: &Explanation) -> Result<String, AllocError> {
+    let mut text = String::new(alloc);
+    for (place, name) in entry.names.iter().enumerate() {
+        let comma = if place > 0 { ", " } else { "" };
+        write!(text, "{comma}{name}")?;
+    }
+    let Explanation {
+        meaning,
+        when,
+        example,
+        remedy,
+        ..
+    } = *entry;
+    writeln!(
+        text,
+        ": {meaning}\n\n{when}\n\n  {example}\n\nWhat to do: {remedy}"
+    )?;
+    Ok(text)
+}

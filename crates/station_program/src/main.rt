@@ -1,0 +1,162 @@
+//! Checks survey station adjustments against the field file.
+//!
+//! The command line says what is asked for; each answer is made by a call of the library
+//! `station_check` over sources of bytes and sinks, whose contract says what it read and wrote. The
+//! promise of the whole program stands at its `check_bytes`.
+#![tactic(auto)]
+
+mod command_line;
+mod explain;
+mod explanations;
+mod printable;
+
+use byte_ends::{OfRead, OfWrite};
+use clap::Error;
+use clap::error::ErrorKind;
+use command_line::{Request, asked_for};
+use explain::run_explain;
+use printable::Printable;
+use station_check::{DONE, REFUSED, run_check, run_list, run_means, run_words};
+use std::fs::File;
+use std::io::IsTerminal;
+use std::process::ExitCode;
+use std::{fs, io};
+
+/// The exit status of a mistake on the command line, or of a file that can't be opened.
+const USAGE: u8 = 2;
+
+const NOT_TEXT: &str = "\
+error: an argument is not UTF-8 text
+
+A file of such a name can be handed in as standard input: station_check list /dev/stdin < FILE
+
+For more information, try '--help'.";
+
+const TERMINAL_IS_READ: &str =
+    "reading from the terminal; Ctrl-D ends the input, and 'station_check --help' explains";
+
+fn main(rt: HostRuntime) -> ExitCode {
+    ExitCode::from(status_of_run(&rt))
+}
+
+fn status_of_run(rt: &HostRuntime) -> u8 {
+    match command_line_words(rt) {
+        Ok(words) => match asked_for(rt.alloc(), words.as_slice()) {
+            Ok(request) => match answer(rt, &request) {
+                Ok(status) => status,
+                Err(unopened) => cannot_open(rt, &unopened),
+            },
+            Err(error) => show(rt, &error),
+        },
+        Err(status) => status,
+    }
+}
+
+/// The words of the command line, or the status where they can't be had.
+fn command_line_words(rt: &HostRuntime) -> Result<Vec<String>, u8> {
+    let given = match std::env::args(rt) {
+        Ok(given) => given,
+        Err(error) if error.kind() == io::ErrorKind::OutOfMemory => return Err(out_of_memory(rt)),
+        Err(_) => {
+            let _ = eprintln!(rt; "{NOT_TEXT}");
+            return Err(USAGE);
+        }
+    };
+    given.collect(rt.alloc()).map_err(|_| out_of_memory(rt))
+}
+
+fn out_of_memory(rt: &HostRuntime) -> u8 {
+    let _ = eprintln!(rt; "refused: out of memory");
+    REFUSED
+}
+
+/// Prints what the parse of the command line answered in place of a request: help, the version, or
+/// a mistake.
+fn show(rt: &HostRuntime, error: &Error) -> u8 {
+    if error.kind() == ErrorKind::OutOfMemory {
+        return out_of_memory(rt);
+    }
+    let printed = error.print(rt);
+    if error.use_stderr() {
+        return USAGE;
+    }
+    match printed {
+        Ok(()) => DONE,
+        Err(_) => {
+            let _ = eprintln!(rt; "refused: write failed");
+            REFUSED
+        }
+    }
+}
+
+/// A file that can't be opened.
+#[derive(Debug, Drop)]
+struct Unopened<'a> {
+    path: &'a str,
+}
+
+fn open<'a>(rt: &HostRuntime, path: &'a str) -> Result<OfRead<File>, Unopened<'a>> {
+    match fs::open(rt, path) {
+        Ok(file) => {
+            note_terminal(rt, &file);
+            Ok(OfRead::new(file))
+        }
+        Err(_) => Err(Unopened { path }),
+    }
+}
+
+/// Tells a user at a terminal that what is typed there is read.
+fn note_terminal<T: IsTerminal>(rt: &HostRuntime, input: &T) {
+    if input.is_terminal() {
+        let _ = eprintln!(rt; "{TERMINAL_IS_READ}");
+    }
+}
+
+/// The exit status of a request. All its files are opened before any is read, the field file first.
+fn answer<'a>(rt: &HostRuntime, request: &Request<'a>) -> Result<u8, Unopened<'a>> {
+    let mut out = OfWrite::new(rt.stdout());
+    let mut err = OfWrite::new(rt.stderr());
+    match *request {
+        Request::Check {
+            gsi,
+            sheet,
+            limits,
+            residual,
+        } => {
+            let gsi = open(rt, gsi)?;
+            let mut sheet = open(rt, sheet)?;
+            let alloc = rt.alloc();
+            Ok(run_check(alloc, gsi, &mut sheet, limits, residual, &mut out, &mut err))
+        }
+        Request::Means {
+            gsi,
+            station,
+            limits,
+        } => {
+            let gsi = open(rt, gsi)?;
+            Ok(run_means(
+                rt.alloc(),
+                gsi,
+                station.as_bytes(),
+                limits,
+                &mut out,
+                &mut err,
+            ))
+        }
+        Request::List { gsi, limits } => {
+            Ok(run_list(rt.alloc(), open(rt, gsi)?, limits, &mut out, &mut err))
+        }
+        Request::Words { gsi } => Ok(run_words(rt.alloc(), open(rt, gsi)?, &mut out, &mut err)),
+        Request::WordsOfInput => {
+            let input = rt.stdin();
+            note_terminal(rt, &input);
+            Ok(run_words(rt.alloc(), OfRead::new(input), &mut out, &mut err))
+        }
+        Request::Explain { fault } => Ok(run_explain(rt.alloc(), fault, &mut out, &mut err)),
+    }
+}
+
+fn cannot_open(rt: &HostRuntime, unopened: &Unopened<'_>) -> u8 {
+    let _ = eprintln!(rt; "cannot open {}", Printable(unopened.path));
+    USAGE
+}
