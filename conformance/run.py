@@ -1,8 +1,10 @@
-"""Runs a program over the cases of this folder: `python3 run.py PROGRAM [CASE..]`.
+"""Runs a program over the cases of this folder; README.md says what a case is."""
 
-README.md says what a case is.
-"""
-
+import argparse
+import os
+import shlex
+import shutil
+import signal
 import subprocess
 import sys
 import tempfile
@@ -35,30 +37,79 @@ def case_in(folder):
     return Case(folder.name, args, content(folder, "stdin"), expected)
 
 
-def cases(names=()):
-    folders = [FOLDER / name for name in names] or [path.parent for path in FOLDER.glob("*/args")]
-    return [case_in(folder) for folder in sorted(folders)]
+def names():
+    """The names of all cases."""
+    return sorted(path.parent.name for path in FOLDER.glob("*/args"))
 
 
-def answer(program, case):
-    """What the program answers, in a copy of the case's folder."""
+def cases(chosen=()):
+    return [case_in(FOLDER / name) for name in sorted(chosen) or names()]
+
+
+def answer(command, case, time=TIME):
+    """What a program answers in a copy of the case's folder; None where it takes longer.
+
+    `command` is the program and what stands before the words of the case."""
     with tempfile.TemporaryDirectory() as top:
         folder = copytree(FOLDER / case.name, Path(top) / "case")
-        run = {"cwd": folder, "input": case.stdin, "capture_output": True, "timeout": TIME}
-        done = subprocess.run([program, *case.args], **run)
-    return done.returncode, done.stdout, done.stderr
+        pipes = dict.fromkeys(["stdin", "stdout", "stderr"], subprocess.PIPE)
+        run = subprocess.Popen([*command, *case.args], cwd=folder, start_new_session=True, **pipes)
+        try:
+            stdout, stderr = run.communicate(case.stdin, timeout=time)
+        except subprocess.TimeoutExpired:
+            os.killpg(run.pid, signal.SIGKILL)
+            run.communicate()
+            return None
+    return run.returncode, stdout, stderr
+
+
+# ---------------------------------------------------------------- the command line
+
+
+def program(text):
+    """The command of a program: a path, a name on the search path, or one of them with arguments.
+    Paths are made absolute, since each case runs in a folder of its own."""
+    words = [text] if shutil.which(text) else shlex.split(text)
+    found = shutil.which(words[0]) if words else None
+    if found is None:
+        raise argparse.ArgumentTypeError(f"no program {text} is found")
+    absolute = [os.path.abspath(word) if os.path.exists(word) else word for word in words[1:]]
+    return [os.path.abspath(found), *absolute]
+
+
+def command_line():
+    parser = argparse.ArgumentParser(
+        description="Runs a program over the cases of this folder, and prints what differs.",
+        epilog="Exit status: 0 all passed, 1 not all, 2 a mistake on the command line.",
+    )
+    parser.add_argument(
+        "program",
+        metavar="PROGRAM",
+        type=program,
+        help="a path, a name on the search path, or a command in quotes, as 'python3 model.py'",
+    )
+    parser.add_argument("cases", metavar="CASE", nargs="*", help="these cases, not all")
+    seconds = f"seconds for a case (default: {TIME})"
+    parser.add_argument("--time", metavar="S", type=float, default=TIME, help=seconds)
+    return parser
+
+
+def said(found, time):
+    """What is printed of an answer."""
+    return f"no answer in {time:g} s" if found is None else found
 
 
 def main():
-    if len(sys.argv) < 2:
-        sys.exit(__doc__)
-    program, failed = Path(sys.argv[1]).resolve(), 0
-    every = cases(sys.argv[2:])
+    parser = command_line()
+    asked = parser.parse_intermixed_args()
+    if unknown := sorted(set(asked.cases) - set(names())):
+        parser.error(f"no case {', '.join(unknown)}")
+    every, failed = cases(asked.cases), 0
     for case in every:
-        found = answer(program, case)
+        found = answer(asked.program, case, asked.time)
         if found != case.expected:
             failed += 1
-            print(f"{case.name}\n  expected {case.expected}\n  found    {found}")
+            print(f"{case.name}\n  expected {case.expected}\n  found    {said(found, asked.time)}")
     print(f"{len(every) - failed} passed, {failed} failed")
     sys.exit(1 if failed else 0)
 
