@@ -4,26 +4,36 @@
 RT ?= rt
 PREFIX ?= /usr/local
 PYTHON ?= python3
-PROGRAM := crates/station_check/out/station_check
+PROGRAM := build/station_check
+PROGRAM_CRATE := station_program
 EXAMPLE := examples/station_s1.gsi
 SHEET := examples/station_s1.csv
 
 # All that the program is made of. Tests and wrong bodies are no part of it.
-SOURCES := crates.txt HANDLES $(shell find crates \( -name out -o -name tests -o -name must-fail \) -prune \
+SOURCES := crates.txt HANDLES $(shell find crates \( -name out -o -name tests -o -name '*_tests' -o -name must-fail \) -prune \
   -o -type f \( -name '*.rt' -o -name '*.antt' \) -print)
 
 # The manual page and the completions.
 SHARED := $(sort $(shell find share -type f))
 
-# The crates of this repository, lowest first, as crates.txt lists them.
-CRATES := $(shell sed -n 's/^\([a-z_]*\):.*/\1/p' crates.txt)
+# The documents and the examples, as they lie in the repository, so that their links hold.
+DOCUMENTS := README.md CHANGELOG.md $(sort $(wildcard docs/*.md)) \
+  $(sort $(wildcard examples/*.md examples/*.gsi examples/*.csv examples/*.svg examples/*.py))
+DOCUMENT_FOLDER := share/doc/station_check
+
+# Where `make dist` puts what it makes.
+DIST ?= build/dist
+
+# The crates that the program is made of, lowest first, as crates.txt lists them: no tests, and no
+# library that no command uses yet.
+CRATES := $(filter-out %_tests sheet_nearness,$(shell sed -n 's/^\([a-z_]*\):.*/\1/p' crates.txt))
 
 # What each recipe that proves begins with.
 NEED_TOOLCHAIN = command -v $(RT) > /dev/null || { \
   echo "make: the Rattle toolchain is missing: no command '$(RT)' is found; put it on PATH, or name it as RT=/path/to/rt" >&2; \
   exit 1; }
 
-.PHONY: run test sweep check bench install uninstall clean
+.PHONY: run test sweep check bench install uninstall dist clean
 
 # Builds the proved program and runs it on an example.
 run: $(PROGRAM)
@@ -43,7 +53,7 @@ test:
 
 # The long sweeps of the tests of the command line, of which the gate runs samples: minutes. STATION_CHECK names another program.
 sweep:
-	@SWEEP=1 $(PYTHON) -m unittest discover -s tests/cli -p 'test_*.py'
+	@SWEEP=1 $(PYTHON) tests/command_line.py
 
 # Proves every crate over what earlier checks kept.
 check:
@@ -54,24 +64,32 @@ check:
 bench: $(PROGRAM)
 	@$(PYTHON) bench/bench.py $(BENCH)
 
-# Copies the proved program to $(PREFIX)/bin, and its manual page and completions to $(PREFIX)/share, as they lie in
-# share/. After a build it needs no toolchain.
+# Copies the proved program to $(PREFIX)/bin, its manual page and completions to $(PREFIX)/share, as they lie in
+# share/, and documents and examples to $(PREFIX)/share/doc. After a build it needs no toolchain.
 install: $(PROGRAM)
 	install -d '$(DESTDIR)$(PREFIX)/bin'
 	install -m 755 $(PROGRAM) '$(DESTDIR)$(PREFIX)/bin/station_check'
-	@for file in $(SHARED); do \
-	  install -d "$(DESTDIR)$(PREFIX)/$$(dirname "$$file")" && \
-	  install -m 644 "$$file" "$(DESTDIR)$(PREFIX)/$$file" || exit 1; \
-	done
+	@put() { install -d "$$(dirname "$$2")" && install -m 644 "$$1" "$$2"; }; \
+	for file in $(SHARED); do put "$$file" "$(DESTDIR)$(PREFIX)/$$file" || exit 1; done; \
+	for file in $(DOCUMENTS); do put "$$file" "$(DESTDIR)$(PREFIX)/$(DOCUMENT_FOLDER)/$$file" || exit 1; done
 
-# Removes what `make install` put there.
+# Removes what `make install` put there, and the folders of the documents where nothing else is left in them.
 uninstall:
 	rm -f '$(DESTDIR)$(PREFIX)/bin/station_check' $(SHARED:%='$(DESTDIR)$(PREFIX)/%')
+	rm -f $(DOCUMENTS:%='$(DESTDIR)$(PREFIX)/$(DOCUMENT_FOLDER)/%')
+	@for folder in docs examples ''; do \
+	  rmdir "$(DESTDIR)$(PREFIX)/$(DOCUMENT_FOLDER)/$$folder" 2> /dev/null || true; \
+	done
+
+# An archive of what is installed, a Debian package where dpkg-deb is found, and their checksums, in $(DIST).
+dist: $(PROGRAM)
+	@RT='$(RT)' sh packaging/dist.sh '$(PROGRAM)' '$(DIST)'
 
 clean:
-	rm -rf crates/*/out
+	rm -rf crates/*/out build
 
-# Proves the crates one by one, lowest first, and links the program. A failed proof is a failed build.
+# Proves the crates one by one, lowest first, links the program and puts it where it is run and installed from. A
+# failed proof is a failed build.
 $(PROGRAM): $(SOURCES)
 	@$(NEED_TOOLCHAIN)
 	@echo 'proving $(words $(CRATES)) crates; the first time takes minutes' >&2
@@ -80,8 +98,8 @@ $(PROGRAM): $(SOURCES)
 	  printf '%4d s  %s\n' $$(($$(date +%s) - start)) "$$crate" >&2; \
 	  mkdir -p "crates/$$crate/out"; \
 	  log="$$PWD/crates/$$crate/out/build.log"; \
-	  case "$$crate" in station_check) verb=run ;; *) verb=lib ;; esac; \
+	  case "$$crate" in $(PROGRAM_CRATE)) verb=run ;; *) verb=lib ;; esac; \
 	  (cd "crates/$$crate" && $(RT) $$verb < /dev/null > "$$log" 2>&1) || { tail -n 20 "$$log" >&2; exit 1; }; \
 	done; \
 	printf '%4d s  all is proved\n' $$(($$(date +%s) - start)) >&2
-	@touch $@
+	@install -D -m 755 crates/$(PROGRAM_CRATE)/out/$(PROGRAM_CRATE) $@

@@ -23,7 +23,7 @@ import time
 from pathlib import Path
 
 ROOT = Path(__file__).resolve().parent.parent
-PROGRAM = ROOT / "crates/station_check/out/station_check"
+PROGRAM = ROOT / "build/station_check"
 CIRCLE = 40_000_000
 HALF = CIRCLE // 2
 

@@ -4,13 +4,15 @@
     station_check check FIELD.gsi SHEET.csv | python3 residuals.py SHEET.csv > PICTURE.svg
 
 Each set has a column and each target a row. The line of the acceptance stands in the picture, and
-is compared with the sheet first, so that a refused sheet has no picture.
+is compared with the sheet first, so that a refused sheet has no picture. The standard deviation is
+computed here alone: station_check says nothing of it.
 
 Python 3.10 or later is all it needs.
 """
 
 import argparse
 import csv
+import math
 import re
 import sys
 from fractions import Fraction
@@ -28,7 +30,7 @@ ACCEPTED = re.compile(
 
 # The page, in millimetres: A4, or less of it where less is needed.
 PAGE, TALLEST, MARGIN = 210, 297, 12
-HEAD, AXIS, FOOT = 30, 10, 18
+HEAD, AXIS, FOOT = 30, 10, 26
 WIDEST_COLUMN, HIGHEST_ROW, LARGEST_TEXT = 44, 8, 3
 # The size of small text; the width of a digit and of a letter of type of one width, by their size.
 SMALL_TEXT, DIGIT, LETTER = 2.2, 0.56, 0.61
@@ -41,6 +43,7 @@ NOTE = 2.8
 WHITE, STRIPE, PALE, MISSING, INK = "#ffffff", "#f3f3f1", "#b8b8b8", "#666666", "#222222"
 BAR, GREATEST = "#35628f", "#b4431f"
 BOLD, ONE_WIDTH = ' font-weight="bold"', ' font-family="monospace"'
+MARKED = f'{BOLD} fill="{GREATEST}"'
 NOT_SEEN = "\N{MULTIPLICATION SIGN}"
 
 
@@ -55,6 +58,25 @@ class Sheet(NamedTuple):
     sets: list
     residuals: dict
     summary: tuple  # what the line of its acceptance must say
+
+    def greatest(self):
+        """The greatest size of a residual."""
+        return max(map(abs, self.residuals.values()))
+
+    def greatest_places(self):
+        """The set and the target of each residual of the greatest size, unless that is 0."""
+        greatest = self.greatest()
+        return [at for at, v in self.residuals.items() if v and abs(v) == greatest]
+
+    def degrees_of_freedom(self):
+        """How many observations there are more than unknowns: all directions but the first, and
+        all orientations."""
+        return len(self.residuals) - (len(self.targets) - 1) - len(self.sets)
+
+    def standard_deviation(self):
+        """That of a two-face direction, in mgon; there are some degrees of freedom."""
+        squares = sum(v * v for v in self.residuals.values())
+        return math.sqrt(squares / self.degrees_of_freedom())
 
 
 # ---------------------------------------------------------------- the sheet
@@ -121,6 +143,11 @@ def signed(number):
     return text[1:] if float(number) == 0 else text
 
 
+def plain(value):
+    """The text of a round number."""
+    return f"{float(value):.3f}".rstrip("0").rstrip(".")
+
+
 def round_above(value):
     """The least round number that is not below a value: 0.01, 0.015, 0.02, 0.03 and so on."""
     step = Fraction(1, 100)
@@ -144,7 +171,7 @@ class Page:
         self.top = HEAD + AXIS
         self.bottom = self.top + self.row * len(sheet.targets)
         self.height = self.bottom + FOOT
-        self.greatest = max(map(abs, sheet.residuals.values()))
+        self.greatest = sheet.greatest()
         self.scale = round_above(self.greatest)
         self.place_numbers()
 
@@ -178,7 +205,7 @@ class Page:
 
 def heading(page, sheet, accepted):
     size = min(2.9, (PAGE - 2 * MARGIN) / (LETTER * len(accepted)))
-    span = f"\N{MINUS SIGN}{float(page.scale):g} to +{float(page.scale):g} mgon"
+    span = f"\N{MINUS SIGN}{plain(page.scale)} to +{plain(page.scale)} mgon"
     yield text(MARGIN, 14, 5.5, f"Station {sheet.summary[0]}", more=BOLD)
     yield text(MARGIN, 20.5, 3.4, f"Residuals by target and set; each column spans {span}")
     yield text(MARGIN, 26.5, size, accepted, more=ONE_WIDTH)
@@ -188,18 +215,20 @@ def axes(page, sheet):
     """The numbers of the sets; lines at zero and, in wide columns, at the ends of the scale."""
     narrow = page.column < NARROW
     size = min(LARGEST_TEXT, page.column * 0.6)
+    marked = {of_set for of_set, _ in sheet.greatest_places()}
     yield text(MARGIN, page.top - 5, LARGEST_TEXT, "set" if narrow else "target")
     for column, number in enumerate(sheet.sets):
         middle = page.middle(column)
         name = str(number) if narrow else f"set {number}"
         size = min(size, page.column / (len(name) * LETTER))
-        yield text(middle, page.top - 5, size, name, "middle", BOLD)
+        more = MARKED if number in marked else BOLD
+        yield text(middle, page.top - 5, size, name, "middle", more)
         yield line(middle, page.top - 1, middle, page.bottom, INK)
         for side in () if narrow else (-1, 1):
             x = middle + side * page.reach
             yield line(x, page.top - 1, x, page.bottom, PALE)
             if page.beside:
-                label = signed(f"{side * float(page.scale):+g}")
+                label = f"{'+' if side > 0 else chr(0x2212)}{plain(page.scale)}"
                 yield text(x, page.top - 1.8, SMALL_TEXT, label, "middle")
 
 
@@ -209,10 +238,12 @@ def stripe(row):
 
 
 def stripes(page, sheet):
+    marked = {target for _, target in sheet.greatest_places()}
     for row, target in enumerate(sheet.targets):
         top = page.top + row * page.row
         yield box(MARGIN - 2, top, page.right - MARGIN + 2, page.row, stripe(row))
-        yield text(MARGIN, page.base(row, page.size), page.size, target, more=ONE_WIDTH)
+        more = ONE_WIDTH + (MARKED if target in marked else "")
+        yield text(MARGIN, page.base(row, page.size), page.size, target, more=more)
 
 
 def bar(page, column, row, value):
@@ -245,14 +276,38 @@ def bars(page, sheet):
 
 
 def notes(page, sheet):
-    greatest = f"The greatest residual, {float(page.greatest):.3f} mgon, is red."
-    said = greatest if page.greatest else "All residuals are 0."
+    """What is said below the rows."""
+    said = [greatest_note(page, sheet)]
     if len(sheet.residuals) < len(sheet.sets) * len(sheet.targets):
-        said += f" {NOT_SEEN} means that the target was not observed in that set."
-    yield text(MARGIN, page.bottom + 7, NOTE, said)
-    meaning = "A residual is the adjusted direction, less the orientation, less the reading."
-    sums = "Those of a row add up to 0, and those of a column."
-    yield text(MARGIN, page.bottom + 11.5, NOTE, f"{meaning} {sums}")
+        said.append(f"{NOT_SEEN} means that the target was not observed in that set.")
+    said.append(
+        "A residual is the adjusted direction, less the orientation, less the reading. "
+        "Those of a row add up to 0, and those of a column."
+    )
+    said.append(deviation_note(sheet))
+    for number, note in enumerate(said):
+        yield text(MARGIN, page.bottom + 7 + 4.5 * number, NOTE, note)
+
+
+def greatest_note(page, sheet):
+    """Where the greatest residual is."""
+    places = sheet.greatest_places()
+    if not places:
+        return "All residuals are 0."
+    of_set, target = places[0]
+    others = f", and {len(places) - 1} as large" if len(places) > 1 else ""
+    size = f"{float(page.greatest):.3f} mgon"
+    return f"The greatest residual, {size}, is red: set {of_set}, target {target}{others}."
+
+
+def deviation_note(sheet):
+    """The standard deviation of a two-face direction, which no acceptance speaks of."""
+    freedom = sheet.degrees_of_freedom()
+    degrees = f"{freedom} degrees of freedom" if freedom != 1 else "1 degree of freedom"
+    if freedom == 0:
+        return f"{degrees}: the residuals say nothing of the accuracy."
+    deviation = f"standard deviation of a two-face direction {sheet.standard_deviation():.3f} mgon"
+    return f"Not checked by station_check: {deviation}, {degrees}."
 
 
 def picture(sheet, accepted):
@@ -287,7 +342,7 @@ def main():
     )
     parser.add_argument("sheet", metavar="SHEET", type=Path, help="the accepted sheet")
     asked = parser.parse_args()
-    accepted = sys.stdin.read().rstrip("\n")
+    accepted = sys.stdin.read().rstrip("\r\n")
     try:
         sheet = read_sheet(asked.sheet)
         compare(accepted, sheet)

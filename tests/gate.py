@@ -1,61 +1,244 @@
-"""The gate: `rt ci`, then the tests of the command line. Its last line is 'N passed, M failed'."""
+"""The gate: `rt ci`, then the tests of the command line. Its last line is 'N passed, M failed'.
+
+It says how long it takes, and each minute how far it is; at its end it names what was skipped.
+"""
 
 import os
 import re
+import shutil
 import subprocess
 import sys
-import unittest
+import tempfile
+import threading
+import time
+from collections import Counter
 from pathlib import Path
 
+import command_line
+
 ROOT = Path(__file__).resolve().parent.parent
+
+# The program as `rt ci` leaves it, and where it is run from.
+LINKED = ROOT / "crates" / "station_program" / "out" / "station_program"
+PROGRAM = ROOT / "build" / "station_check"
 COUNTS = re.compile(r"^(\d+) passed, (\d+) failed$")
 
-# The memory that a check of any crate stays within, in bytes.
-MEMORY_OF_A_CHECK = 5 * 2**30
+# How many minutes the gate takes on so many processors, with nothing beside it.
+MINUTES = {4: 60, 2: 110}
+
+# The memory that a check of the largest crate stays within, whose proof and tests may run side by
+# side, and that any other check stays within, in bytes.
+LARGEST_CHECK = 5 * 2**30
+OTHER_CHECK = 2 * 2**30
+
+# The limits that a container may set: of memory in bytes, and of processors as time in a period.
+MEMORY_LIMITS = ["/sys/fs/cgroup/memory.max", "/sys/fs/cgroup/memory/memory.limit_in_bytes"]
+TIME_LIMITS = [
+    ["/sys/fs/cgroup/cpu.max"],
+    ["/sys/fs/cgroup/cpu/cpu.cfs_quota_us", "/sys/fs/cgroup/cpu/cpu.cfs_period_us"],
+]
+
+# The folders of a crate that `rt ci` copies to try a wrong body, and how such a copy is named.
+PARTS = ["src", "specs", "proofs"]
+COPY = "rt-edit-"
+
+# What `rt ci` says of a crate.
+PROVED = re.compile(r"^rt: (\w+) proved$")
+TESTED = re.compile(r"^rt: (\w+): its tests are proved$")
+NOTE = re.compile(r"^rt: note: ")
+
+# How often it is looked, and how often it is said, how far the gate is, in seconds.
+LOOK, SAY = 1, 60
 
 
-def environment():
-    """The environment of `rt ci`, with one check at a time for each processor, as far as memory goes.
+def numbers_in(*paths):
+    """The numbers in these files, or none where one is missing or sets no limit."""
+    try:
+        words = [word for path in paths for word in Path(path).read_text().split()]
+    except OSError:
+        return []
+    return [int(word) for word in words] if all(map(str.isdigit, words)) else []
 
-    By itself `rt ci` keeps the largest crate back until all the memory is free that it might take, and
-    then proves it last and alone. RT_JOBS of the caller stands.
+
+def processors():
+    """How many processors there are to use."""
+    found = [len(os.sched_getaffinity(0))]
+    for paths in TIME_LIMITS:
+        if limit := numbers_in(*paths):
+            found.append(max(1, limit[0] // limit[1]))
+    return min(found)
+
+
+def memory():
+    """How much memory there is to use, in bytes."""
+    found = [os.sysconf("SC_PAGE_SIZE") * os.sysconf("SC_PHYS_PAGES")]
+    return min(found + [limit for path in MEMORY_LIMITS for limit in numbers_in(path)])
+
+
+def environment(room):
+    """The environment of `rt ci`: one check at a time for each processor, as far as memory goes,
+    and a folder of its own for what it writes meanwhile.
+
+    By itself `rt ci` keeps the largest crate back until all the memory is free that it might take,
+    and then proves it last and alone; where memory does not hold two of its size, it knows better
+    which smaller ones go together. RT_JOBS of the caller stands.
     """
-    memory = os.sysconf("SC_PAGE_SIZE") * os.sysconf("SC_PHYS_PAGES")
-    checks = max(1, min(len(os.sched_getaffinity(0)), memory // MEMORY_OF_A_CHECK))
-    return {"RT_JOBS": str(checks), **os.environ}
+    checks = min(processors(), 2 + (memory() - 2 * LARGEST_CHECK) // OTHER_CHECK)
+    jobs = {"RT_JOBS": str(checks)} if checks > 1 else {}
+    return {**jobs, **os.environ, "TMPDIR": room}
 
 
-def proofs_passed_and_failed():
-    """Runs `rt ci`, shows what it prints, and answers its counts; a run with no counts is one failure."""
+def sources(folder):
+    """The files that a crate, or a copy of one, is made of."""
+    found = (path for part in PARTS for path in (folder / part).rglob("*") if path.is_file())
+    return {str(path.relative_to(folder)) for path in found}
+
+
+class Progress:
+    """How far `rt ci` is.
+
+    It tells of proofs when they have ended, and of wrong bodies only at its own end. For each of
+    these it copies the crate into a folder of its own, and so they are counted here.
+    """
+
+    def __init__(self, room):
+        self.room, self.start = Path(room), time.monotonic()
+        names = re.findall(r"^(\w+):", (ROOT / "crates.txt").read_text(), re.MULTILINE)
+        crates = [ROOT / "crates" / name for name in names]
+        self.sources = {crate.name: sources(crate) for crate in crates}
+        self.wrong = {crate.name: len([*crate.glob("must-fail/*.edit")]) for crate in crates}
+        self.tried, self.seen = Counter(), set()
+        # The minutes at which each crate was proved, its tests were, and the first and the last of
+        # its wrong bodies were begun.
+        self.proved, self.tested, self.first, self.last = {}, {}, {}, {}
+        self.notes = []
+
+    def hear(self, line):
+        """Takes note of a line of `rt ci`."""
+        if found := PROVED.match(line):
+            self.proved[found[1]] = self.minutes()
+        if found := TESTED.match(line):
+            self.tested[found[1]] = self.minutes()
+        if NOTE.match(line):
+            self.notes.append(line.rstrip("\n"))
+
+    def look(self):
+        """Counts the wrong bodies that are tried and were not yet seen."""
+        for copy in {*self.room.glob(f"{COPY}*")} - self.seen:
+            try:
+                files = sources(copy)
+            except OSError:
+                continue  # it is gone again
+            for crate, of_crate in self.sources.items():
+                if files == of_crate:
+                    self.seen.add(copy)
+                    self.tried[crate] += 1
+                    self.first.setdefault(crate, self.minutes())
+                    self.last[crate] = self.minutes()
+
+    def minutes(self):
+        return (time.monotonic() - self.start) / 60
+
+    def line(self):
+        tried = {crate: min(self.tried[crate], count) for crate, count in self.wrong.items()}
+        begun = [f"{crate} {n} of {self.wrong[crate]}" for crate, n in tried.items() if n]
+        wrong = f"wrong bodies tried: {sum(tried.values())} of {sum(self.wrong.values())}"
+        if begun:
+            wrong += f" ({', '.join(begun)})"
+        lacking = [crate for crate in self.sources if crate not in self.proved]
+        proved = f"not yet proved: {', '.join(lacking)}" if lacking else "all crates proved"
+        return f"gate: {self.minutes():.0f} min: {proved}; tests of {len(self.tested)}; {wrong}"
+
+    def times(self):
+        """A table of when each crate's work was done."""
+        yield f"{'minutes':16}{'proved':>8}{'tests':>8}{'wrong bodies':>22}"
+        for crate, wrong in self.wrong.items():
+            ended = [self.proved.get(crate), self.tested.get(crate)]
+            columns = "".join(" " * 8 if at is None else f"{at:8.1f}" for at in ended)
+            begun = ""
+            if crate in self.first:
+                begun = f"{self.first[crate]:.1f} to {self.last[crate]:.1f} ({wrong})"
+            yield f"{crate:16}{columns}{begun:>22}"
+
+    def show(self, has_ended):
+        """Says how far it is until it has ended."""
+        said = time.monotonic()
+        while not has_ended.wait(LOOK):
+            self.look()
+            if time.monotonic() - said >= SAY:
+                said = time.monotonic()
+                print(self.line(), flush=True)
+
+
+def proofs_passed_and_failed(progress):
+    """Runs `rt ci`, shows what it prints, and answers its counts; a run with no counts is one
+    failure."""
     command = [os.environ.get("RT", "rt"), "ci"]
-    counts = None
+    counts, has_ended = None, threading.Event()
+    options = {"cwd": ROOT, "env": environment(str(progress.room))}
     streams = {"stdout": subprocess.PIPE, "stderr": subprocess.STDOUT, "text": True}
-    with subprocess.Popen(command, cwd=ROOT, env=environment(), **streams) as gate:
+    clock = threading.Thread(target=progress.show, args=(has_ended,), daemon=True)
+    with subprocess.Popen(command, **options, **streams) as gate:
+        clock.start()
         for line in gate.stdout:
             print(line, end="", flush=True)
+            progress.hear(line)
             if found := COUNTS.match(line):
                 counts = int(found[1]), int(found[2])
+    has_ended.set()
+    clock.join()
     passed, failed = counts or (0, 1)
     if gate.returncode != 0 and failed == 0:
         failed = 1
     return passed, failed
 
 
-def command_line_passed_and_failed():
-    """Runs the tests of tests/cli over the program that `rt ci` built."""
-    suite = unittest.defaultTestLoader.discover(str(ROOT / "tests" / "cli"))
-    result = unittest.TextTestRunner(stream=sys.stdout, verbosity=2).run(suite)
-    failed = len(result.failures) + len(result.errors) + len(result.unexpectedSuccesses)
-    return max(result.testsRun - failed - len(result.skipped), 0), failed
+def begin(progress):
+    """Says what the gate does, and how long it takes."""
+    times = " and ".join(f"{minutes} minutes on {n}" for n, minutes in MINUTES.items())
+    print(f"gate: it takes about {times} processors; here it has {processors()}")
+    crates, wrong = len(progress.sources), sum(progress.wrong.values())
+    print(f"gate: it proves {crates} crates and their tests from nothing,")
+    print(f"gate: tries {wrong} wrong bodies, and runs the program and the tests", flush=True)
+
+
+def take_program():
+    """Copies the program that `rt ci` built to where it is run from."""
+    PROGRAM.parent.mkdir(exist_ok=True)
+    shutil.copy(LINKED, PROGRAM)
+
+
+def show_left_out(left_out):
+    """Says loudly what was not tested."""
+    if left_out:
+        print(f"\n{'!' * 70}")
+        for what in left_out:
+            print(f"SKIPPED: {what}")
+        print(f"{'!' * 70}\n", flush=True)
+
+
+def run_all():
+    """Runs it all; answers how many passed and failed, and what was left out."""
+    with tempfile.TemporaryDirectory(prefix="station_check-gate-") as room:
+        # The program and the tests are run below it by a user who owns nothing.
+        os.chmod(room, 0o711)
+        progress = Progress(room)
+        begin(progress)
+        passed, failed = proofs_passed_and_failed(progress)
+        print(f"gate: rt ci took {progress.minutes():.0f} min", *progress.times(), sep="\n")
+    if failed:
+        why = "all tests of the command line, since rt ci failed"
+        return passed, failed, [*progress.notes, why]
+    take_program()
+    counts = command_line.run()
+    return passed + counts.passed, counts.failed, progress.notes + counts.skipped
 
 
 def main():
     if sys.version_info < (3, 10):
         sys.exit("the gate needs Python 3.10 or later: name it as PYTHON=/path/to/python3")
-    passed, failed = proofs_passed_and_failed()
-    if failed == 0:
-        more_passed, failed = command_line_passed_and_failed()
-        passed += more_passed
+    passed, failed, left_out = run_all()
+    show_left_out(left_out)
     print(f"{passed} passed, {failed} failed", flush=True)
     return 0 if failed == 0 and passed > 0 else 1
 

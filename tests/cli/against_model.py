@@ -3,14 +3,10 @@
 With SWEEP in the environment whole sweeps are run, not samples of them.
 """
 
-import os
-from concurrent.futures import ThreadPoolExecutor
 from typing import NamedTuple, Optional
 
 import model
-from program import EXAMPLE, ProgramTest, answer_of
-
-SWEEP = "SWEEP" in os.environ
+from program import EXAMPLE, SWEEP, ProgramTest, answer_of, side_by_side
 
 FIELD = EXAMPLE.read_bytes()
 SHEET = model.means(FIELD, b"S1")[1]
@@ -71,11 +67,9 @@ class AgainstModel(ProgramTest):
         """Runs all cases and gives the model's answers; fails where the program's differ."""
         cases, wanted = list(cases), []
         self.assertTrue(cases)
-        with ThreadPoolExecutor(os.cpu_count()) as pool:
-            answers = pool.map(self.answer, range(len(cases)), cases)
-            for case, answer in zip(cases, answers):
-                wanted.append(case.expected())
-                if answer != wanted[-1]:
-                    with self.subTest(case.name, gsi=case.gsi[:2000], sheet=case.sheet[:2000]):
-                        self.assertEqual(wanted[-1], answer)
+        for case, answer in zip(cases, side_by_side(self.answer, range(len(cases)), cases)):
+            wanted.append(case.expected())
+            if answer != wanted[-1]:
+                with self.subTest(case.name, gsi=case.gsi[:2000], sheet=case.sheet[:2000]):
+                    self.assertEqual(wanted[-1], answer)
         return wanted

@@ -1,9 +1,12 @@
-/* A library to preload: reads that give little or fail, and an output that takes little or fails.
+/* A library to preload: reads that give little, fail or end, and an output that takes little or
+ * fails.
  *
- *   READ_MOST=N     each read gives at most N bytes
- *   READ_PATH=PATH  the file whose reads fail with READ_ERROR once they gave READ_ROOM bytes
- *   WRITE_MOST=N    each write to standard output takes at most N bytes
- *   WRITE_ROOM=N    standard output takes N bytes in all, and then fails
+ *   READ_MOST=N       each read gives at most N bytes
+ *   READ_PATH=PATH    the file whose reads fail with READ_ERROR once they gave READ_ROOM bytes
+ *   READ_ERROR=0      they end there, as the end of a file, and do not fail
+ *   READ_STOPS=N      only so many reads fail or end; those after them give what follows
+ *   WRITE_MOST=N      each write to standard output takes at most N bytes
+ *   WRITE_ROOM=N      standard output takes N bytes in all, and then fails
  */
 #define _GNU_SOURCE
 #include <errno.h>
@@ -14,7 +17,7 @@
 
 #define NO_LIMIT (1UL << 62)
 
-static unsigned long read_most = NO_LIMIT, read_room = NO_LIMIT;
+static unsigned long read_most = NO_LIMIT, read_room = NO_LIMIT, read_stops = NO_LIMIT;
 static unsigned long write_most = NO_LIMIT, write_room = NO_LIMIT;
 static int read_error = EIO;
 static int has_path, has_output;
@@ -32,6 +35,7 @@ __attribute__((constructor)) static void begin(void)
 
     read_most = number("READ_MOST", NO_LIMIT);
     read_room = number("READ_ROOM", NO_LIMIT);
+    read_stops = number("READ_STOPS", NO_LIMIT);
     write_most = number("WRITE_MOST", NO_LIMIT);
     write_room = number("WRITE_ROOM", NO_LIMIT);
     read_error = (int)number("READ_ERROR", EIO);
@@ -53,11 +57,12 @@ static size_t least(size_t size, unsigned long most)
 ssize_t read(int file, void *to, size_t size)
 {
     size = least(size, read_most);
-    if (!has_path || !is_same(file, &path))
+    if (!has_path || !is_same(file, &path) || read_stops == 0)
         return syscall(SYS_read, file, to, size);
     if (read_room == 0) {
+        read_stops--;
         errno = read_error;
-        return -1;
+        return read_error == 0 ? 0 : -1;
     }
     ssize_t given = syscall(SYS_read, file, to, least(size, read_room));
     if (given > 0)

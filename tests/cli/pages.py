@@ -60,14 +60,19 @@ def tools(folder):
     return folder
 
 
+def environment_of(folder):
+    """The environment of commands that find these tools first."""
+    path = f"{folder}{os.pathsep}{os.environ['PATH']}"
+    return {**os.environ, "PATH": path, "LC_ALL": "C", "PYTHONDONTWRITEBYTECODE": "1"}
+
+
 def printed_by(steps, folder):
     """What each command prints, in a folder that has what a page works on."""
     script = "".join(
         f"{{ {step.command}\n}} 2>&1\nstatus=$?; echo '{END}'; (exit $status)\n" for step in steps
     )
     with tempfile.TemporaryDirectory() as top:
-        path = f"{tools(Path(top) / 'bin')}{os.pathsep}{os.environ['PATH']}"
-        environment = {**os.environ, "PATH": path, "LC_ALL": "C", "PYTHONDONTWRITEBYTECODE": "1"}
+        environment = environment_of(tools(Path(top) / "bin"))
         run = {"cwd": folder, "env": environment, "stdin": subprocess.DEVNULL, "timeout": TIME}
         done = subprocess.run(["bash", "-c", script], capture_output=True, **run)
     printed = done.stdout.decode().replace("\r\n", "\n").split(f"{END}\n")

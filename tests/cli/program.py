@@ -1,16 +1,26 @@
-"""The built program, run as a user runs it."""
+"""The built program, run as a user runs it. Each run and each test has an end."""
 
 import os
+import signal
 import subprocess
 import tempfile
+import time
 import unittest
+from concurrent.futures import ThreadPoolExecutor
 from dataclasses import dataclass, field
 from pathlib import Path
 
 ROOT = Path(__file__).resolve().parents[2]
-PROGRAM = Path(os.environ.get("STATION_CHECK", ROOT / "crates" / "station_check" / "out" / "station_check"))
+PROGRAM = Path(os.environ.get("STATION_CHECK", ROOT / "build" / "station_check"))
 EXAMPLE = ROOT / "examples" / "station_s1.gsi"
 EXAMPLE_SHEET = ROOT / "examples" / "station_s1.csv"
+
+# Whether whole sweeps are run, and not samples of them.
+SWEEP = "SWEEP" in os.environ
+
+# More than any run takes, and more than any test takes, in seconds.
+TIME = 60
+TIME_OF_A_TEST = 7_200 if SWEEP else 600
 
 
 @dataclass
@@ -29,13 +39,57 @@ class Run:
     status: int = 0
 
 
-def answer_of(args, stdin=b"", **options):
-    """The status, standard output and standard error of a run."""
-    done = subprocess.run([PROGRAM, *args], input=stdin, capture_output=True, timeout=60, **options)
+def answer_to(command, **options):
+    """The status, standard output and standard error of a command."""
+    done = subprocess.run(command, capture_output=True, timeout=TIME, **options)
     return done.returncode, done.stdout, done.stderr
 
 
-class ProgramTest(unittest.TestCase):
+def answer_of(args, stdin=b"", **options):
+    """The answer of a run of the program."""
+    return answer_to([PROGRAM, *args], input=stdin, **options)
+
+
+def answer_in_shell(script, *args):
+    """The answer of a script of the shell, in which "$@" is the program and its words."""
+    return answer_to(["bash", "-c", script, "bash", PROGRAM, *args])
+
+
+def side_by_side(call, *given):
+    """What a call answers to each that it is given, in their order, several at a time."""
+    pool = ThreadPoolExecutor(os.cpu_count())
+    try:
+        yield from pool.map(call, *given)
+    finally:
+        pool.shutdown(cancel_futures=True)
+
+
+def until(is_so):
+    """Waits until something is so, and fails where it does not become so in time."""
+    end = time.monotonic() + TIME
+    while not is_so():
+        if time.monotonic() > end:
+            raise TimeoutError(f"it is not so after {TIME} s")
+        time.sleep(0.005)
+
+
+def too_long(*_):
+    raise TimeoutError(f"the test takes more than {TIME_OF_A_TEST} s")
+
+
+class TimedTest(unittest.TestCase):
+    """Tests that end: one that waits for what never comes has failed."""
+
+    def run(self, result=None):
+        signal.signal(signal.SIGALRM, too_long)
+        signal.alarm(TIME_OF_A_TEST)
+        try:
+            return super().run(result)
+        finally:
+            signal.alarm(0)
+
+
+class ProgramTest(TimedTest):
     """Tests that run the program in a folder of their own."""
 
     maxDiff = None

@@ -13,7 +13,7 @@ from random import Random
 import model
 from model import CIRCLE, HALF_CIRCLE, TURN
 from program import EXAMPLE, ROOT, ProgramTest, answer_of
-from worked import field_file, refused
+from worked import STATION, field_file, refused
 
 sys.path.insert(0, str(ROOT / "examples"))
 import adjust  # noqa: E402
@@ -169,15 +169,45 @@ class AdjustTest(ProgramTest):
         two = one + one.replace(b"S1", b"S2")
         self.assertIn(b",S2,", self.run_adjust("--station", "S2", stdin=two)[1])
         for args, said in [
-            ([], "name one station of the list with --station; it has: S1, S2"),
+            ([], "name one station of the list with --station, or take --all; it has: S1, S2"),
             (["--station=S3"], "the list has no station S3; it has: S1, S2"),
         ]:
             self.assertEqual((1, b"", f"adjust.py: {said}\n"), self.run_adjust(*args, stdin=two))
 
+    def test_all_stations_of_a_list_are_written_at_once(self):
+        fields = [STATION.replace(b"00S1", name) for name in (b"00S1", b"0S 2", b"00S3")]
+        gsi, start = self.folder / "three.gsi", self.folder / "three"
+        gsi.write_bytes(b"".join(fields))
+        listed = answer_of(["list", gsi])[1]
+        self.assertEqual((0, b"", ""), self.run_adjust("--all", start, stdin=listed))
+        for name in ["S1", "S 2", "S3"]:
+            status, said, _ = answer_of(["check", gsi, self.folder / f"three.{name}.csv"])
+            self.assertEqual(0, status)
+            self.assertTrue(said.startswith(f"accepted {name}: ".encode()))
+
+    def test_a_station_that_cannot_be_written_leaves_the_others(self):
+        sets = {1: [("A", 0, HALF_CIRCLE)], 2: [("B", 0, HALF_CIRCLE)]}
+        apart = field_file(sets).replace(b"00S1", b"00S2")
+        gsi, start = self.folder / "some.gsi", self.folder / "some"
+        gsi.write_bytes(apart + STATION + STATION.replace(b"00S1", b"0S/3"))
+        listed = answer_of(["list", gsi])[1]
+        status, printed, said = self.run_adjust(f"--all={start}", stdin=listed)
+        self.assertEqual((1, b""), (status, printed))
+        self.assertEqual(2, said.count("adjust.py: "), said)
+        self.assertIn("adjust.py: station S2 is not connected", said)
+        self.assertIn("adjust.py: no file can have the name of station S/3", said)
+        self.assertEqual([f"{start}.S1.csv"], [str(p) for p in self.folder.glob("some.*.csv")])
+        self.assertEqual(2, self.run_adjust("--all=x", "--station=S1", stdin=listed)[0])
+        nowhere = self.folder / "none" / "x"
+        self.assertEqual(1, self.run_adjust("--all", nowhere, stdin=listed)[0])
+
     def test_what_is_no_list_is_said(self):
         one = answer_of(["list", EXAMPLE])[1]
         for text, said in [
-            (b"", "name one station of the list with --station; it has: none"),
+            (b"", "the list is empty: station_check refused the field file, and has said why, or"),
+            (b"refused: block 3: Hz Unit\n", "the list was refused: refused: block 3: Hz Unit"),
+            (one.decode().encode("utf-16"), "this is no list of station_check, but perhaps one"),
+            (one.decode().encode("utf-16-le"), "this is no list of station_check, but perhaps one"),
             (one.splitlines(True)[1], "line 1 is no line of a list of station_check"),
             (one + b"more\n", "line 6 is no line of a list of station_check: 'more'"),
             (one + b"\xff\n", "line 6 is no line of a list of station_check"),

@@ -1,8 +1,6 @@
 """Sheets checked against field files."""
 
-import subprocess
-
-from program import EXAMPLE, EXAMPLE_SHEET, PROGRAM, ProgramTest, Run, answer_of
+from program import EXAMPLE, EXAMPLE_SHEET, ProgramTest, Run, answer_in_shell, answer_of
 from worked import ACCEPTED, SHEET, STATION, edited, field_file, refused, widened
 
 CHECK = ["check", "{file}", "{sheet}"]
@@ -330,9 +328,8 @@ class CheckTest(ProgramTest):
                 self.assertRegex(stderr, rb"^(refused: .+\n)?$")
 
     def test_both_files_may_be_pipes(self):
-        command = f"'{PROGRAM}' check <(cat '{EXAMPLE}') <(cat '{EXAMPLE_SHEET}')"
-        done = subprocess.run(["bash", "-c", command], capture_output=True, timeout=60)
-        self.assertEqual((0, ACCEPTED, b""), (done.returncode, done.stdout, done.stderr))
+        files = f"<(cat '{EXAMPLE}') <(cat '{EXAMPLE_SHEET}')"
+        self.assertEqual((0, ACCEPTED, b""), answer_in_shell(f'"$@" {files}', "check"))
         for gsi, sheet, stdin in [
             ("/dev/stdin", EXAMPLE_SHEET, STATION),
             (EXAMPLE, "/dev/stdin", SHEET),
@@ -341,7 +338,5 @@ class CheckTest(ProgramTest):
                 self.assertEqual((0, ACCEPTED, b""), answer_of(["check", gsi, sheet], stdin))
 
     def test_a_sheet_that_never_ends_is_refused(self):
-        command = f"yes | '{PROGRAM}' check '{EXAMPLE}' /dev/stdin"
-        done = subprocess.run(["bash", "-c", command], capture_output=True, timeout=60)
-        answer = done.returncode, done.stdout, done.stderr
+        answer = answer_in_shell('yes | "$@"', "check", EXAMPLE, "/dev/stdin")
         self.assertEqual((1, b"", refused("sheet: TooLong")), answer)

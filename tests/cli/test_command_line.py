@@ -6,7 +6,16 @@ import shlex
 import shutil
 import subprocess
 
-from program import EXAMPLE, EXAMPLE_SHEET, PROGRAM, ProgramTest, Run, answer_of
+import model
+from program import (
+    EXAMPLE,
+    EXAMPLE_SHEET,
+    PROGRAM,
+    ProgramTest,
+    answer_in_shell,
+    answer_of,
+    answer_to,
+)
 from worked import ACCEPTED, LIST, SHEET, STATION, refused
 
 # The words of each command for the field file `{gsi}`, and what it answers to the example.
@@ -21,7 +30,7 @@ OF_EXAMPLE = {
     "check": ACCEPTED,
     "means": SHEET,
     "list": LIST,
-    "words": answer_of(["words", EXAMPLE])[1] if PROGRAM.exists() else b"",
+    "words": model.words(STATION)[1],
 }
 
 NO_MEMORY = (1, b"", b"refused: out of memory\n")
@@ -77,6 +86,10 @@ class CommandLineTest(ProgramTest):
         other = self.folder / "other"
         self.assert_answer(cannot_open(missing), ["check", str(missing), str(other)])
 
+    def test_a_path_is_shown_on_one_line(self):
+        for path, shown in [("a\nb", "a?b"), ("\x1b[31m", "?[31m"), ("\x7f\x85\u00e9", "??\u00e9")]:
+            self.assert_answer(cannot_open(shown), of_file("list", path))
+
     def test_a_file_without_permission_cannot_be_opened(self):
         program, secret = self.folder / "station_check", self.folder / "secret.gsi"
         shutil.copy(PROGRAM, program)
@@ -84,8 +97,7 @@ class CommandLineTest(ProgramTest):
         os.chmod(self.folder, 0o755)
         os.chmod(secret, 0)
         user = {"user": "nobody"} if os.geteuid() == 0 else {}
-        done = subprocess.run([program, "words", secret], capture_output=True, timeout=60, **user)
-        self.assertEqual((2, b"", f"cannot open {secret}\n".encode()), (done.returncode, done.stdout, done.stderr))
+        self.assertEqual(cannot_open(secret), answer_to([program, "words", secret], **user))
 
     def test_a_folder_is_no_file(self):
         for command in COMMANDS:
@@ -96,8 +108,8 @@ class CommandLineTest(ProgramTest):
         pipe = self.folder / "pipe"
         os.mkfifo(pipe)
         for command, stdout in OF_EXAMPLE.items():
-            with subprocess.Popen(["bash", "-c", f"cat '{EXAMPLE}' > '{pipe}'"]):
-                self.assert_answer((0, stdout, b""), of_file(command, pipe))
+            run = answer_in_shell(f"cat '{EXAMPLE}' > '{pipe}' & \"$@\"", *of_file(command, pipe))
+            self.assertEqual((0, stdout, b""), run, command)
 
     def test_an_empty_file_has_no_station(self):
         for command, expected in [
@@ -213,12 +225,11 @@ class CommandLineTest(ProgramTest):
         for args in [*commands, "--help", "--version"]:
             for output in [">/dev/full", ">&-"]:
                 with self.subTest(args=args, output=output):
-                    done = subprocess.run(["bash", "-c", f"'{PROGRAM}' {args} {output}"], capture_output=True, timeout=60)
-                    self.assertEqual((1, b"refused: write failed\n"), (done.returncode, done.stderr))
+                    answer = answer_in_shell(f'"$@" {args} {output}')
+                    self.assertEqual((1, b"", b"refused: write failed\n"), answer)
 
     def test_an_input_that_cannot_be_read_is_a_refusal(self):
-        done = subprocess.run(["bash", "-c", f"'{PROGRAM}' <&-"], capture_output=True, timeout=60)
-        self.assertEqual((1, b"", b"refused: block 1: Read\n"), (done.returncode, done.stdout, done.stderr))
+        self.assertEqual((1, b"", b"refused: block 1: Read\n"), answer_in_shell('"$@" <&-'))
 
     def test_want_of_memory_is_a_refusal(self):
         """The room of the process grows page by page: the loader fails, then the program, until it has all it wants.
@@ -251,5 +262,4 @@ class CommandLineTest(ProgramTest):
             ("nonsense", 2),
         ]:
             with self.subTest(args=args):
-                done = subprocess.run(["bash", "-c", f"'{PROGRAM}' {args} 2>&-"], capture_output=True, timeout=60)
-                self.assertEqual((status, b""), (done.returncode, done.stdout))
+                self.assertEqual((status, b"", b""), answer_in_shell(f'"$@" {args} 2>&-'))

@@ -15,13 +15,8 @@ import unittest
 import model
 import test_generated
 from against_model import FIELD, SHEET
-from program import PROGRAM, ProgramTest, answer_of
-
-# More than any run here takes, in seconds.
-TIME = 60
-
-# How long a run that still has input prints nothing, in seconds.
-QUIET = 0.5
+from processes import state_of, wants_more
+from program import PROGRAM, TIME, ProgramTest, answer_in_shell, answer_of, until
 
 REFUSED_WRITE = b"refused: write failed\n"
 
@@ -49,32 +44,26 @@ class EndsTest(ProgramTest):
         path.write_bytes(content)
         return path
 
-    def in_shell(self, script, *args):
-        """The answer of a script of the shell, in which "$@" is the program and its words."""
-        command = ["bash", "-c", script, "bash", PROGRAM, *args]
-        done = subprocess.run(command, capture_output=True, timeout=TIME)
-        return done.returncode, done.stdout, done.stderr
-
 
 class StreamsTest(EndsTest):
     def test_an_output_without_room(self):
         for args in self.runs:
             with self.subTest(args[0]):
-                self.assertEqual((1, b"", REFUSED_WRITE), self.in_shell('"$@" > /dev/full', *args))
+                self.assertEqual((1, b"", REFUSED_WRITE), answer_in_shell('"$@" > /dev/full', *args))
 
     @unittest.skipIf("STATION_CHECK" in os.environ, "another program may open closed streams anew")
     def test_a_closed_output(self):
         for args in self.runs:
             for closed in [">&-", "<&- >&-"]:
                 with self.subTest(args[0], closed=closed):
-                    answer = self.in_shell(f'"$@" {closed}', *args)
+                    answer = answer_in_shell(f'"$@" {closed}', *args)
                     self.assertEqual((1, b"", REFUSED_WRITE), answer)
 
     def test_closed_streams_that_are_not_used(self):
         for args in self.runs:
             for closed in ["<&-", "2>&-", "<&- 2>&-"]:
                 with self.subTest(args[0], closed=closed):
-                    self.assertEqual(answer_of(args), self.in_shell(f'"$@" {closed}', *args))
+                    self.assertEqual(answer_of(args), answer_in_shell(f'"$@" {closed}', *args))
 
     def test_a_failing_standard_error_changes_no_status(self):
         folder = str(self.folder)
@@ -82,7 +71,7 @@ class StreamsTest(EndsTest):
         for args in [*read, ["check", self.field, folder]]:
             for err in ["2> /dev/full", "2>&-"]:
                 with self.subTest(args[0], err=err):
-                    self.assertEqual((1, b"", b""), self.in_shell(f'"$@" {err}', *args))
+                    self.assertEqual((1, b"", b""), answer_in_shell(f'"$@" {err}', *args))
 
     def test_a_pipe_whose_reader_left(self):
         for args in self.runs:
@@ -98,9 +87,11 @@ class StreamsTest(EndsTest):
         large = self.file("large.gsi", FIELD * 10_000)
         pipes = {"stdout": subprocess.PIPE, "stderr": subprocess.PIPE}
         with subprocess.Popen([PROGRAM, "words", large], **pipes) as run:
+            self.assertTrue(select.select([run.stdout], [], [], TIME)[0])
             self.assertEqual(b"1 1 41", os.read(run.stdout.fileno(), 6))
             run.stdout.close()
-            self.assertEqual((REFUSED_WRITE, 1), (run.stderr.read(), run.wait(TIME)))
+            _, said = run.communicate(timeout=TIME)
+            self.assertEqual((REFUSED_WRITE, 1), (said, run.returncode))
 
 
 class FilesTest(EndsTest):
@@ -169,7 +160,10 @@ class FilesTest(EndsTest):
                 for path in paths:
                     os.mkfifo(path)
                 pairs = zip(paths, [field, SHEET])
-                writers = [threading.Thread(target=self.write_pieces, args=pair) for pair in pairs]
+                writers = [
+                    threading.Thread(target=self.write_pieces, args=pair, daemon=True)
+                    for pair in pairs
+                ]
                 for writer in writers:
                     writer.start()
                 self.assertEqual(answer, answer_of(["check", *paths]))
@@ -183,13 +177,21 @@ class FilesTest(EndsTest):
                 pipe.write(content[at : at + 7])
 
 
+def take_signals_as_usual():
+    """Of a process that becomes the program: signals that these tests were started to ignore, as
+    what runs in the background is, end it all the same."""
+    for number in [signal.SIGTERM, signal.SIGINT]:
+        signal.signal(number, signal.SIG_DFL)
+    signal.pthread_sigmask(signal.SIG_SETMASK, [])
+
+
 class SignalsTest(EndsTest):
     def started(self, *args):
         pipes = {"stdin": subprocess.PIPE, "stdout": subprocess.PIPE, "stderr": subprocess.PIPE}
-        run = subprocess.Popen([PROGRAM, *args], **pipes)
+        run = subprocess.Popen([PROGRAM, *args], **pipes, preexec_fn=take_signals_as_usual)
         for end in [run.stdin, run.stdout, run.stderr]:
             self.addCleanup(end.close)
-        self.addCleanup(run.wait)
+        self.addCleanup(run.wait, TIME)
         self.addCleanup(run.kill)
         return run
 
@@ -204,7 +206,7 @@ class SignalsTest(EndsTest):
                 for piece in [FIELD[:100], FIELD[100:]]:
                     os.write(run.stdin.fileno(), piece)
                     run.send_signal(signal.SIGSTOP)
-                    os.waitid(os.P_PID, run.pid, os.WSTOPPED)
+                    until(lambda: state_of(run) == "T")
                     run.send_signal(signal.SIGCONT)
                 stdout, stderr = run.communicate(timeout=TIME)
                 self.assertEqual(answer, (run.returncode, stdout, stderr))
@@ -221,21 +223,25 @@ class SignalsTest(EndsTest):
                     run.stdin.flush()
                     printed = self.printed_so_far(run)
                     run.send_signal(how)
-                    rest = run.stdout.read() + run.stderr.read()
-                    self.assertEqual((-how, b""), (run.wait(TIME), rest))
+                    rest = run.communicate(timeout=TIME)
+                    self.assertEqual((-how, (b"", b"")), (run.returncode, rest))
                     self.assertTrue(words.startswith(printed))
                     self.assertEqual(last, printed[-1:])
 
     @staticmethod
     def printed_so_far(run):
-        """What a run prints until it is quiet, or has ended."""
-        printed = b""
-        while select.select([run.stdout], [], [], QUIET)[0]:
-            piece = os.read(run.stdout.fileno(), 65_536)
-            if not piece:
-                break
-            printed += piece
-        return printed
+        """What a run prints until it has read all that it was given, and waits for more."""
+        printed = []
+
+        def waits():
+            is_waiting = wants_more(run)
+            if select.select([run.stdout], [], [], 0)[0]:
+                printed.append(os.read(run.stdout.fileno(), 65_536))
+                return not printed[-1]
+            return is_waiting
+
+        until(waits)
+        return b"".join(printed)
 
 
 class HugeTest(EndsTest):
@@ -248,14 +254,14 @@ class HugeTest(EndsTest):
         ]:
             for command, *more in [["list"], ["means", "S1"], ["check", self.sheet]]:
                 with self.subTest(lines, command=command):
-                    answer = self.in_shell(f'{lines} | "$@"', command, "/dev/stdin", *more)
+                    answer = answer_in_shell(f'{lines} | "$@"', command, "/dev/stdin", *more)
                     self.assertEqual(refused(reason), answer)
 
     def test_an_endless_sheet(self):
         rows = ["yes 'sheet,1,S1,4,'", "yes ''"]
         for lines in [*rows, "yes '\"' | tr -d '\\n'", "yes , | tr -d '\\n'"]:
             with self.subTest(lines):
-                check = self.in_shell(f'{lines} | "$@"', "check", self.field, "/dev/stdin")
+                check = answer_in_shell(f'{lines} | "$@"', "check", self.field, "/dev/stdin")
                 self.assertEqual(refused("sheet: TooLong"), check)
 
     def test_a_line_of_16_megabytes(self):

@@ -2,13 +2,12 @@
 
 import os
 import re
-import subprocess
 import sys
 
 import model
 import preload
 from kinds import OF_BYTES, OF_COUNTS, OF_READS, REFUSALS
-from program import EXAMPLE, PROGRAM, ROOT, ProgramTest, answer_of
+from program import EXAMPLE, PROGRAM, ROOT, ProgramTest, answer_in_shell, answer_of
 from worked import refused
 
 sys.path.insert(0, str(ROOT / "conformance"))
@@ -119,8 +118,7 @@ class ExplainTest(ProgramTest):
             long_sheet.write_bytes(b" " * (model.LONGEST_SHEET + 1))
             return answer_of(["check", EXAMPLE, long_sheet])[2]
         if example.endswith("write failed"):
-            done = subprocess.run(["bash", "-c", f"'{PROGRAM}' --help > /dev/full"], capture_output=True)
-            return done.stderr
+            return answer_in_shell('"$@" > /dev/full', "--help")[2]
         env = {"LD_PRELOAD": str(preload.built("refuse_allocation")), "REFUSE_CALL": "1"}
         return answer_of(["list", EXAMPLE], env={**env, "REFUSE_ALL": "1"})[2]
 
@@ -138,28 +136,59 @@ class ExplainTest(ProgramTest):
                     with self.subTest(words):
                         self.assertEqual(explained(name), explained(*words))
 
+    def test_capitals_and_small_letters_are_alike(self):
+        for name in names():
+            for written in [name.lower(), name.upper(), f"REFUSED: BLOCK 3: {name.swapcase()}"]:
+                with self.subTest(written):
+                    self.assertEqual(explained(name), explained(*written.split()))
+
+    def test_no_two_faults_have_one_name_but_for_capitals(self):
+        self.assertEqual(len(names()), len({name.lower() for name in names()}))
+
     def test_a_name_that_no_fault_has_is_a_mistake(self):
-        for words in [["nonsense"], ["twoc"], ["Unit"], [""], ["Hz", "n"], ["Byte", "x"], ["TwoC", ":"]]:
+        for words in [["nonsense"], [""], ["Hz", "n"], ["Bite"]]:
             with self.subTest(words):
-                status, stdout, stderr = answer_of(["explain", *words])
-                self.assertEqual((2, b""), (status, stdout))
-                self.assertTrue(stderr.startswith(b"error: no fault has the name '"), stderr)
-                self.assertIn(answer_of(["explain"])[1], stderr)
-                self.assertTrue(stderr.endswith(b"\nFor more information, try '--help'.\n"), stderr)
+                said = "'station_check explain' lists all names"
+                self.assertEqual(f"{said}\n", self.said_of_no_fault(*words))
+
+    def test_names_near_one_that_no_fault_has_are_said(self):
+        angles = ["Unit", "InputMode", "Sign", "Digits", "Range"]
+        for words, near in [
+            (["Hz"], [f"Hz {angle}" for angle in angles]),
+            (["unit"], ["Hz Unit", "Zenith Unit"]),
+            (["refused: block 3: DIGITS"], ["Hz Digits", "Zenith Digits"]),
+            (["sum"], ["TargetSum", "SetSum"]),
+            (["Byte", "x"], ["Byte"]),
+            (["TwoC", ":"], ["TwoC"]),
+            (["Residuals"], ["Residual"]),
+        ]:
+            with self.subTest(words):
+                lines = self.said_of_no_fault(*words).splitlines()
+                self.assertEqual(["these are near:", ""], lines[:2])
+                listed = explained().splitlines()
+                starts = tuple(f"{name:<16}  " for name in near)
+                self.assertEqual([line for line in listed if line.startswith(starts)], lines[2:])
+
+    def said_of_no_fault(self, *words):
+        """What follows the name that no fault has, up to the end of the message."""
+        status, stdout, stderr = answer_of(["explain", *words])
+        self.assertEqual((2, b""), (status, stdout))
+        start = f"error: no fault has the name '{' '.join(words)}'; "
+        self.assertTrue(stderr.decode().startswith(start), stderr)
+        said = stderr.decode().removeprefix(start).split("\nUsage: station_check [COMMAND]\n")[0]
+        return said.rstrip("\n") + "\n"
 
     def test_an_output_that_takes_nothing_is_a_refusal(self):
         for words in ["explain", "explain TwoC"]:
             for output in [">/dev/full", ">&-"]:
                 with self.subTest(words, output=output):
-                    command = ["bash", "-c", f"'{PROGRAM}' {words} {output}"]
-                    done = subprocess.run(command, capture_output=True, timeout=60)
-                    self.assertEqual((1, b"", WRITE_FAILED), (done.returncode, done.stdout, done.stderr))
+                    answer = answer_in_shell(f'"$@" {words} {output}')
+                    self.assertEqual((1, b"", WRITE_FAILED), answer)
 
     def test_a_failing_standard_error_changes_no_status(self):
         for words, status in [("explain nonsense", 2), ("explain > /dev/full", 1)]:
             with self.subTest(words):
-                done = subprocess.run(["bash", "-c", f"'{PROGRAM}' {words} 2>&-"], capture_output=True)
-                self.assertEqual(status, done.returncode)
+                self.assertEqual(status, answer_in_shell(f'"$@" {words} 2>&-')[0])
 
     def test_no_line_is_too_wide(self):
         for text in [explained(), *map(explained, names())]:

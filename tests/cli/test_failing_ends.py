@@ -1,17 +1,22 @@
-"""Reads and writes that fail in turn, or move a few bytes at a time, by a preloaded library."""
+"""Reads and writes that fail in turn, or move a few bytes at a time, by a preloaded library.
+
+A read that failed is not tried again, and after an end none is asked for: readers that fail or end
+once and then go on get the answer of those that stop for good.
+"""
 
 import errno
-import os
 import unittest
-from concurrent.futures import ThreadPoolExecutor
+from functools import lru_cache
 
 import model
 import preload
 import test_generated
-from against_model import FIELD, SHEET, SWEEP, sample
-from program import ProgramTest, answer_of
+from against_model import FIELD, SHEET, sample
+from program import PROGRAM, SWEEP, ProgramTest, answer_to, side_by_side
 
+# The words of each command; without words the field file is standard input.
 COMMANDS = {
+    "": [],
     "words": ["words", "{field}"],
     "list": ["list", "{field}"],
     "means": ["means", "{field}", "S1"],
@@ -19,6 +24,7 @@ COMMANDS = {
 }
 
 WHOLE = {
+    "": model.words(FIELD),
     "words": model.words(FIELD),
     "list": model.listed(FIELD),
     "means": model.means(FIELD, b"S1"),
@@ -28,15 +34,35 @@ WHOLE = {
 REFUSED_WRITE = b"refused: write failed\n"
 
 
-def expected_of_field(command, room):
-    """What a command answers over a field file whose reads fail after so many bytes."""
-    given = FIELD[:room]
+@lru_cache(maxsize=None)
+def expected_of_field(command, room, field=FIELD, fails=True):
+    """What a command answers over a field file whose reads fail, or end, after so many bytes."""
+    given = field[:room]
     return {
-        "words": lambda: model.words(given, fails=True),
-        "list": lambda: model.listed(given, fails=True),
-        "means": lambda: model.means(given, b"S1", fails=True),
-        "check": lambda: model.check(given, SHEET, fails=(True, False)),
+        "": lambda: model.words(given, fails=fails),
+        "words": lambda: model.words(given, fails=fails),
+        "list": lambda: model.listed(given, fails=fails),
+        "means": lambda: model.means(given, b"S1", fails=fails),
+        "check": lambda: model.check(given, SHEET, fails=(fails, False)),
     }[command]()
+
+
+BLANKS = b" " * 900 + b"\n"
+
+ROWS = b"sheet,1,S1,4,\n" + b"target,,A,0,\n" * 90
+
+# Field files and sheets of several times what the program asks for at once; of some of them a
+# buffer begins with a line, of others with a part of one.
+LONG_FIELDS = [
+    BLANKS * 5 + FIELD + BLANKS * 9,
+    b"\n" * 4_096 + FIELD + b"\n" * 5_000,
+    b" " * 1_000 + b"\n" + b" " * 1_000 + b"\r\n" + FIELD * 30,
+]
+LONG_SHEETS = [b"\n" * 9_000 + SHEET, SHEET + b"\n" * 9_000, ROWS * 9, b"x" * 13_000]
+
+# The places around those where a buffer is full, and others.
+BUFFERS = [4_096 * n + d for n in range(4) for d in (-1_025, -1_024, -1, 0, 1, 1_023, 1_024)]
+PLACES = sorted(place for place in {*BUFFERS, *range(0, 13_000, 611)} if place >= 0)
 
 
 class FailingEndsTest(ProgramTest):
@@ -50,7 +76,9 @@ class FailingEndsTest(ProgramTest):
     def answer(self, command, **limits):
         args = [word.format(field=self.field, sheet=self.sheet) for word in COMMANDS[command]]
         env = {name: str(value) for name, value in limits.items()}
-        return answer_of(args, env={"LD_PRELOAD": str(self.library), **env})
+        with open(self.field, "rb") as field:
+            env["LD_PRELOAD"] = str(self.library)
+            return answer_to([PROGRAM, *args], stdin=field, env=env)
 
     def failing_field(self, room, **more):
         return {"READ_PATH": self.field, "READ_ROOM": room, **more}
@@ -59,12 +87,11 @@ class FailingEndsTest(ProgramTest):
         """Runs each of (command, limits, expected answer)."""
         runs = list(runs)
         self.assertTrue(runs)
-        with ThreadPoolExecutor(os.cpu_count()) as pool:
-            answers = pool.map(lambda run: self.answer(run[0], **run[1]), runs)
-            for (command, limits, expected), answer in zip(runs, answers):
-                if expected != answer:
-                    with self.subTest(command, **limits):
-                        self.assertEqual(expected, answer)
+        answers = side_by_side(lambda run: self.answer(run[0], **run[1]), runs)
+        for (command, limits, expected), answer in zip(runs, answers):
+            if expected != answer:
+                with self.subTest(command, **limits):
+                    self.assertEqual(expected, answer)
 
     def test_a_field_file_that_fails_after_each_byte(self):
         runs = (
@@ -84,6 +111,7 @@ class FailingEndsTest(ProgramTest):
     def test_a_sheet_that_fails_is_looked_at_after_the_field_file(self):
         for field, expected in [
             (FIELD.replace(b"410012", b"4100 2"), b"refused: block 12: Word 1\n"),
+            (FIELD.replace(b"21.102", b"21.104", 1), b"refused: block 3: Hz Unit\n"),
             (b"", b"refused: sheet: Read\n"),
         ]:
             with self.subTest(expected):
@@ -97,6 +125,65 @@ class FailingEndsTest(ProgramTest):
             for error in [errno.EIO, errno.EINTR, errno.EAGAIN, errno.EBADF]
             for command in COMMANDS
         )
+
+    def stopping_once(self, command, room, most, field=FIELD):
+        """Two runs over a field file of which one read fails, or one ends."""
+        for error in [errno.EIO, 0]:
+            expected = expected_of_field(command, room, field, fails=error != 0)
+            limits = {"READ_MOST": most, "READ_ERROR": error, "READ_STOPS": 1}
+            yield command, self.failing_field(room, **limits), expected
+
+    def test_a_field_file_of_which_one_read_fails_or_ends(self):
+        """At each byte, whatever the reads before it gave; those after it give the rest."""
+        runs = (
+            run
+            for most in [1, 48, 4_096]
+            for room in range(len(FIELD) + 1)
+            for command in COMMANDS
+            for run in self.stopping_once(command, room, most)
+        )
+        self.check_all(sample(runs, 7))
+
+    def test_a_long_field_file_of_which_one_read_fails_or_ends(self):
+        for field in LONG_FIELDS:
+            self.field.write_bytes(field)
+            runs = (
+                run
+                for most in [1_000, 1_000_000]
+                for room in [*PLACES, len(field) - 1, len(field)]
+                if room <= len(field)
+                for command in COMMANDS
+                for run in self.stopping_once(command, room, most, field)
+            )
+            self.check_all(sample(runs, 3))
+
+    def sheet_stopping_once(self, sheet, room, most):
+        """Two runs over a sheet of which one read fails, or one ends."""
+        limits = {"READ_PATH": self.sheet, "READ_ROOM": room, "READ_MOST": most, "READ_STOPS": 1}
+        for error in [errno.EIO, 0]:
+            expected = model.check(FIELD, sheet[:room], fails=(False, error != 0))
+            yield "check", {"READ_ERROR": error, **limits}, expected
+
+    def test_a_sheet_of_which_one_read_fails_or_ends(self):
+        runs = (
+            run
+            for most in [1, 16, 4_096]
+            for room in range(len(SHEET) + 1)
+            for run in self.sheet_stopping_once(SHEET, room, most)
+        )
+        self.check_all(sample(runs, 3))
+
+    def test_a_long_sheet_of_which_one_read_fails_or_ends(self):
+        for sheet in LONG_SHEETS:
+            self.sheet.write_bytes(sheet)
+            places = [*PLACES, len(sheet) - len(SHEET), len(sheet)]
+            self.check_all(
+                run
+                for most in [1_000, 1_000_000]
+                for room in places
+                if room <= len(sheet)
+                for run in self.sheet_stopping_once(sheet, room, most)
+            )
 
     def test_an_output_that_fails_after_each_byte(self):
         runs = (

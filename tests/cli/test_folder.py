@@ -1,26 +1,37 @@
-"""examples/check_folder.sh over a folder of many field files and sheets."""
+"""examples/check_folder.py: a folder of many field files and sheets, and folders that lack some."""
 
 import os
 import subprocess
+import sys
 import unittest
 from pathlib import Path
 
 from pages import tools
 from program import ROOT, ProgramTest
-from worked import SHEET, edited, field_file
+from worked import ACCEPTED, SHEET, STATION, edited, field_file
 
-SCRIPT = ROOT / "examples" / "check_folder.sh"
+SCRIPT = ROOT / "examples" / "check_folder.py"
 FILES = 1_000
 
 # More than the script takes, in seconds.
 TIME = 300
 
-SUMMARY = "{} accepted, {} refused, {} not checked, {} without a sheet"
+SUMMARY = (
+    "{} of {} field files done; of the sheets {} accepted, {} refused, {} not checked"
+)
 
-# Of each so many files, by their last digit, the ones that have something wrong.
+# Of each ten files, by their last digit, the ones that have something wrong.
 WRONG_SHEET, WRONG_FIELD, NO_FIELD, NO_SHEET = 6, 7, 8, 9
-ACCEPTED = 6
+RIGHT = 6
 EACH = FILES // 10
+
+ACCEPTED_S1 = ACCEPTED.decode().rstrip("\n")
+
+# A field file of three stations, and the sheet of each.
+THREE = b"".join(edited(STATION, (b"00S1", b"00S%d" % n)) for n in (1, 2, 3))
+SHEETS = {n: edited(SHEET, (b",S1,", b",S%d," % n)) for n in (1, 2, 3)}
+
+WRONG = edited(SHEET, (b"set,1,,-20,", b"set,1,,-21,"))
 
 
 def station(number):
@@ -35,14 +46,14 @@ def station(number):
 
 
 class FolderTest(ProgramTest):
-    def run_script(self, *args, folder=None):
+    def run_script(self, *args, folder=None, path=None):
         """The exit status of the script, and the lines that it prints."""
         if not (self.folder / "bin").exists():
             tools(self.folder / "bin")
-        path = f"{self.folder / 'bin'}{os.pathsep}{os.environ['PATH']}"
-        command = ["sh", SCRIPT, self.folder / "files" if folder is None else folder, *args]
-        environment = {**os.environ, "PATH": path, "LC_ALL": "C"}
-        done = subprocess.run(command, env=environment, capture_output=True, timeout=TIME)
+        command = [sys.executable, SCRIPT, self.folder / "files" if folder is None else folder]
+        environment = {**os.environ, "PATH": str(path or self.folder / "bin"), "LC_ALL": "C"}
+        run = {"env": environment, "capture_output": True, "timeout": TIME}
+        done = subprocess.run([*command, *args], **run)
         return done.returncode, done.stdout.decode().splitlines(), done.stderr.decode()
 
     def write(self, number):
@@ -65,35 +76,154 @@ class FolderTest(ProgramTest):
             self.write(number)
         status, lines, said = self.run_script("--residual=2000")
         self.assertEqual((1, ""), (status, said))
-        counts = SUMMARY.format(ACCEPTED * EACH, 2 * EACH, EACH, EACH)
+        counts = SUMMARY.format(RIGHT * EACH, FILES - EACH, RIGHT * EACH, 2 * EACH, EACH)
         self.assertEqual(counts, lines[-1])
-        answers = dict(line.split(": ", 1) for line in lines[:-1])
-        self.assertEqual(FILES, len(answers))
-        wanted = {WRONG_SHEET: "refused: kernel: TargetSum 1"}
-        wanted[WRONG_FIELD] = "refused: block 3: Hz Unit"
-        accepted = "accepted S1: 2 sets, 2 targets, 4 directions, greatest residual 4/4"
-        for name, answer in answers.items():
-            number = int(name[4:8])
-            wanted[NO_FIELD], wanted[NO_SHEET] = f"cannot open ./job {number:04}.gsi", "no sheet"
-            self.assertEqual(wanted.get(number % 10, accepted), answer, name)
-        kept = sorted(Path(self.folder / "files").glob("*.answer"))
-        self.assertEqual(FILES - EACH, len(kept))
-        for path in kept:
-            self.assertEqual(f"{answers[path.stem]}\n", path.read_text())
+        refusals = {
+            WRONG_SHEET: ["refused: kernel: TargetSum 1", "no accepted sheet of station S1"],
+            WRONG_FIELD: ["refused: block 3: Hz Unit"] * 2,
+            NO_FIELD: ["no field file"],
+            NO_SHEET: ["no accepted sheet of station S1"],
+        }
+        wanted = []
+        for number in range(FILES):
+            name, sheet = f"job {number:04}", f"job {number:04}{'.S1' if number % 3 else ''}"
+            answers = refusals.get(number % 10, [ACCEPTED_S1])
+            of_sheet = [] if number % 10 == NO_SHEET else [sheet]
+            wanted += [f"{name}: {said}" for name, said in zip([*of_sheet, name], answers)]
+            kept = self.folder / "files" / f"{sheet}.answer"
+            self.assertEqual(number % 10 not in (NO_FIELD, NO_SHEET), kept.exists(), sheet)
+            if kept.exists():
+                self.assertEqual(f"{answers[0]}\n", kept.read_text())
+        self.assertEqual(sorted(wanted), sorted(lines[:-1]))
+
+    def answers(self, files, *args):
+        """The status and the lines for a folder of these files."""
+        folder = self.folder / "files"
+        folder.mkdir(exist_ok=True)
+        for path in folder.iterdir():
+            path.unlink()
+        for name, content in files.items():
+            (folder / name).write_bytes(content)
+        status, lines, said = self.run_script(*args)
+        self.assertEqual("", said)
+        return status, lines
+
+    def test_a_sheet_belongs_to_the_field_file_of_the_longest_name(self):
+        moved, its_sheet = station(7)
+        both = {"2026.gsi": moved, "2026.csv": its_sheet, "2026.11.gsi": STATION}
+        right = {"2026.11.csv": SHEET}
+        summary = SUMMARY.format(2, 2, 2, 0, 0)
+        lines = [f"2026: {ACCEPTED_S1}", f"2026.11: {ACCEPTED_S1}", summary]
+        self.assertEqual((0, sorted(lines)), self.sorted_answers({**both, **right}))
+        status, lines = self.answers({**both, "2026.11.csv": its_sheet})
+        self.assertEqual((1, SUMMARY.format(1, 2, 1, 1, 0)), (status, lines[-1]))
+        self.assertIn("2026.11: refused: kernel: ObsRow 2", lines)
+        self.assertIn("2026.11: no accepted sheet of station S1", lines)
+
+    def sorted_answers(self, files):
+        status, lines = self.answers(files)
+        return status, sorted(lines)
+
+    def test_a_field_file_in_capitals_is_seen(self):
+        missing = "JOB2: no accepted sheet of station S1"
+        files = {"JOB2.GSI": STATION}
+        self.assertEqual((1, [missing, SUMMARY.format(0, 1, 0, 0, 0)]), self.answers(files))
+        for sheet in ["JOB2.CSV", "JOB2.csv", "JOB2.S1.Csv"]:
+            status, lines = self.answers({**files, sheet: SHEET})
+            self.assertEqual((0, SUMMARY.format(1, 1, 1, 0, 0)), (status, lines[-1]))
+            kept = self.folder / "files" / f"{sheet[:-4]}.answer"
+            self.assertEqual(ACCEPTED, kept.read_bytes())
+
+    def test_each_station_of_a_field_file_needs_a_sheet(self):
+        files = {"three.gsi": THREE, "three.S1.csv": SHEETS[1]}
+        missing = [f"three: no accepted sheet of station S{n}" for n in (2, 3)]
+        accepted = f"three.S1: {ACCEPTED_S1}"
+        summary = SUMMARY.format(0, 1, 1, 0, 0)
+        self.assertEqual((1, [accepted, *missing, summary]), self.answers(files))
+        for n in (2, 3):
+            files[f"three.S{n}.csv"] = SHEETS[n]
+        status, lines = self.answers(files)
+        self.assertEqual((0, SUMMARY.format(1, 1, 3, 0, 0)), (status, lines[-1]))
+
+    def test_one_sheet_under_three_names_is_the_sheet_of_one_station(self):
+        files = {"three.gsi": THREE, **{f"three.S{n}.csv": SHEETS[1] for n in (1, 2, 3)}}
+        status, lines = self.answers(files)
+        self.assertEqual((1, SUMMARY.format(0, 1, 3, 0, 0)), (status, lines[-1]))
+        missing = [f"three: no accepted sheet of station S{n}" for n in (2, 3)]
+        self.assertEqual(missing, lines[3:5])
+
+    def test_a_field_file_alone_is_not_done(self):
+        files = {"2026.11.20.gsi": STATION}
+        missing = "2026.11.20: no accepted sheet of station S1"
+        self.assertEqual((1, [missing, SUMMARY.format(0, 1, 0, 0, 0)]), self.answers(files))
+
+    def test_a_field_file_without_stations_is_not_done(self):
+        for content, said in [(b"", "no station"), (b"x", "refused: block 1: Word 1")]:
+            lines = [f"job: {said}", SUMMARY.format(0, 1, 0, 0, 0)]
+            self.assertEqual((1, lines), self.answers({"job.gsi": content}))
+
+    def test_names_that_differ_in_capitals_of_their_extensions_are_said(self):
+        said = "a: one name for {}"
+        both = {"a.GSI": STATION, "a.gsi": STATION, "a.csv": SHEET}
+        status, lines = self.answers(both)
+        self.assertEqual((1, said.format("a.GSI and a.gsi")), (status, lines[0]))
+        both = {"a.gsi": STATION, "a.CSV": WRONG, "a.csv": SHEET}
+        status, lines = self.answers(both)
+        self.assertEqual((1, said.format("a.CSV and a.csv")), (status, lines[0]))
+        self.assertEqual(SUMMARY.format(0, 1, 0, 0, 1), lines[-1])
+
+    def test_a_sheet_without_a_field_file_is_not_done(self):
+        files = {"job.gsi": STATION, "job.csv": SHEET}
+        for name in ["jo.csv", "jobs.csv", "job .csv", "S1.csv"]:
+            status, lines = self.answers({**files, name: SHEET})
+            self.assertEqual((1, SUMMARY.format(1, 1, 1, 0, 1)), (status, lines[-1]))
+            self.assertIn(f"{name[:-4]}: no field file", lines)
+
+    def test_answers_of_before_and_other_files_play_no_part(self):
+        files = {"job.gsi": STATION, "job.csv": SHEET, "-n.gsi": STATION, "-n.csv": SHEET}
+        others = {".job.gsi": STATION, "old.answer": ACCEPTED, "notes.txt": b""}
+        status, lines = self.answers({**files, **others})
+        self.assertEqual((0, SUMMARY.format(2, 2, 2, 0, 0)), (status, lines[-1]))
+        self.assertFalse((self.folder / "files" / "old.answer").exists())
 
     def test_a_folder_without_a_fault_has_status_0(self):
         (self.folder / "files").mkdir()
-        for number in range(ACCEPTED):
+        for number in range(RIGHT):
             self.write(number)
-        status, lines, said = self.run_script()
-        self.assertEqual((0, "", SUMMARY.format(ACCEPTED, 0, 0, 0)), (status, said, lines[-1]))
+        summary = SUMMARY.format(RIGHT, RIGHT, RIGHT, 0, 0)
+        for args in [], ["--jobs=1"], ["--two-c", "10", "--two-i=2", "--residual=1"]:
+            status, lines, said = self.run_script(*args)
+            self.assertEqual((0, "", summary), (status, said, lines[-1]))
 
-    def test_a_folder_of_nothing_and_no_folder_have_not(self):
+    def test_limits_are_those_of_the_command_line(self):
+        files = {"job.gsi": STATION, "job.csv": SHEET}
+        two_c = ["job: refused: block 5: TwoC"] * 2
+        self.assertEqual(two_c, self.answers(files, "--two-c=9")[1][:-1])
+        two_i = ["job: refused: block 6: TwoI"] * 2
+        self.assertEqual(two_i, self.answers(files, "--two-i", "1")[1][:-1])
+        residual = ["job: refused: kernel: Residual 1", "job: no accepted sheet of station S1"]
+        self.assertEqual(residual, self.answers(files, "--residual=0")[1][:-1])
+
+    def test_a_folder_of_nothing_has_status_1(self):
         (self.folder / "files").mkdir()
-        self.assertEqual((1, [SUMMARY.format(0, 0, 0, 0)], ""), self.run_script())
-        for folder in [self.folder / "none", "-x", ""]:
-            status, lines, _ = self.run_script(folder=folder)
+        self.assertEqual((1, [SUMMARY.format(0, 0, 0, 0, 0)], ""), self.run_script())
+
+    def test_where_nothing_can_be_checked_the_status_is_2(self):
+        (self.folder / "files").mkdir()
+        (self.folder / "empty").mkdir()
+        for said, args in [
+            ("No such file", {"folder": self.folder / "none"}),
+            ("No such file", {"folder": ""}),
+            ("usage: ", {"folder": "-x"}),
+            ("no station_check is on the path", {"path": self.folder / "empty"}),
+        ]:
+            status, lines, answer = self.run_script(**args)
             self.assertEqual((2, []), (status, lines))
+            self.assertIn(said, answer)
+        for options in [["--residual=0.3"], ["--two-c=1", "--two-c=2"], ["--two-x=1"], ["more"]]:
+            status, lines, answer = self.run_script(*options)
+            self.assertEqual((2, []), (status, lines), options)
+            self.assertNotEqual("", answer)
 
 
 if __name__ == "__main__":

@@ -4,9 +4,10 @@ import unittest
 from collections import Counter
 
 import model
-from against_model import FIELD, SWEEP, AgainstModel, Case
+from against_model import FIELD, AgainstModel, Case
 from generated import generated
 from kinds import OF_COUNTS, REFUSALS, WRITTEN, kind_of
+from program import SWEEP
 
 FILES = 20_000 if SWEEP else 700
 

@@ -7,7 +7,8 @@ import tempfile
 import unittest
 from pathlib import Path
 
-ROOT = Path(__file__).resolve().parents[2]
+from program import ROOT, TIME, TIME_OF_A_TEST, TimedTest
+
 BELOW = ("byte_ends", "gsi_word", "gsi_file")
 
 CALLER = """//! Holds two lines at once.
@@ -24,7 +25,7 @@ pub fn hold_two<R: Source>(lines: &mut Lines<R>) -> bool {
 """
 
 
-class HeldLineTest(unittest.TestCase):
+class HeldLineTest(TimedTest):
     def test_the_next_line_cannot_be_asked_for_while_a_block_is_held(self):
         with tempfile.TemporaryDirectory() as folder:
             top = Path(folder)
@@ -36,9 +37,10 @@ class HeldLineTest(unittest.TestCase):
             listed = (ROOT / "crates.txt").read_text().splitlines()
             below = [line for line in listed if line.split(":")[0] in BELOW]
             (top / "crates.txt").write_text("\n".join([*below, "hold_two: byte_ends gsi_file", ""]))
-            subprocess.run(["git", "init", "-q", folder], check=True)
+            subprocess.run(["git", "init", "-q", folder], check=True, timeout=TIME)
             command = [os.environ.get("RT", "rt"), "check", "--jobs", "1"]
-            check = subprocess.run(command, cwd=caller.parent, capture_output=True, text=True, timeout=600)
+            options = {"capture_output": True, "text": True, "timeout": TIME_OF_A_TEST}
+            check = subprocess.run(command, cwd=caller.parent, **options)
         self.assertNotEqual(check.returncode, 0)
         self.assertIn("borrow-e0499", check.stdout + check.stderr)
 

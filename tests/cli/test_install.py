@@ -5,17 +5,30 @@ import shutil
 import subprocess
 import unittest
 
-from program import PROGRAM, ROOT, ProgramTest, answer_of
+from program import PROGRAM, ROOT, ProgramTest, answer_of, answer_to
 
 MAN_PAGE = "share/man/man1/station_check.1"
 
-INSTALLED = [
-    "bin/station_check",
+DOCUMENT_FOLDER = "share/doc/station_check"
+
+DOCUMENTS = [
+    *["README.md", "CHANGELOG.md"],
+    *[f"docs/{path.name}" for path in (ROOT / "docs").glob("*.md")],
+    *[f"examples/{path.name}" for path in (ROOT / "examples").glob("*.*")],
+]
+
+SHARED = [
     "share/bash-completion/completions/station_check",
     "share/fish/vendor_completions.d/station_check.fish",
     MAN_PAGE,
     "share/zsh/site-functions/_station_check",
 ]
+
+# Where each file is installed from.
+SOURCES = {name: name for name in SHARED}
+SOURCES |= {f"{DOCUMENT_FOLDER}/{name}": name for name in DOCUMENTS}
+
+INSTALLED = ["bin/station_check", *SOURCES]
 
 OPTIONS = re.compile(r"--[a-z-]+")
 
@@ -43,12 +56,14 @@ class InstallTest(ProgramTest):
                 self.make("install", *settings)
                 self.assertEqual(sorted(prefix + name for name in ["bin/other", *INSTALLED]), self.files())
                 installed = self.folder / prefix / "bin" / "station_check"
-                version = subprocess.run([installed, "--version"], capture_output=True).stdout
+                version = answer_to([installed, "--version"])[1]
                 self.assertEqual(answer_of(["--version"])[1], version)
-                for name in INSTALLED[1:]:
-                    self.assertEqual((ROOT / name).read_bytes(), (self.folder / prefix / name).read_bytes())
+                for name, source in SOURCES.items():
+                    copy = self.folder / prefix / name
+                    self.assertEqual((ROOT / source).read_bytes(), copy.read_bytes(), name)
                 self.make("uninstall", *settings)
                 self.assertEqual([f"{prefix}bin/other"], self.files())
+                self.assertFalse((self.folder / prefix / DOCUMENT_FOLDER).exists())
                 other.unlink()
 
 
@@ -56,8 +71,8 @@ class ManPageTest(ProgramTest):
     def test_groff_has_no_warning(self):
         self.check_page("groff", ["-man", "-Tutf8", "-ww", "-z"])
 
-    def test_mandoc_has_no_warning(self):
-        self.check_page("mandoc", ["-Tlint", "-Wwarning"])
+    def test_mandoc_has_no_warning_and_no_note_of_style(self):
+        self.check_page("mandoc", ["-Tlint"])
 
     def check_page(self, program, args):
         if not shutil.which(program):

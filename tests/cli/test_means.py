@@ -52,10 +52,15 @@ STATIONS = [
 ]
 
 
+def reading(target):
+    """The readings of a target of the largest station, alike in all sets."""
+    return str(target), 1_000 * target, 20_000_000 + 1_000 * target
+
+
 def largest():
     """The readings of the largest station, its sheet, and the greatest residual."""
     targets = range(1, 101)
-    readings = [(str(target), 1_000 * target, 20_000_000 + 1_000 * target) for target in targets]
+    readings = [reading(target) for target in targets]
     rows = ["sheet,1,S1,4000,"]
     rows += [f"target,,{target},{8_000_000 * (target - 1)}," for target in targets]
     rows += [f"set,{of_set},,-8000000," for of_set in range(1, 41)]
@@ -74,6 +79,20 @@ class MeansTest(ProgramTest):
             check = ["check", "{file}", "{sheet}"]
             accepted = b"accepted S1: " + greatest + b"\n"
             self.check([Run(name, check, file=file, sheet=sheet, stdout=accepted)])
+
+    def test_the_largest_station_takes_no_target_and_no_set_more(self):
+        """The 101st target is refused at its first reading, the 41st set where it is opened."""
+        _, sets, sheet, _ = largest()
+        another_target = {**sets, 1: [*sets[1], reading(101)]}
+        another_set = {**sets, 41: sets[1]}
+        for sets, fault in [
+            (another_target, "block 103: TooManyTargets"),
+            (another_set, "block 8042: TooManySets"),
+        ]:
+            file, refusal = field_file(sets), refused(fault)
+            for args in [MEANS, ["list", "{file}"], ["check", "{file}", "{sheet}"]]:
+                name = f"{args[0]}: {fault}"
+                self.check([Run(name, args, b"", file, sheet, stderr=refusal, status=1)])
 
     def test_the_files_of_one_station_have_one_sheet(self):
         outside = b"110001+0000000A 21.104+00000000\n" + STATION

@@ -4,10 +4,19 @@ import re
 import unittest
 
 from pages import checked, page_steps
-from program import ROOT
+from program import ROOT, TimedTest
 
 GUIDE = ROOT / "docs" / "GUIDE.md"
 PAGES = [ROOT / "README.md", GUIDE]
+
+# All pages whose links a reader follows.
+LINKED = [
+    ROOT / "README.md",
+    *sorted(ROOT.glob("docs/*.md")),
+    *sorted(ROOT.glob("crates/*/README.md")),
+    ROOT / "conformance" / "README.md",
+    ROOT / "examples" / "README.md",
+]
 
 LINK = re.compile(r"\]\(([^)#]*)(?:#([^)]*))?\)")
 
@@ -18,7 +27,7 @@ def anchors(page):
     return {re.sub(r"[^\w -]", "", heading.lower()).replace(" ", "-") for heading in headings}
 
 
-class PagesTest(unittest.TestCase):
+class PagesTest(TimedTest):
     maxDiff = None
 
     def test_each_command_prints_what_its_page_shows(self):
@@ -36,11 +45,11 @@ class PagesTest(unittest.TestCase):
             self.assertIn(f"station_check {command} ", commands)
 
     def test_links_lead_to_files_and_headings_that_are_there(self):
-        for page in PAGES:
+        for page in LINKED:
             for path, heading in LINK.findall(page.read_text()):
                 if path.startswith("http"):
                     continue
-                with self.subTest(page=page.name, path=path, heading=heading):
+                with self.subTest(page=str(page), path=path, heading=heading):
                     target = (page.parent / path).resolve() if path else page
                     self.assertTrue(target.exists())
                     if heading:

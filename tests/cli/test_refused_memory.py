@@ -5,16 +5,14 @@ with ample memory. Without a C compiler the library can't be built, and its test
 """
 
 import itertools
-import os
 import resource
 import subprocess
 import unittest
-from concurrent.futures import ThreadPoolExecutor
 
 import preload
 import test_generated
-from against_model import FIELD, SHEET, SWEEP
-from program import ProgramTest, answer_of
+from against_model import FIELD, SHEET
+from program import SWEEP, ProgramTest, answer_of, side_by_side
 
 NO_MEMORY = (1, b"", b"refused: out of memory\n")
 
@@ -31,7 +29,7 @@ FILES = {
     "field": FIELD,
     "sheet": SHEET,
     "empty": b"",
-    "face_twice": b"".join(LINES[:3] + LINES[2:3]),
+    "face_twice": b"".join(LINES[:3]) + b"110004+0000000A 21.102+00000001 22.102+10000000",
     "first_word": FIELD.replace(b"110011", b"510011"),
     "unlike": SHEET.replace(b"obs,1,A,6", b"obs,1,A,7"),
     "no_number": SHEET.replace(b"-20", b"-0"),
@@ -107,12 +105,11 @@ class RefusedMemoryTest(ProgramTest):
         """The answers where one call after the other is refused, until a run meets no refusal."""
         answers = []
         refused = lambda call: self.refused_run(library, run, call, refuses_all)
-        with ThreadPoolExecutor(os.cpu_count()) as pool:
-            for first in range(1, MOST_CALLS, BATCH):
-                batch = list(pool.map(refused, range(first, first + BATCH)))
-                answers += itertools.takewhile(lambda answer: answer is not None, batch)
-                if None in batch:
-                    return answers
+        for first in range(1, MOST_CALLS, BATCH):
+            batch = list(side_by_side(refused, range(first, first + BATCH)))
+            answers += itertools.takewhile(lambda answer: answer is not None, batch)
+            if None in batch:
+                return answers
         self.fail(f"{run}: a run makes more than {MOST_CALLS} allocations")
 
     def check_refusals(self, run, answers):

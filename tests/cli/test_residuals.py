@@ -42,6 +42,48 @@ class ResidualsTest(ProgramTest):
         self.assertEqual(2, words.count("+0.005"))
         self.assertEqual(2, words.count("\N{MINUS SIGN}0.005"))
 
+    def check_notes(self, words, *notes):
+        for note in notes:
+            self.assertTrue(any(note in word for word in words), (note, words))
+
+    def test_a_picture_names_the_greatest_residual_and_says_what_is_not_checked(self):
+        line = answer_of(["check", STATION, STATION_SHEET])[1]
+        _, picture, _ = drawn(STATION_SHEET, line)
+        # The squares of the 22 residuals add up to 0.5779 mgon squared, and 5 directions and 4
+        # orientations are unknown: the root of 0.5779 / 13.
+        deviation = "standard deviation of a two-face direction 0.211 mgon, 13 degrees of freedom"
+        greatest = "The greatest residual, 0.320 mgon, is red: set 4, target TOWER."
+        self.check_notes(words_of(picture), greatest, f"Not checked by station_check: {deviation}.")
+        elements = ElementTree.fromstring(picture).iter()
+        marked = {element.text for element in elements if element.get("fill") == "#b4431f"}
+        self.assertEqual({"set 4", "TOWER"}, marked - {None})
+        words = words_of(drawn(EXAMPLE_SHEET, ACCEPTED)[1])
+        # Four residuals of 1 half unit, one degree of freedom: the root of 4, times 0.005 mgon.
+        greatest = "The greatest residual, 0.005 mgon, is red: set 1, target A, and 3 as large."
+        self.check_notes(words, greatest, "two-face direction 0.010 mgon, 1 degree of freedom.")
+
+    def test_one_set_says_nothing_of_the_accuracy(self):
+        gsi, sheet = self.folder / "field.gsi", self.folder / "sheet.csv"
+        gsi.write_bytes(field_file({1: [("A", 0, 20_000_000), ("B", 10, 20_000_010)]}))
+        sheet.write_bytes(answer_of(["means", gsi, "S1"])[1])
+        words = words_of(drawn(sheet, answer_of(["check", gsi, sheet])[1])[1])
+        self.check_notes(words, "All residuals are 0.", "0 degrees of freedom: the residuals say")
+
+    def test_a_large_scale_has_plain_numbers(self):
+        turned = {b",30000012,0": b",30000012,9", b"B,40000024": b"B,1480000024"}
+        turned |= {b"1,,-20,": b"1,,719999980,", b"2,,-80000020,": b"2,,-800000020,"}
+        sheet = self.folder / "turned.csv"
+        sheet.write_bytes(edited(SHEET, *turned.items()))
+        line = answer_of(["check", EXAMPLE, sheet])[1]
+        words = words_of(drawn(sheet, line)[1])
+        self.check_notes(words, "\N{MINUS SIGN}1000000 to +1000000 mgon")
+        self.assertFalse([word for word in words if "e+" in word])
+
+    def test_a_line_may_end_in_cr(self):
+        answer = drawn(EXAMPLE_SHEET, ACCEPTED)
+        for end in [b"", b"\r", b"\r\n"]:
+            self.assertEqual(answer, drawn(EXAMPLE_SHEET, ACCEPTED.rstrip(b"\n") + end))
+
     def test_each_size_has_a_picture_of_one_page(self):
         for sets, targets in [(1, 1), (1, 100), (40, 1), (8, 12), (40, 100)]:
             readings = [(f"<{t}&", t * 1_000, 20_000_000 + t * 1_000) for t in range(targets)]

@@ -1,16 +1,18 @@
-"""Want of memory has no size: with ample memory, input of every size gets its answer.
+"""Out of memory has no size: with ample memory, input of every size gets its answer.
 
-Each number of sets and of targets has the answer that its numbers give; files and sheets of many
-lengths, with blanks and empty lines in them, have the answer of those without.
+Each number of stations, of sets and of targets, each number that a set may have, and names of each
+length have the answer that they give; files and sheets of many lengths, with blanks and empty lines
+in them, have the answer of those without. What is kept does not grow with blocks that open no set.
 """
 
-import os
+import resource
+import subprocess
 import unittest
-from concurrent.futures import ThreadPoolExecutor
 
 import model
-from against_model import FIELD, SHEET, sample
-from program import ProgramTest, answer_of
+from against_model import FIELD, SHEET, Case, sample
+from processes import peak, wants_more
+from program import PROGRAM, TIME, ProgramTest, answer_of, side_by_side, until
 from test_generated import lines, station
 
 # The lengths of files and sheets, in bytes.
@@ -38,9 +40,68 @@ def sheet_of(sets, targets):
     ))
 
 
-def accepted(sets, targets):
-    counts = sets, targets, sets * targets, sets * targets
-    return b"accepted S1: %d sets, %d targets, %d directions, greatest residual 0/%d\n" % counts
+def accepted(sets, targets, name=b"S1"):
+    counts = name, sets, targets, sets * targets, sets * targets
+    return b"accepted %s: %d sets, %d targets, %d directions, greatest residual 0/%d\n" % counts
+
+
+# Each number that a set may have.
+SET_NUMBERS = range(1, 10_000)
+
+
+def set_lines(number):
+    """The lines of a set of one target."""
+    yield f"41....+00000020 42....+{number:08}"
+    yield "11....+0000000A 21.102+00000000 22.102+10000000"
+    yield "11....+0000000A 21.102+20000000 22.102+30000000"
+
+
+def station_of(name, numbers):
+    """The lines of a station with the sets of these numbers."""
+    return [f"41....+00000010 42....+{name:0>8}", *(s for n in numbers for s in set_lines(n))]
+
+
+def listed_of(name, numbers):
+    """The list of that station."""
+    head = b"station %s: %d sets, 1 targets, %d directions\n" % (name, len(numbers), len(numbers))
+    return head + b"".join(b"set %d, target A: p 0, 2c 0, 2i 0\n" % number for number in numbers)
+
+
+def means_of(name, numbers):
+    """Its sheet of means."""
+    orientations = [(number, 0) for number in numbers]
+    rows = [(number, b"A", 0, 0) for number in numbers]
+    return model.sheet_text(model.Sheet(name, len(numbers), [(b"A", 0)], orientations, rows))
+
+
+# Names of one kind of each length: letters, digits, and blanks, commas and quotes within.
+NAMES = [
+    name[:length].decode()
+    for name in [b"ABCDEFGHIJKLMNOP", b"9876543210123456", b'x, "y" and ,,"z"']
+    for length in range(1, 17)
+]
+
+
+def wide_line(*words):
+    """A line of GSI-16: of each word what stands before its content, and the content."""
+    return "*" + " ".join(f"{begin}{content:0>16}" for begin, content in words)
+
+
+def named_station(name, targets):
+    """A station of this name with two sets of these targets."""
+    yield wide_line(("41....+", "10"), ("42....+", name))
+    for number in "12":
+        yield wide_line(("41....+", "20"), ("42....+", number))
+        for at, target in enumerate(targets):
+            for face, zenith in [(0, 10_000_000), (20_000_003, 30_000_000)]:
+                direction = str(face + 1_000 * at + 7 * at * int(number))
+                yield wide_line(("11....+", target), ("21.102+", direction), ("22.102+", zenith))
+
+
+# Blocks that open no set, each of 32 bytes with its line feed, so that as many as a file may have
+# fill it: stations and ends of sets, each of another name.
+NO_SETS = [b"410001+00000010 42....+%08X\n", b"410001+00000030 42....+%08X\n"]
+BLOCK = 32
 
 
 class SizesTest(ProgramTest):
@@ -51,9 +112,8 @@ class SizesTest(ProgramTest):
 
     def each(self, check, sizes):
         """Makes a check for each size, several at a time."""
-        with ThreadPoolExecutor(os.cpu_count()) as pool:
-            for _ in pool.map(check, sizes):
-                pass
+        for _ in side_by_side(check, sizes):
+            pass
 
     def check_station(self, size):
         sets, targets = size
@@ -67,6 +127,121 @@ class SizesTest(ProgramTest):
     def test_each_number_of_sets_and_of_targets(self):
         self.each(self.check_station, [(sets, 3) for sets in range(1, 41)])
         self.each(self.check_station, [(2, targets) for targets in range(1, 101)])
+
+    def test_each_number_of_stations(self):
+        """The list of so many stations, the means of the last, and a check of them."""
+        stations = [b"S%d" % n for n in range(1, model.MOST_STATIONS + 1)]
+        fields = [lines(station_of(name.decode(), [7])) + b"\n" for name in stations]
+        lists = [listed_of(name, [7]) for name in stations]
+
+        def check(count):
+            name, field = stations[count - 1].decode(), self.folder / f"{count}.gsi"
+            field.write_bytes(b"".join(fields[:count]))
+            listed, sheet = b"".join(lists[:count]), means_of(name.encode(), [7])
+            self.assertEqual((0, listed, b""), answer_of(["list", field]), count)
+            self.assertEqual((0, sheet, b""), answer_of(["means", field, name]), count)
+            path = self.file(f"{count}.csv", sheet)
+            expected = 0, accepted(1, 1, name.encode()), b""
+            self.assertEqual(expected, answer_of(["check", field, path]), count)
+            field.unlink()
+
+        self.each(check, range(1, model.MOST_STATIONS + 1))
+
+    def test_each_number_of_a_set(self):
+        """All numbers in one file; and each in a file of its own of forty sets."""
+        groups = [SET_NUMBERS[at : at + 40] for at in range(0, len(SET_NUMBERS), 40)]
+        stations = [lines(station_of(f"S{n}", group)) for n, group in enumerate(groups)]
+        path = self.file("all.gsi", b"\n".join(stations))
+        listed = b"".join(listed_of(b"S%d" % n, group) for n, group in enumerate(groups))
+        self.assertEqual((0, listed, b""), answer_of(["list", path]))
+
+        def check(group):
+            field = self.file(f"{group[0]}.gsi", lines(station_of("S1", group)))
+            sheet = self.file(f"{group[0]}.csv", means_of(b"S1", group))
+            self.assertEqual((0, listed_of(b"S1", group), b""), answer_of(["list", field]))
+            self.assertEqual((0, means_of(b"S1", group), b""), answer_of(["means", field, "S1"]))
+            expected = 0, accepted(len(group), 1), b""
+            self.assertEqual(expected, answer_of(["check", field, sheet]), group)
+
+        self.each(check, groups)
+
+    def test_names_of_each_length(self):
+        """As the name of a station, of a first target and of a second one."""
+        for name in NAMES:
+            others = [(name, ["T1", "T2"]), ("S1", [name, "T2"]), ("S1", ["T1", name])]
+            for asked, targets in others:
+                field = lines(named_station(asked, targets)) + b"\n"
+                sheet = model.means(field, asked.encode())[1]
+                paths = self.file("field.gsi", field), self.file("sheet.csv", sheet)
+                for command in ["words", "list", "means", "check"]:
+                    with self.subTest(command, name=name, asked=asked):
+                        case = Case(name, command, field, sheet, asked)
+                        expected = case.expected()
+                        self.assertEqual((0, b""), (expected[0], expected[2]))
+                        self.assertEqual(expected, answer_of(case.args(*paths)))
+
+    def answer_within(self, room, args):
+        """The answer in so many bytes of address space, or none where nothing could be run."""
+        limit = lambda: resource.setrlimit(resource.RLIMIT_AS, (room, room))
+        try:
+            return answer_of(args, preexec_fn=limit)
+        except (OSError, subprocess.SubprocessError):
+            return None
+
+    def least_room(self, args, answer):
+        """The least address space in which a run has this answer, in steps of a page."""
+        page = resource.getpagesize()
+        too_small, enough = 0, (1 << 30) // page
+        while enough - too_small > 1:
+            middle = (too_small + enough) // 2
+            if self.answer_within(middle * page, args) == answer:
+                enough = middle
+            else:
+                too_small = middle
+        return enough * page
+
+    def runs_without_sets(self):
+        """Runs over many blocks that open no set, and over two: the words of each with the path of
+        the field file, both files, and the answer."""
+        sheet = self.file("sheet.csv", SHEET)
+        no_station = 1, b"", b"refused: no station\n"
+        for block in NO_SETS:
+            full = b"".join(block % n for n in range(model.LONGEST_FILE // BLOCK))
+            few = block % 1 + block % 2
+            yield lambda path: ["list", path], full, few, (0, b"", b"")
+            yield lambda path: ["means", path, "S1"], full, few, no_station
+            yield lambda path: ["check", path, sheet], full, few, no_station
+
+    def test_blocks_that_open_no_set_need_no_memory(self):
+        """As many as a file may have do with the address space that two of them need."""
+        for words, full, few, answer in self.runs_without_sets():
+            many, two = self.file("many.gsi", full), self.file("two.gsi", few)
+            with self.subTest(words("")):
+                room = self.least_room(words(two), answer)
+                self.assertEqual(answer, self.answer_within(room, words(many)))
+
+    def peak_of(self, words, field, answer):
+        """The most address space that a run has had when it has read a field file."""
+        pipes = {"stdin": subprocess.PIPE, "stdout": subprocess.PIPE, "stderr": subprocess.PIPE}
+        with subprocess.Popen([PROGRAM, *words], **pipes) as run:
+            try:
+                run.stdin.write(field)
+                run.stdin.flush()
+                until(lambda: wants_more(run))
+                room = peak(run)
+                stdout, stderr = run.communicate(timeout=TIME)
+            finally:
+                run.kill()
+        self.assertEqual(answer, (run.returncode, stdout, stderr))
+        return room
+
+    def test_blocks_that_open_no_set_take_no_memory(self):
+        """With ample memory, as many as a file may have take no more of it than two of them."""
+        for words, full, few, answer in self.runs_without_sets():
+            words = words("/dev/stdin")
+            with self.subTest(words):
+                room = self.peak_of(words, few, answer)
+                self.assertEqual(room, self.peak_of(words, full, answer))
 
     def check_file(self, length):
         """A file of blanks and line feeds behind the example has the example's answers."""

@@ -1,9 +1,9 @@
 """The words of a field file, on standard input and of a path."""
 
 import resource
-import subprocess
 
-from program import EXAMPLE, PROGRAM, ProgramTest, Run, answer_of
+import model
+from program import EXAMPLE, ProgramTest, Run, answer_in_shell, answer_of
 from worked import refused, widened
 
 LINES = (
@@ -86,13 +86,12 @@ class WordsTest(ProgramTest):
         self.assertEqual(b"12 1 41 0012 +00000030\n", stdout.splitlines(keepends=True)[-1])
 
     def test_a_wide_file_has_the_same_words_with_wide_contents(self):
-        expected = answer_of(["words", EXAMPLE])[1].replace(b" +", b" +" + b"0" * 8)
+        expected = model.words(EXAMPLE.read_bytes())[1].replace(b" +", b" +" + b"0" * 8)
         self.assertEqual((0, expected, b""), answer_of([], widened(EXAMPLE.read_bytes())))
 
     def test_a_file_that_never_ends_is_refused(self):
-        command = f"yes '110001+0000000A' | '{PROGRAM}' > /dev/null"
-        done = subprocess.run(["bash", "-c", command], capture_output=True, timeout=60)
-        self.assertEqual((1, refused("block 1048577: FileTooLong")), (done.returncode, done.stderr))
+        answer = answer_in_shell("yes '110001+0000000A' | \"$@\" > /dev/null")
+        self.assertEqual((1, b"", refused("block 1048577: FileTooLong")), answer)
 
     def test_memory_does_not_grow_with_the_file(self):
         room = 64 * 1024 * 1024

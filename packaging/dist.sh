@@ -1,0 +1,91 @@
+#!/bin/sh
+# Makes what is handed on of a built program: an archive, a Debian package where dpkg-deb is found,
+# and their checksums. `make dist` calls it at the root of the repository:
+#
+#     sh packaging/dist.sh PROGRAM FOLDER
+#
+# MAINTAINER, as 'Name <address>', stands in the Debian package.
+set -eu
+
+program=$1
+mkdir -p "$2"
+dist=$(cd "$2" && pwd)
+version=$("$program" --version | sed 's/.* //')
+platform=linux-x86_64
+name=station_check-$version-$platform
+commit=$(git rev-parse HEAD 2> /dev/null || echo 'not known')
+[ -z "$(git status --porcelain 2> /dev/null)" ] || commit="$commit, with changes"
+# All files have the time of the last commit, so that the same files give the same archive.
+time=${SOURCE_DATE_EPOCH:-$(git log -1 --format=%ct 2> /dev/null || echo 0)}
+glibc=$(grep -a -o 'GLIBC_[0-9.]*' "$program" | sed 's/GLIBC_//' |
+  sort -t. -k1,1n -k2,2n | tail -n 1)
+
+# What the program was proved with, by the logs of its build.
+proved() {
+  cat << END
+station_check $version for $platform
+commit: $commit
+SHA-256 of the program: $(sha256sum "$program" | cut -d ' ' -f 1)
+toolchain: $("${RT:-rt}" --version 2> /dev/null || echo 'not at hand when this was packed')
+needs: Linux on x86-64 (x86-64-v2) with glibc $glibc or later
+
+The build proves each function of these crates against its contract, lowest crate first; where a
+proof fails, there is no program. What it said at the end of each:
+
+END
+  for crate in $(sed -n 's/^\([a-z_]*\):.*/\1/p' crates.txt | grep -v '_tests$'); do
+    echo "$crate"
+    grep -s -h -e '^axioms ' -e '^logic=' "crates/$crate/out/build.log" | sed 's/^/  /' ||
+      echo '  no log of make is here: it was built in another way'
+  done
+  cat << END
+
+The main contract is that of check_bytes, in crates/station_check/src/check.rt of the sources.
+README.md says what is proved, what is only tested, and what is trusted.
+END
+}
+
+# The files of an installation below a folder, with their note and checksums.
+fill() {
+  root=$1 prefix=$2
+  rm -rf "$root"
+  make -s -o "$program" PROGRAM="$program" DESTDIR="$root" PREFIX="$prefix" install
+  proved > "$root$prefix/share/doc/station_check/PROVED"
+}
+
+fill "$dist/$name" ''
+(cd "$dist/$name" && find . -type f ! -name SHA256SUMS | sort | xargs sha256sum > SHA256SUMS)
+tar -C "$dist" --sort=name --owner=0 --group=0 --numeric-owner --mtime="@$time" -cf - "$name" |
+  gzip -9 -n > "$dist/$name.tar.gz"
+
+made=$name.tar.gz
+if command -v dpkg-deb > /dev/null; then
+  root=$dist/deb
+  fill "$root" /usr
+  gzip -9 -n "$root/usr/share/man/man1/station_check.1"
+  mv "$root/usr/share/zsh/site-functions" "$root/usr/share/zsh/vendor-completions"
+  mkdir "$root/DEBIAN"
+  cat > "$root/DEBIAN/control" << END
+Package: station-check
+Version: $version
+Architecture: amd64
+Section: science
+Priority: optional
+Depends: libc6 (>= $glibc)
+Recommends: python3 (>= 3.10)
+Maintainer: ${MAINTAINER:-unknown <unknown@localhost>}
+Description: checks survey station adjustments against the field file
+ A total station writes directions to a field file in Leica's GSI format. Some
+ program adjusts them, and writes a sheet. station_check accepts the sheet or
+ names the first fault of either. Its code is proved against its contracts.
+END
+  (cd "$root" && find usr -type f | sort | xargs md5sum > DEBIAN/md5sums)
+  find "$root" -exec touch -h -d "@$time" {} +
+  deb=station-check_${version}_amd64.deb
+  SOURCE_DATE_EPOCH=$time dpkg-deb --root-owner-group --build "$root" "$dist/$deb" > /dev/null
+  rm -rf "$root"
+  made="$made $deb"
+fi
+
+# shellcheck disable=SC2086 # the names have no blanks
+(cd "$dist" && rm -rf "$name" && sha256sum $made > SHA256SUMS && cat SHA256SUMS)

@@ -1,0 +1,234 @@
+"""examples/mark_sets.py and examples/prepare.py: copies of a field file with codes put in, or with
+blocks left out, and the commands that show that nothing else was changed."""
+
+import subprocess
+import sys
+import unittest
+
+from pages import environment_of, tools
+from program import ROOT, ProgramTest, answer_of
+from worked import LIST, STATION, edited, field_file, widened
+
+EXAMPLES = ROOT / "examples"
+P7 = (EXAMPLES / "station_p7.gsi").read_bytes()
+
+TIME = 60
+
+
+def without_codes(text):
+    """The lines of a field file but those of codes."""
+    lines = text.splitlines(keepends=True)
+    return b"".join(line for line in lines if not line.lstrip(b"*").startswith(b"41"))
+
+
+def lines_of(*readings):
+    """A job without codes: each reading is a target, its face and its direction."""
+    text = b""
+    for target, face, direction in readings:
+        zenith = {1: 10_000_000, 2: 30_000_000}[face]
+        text += f"110001+{target:0>8} 21.102+{direction:08} 22.102+{zenith:08}\r\n".encode()
+    return text
+
+
+def job(faces, targets):
+    """A job in which these faces and targets follow each other; directions are all in face."""
+    at = {1: 0, 2: 20_000_000}
+    pairs = zip(map(int, faces), targets, strict=True)
+    return lines_of(*((target, face, 1_000 * ord(target) + at[face]) for face, target in pairs))
+
+
+class CopyTest(ProgramTest):
+    def setUp(self):
+        super().setUp()
+        self.environment = environment_of(tools(self.folder / "bin"))
+        self.field, self.copy = self.folder / "field.gsi", self.folder / "a copy.gsi"
+
+    def run_in_folder(self, command):
+        run = {"cwd": self.folder, "env": self.environment, "timeout": TIME}
+        return subprocess.run(command, capture_output=True, text=True, **run)
+
+    def copied(self, script, field, *args):
+        """What a script answers; where it made a copy, the command that it prints is run."""
+        self.field.write_bytes(field)
+        self.copy.unlink(missing_ok=True)
+        files = [self.field.name, self.copy.name]
+        done = self.run_in_folder([sys.executable, EXAMPLES / script, *files, *args])
+        self.assertEqual(field, self.field.read_bytes())
+        self.assertEqual(done.returncode == 0, self.copy.exists(), done.stderr)
+        if done.returncode == 0:
+            self.shows = done.stdout.splitlines()[-1].strip()
+            self.assertEqual("", self.shown())
+        return done.returncode, done.stdout.split(";")[0], done.stderr
+
+    def shown(self):
+        """What the printed command shows of the copy."""
+        done = self.run_in_folder(["bash", "-c", self.shows])
+        return done.stdout + done.stderr
+
+    def check_changes_are_shown(self):
+        """One byte changed, a line more and a line less are each shown."""
+        right = self.copy.read_bytes()
+        lines = right.splitlines(keepends=True)
+        at = next(place for place, line in enumerate(lines) if b" 22." in line)
+        for changed in [
+            right.replace(b" 22.", b" 23.", 1),
+            b"".join([*lines[:at], *lines[at + 1 :]]),
+            b"".join([*lines[:at], lines[at], *lines[at:]]),
+        ]:
+            self.copy.write_bytes(changed)
+            self.assertNotEqual("", self.shown())
+        self.copy.write_bytes(right)
+
+
+class MarkSetsTest(CopyTest):
+    def marked(self, field, station="S1"):
+        return self.copied("mark_sets.py", field, f"--station={station}")
+
+    def test_the_examples_without_their_codes_have_their_lists_again(self):
+        s1 = without_codes(STATION)
+        for field in [s1, s1.replace(b"\r\n", b"\n"), s1.rstrip(b"\r\n"), b" \n\n" + s1]:
+            self.assertEqual((0, "station S1: 2 sets are marked", ""), self.marked(field))
+            self.assertEqual(LIST, answer_of(["list", self.copy])[1])
+        self.check_changes_are_shown()
+        wide = widened(s1).replace(b"\r", b"\r\n")
+        self.assertEqual(0, self.marked(wide)[0])
+        self.assertEqual(LIST, answer_of(["list", self.copy])[1])
+        sets = b"".join(without_codes(P7).splitlines(keepends=True)[1:])  # without its check sight
+        self.assertEqual((0, "station P7: 4 sets are marked", ""), self.marked(sets, "P7"))
+        self.field.write_bytes(P7)
+        self.assertEqual(answer_of(["list", self.field])[1], answer_of(["list", self.copy])[1])
+
+    def test_other_codes_and_measurements_without_a_direction_stay(self):
+        free = b"410001+00000099 42....+0000TREE\r\n"
+        distance = b"110001+0000000A 31..00+00012345\r\n"
+        self.assertEqual(0, self.marked(free + distance + job("1122", "ABBA") + free)[0])
+
+    def test_sets_begin_where_the_readings_show_it(self):
+        for faces, targets, sets in [
+            ("1122", "ABBA", 1),
+            ("1122" * 3, "ABBA" * 3, 3),
+            ("1122" * 2, "ABAB" * 2, 2),
+            ("2211", "ABBA", 1),
+            ("111222" + "1122", "ABCCBA" + "ACCA", 2),  # with a gap
+            ("1122" + "111222", "ABBA" + "CABBAC", 2),  # that begins elsewhere
+            ("111222" * 2, "ABAABA" * 2, 2),  # with closing sights
+            ("1221" * 2, "AABB" * 2, 2),  # target by target
+            ("1212" * 2, "AABB" * 2, 2),
+            ("12" * 3, "AA" * 3, 3),
+        ]:
+            with self.subTest(faces, targets=targets):
+                said = f"station S1: {sets} sets are marked"
+                self.assertEqual((0, said, ""), self.marked(job(faces, targets)))
+                codes = self.copy.read_bytes().count(b"41....+00000020 ")
+                self.assertEqual(sets, codes)
+
+    def test_what_is_not_plain_is_refused_with_a_reason(self):
+        good = job("1122", "ABBA")
+        for field, said in [
+            (STATION, "block 1 has code 10 already"),
+            (STATION.splitlines(True)[1] + good, "block 1 has code 20 already"),
+            (b"41....+00000099\r\n" + good, "block 1 begins as the lines that would be put in"),
+            (b"", "no block is a reading"),
+            (good.replace(b"\r\n", b"\r"), "its lines end in CR alone"),
+            (edited(good, (b"22.102+1", b"22.104+1")), "block 1: no zenith angle in gon"),
+            (edited(good, (b" 22.102", b" 23.102")), "block 1: no zenith angle in gon"),
+            (edited(good, (b"22.102+10000000", b"22.102+20000000")), "block 1: no face has"),
+            (b"x" + good, "refused: block 1: Word 1"),
+            (job("112", "ABB"), "block 1: set 1, which begins here, has A in one face only"),
+            (job("11221", "ABBAA"), "block 5: the last set begins here, and has one face"),
+            (job("1", "A"), "block 1: the last set begins here, and has one face"),
+            (job("11112222", "ABABBABA"), "block 3: A is read again in face 1"),
+            (job("11222211", "ABBAABBA"), "block 5: A is read again in face 2"),
+            (job("12" * 3, "AABBAA"), "block 5: set 2, which begins with A, has other targets"),
+            (job("12" * 3, "AABBBB"), "set 1 has a target twice before A is read again"),
+        ]:
+            with self.subTest(said):
+                status, _, answer = self.marked(field)
+                self.assertEqual(1, status)
+                self.assertTrue(answer.startswith(f"mark_sets.py: {said}"), answer)
+        self.assertIn("too long for lines of GSI-8", self.marked(good, "NINEBYTES")[2])
+        for name in ["", "0P7", "P\u00e47", "P\n7"]:
+            self.assertEqual(2, self.marked(good, name)[0])
+
+    def test_a_copy_is_a_new_file(self):
+        self.field.write_bytes(job("12", "AA"))
+        script = [sys.executable, EXAMPLES / "mark_sets.py", "--station=S1"]
+        for copy in [self.field.name, "none/copy.gsi"]:
+            done = self.run_in_folder([*script, self.field.name, copy])
+            self.assertEqual((1, ""), (done.returncode, done.stdout))
+        done = self.run_in_folder([*script, "none.gsi", "copy.gsi"])
+        self.assertEqual((1, ""), (done.returncode, done.stdout))
+
+
+class PrepareTest(CopyTest):
+    def prepared(self, field, *args, why="a reason"):
+        log = self.folder / f"{self.copy.name}.log"
+        log.unlink(missing_ok=True)
+        answer = self.copied("prepare.py", field, f"--why={why}", *args)
+        self.log = log.read_bytes() if log.exists() else None
+        self.assertEqual(answer[0] == 0, log.exists())
+        return answer
+
+    def left(self, field, args):
+        """The blocks that are left out, after a look at the copy, the log and what is printed."""
+        lines = field.splitlines(keepends=True)
+        self.assertEqual(0, self.prepared(field, *args)[0], args)
+        numbers = [int(n) for n in self.numbers_in_log()]
+        kept = [line for number, line in enumerate(lines, 1) if number not in numbers]
+        self.assertEqual(b"".join(kept), self.copy.read_bytes())
+        self.assertIn(b"\nwhy: a reason\n", self.log)
+        for number in numbers:
+            self.assertIn(b"block %d:\n< %s" % (number, lines[number - 1]), self.log)
+        return numbers
+
+    def numbers_in_log(self):
+        lines = self.log.decode().splitlines()
+        return [line[6:-1] for line in lines if line.startswith("block ")]
+
+    def test_blocks_are_left_out_by_number_and_by_rule(self):
+        opened = job("111222", "ABAABA")
+        code = STATION.splitlines(keepends=True)
+        closing = code[0] + code[1] + opened + code[6] + job("1122", "ABBA") + code[11]
+        for field, args, numbers in [
+            (P7, ["--blocks", "2"], [2]),
+            (P7, ["--blocks", "2", "36-38", "37", "51"], [2, 36, 37, 38, 51]),
+            (P7, ["--set", "P7", "3"], list(range(27, 38))),
+            (P7, ["--set", "P7", "4"], list(range(38, 51))),
+            (P7, ["--set", "P7", "4", "--set", "P7", "1"], [*range(3, 16), *range(38, 51)]),
+            (STATION, ["--set", "S1", "1", "--blocks", "12"], [2, 3, 4, 5, 6, 12]),
+            (closing, ["--closing"], [5, 8]),
+        ]:
+            with self.subTest(args):
+                self.assertEqual(numbers, self.left(field, args))
+        self.assertEqual(0, answer_of(["list", self.copy])[0])  # of the closing sights
+        self.check_changes_are_shown()
+
+    def test_the_log_says_what_and_why(self):
+        said = self.prepared(P7, "--blocks", "2", "4-5", why="MAST was moved")
+        self.assertEqual((0, "3 blocks are left out", ""), said)
+        lines = P7.splitlines(keepends=True)
+        log = b"a copy.gsi is field.gsi without: block 2, blocks 4-5\nwhy: MAST was moved\n"
+        for number in (2, 4, 5):
+            log += b"block %d:\n< %s" % (number, lines[number - 1])
+        self.assertEqual(log, self.log)
+
+    def test_what_is_not_there_is_refused_with_a_reason(self):
+        for args, said in [
+            (["--blocks", "52"], "no blocks 52-52: the file has 51"),
+            (["--blocks", "5-4"], "no blocks 5-4"),
+            (["--set", "P7", "5"], "no sets 5 of a station P7"),
+            (["--set", "P8", "1"], "no sets 1 of a station P8"),
+            (["--closing"], "no set has a closing sight"),
+        ]:
+            status, _, answer = self.prepared(P7, *args)
+            self.assertEqual(1, status)
+            self.assertTrue(answer.startswith(f"prepare.py: {said}"), answer)
+        self.assertEqual(1, self.prepared(P7.replace(b"\n", b"\r"), "--blocks", "2")[0])
+        for args in [[], ["--blocks", "x"], ["--blocks", "0"], ["--blocks"], ["--set", "P7"]]:
+            self.assertEqual(2, self.prepared(P7, *args)[0], args)
+        for why in ["", " ", "a\nb"]:
+            self.assertEqual(2, self.prepared(P7, "--blocks", "2", why=why)[0])
+
+
+if __name__ == "__main__":
+    unittest.main()

@@ -1,0 +1,83 @@
+"""What the guide says of more than one machine: its commands, with this machine as the only one."""
+
+import csv
+import re
+import shutil
+import subprocess
+import unittest
+
+from pages import environment_of, tools
+from program import ROOT, ProgramTest
+from worked import SHEET, STATION, edited
+
+SECTION = re.compile(r"^## More than one machine$(.*?)^## ", re.DOTALL | re.MULTILINE)
+BLOCK = re.compile(r"^```sh\n(.*?)^```$", re.DOTALL | re.MULTILINE)
+
+TIME = 60
+
+# The folders, and the exit status of each.
+STATUSES = {"jobs/friday": 0, "jobs/monday": 1, "jobs/tuesday": 0}
+
+# The lines that say where the work goes: here, to this machine.
+MACHINES = ":\n"
+
+
+def blocks():
+    """The commands for a common disk, those for none, and the script for Slurm."""
+    section = SECTION.search((ROOT / "docs" / "GUIDE.md").read_text())
+    common, copies, slurm = BLOCK.findall(section[1])
+    return common, copies, slurm
+
+
+class MachinesTest(ProgramTest):
+    def setUp(self):
+        super().setUp()
+        tools(self.folder / "bin")
+        shutil.copy(ROOT / "examples" / "check_folder.py", self.folder)
+        (self.folder / "machines").write_text(MACHINES)
+        (self.folder / "folders").write_text("".join(f"{name}\n" for name in STATUSES))
+        for name, status in STATUSES.items():
+            folder = self.folder / name
+            folder.mkdir(parents=True)
+            (folder / "job.gsi").write_bytes(STATION)
+            wrong = edited(SHEET, (b"set,1,,-20,", b"set,1,,-21,"))
+            (folder / "job.csv").write_bytes(wrong if status else SHEET)
+
+    def run_script(self, script, **more):
+        of_tools = environment_of(self.folder / "bin")
+        environment = {**of_tools, "HOME": str(self.folder), **more}
+        run = {"cwd": self.folder, "env": environment, "capture_output": True, "timeout": TIME}
+        return subprocess.run(["sh", "-c", script], **run)
+
+    def check_reports(self):
+        for name, status in STATUSES.items():
+            report = (self.folder / f"{name}.report").read_text().splitlines()
+            done = "0 of 1 field files done; " if status else "1 of 1 field files done; "
+            self.assertTrue(report[-1].startswith(done), report)
+
+    def test_gnu_parallel_checks_each_folder(self):
+        if not shutil.which("parallel"):
+            self.skipTest("no parallel is found")
+        common, copies, _ = blocks()
+        for commands, log in [(common, "checks.log"), (copies, "copies.log")]:
+            with self.subTest(log):
+                done = self.run_script(commands)
+                self.assertEqual(1, done.returncode, done.stderr)
+                with open(self.folder / log, newline="") as file:
+                    rows = list(csv.DictReader(file, delimiter="\t"))
+                names = [re.search(r"jobs/\w+", row["Command"])[0] for row in rows]
+                statuses = [int(row["Exitval"]) for row in rows]
+                self.assertEqual(STATUSES, dict(zip(names, statuses)))
+                self.check_reports()
+
+    def test_the_script_for_slurm_checks_the_folder_of_its_task(self):
+        *_, script = blocks()
+        for task, (name, status) in enumerate(STATUSES.items(), 1):
+            of_task = {"SLURM_ARRAY_TASK_ID": str(task), "SLURM_CPUS_PER_TASK": "2"}
+            done = self.run_script(script, **of_task)
+            self.assertEqual(status, done.returncode, (name, done.stderr))
+        self.check_reports()
+
+
+if __name__ == "__main__":
+    unittest.main()
