@@ -6,17 +6,22 @@ docs/FAULTS.md is made whole, and of the man page the part between two comments.
 import re
 import subprocess
 import sys
+import textwrap
 from pathlib import Path
 from typing import NamedTuple
 
 ROOT = Path(__file__).resolve().parents[1]
-PROGRAM = ROOT / "crates" / "station_check" / "out" / "station_check"
+PROGRAM = ROOT / "build" / "station_check"
 GUIDE_PAGE = ROOT / "docs" / "FAULTS.md"
 MAN_PAGE = ROOT / "share" / "man" / "man1" / "station_check.1"
 
 # The comments of the man page that stand round the faults.
 BEGIN = '.\\" The faults, made by docs/faults.py.\n'
 END = '.\\" The end of the faults.\n'
+
+# The width of a line in the man page, and how lines are broken.
+MAN_WIDTH = 80
+WHOLE_WORDS = {"break_long_words": False, "break_on_hyphens": False}
 
 # What the line of a refusal says before a fault, and the heading of such faults.
 HEADINGS = [
@@ -111,6 +116,13 @@ def escaped(text):
     return re.sub(r"^\.", r"\\&.", text, flags=re.MULTILINE)
 
 
+def man_text(text):
+    """The lines of a text in a man page, each sentence on a line of its own that may go on."""
+    sentences = re.split(r"(?<=[.:]) (?=[A-Z])", one_line(text))
+    wrapped = (textwrap.wrap(escaped(part), MAN_WIDTH, **WHOLE_WORDS) for part in sentences)
+    return [line for lines in wrapped for line in lines]
+
+
 def man_part(program):
     lines, heading = [], None
     for fault in explanations(program):
@@ -118,8 +130,9 @@ def man_part(program):
             heading = fault.heading()
             lines.append(f".SS {heading}")
         names = ", ".join(f"\\fB{escaped(name)}\\fR" for name in fault.names)
-        lines += [".TP", names, escaped(sentence(fault.meaning)), escaped(fault.when)]
-        lines += [".IP", f"\\fB{escaped(fault.example)}\\fR", ".IP", escaped(f"What to do: {fault.remedy}")]
+        lines += [".TP", names, *man_text(sentence(fault.meaning)), *man_text(fault.when)]
+        lines += [".IP", f"\\fB{escaped(fault.example)}\\fR"]
+        lines += [".IP", *man_text(f"What to do: {fault.remedy}")]
     return "".join(f"{line}\n" for line in lines)
 
 

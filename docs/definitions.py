@@ -1,0 +1,173 @@
+"""Makes docs/DEFINITIONS.md from the comments in specs/: `python3 docs/definitions.py`.
+
+The page begins with what the promise of an acceptance rests on: the file of the promise and all that
+it cites, however far. The other files come after it, by crate, a line each.
+"""
+
+import re
+from pathlib import Path
+from typing import NamedTuple
+
+ROOT = Path(__file__).resolve().parents[1]
+PAGE = ROOT / "docs" / "DEFINITIONS.md"
+PROMISE = ("station_check", "Accepted")
+
+USE = re.compile(r"^use Rattle\.(\w+)\.specs\.(\w+)(?:\.|$| as)", re.MULTILINE)
+DEFINITION = re.compile(r"^(?:abbrev|unfoldable) pub ([^\s:]+)|^pub (?:record|data) ([^\s:]+)")
+MODULE = re.compile(r"^pub mod (\w+)", re.MULTILINE)
+SOURCE = re.compile(r" ?\((?:profile|textbook|GSI manual)[^)]*\)")
+
+INTRODUCTION = """\
+# Definitions
+
+What the contracts speak of, in plain words. This page is made by `docs/definitions.py` from the comments of the definitions; a link leads to the definition itself. *GSI manual* means Leica's description of the format, *textbook* the usual least-squares station adjustment, *profile* that this project decides.
+
+A contract is as good as its definitions, so they are short and are not the program written again: a relation on a whole line, lines cut at all line ends at once, a sum over rows, 'there is no division into two parts'. Where one does go line by line, a law says the same in another way.
+"""
+
+EVERY_READER = """\
+## Every reader, files included
+
+A source may *tell* contracts which bytes it still gives, and whether it then fails. A file of the system or a terminal tells nothing beforehand. Why what is promised of sources that tell is true of these too:
+
+Watch a run over any source. Each read gave some bytes, or the end, or failed. Write down, in order, the bytes that came, and at the end whether the source ended or failed. By `TellsOver` nothing comes after an end or a failure: a source that answered one tells from then on that no byte is left, and by `Reads` it answers the same again. So the list is finished there. A source that tells exactly this list from the beginning could have given each of the answers: its next bytes, cut in the same way, and after the last of them its end or its failure. If the run stopped before an end, any end will do. The code can't see what a source tells, so it did the same over both, and what is promised over the one is true of the other, with the bytes that came in the place of those told.
+
+Where a clause has `Through` or `SomeBytesCame`, that is said in the contract itself: there are bytes that came, those that the reader tells where it tells, of which all of this holds.
+"""
+
+
+class Definition(NamedTuple):
+    name: str
+    comment: str
+
+
+class Spec(NamedTuple):
+    """A file of definitions."""
+
+    crate: str
+    module: str
+
+    @property
+    def path(self):
+        return ROOT / "crates" / self.crate / "specs" / f"{self.module}.antt"
+
+    @property
+    def link(self):
+        return f"[`{self.module}`](../crates/{self.crate}/specs/{self.module}.antt)"
+
+    def text(self):
+        return self.path.read_text()
+
+    def lines(self):
+        return len(self.text().splitlines())
+
+    def head(self):
+        """What the file is about: the comment that it begins with."""
+        taken = []
+        for line in self.text().splitlines():
+            if not line.startswith("--"):
+                break
+            taken.append(line.removeprefix("--").strip())
+        return " ".join(taken)
+
+    def definitions(self):
+        found, comment = [], []
+        for line in self.text().splitlines():
+            if line.startswith("--"):
+                comment.append(line.removeprefix("--").strip())
+            elif matched := DEFINITION.match(line):
+                found.append(Definition(matched[1] or matched[2], " ".join(comment)))
+                comment = []
+            else:
+                comment = []
+        return found
+
+    def cited(self):
+        """The files of definitions that this one uses, those of this repository."""
+        return {Spec(*pair) for pair in USE.findall(self.text()) if Spec(*pair).path.is_file()}
+
+
+def crates():
+    """The crates, the lowest first."""
+    lines = (ROOT / "crates.txt").read_text().splitlines()
+    names = [re.match(r"(\w+)[^:]*:", line) for line in lines if not line.startswith("#")]
+    return [name[1] for name in names if name and (ROOT / "crates" / name[1] / "specs").is_dir()]
+
+
+def specs_of(crate):
+    """The files of a crate's definitions, in the order in which a reader needs them."""
+    lib = ROOT / "crates" / crate / "specs" / "Lib.antt"
+    return [Spec(crate, module) for module in MODULE.findall(lib.read_text())]
+
+
+def closure(first):
+    """A file and all that it cites, however far, in reading order: what is cited comes before."""
+    order = []
+
+    def take(spec):
+        if spec in order:
+            return
+        for cited in sorted(spec.cited(), key=place):
+            take(cited)
+        order.append(spec)
+
+    everything = [spec for crate in crates() for spec in specs_of(crate)]
+    place = {spec: number for number, spec in enumerate(everything)}.__getitem__
+    take(first)
+    return order
+
+
+def sentence(text):
+    """A comment as a sentence of a table: a capital first, no bar that would end the cell."""
+    text = text.replace("|", r"\|")
+    return text[:1].upper() + text[1:]
+
+
+def belief(specs):
+    lines = sum(spec.lines() for spec in specs)
+    yield "## What you have to believe\n"
+    yield (
+        f"An acceptance says what {Spec(*PROMISE).link} says: one page, in the order of the promise. "
+        f"It rests on the {len(specs)} files below, {lines:,} lines with their comments, "
+        "and on no others; each rests on those before it. That the program keeps the promise is proved, "
+        "and needs no reading. So whoever believes these definitions, and what "
+        "[the first page](../README.md#what-is-trusted) says is trusted, may believe an acceptance.\n"
+    )
+    crate = None
+    for spec in specs:
+        if spec.crate != crate:
+            crate = spec.crate
+            yield f"### Of `{crate}`\n"
+        yield f"{spec.link}: {spec.head()}\n"
+        yield "| Definition | In plain words |"
+        yield "|---|---|"
+        for name, comment in spec.definitions():
+            yield f"| `{name}` | {sentence(comment)} |"
+        yield ""
+
+
+def others(specs):
+    yield "## The other definitions\n"
+    yield (
+        "What refusals, lists and texts are, and how the code keeps things. "
+        "An acceptance rests on none of them.\n"
+    )
+    for crate in crates():
+        left = [spec for spec in specs_of(crate) if spec not in specs]
+        if not left:
+            continue
+        yield f"### `{crate}`\n"
+        yield "| File | What it says |"
+        yield "|---|---|"
+        for spec in left:
+            yield f"| {spec.link} | {sentence(spec.head())} |"
+        yield ""
+
+
+def page():
+    specs = closure(Spec(*PROMISE))
+    return "\n".join([INTRODUCTION, *belief(specs), EVERY_READER, *others(specs)])
+
+
+if __name__ == "__main__":
+    PAGE.write_text(page())
