@@ -102,6 +102,7 @@ fn a_failing_flush_is_a_failed_write(rt: HostRuntime) -> Result<(), Fail> {
 #[derive(Drop)]
 struct FlushCount {
     flushes: u32,
+    is_handed_on: bool,
 }
 
 impl Sink for FlushCount {
@@ -111,12 +112,18 @@ impl Sink for FlushCount {
 
     ghost holds = { λ _. None };
 
+    ghost handed_on = { λ s. s.is_handed_on };
+
     fn write(&mut self, bytes: &[u8]) -> Result<usize, Failed> {
+        if !bytes.is_empty() {
+            self.is_handed_on = false;
+        }
         Ok(bytes.len())
     }
 
     fn flush(&mut self) -> Result<(), Failed> {
         self.flushes = self.flushes.saturating_add(1);
+        self.is_handed_on = true;
         Ok(())
     }
 }
@@ -124,7 +131,10 @@ impl Sink for FlushCount {
 #[test]
 fn a_writer_is_flushed_once(rt: HostRuntime) -> Result<(), Fail> {
     let sheet = read_sheet(rt.alloc(), SHEET.as_bytes())?;
-    let mut writer = FlushCount { flushes: 0 };
+    let mut writer = FlushCount {
+        flushes: 0,
+        is_handed_on: true,
+    };
     write_sheet(rt.alloc(), &sheet, &mut writer)?;
     assert!(rt; writer.flushes == 1);
     Ok(())
