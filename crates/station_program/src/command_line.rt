@@ -3,7 +3,7 @@
 
 ghost use Rattle.std.specs.Prelude.{IfSome};
 ghost use Rattle.clap.specs.Words.{found_of};
-ghost use Rattle.station_program.specs.CommandLine.{StatesLimits, StatesResidual};
+ghost use Rattle.station_program.specs.CommandLine.{StatesLimits, StatesResidual, IsAskedFor};
 
 use crate::explain::list_of_near_names;
 use crate::explanations::{
@@ -330,7 +330,9 @@ fn number<'a>(alloc: Global, name: &'a str, largest: u32) -> Arg<'a> {
 }
 
 /// The request, unless an argument is missing or out of its range.
-fn request_of<'a>(matches: &ArgMatches<'a>) -> Option<Request<'a>> {
+fn request_of<'a>(matches: &ArgMatches<'a>) -> Option<Request<'a>>
+    ensures { IfSome result (IsAskedFor matches.now) }
+{
     match matches.subcommand() {
         Some(("check", found)) => Some(Request::Check {
             gsi: found.get_str(GSI)?,

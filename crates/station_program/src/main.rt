@@ -5,6 +5,8 @@
 //! promise of the whole program stands at its `check_bytes`.
 #![tactic(auto)]
 
+ghost use Rattle.std.specs.Prelude.{◌≡◌, ◌≤◌, IfOk, IfErr};
+
 mod command_line;
 mod explain;
 mod explanations;
@@ -39,7 +41,9 @@ fn main(rt: HostRuntime) -> ExitCode {
     ExitCode::from(status_of_run(&rt))
 }
 
-fn status_of_run(rt: &HostRuntime) -> u8 {
+fn status_of_run(rt: &HostRuntime) -> u8
+    ensures { result ≤ 2 }
+{
     match command_line_words(rt) {
         Ok(words) => match asked_for(rt.alloc(), words.as_slice()) {
             Ok(request) => match answer(rt, &request) {
@@ -53,7 +57,9 @@ fn status_of_run(rt: &HostRuntime) -> u8 {
 }
 
 /// The words of the command line, or the status where they can't be had.
-fn command_line_words(rt: &HostRuntime) -> Result<Vec<String>, u8> {
+fn command_line_words(rt: &HostRuntime) -> Result<Vec<String>, u8>
+    ensures { IfErr result (λ status. status ≤ 2) }
+{
     let given = match std::env::args(rt) {
         Ok(given) => given,
         Err(error) if error.kind() == io::ErrorKind::OutOfMemory => return Err(out_of_memory(rt)),
@@ -65,14 +71,18 @@ fn command_line_words(rt: &HostRuntime) -> Result<Vec<String>, u8> {
     given.collect(rt.alloc()).map_err(|_| out_of_memory(rt))
 }
 
-fn out_of_memory(rt: &HostRuntime) -> u8 {
+fn out_of_memory(rt: &HostRuntime) -> u8
+    ensures { result ≡ 1 }
+{
     let _ = eprintln!(rt; "refused: out of memory");
     REFUSED
 }
 
 /// Prints what the parse of the command line answered in place of a request: help, the version, or
 /// a mistake.
-fn show(rt: &HostRuntime, error: &Error) -> u8 {
+fn show(rt: &HostRuntime, error: &Error) -> u8
+    ensures { result ≤ 2 }
+{
     if error.kind() == ErrorKind::OutOfMemory {
         return out_of_memory(rt);
     }
@@ -113,7 +123,9 @@ fn note_terminal<T: IsTerminal>(rt: &HostRuntime, input: &T) {
 }
 
 /// The exit status of a request. All its files are opened before any is read, the field file first.
-fn answer<'a>(rt: &HostRuntime, request: &Request<'a>) -> Result<u8, Unopened<'a>> {
+fn answer<'a>(rt: &HostRuntime, request: &Request<'a>) -> Result<u8, Unopened<'a>>
+    ensures { IfOk result (λ status. status ≤ 1) }
+{
     let mut out = OfWrite::new(rt.stdout());
     let mut err = OfWrite::new(rt.stderr());
     match *request {
@@ -156,7 +168,9 @@ fn answer<'a>(rt: &HostRuntime, request: &Request<'a>) -> Result<u8, Unopened<'a
     }
 }
 
-fn cannot_open(rt: &HostRuntime, unopened: &Unopened<'_>) -> u8 {
+fn cannot_open(rt: &HostRuntime, unopened: &Unopened<'_>) -> u8
+    ensures { result ≡ 2 }
+{
     let _ = eprintln!(rt; "cannot open {}", Printable(unopened.path));
     USAGE
 }
