@@ -1,2 +1,3 @@
 pub mod Explaining
 pub mod CommandLine
+pub mod Answering

@@ -5,7 +5,13 @@
 //! promise of the whole program stands at its `check_bytes`.
 #![tactic(auto)]
 
-ghost use Rattle.std.specs.Prelude.{◌≡◌, ◌≤◌, IfOk, IfErr};
+ghost use Rattle.std.specs.Prelude.{◌≡◌, ◌≤◌, IfOk, IfErr, None, false};
+ghost use Rattle.std.specs.declared.fs.File.{File as FileType};
+ghost use Rattle.std.specs.declared.rt.Stdin.{Stdin};
+ghost use Rattle.std.specs.declared.rt.Stdout.{Stdout};
+ghost use Rattle.std.specs.declared.rt.Stderr.{Stderr};
+ghost use Rattle.byte_ends.specs.OfRead.{read_told, read_failed};
+ghost use Rattle.station_program.specs.Answering.{IsAnswered};
 
 mod command_line;
 mod explain;
@@ -105,7 +111,10 @@ struct Unopened<'a> {
     path: &'a str,
 }
 
-fn open<'a>(rt: &HostRuntime, path: &'a str) -> Result<OfRead<File>, Unopened<'a>> {
+fn open<'a>(rt: &HostRuntime, path: &'a str) -> Result<OfRead<File>, Unopened<'a>>
+    ensures untold { IfOk result (λ file. read_told file ≡ None) }
+    ensures unfailed { IfOk result (λ file. read_failed file ≡ false) }
+{
     match fs::open(rt, path) {
         Ok(file) => {
             note_terminal(rt, &file);
@@ -124,7 +133,8 @@ fn note_terminal<T: IsTerminal>(rt: &HostRuntime, input: &T) {
 
 /// The exit status of a request. All its files are opened before any is read, the field file first.
 fn answer<'a>(rt: &HostRuntime, request: &Request<'a>) -> Result<u8, Unopened<'a>>
-    ensures { IfOk result (λ status. status ≤ 1) }
+    ensures status { IfOk result (λ status. status ≤ 1) }
+    ensures run { IfOk result (IsAnswered FileType Stdin Stdout Stderr request.now) }
 {
     let mut out = OfWrite::new(rt.stdout());
     let mut err = OfWrite::new(rt.stderr());
