@@ -1,5 +1,5 @@
 -- How a request is answered: by its own run, over the files that it names.
-use Rattle.std.specs.Prelude.{◌≡◌, ℕ, Bool, false, List, Option, None}
+use Rattle.std.specs.Prelude.{◌≡◌, ℕ, false, List, Option, None, option_map}
 use Rattle.byte_ends.specs.declared.of_read.OfRead.{OfRead}
 use Rattle.byte_ends.specs.declared.of_write.OfWrite.{OfWrite}
 use Rattle.byte_ends.specs.OfRead.{read_told, read_failed}
@@ -8,6 +8,7 @@ use Rattle.station_book.specs.Limits.{FaceLimits}
 use Rattle.station_check.specs.Endings.{EndsWith}
 use Rattle.station_check.specs.Runs.{IsCheckRun, IsListRun, IsMeansRun, IsWordsRun}
 use Rattle.station_program.specs.Explaining.{IsExplainRun}
+use Rattle.station_program.specs.declared.explanations.Explanation.{Explanation}
 use Rattle.station_program.specs.declared.command_line.Request.{Request}
 use Rattle.station_program.specs.declared.command_line.Request.TheVariants as request
 
@@ -68,10 +69,11 @@ pub record AnswersWords (R W E : Type 0) (status : ℕ) : Type 0 where
       status has_failed untold_text err.before err.left
 
 -- A fault was explained.
-pub record AnswersExplain (W E : Type 0) (status : ℕ) : Type 0 where
+pub record AnswersExplain (W E : Type 0) (fault : Option Explanation) (status : ℕ) : Type 0 where
   pub out : Stream W
   pub err : Stream E
-  pub ends : EndsWith {A = Unit {0}} (IsExplainRun has_failed out.before out.left)
+  pub ends : EndsWith {A = Unit {0}} (IsExplainRun fault
+      has_failed untold_text is_handed_on out.before out.left)
       status has_failed untold_text err.before err.left
 
 -- A request is answered with this exit status: by a run of its own kind, with its limits and its
@@ -84,4 +86,5 @@ IsAnswered R I W E (request.Means gsi station limits) status =
 IsAnswered R I W E (request.List gsi limits) status = AnswersList R W E limits status
 IsAnswered R I W E (request.Words gsi) status = AnswersWords R W E status
 IsAnswered R I W E request.WordsOfInput status = AnswersWords I W E status
-IsAnswered R I W E (request.Explain fault) status = AnswersExplain W E status
+IsAnswered R I W E (request.Explain fault) status =
+    AnswersExplain W E (option_map (λ e. e.now) fault) status

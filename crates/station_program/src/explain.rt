@@ -1,7 +1,8 @@
 //! What is printed of faults: the names of all, or what one of them means.
 
+ghost use Rattle.std.specs.Prelude.{◌≡◌, IfOk, option_map, string_bytes};
 ghost use Rattle.station_check.specs.Endings.{EndsWith};
-ghost use Rattle.station_program.specs.Explaining.{IsExplainRun};
+ghost use Rattle.station_program.specs.Explaining.{meaning_text, IsExplainRun};
 
 use crate::explanations::{Explanation, explanations};
 use byte_ends::Sink;
@@ -16,7 +17,8 @@ pub fn run_explain<W: Sink, E: Sink>(
     out: &mut W,
     err: &mut E,
 ) -> u8
-    ensures { EndsWith {A = Unit {0}} (IsExplainRun W.failed out.old out.new)
+    ensures { EndsWith {A = Unit {0}} (IsExplainRun (option_map (λ e. e.now) fault.entry)
+        W.failed W.holds W.handed_on out.old out.new)
         result E.failed E.holds err.old err.new }
 {
     match print(alloc, fault, out) {
@@ -28,7 +30,8 @@ pub fn run_explain<W: Sink, E: Sink>(
 /// Prints what a fault means, or the names of all faults. The text is made in memory, written, and
 /// flushed once.
 fn print<W: Sink>(alloc: Global, fault: Option<&Explanation>, out: &mut W) -> Result<(), Fault>
-    ensures { IsExplainRun W.failed out.old out.new result }
+    ensures { IsExplainRun (option_map (λ e. e.now) fault.entry)
+        W.failed W.holds W.handed_on out.old out.new result }
 {
     let text = match fault {
         Some(fault) => explanation_text(alloc, fault),
@@ -104,22 +107,21 @@ fn is_part(part: &str, whole: &str) -> bool {
 }
 
 /// What a fault means: its names, when it comes, a line that names it, and what to do.
-fn explanation_text(alloc: Global, entry: &Explanation) -> Result<String, AllocError> {
-    let mut text = String::new(alloc);
-    for (place, name) in entry.names.iter().enumerate() {
-        let comma = if place > 0 { ", " } else { "" };
-        write!(text, "{comma}{name}")?;
-    }
-    let Explanation {
-        meaning,
-        when,
-        example,
-        remedy,
-        ..
-    } = *entry;
-    writeln!(
-        text,
-        ": {meaning}\n\n{when}\n\n  {example}\n\nWhat to do: {remedy}"
-    )?;
-    Ok(text)
+fn explanation_text(alloc: Global, entry: &Explanation) -> Result<String, AllocError>
+    ensures { IfOk result (λ text. string_bytes text ≡ meaning_text entry.now) }
+{
+    let names = entry.names.join(alloc, ", ")?;
+    [
+        names.as_str(),
+        ": ",
+        entry.meaning,
+        "\n\n",
+        entry.when,
+        "\n\n  ",
+        entry.example,
+        "\n\nWhat to do: ",
+        entry.remedy,
+        "\n",
+    ]
+    .concat(alloc)
 }

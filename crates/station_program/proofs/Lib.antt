@@ -1,0 +1,2 @@
+pub mod OkLaws
+pub mod ExplainingLaws
