@@ -1,7 +1,7 @@
 -- A read behind the first bytes of a buffer.
 use Rattle.std.proofs.Common.{◌≡◌, ℕ, suc, ◌+◌, ◌-◌, ◌<◌, ◌≤◌, List, [], ◌∷◌, ◌++◌, length, take, drop, Option, None, Some, Result, Ok, Err, slice_range, MatchResult, refl, sym, ap, subst, ◌∙◌, arith, length-take, drop-drop}
 use Rattle.std.specs.Prelude.{IfOk}
-use Rattle.std.proofs.lemmas.List.{drop-take, take-append-le}
+use Rattle.std.proofs.lemmas.List.{drop-take, drop-append-le, take-append-le}
 use Rattle.byte_ends.specs.Source.{Told, Reads, AfterRead, TellsOver, MayGive, Through, ended, broken_off}
 use Rattle.byte_ends.specs.declared.failed.Failed.{Failed}
 use Rattle.gsi_file.specs.Filling.{Grows, GivesTold, FailsTold}
@@ -51,6 +51,25 @@ slice_range_behind xs a e n le =
 
 pub range_length : (xs : List ℕ) (a e : ℕ) → length (slice_range xs a e) ≤ e - a
 range_length xs a e = omega (arith, length-take (e - a) (drop a xs))
+
+-- the bytes in hand are the first bytes of the room without those before them
+range_of_take : (xs : List ℕ) (a e : ℕ) → a ≤ e → slice_range xs a e ≡ drop a (take e xs)
+range_of_take xs a e le =
+    let whole : a + (e - a) ≡ e = omega arith in
+    sym (drop-take a (e - a) xs) ∙ ap (λ k. drop a (take k xs)) whole
+
+-- a read behind the first bytes of the room, as one behind those in hand
+pub grows_behind : (old new : Option Told) (buf buf' hand : List ℕ) (a e n : ℕ) → a ≤ e → e ≤ length buf → slice_range buf a e ≡ hand → Grows old new (take e buf) (take (e + n) buf') n → Grows old new hand (slice_range buf' a (e + n)) n
+grows_behind old new buf buf' hand a e n le inside same g = record {
+  given = g.given;
+  now =
+      range_of_take buf' a (e + n) (omega arith)
+      ∙ ap (drop a) g.now
+      ∙ drop-append-le a (take e buf) g.given (omega (arith, length-take e buf))
+      ∙ ap (λ xs. xs ++ g.given) (sym (range_of_take buf a e le) ∙ same);
+  count = g.count;
+  told = g.told;
+}
 
 -- a read, of whatever the source gives after it
 over_known : (new : Option Told) (end after : Told) → new ≡ Some end → MayGive new after → after ≡ end
