@@ -40,6 +40,12 @@ NOT_LOADED = 127
 
 MORE = b"\nFor more information, try '--help'.\n"
 
+# What stands after a limit that is no whole number, or out of its range.
+LIMITS_ARE_WHOLE = b"""
+Limits are whole numbers: of 2c and 2i in units of 0.01 mgon, of residuals in half units of
+0.005 mgon. So 0.3 mgon is --two-c 30, --two-i 30 and --residual 60.
+"""
+
 NOT_TEXT = (
     b"error: an argument is not UTF-8 text\n\n"
     b"A file of such a name can be handed in as standard input: "
@@ -164,6 +170,10 @@ class CommandLineTest(ProgramTest):
                 ["check", "--residual", "2001", "a", "b"],
                 b"error: invalid value '2001' for '--residual <N>': 2001 is not in 0..=2000\n",
             ),
+            (
+                ["check", "--residual", "0.3", "a", "b"],
+                b"error: invalid value '0.3' for '--residual <N>': ",
+            ),
         ]
         for command in ["check", "means", "list"]:
             for option in ["two-c", "two-i"]:
@@ -178,7 +188,9 @@ class CommandLineTest(ProgramTest):
                 status, stdout, stderr = answer_of(args)
                 self.assertEqual((2, b""), (status, stdout))
                 self.assertTrue(stderr.startswith(message), stderr)
-                self.assertTrue(stderr.endswith(MORE), stderr)
+                of_limit = message.startswith(b"error: invalid value")
+                end = MORE + LIMITS_ARE_WHOLE if of_limit else MORE
+                self.assertTrue(stderr.endswith(end), stderr)
 
     def test_an_argument_that_is_no_text_is_a_mistake(self):
         for args in [

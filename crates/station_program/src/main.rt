@@ -40,6 +40,10 @@ A file of such a name can be handed in as standard input: station_check list /de
 
 For more information, try '--help'.";
 
+const LIMITS_ARE_WHOLE: &str = "
+Limits are whole numbers: of 2c and 2i in units of 0.01 mgon, of residuals in half units of
+0.005 mgon. So 0.3 mgon is --two-c 30, --two-i 30 and --residual 60.";
+
 const TERMINAL_IS_READ: &str =
     "reading from the terminal; Ctrl-D ends the input, and 'station_check --help' explains";
 
@@ -93,6 +97,9 @@ fn show(rt: &HostRuntime, error: &Error) -> u8
         return out_of_memory(rt);
     }
     let printed = error.print(rt);
+    if error.kind() == ErrorKind::ValueValidation {
+        let _ = eprintln!(rt; "{LIMITS_ARE_WHOLE}");
+    }
     if error.use_stderr() {
         return USAGE;
     }
