@@ -1,0 +1,55 @@
+//! First directions and orientations, by way of a spanning of all sets and targets.
+//!
+//! An angle is carried from the first target along observations, each to an end that has none yet,
+//! until all have one. So the observations that carried agree with the angles exactly, and the
+//! others show how many full turns they need.
+ghost use Rattle.std.specs.Prelude.{◌≤◌, All};
+ghost use Rattle.adjust_kernel.specs.Stations.{IsObs};
+
+use crate::circle::{on_circle, reading};
+use adjust_kernel::{MOST_NODES, MOST_SETS, MOST_TARGETS, Obs, are_marked};
+
+/// Carries angles along all observations, once each.
+fn carry(
+    angles: &mut [i128; MOST_NODES],
+    reached: &mut [bool; MOST_NODES],
+    sets: usize,
+    targets: usize,
+    obs: &[Obs],
+)
+    requires sets { sets ≤ MOST_SETS }
+    requires targets { targets ≤ MOST_TARGETS }
+    requires obs { All (IsObs sets targets) obs.now }
+{
+    for each in obs {
+        let set = each.set as usize;
+        let target = sets + each.target as usize;
+        let value = reading(each.value, 0);
+        if reached[set] && !reached[target] {
+            angles[target] = on_circle(angles[set].saturating_add(value));
+            reached[target] = true;
+        } else if reached[target] && !reached[set] {
+            angles[set] = on_circle(angles[target].saturating_sub(value));
+            reached[set] = true;
+        }
+    }
+}
+
+/// First angles of all sets and targets, each on the circle.
+pub(crate) fn first_angles(sets: usize, targets: usize, obs: &[Obs]) -> [i128; MOST_NODES]
+    requires sets { sets ≤ MOST_SETS }
+    requires targets { targets ≤ MOST_TARGETS }
+    requires obs { All (IsObs sets targets) obs.now }
+{
+    let nodes = sets + targets;
+    let mut angles = [0; MOST_NODES];
+    let mut reached = [false; MOST_NODES];
+    reached[sets] = true;
+    for _ in 0..nodes {
+        if are_marked(&reached, nodes) {
+            return angles;
+        }
+        carry(&mut angles, &mut reached, sets, targets, obs);
+    }
+    angles
+}
