@@ -1,8 +1,8 @@
 """Runs the tests of tests/cli over the built program, as many side by side as there are processors.
 
 `python3 tests/command_line.py [WORD..]` runs those whose names have one of the words. With SWEEP in
-the environment the sweeps are run whole. Each test is told of when it has ended; what failed and
-what was skipped is told at the end.
+the environment the sweeps are run whole. Each test is reported when it has ended; what failed and
+what was skipped is said at the end.
 """
 
 import multiprocessing
