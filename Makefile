@@ -16,7 +16,8 @@ SOURCES := crates.txt HANDLES $(shell find crates \( -name out -o -name tests -o
 # The manual page and the completions.
 SHARED := $(sort $(shell find share -type f))
 
-# The documents and the examples, as they lie in the repository, so that their links hold.
+# The documents and the examples, as they lie in the repository, so that their links hold; those to crates/ and
+# conformance/ lead to the sources, which are not installed.
 DOCUMENTS := README.md CHANGELOG.md $(sort $(wildcard docs/*.md)) \
   $(sort $(wildcard examples/*.md examples/*.gsi examples/*.csv examples/*.svg examples/*.py))
 DOCUMENT_FOLDER := share/doc/station_check
@@ -83,7 +84,7 @@ uninstall:
 
 # An archive of what is installed, a Debian package where dpkg-deb is found, and their checksums, in $(DIST).
 dist: $(PROGRAM)
-	@RT='$(RT)' sh packaging/dist.sh '$(PROGRAM)' '$(DIST)'
+	@RT='$(RT)' CRATES='$(CRATES)' sh packaging/dist.sh '$(PROGRAM)' '$(DIST)'
 
 clean:
 	rm -rf crates/*/out build

@@ -4,7 +4,8 @@
 #
 #     sh packaging/dist.sh PROGRAM FOLDER
 #
-# MAINTAINER, as 'Name <address>', stands in the Debian package.
+# CRATES names those that the program is made of, lowest first; MAINTAINER, as 'Name <address>',
+# stands in the Debian package.
 set -eu
 
 program=$1
@@ -33,10 +34,11 @@ The build proves each function of these crates against its contract, lowest crat
 proof fails, there is no program. What it said at the end of each:
 
 END
-  for crate in $(sed -n 's/^\([a-z_]*\):.*/\1/p' crates.txt | grep -v '_tests$'); do
+  for crate in $CRATES; do
     echo "$crate"
-    grep -s -h -e '^axioms ' -e '^logic=' "crates/$crate/out/build.log" | sed 's/^/  /' ||
-      echo '  no log of make is here: it was built in another way'
+    said=$(grep -s -h -e '^axioms ' -e '^logic=' "crates/$crate/out/build.log") ||
+      said='no log of make is here: it was proved elsewhere, or not at all'
+    echo "$said" | sed 's/^/  /'
   done
   cat << END
 

@@ -14,6 +14,9 @@ EXAMPLES = "share/doc/station_check/examples"
 
 TIME = 120
 
+# The libraries that no command uses.
+NOT_OF_THE_PROGRAM = {"sheet_nearness"}
+
 
 def output_of(*command, **more):
     run = {"check": True, "capture_output": True, "text": True, "timeout": TIME}
@@ -78,9 +81,13 @@ class DistTest(ProgramTest):
         with tarfile.open(self.archive(self.dist("made"))) as archive:
             note = archive.extractfile(f"{self.name}/share/doc/station_check/PROVED").read()
         crates = re.findall(r"^(\w+):", (ROOT / "crates.txt").read_text(), re.MULTILINE)
-        crates = [name for name in crates if not name.endswith("_tests")]
-        for word in ["commit: ", "toolchain: ", "needs: Linux on x86-64", *crates]:
+        crates = {name for name in crates if not name.endswith("_tests")} - NOT_OF_THE_PROGRAM
+        for word in ["commit: ", "toolchain: ", "needs: Linux on x86-64"]:
             self.assertIn(f"\n{word}", note.decode())
+        # Of each crate its log says something, or it is said that there is none.
+        line = r"^(\w+)\n  (?:axioms |logic=|no log of make is here)"
+        said = re.findall(line, note.decode(), re.MULTILINE)
+        self.assertEqual(sorted(crates), sorted(said))
         self.assertIn(output_of("sha256sum", PROGRAM).split()[0], note.decode())
 
     def test_the_package_has_the_program_and_the_documents(self):
