@@ -9,7 +9,8 @@ field file is done where `station_check list` names stations in it, and each of 
 sheet. The answer to each sheet is printed, and kept in NAME.answer beside NAME.csv.
 
 Exit status: 0 where there are field files, each is done, and each sheet was accepted; 1 where not;
-2 where nothing could be checked: a mistake on the command line, no such folder, no station_check.
+2 where nothing could be checked: a mistake on the command line, no such folder, one that takes no
+answers, no station_check.
 
 Python 3.10 or later, and station_check on the path, are all it needs.
 """
@@ -94,7 +95,10 @@ class Run(NamedTuple):
         flags = os.O_WRONLY | os.O_CREAT | os.O_TRUNC
         takes = (os.POSIX_SPAWN_OPEN, 1, self.output, flags, 0o666)
         both = (os.POSIX_SPAWN_DUP2, 1, 2)
-        run = os.posix_spawn(self.args[0], self.args, ENVIRONMENT, file_actions=[takes, both])
+        try:
+            run = os.posix_spawn(self.args[0], self.args, ENVIRONMENT, file_actions=[takes, both])
+        except OSError as why:  # the program has run before, so it is the output
+            raise CannotCheck(f"cannot write {self.output}: {why.strerror}") from None
         return os.waitstatus_to_exitcode(os.waitpid(run, 0)[1])
 
     def printed(self):

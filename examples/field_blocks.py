@@ -63,13 +63,13 @@ class FieldFile:
     def __init__(self, path):
         with open(path, "rb") as file:
             self.lines = file.read().splitlines(keepends=True)
+        run = subprocess.run(["station_check", "words", "--", path], capture_output=True, text=True)
+        if run.returncode != 0:
+            raise NotPlain(run.stderr.strip())
         if any(line.endswith(b"\r") for line in self.lines):
             raise NotPlain("its lines end in CR alone, which no tool shows as lines")
         full = [line for line in self.lines if line.strip(b" \r\n")]
         self.blocks = [Block(number, line) for number, line in enumerate(full, 1)]
-        run = subprocess.run(["station_check", "words", "--", path], capture_output=True, text=True)
-        if run.returncode != 0:
-            raise NotPlain(run.stderr.strip())
         for line in run.stdout.splitlines():
             number, _, index, information, content = line.split(" ", 4)
             self.blocks[int(number) - 1].words.setdefault(int(index), (information, content))

@@ -134,6 +134,7 @@ class MarkSetsTest(CopyTest):
             (edited(good, (b" 22.102", b" 23.102")), "block 1: no zenith angle in gon"),
             (edited(good, (b"22.102+10000000", b"22.102+20000000")), "block 1: no face has"),
             (b"x" + good, "refused: block 1: Word 1"),
+            (good.decode().encode("utf-16"), "refused: block 1: Byte 1"),
             (job("112", "ABB"), "block 1: set 1, which begins here, has A in one face only"),
             (job("11221", "ABBAA"), "block 5: the last set begins here, and has one face"),
             (job("1", "A"), "block 1: the last set begins here, and has one face"),

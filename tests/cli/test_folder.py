@@ -220,6 +220,13 @@ class FolderTest(ProgramTest):
             status, lines, answer = self.run_script(**args)
             self.assertEqual((2, []), (status, lines))
             self.assertIn(said, answer)
+        long = "x" * (255 - len(".csv"))  # with .answer it is too long
+        (self.folder / "long").mkdir()
+        (self.folder / "long" / f"{long}.gsi").write_bytes(STATION)
+        (self.folder / "long" / f"{long}.csv").write_bytes(SHEET)
+        status, lines, answer = self.run_script(folder=self.folder / "long")
+        self.assertEqual((2, []), (status, lines))
+        self.assertIn(f"cannot write {long}.answer: File name too long", answer)
         for options in [["--residual=0.3"], ["--two-c=1", "--two-c=2"], ["--two-x=1"], ["more"]]:
             status, lines, answer = self.run_script(*options)
             self.assertEqual((2, []), (status, lines), options)
