@@ -3,6 +3,7 @@
 mark_sets.py and prepare.py stand on it; by itself it does nothing.
 """
 
+import shutil
 import subprocess
 from dataclasses import dataclass, field
 
@@ -63,6 +64,8 @@ class FieldFile:
     def __init__(self, path):
         with open(path, "rb") as file:
             self.lines = file.read().splitlines(keepends=True)
+        if shutil.which("station_check") is None:
+            raise NotPlain("no station_check is on the path")
         run = subprocess.run(["station_check", "words", "--", path], capture_output=True, text=True)
         if run.returncode != 0:
             raise NotPlain(run.stderr.strip())

@@ -160,6 +160,14 @@ class MarkSetsTest(CopyTest):
         done = self.run_in_folder([*script, "none.gsi", "copy.gsi"])
         self.assertEqual((1, ""), (done.returncode, done.stdout))
 
+    def test_it_is_said_where_station_check_is_missing(self):
+        self.field.write_bytes(job("12", "AA"))
+        self.environment = {**self.environment, "PATH": str(self.folder)}
+        script = [sys.executable, EXAMPLES / "mark_sets.py", "--station=S1"]
+        done = self.run_in_folder([*script, self.field.name, self.copy.name])
+        said = "mark_sets.py: no station_check is on the path\n"
+        self.assertEqual((1, said), (done.returncode, done.stderr))
+
 
 class PrepareTest(CopyTest):
     def prepared(self, field, *args, why="a reason"):
