@@ -1,0 +1,4 @@
+pub mod ArcLaws
+pub mod SpreadLaws
+pub mod ApartLaws
+pub mod RoundingLaws

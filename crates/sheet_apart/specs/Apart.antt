@@ -1,0 +1,47 @@
+-- How far stated directions are apart from those of a choice (profile). Stated directions are whole
+-- numbers of 0.000000001 gon, a choice's are half units over its denominator.
+use Rattle.std.specs.Prelude.{ℕ, ◌+◌, ◌*◌, ◌≤◌, ◌<◌, List, ℤ, pos, ◌+ℤ◌, ◌-ℤ◌, ◌*ℤ◌, slice_index_or}
+use Rattle.adjust_kernel.specs.Residuals.{Choice}
+use Rattle.adjust_kernel.specs.Within.{IsWithin}
+use Rattle.sheet_apart.specs.Arcs.{IsSpread}
+use Rattle.sheet_apart.specs.declared.units.TheConstants.{CIRCLE, HALF_UNIT, UNIT}
+
+-- the direction that a list states for a target
+abbrev pub stated_by : List ℤ → ℕ → ℤ
+stated_by stated t = slice_index_or stated t (pos 0)
+
+-- the stated direction of a target less the choice's, in 0.000000001 gon times the denominator
+abbrev pub difference : Choice → (ℕ → ℤ) → ℕ → ℤ
+difference c stated t = pos c.denominator *ℤ stated t -ℤ pos HALF_UNIT *ℤ c.direction t
+
+-- a full circle in the same unit
+abbrev pub circle_of : Choice → ℕ
+circle_of c = c.denominator * CIRCLE
+
+-- One rotation, over any denominator, and full circles bring each stated direction so near the
+-- choice's: within so many units of 0.000001 gon.
+pub record AreBroughtWithin (targets : ℕ) (c : Choice) (stated : ℕ → ℤ) (most : ℕ) : Type 0 where
+  pub parts : ℕ
+  pub positive : 1 ≤ parts
+  pub rotation : ℤ
+  pub circles : ℕ → ℤ
+  pub each : (t : ℕ) → t < targets
+      → IsWithin (pos (most * (UNIT * c.denominator * parts)))
+      (pos parts *ℤ (difference c stated t +ℤ pos (circle_of c) *ℤ circles t) -ℤ rotation)
+
+-- What is this near a choice, in half units times its denominator, is nearer than half of 0.000001
+-- gon.
+abbrev pub IsClear : Choice → ℕ → Type 0
+IsClear c near = 2 * HALF_UNIT * near < UNIT * c.denominator
+
+-- the least whole number that is not below a fraction
+pub record IsRoundedUp (numerator denominator whole : ℕ) : Type 0 where
+  pub not_below : numerator ≤ whole * denominator
+  pub least : whole * denominator < numerator + denominator
+
+-- Half the spread of the differences on the circle, and how near the least-squares directions are,
+-- rounded up to whole units of 0.000001 gon.
+pub record IsApart (targets : ℕ) (c : Choice) (stated : ℕ → ℤ) (near apart : ℕ) : Type 0 where
+  pub spread : ℕ
+  pub is_spread : IsSpread (circle_of c) (difference c stated) targets spread
+  pub rounded_up : IsRoundedUp (spread + 2 * HALF_UNIT * near) (2 * UNIT * c.denominator) apart

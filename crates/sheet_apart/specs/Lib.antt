@@ -1,0 +1,3 @@
+pub mod Apart
+pub mod Arcs
+pub mod Rounding
