@@ -58,12 +58,25 @@ class Block:
         return 1 if zenith < HALF_CIRCLE else 2
 
 
+def new_file(path):
+    """A file that was not there, to be written."""
+    try:
+        return open(path, "xb")
+    except FileExistsError:
+        raise NotPlain(f"{path} is there already") from None
+    except OSError as why:
+        raise NotPlain(f"cannot write {path}: {why.strerror}") from None
+
+
 class FieldFile:
     """The lines of a field file, blank ones too, and its blocks."""
 
     def __init__(self, path):
-        with open(path, "rb") as file:
-            self.lines = file.read().splitlines(keepends=True)
+        try:
+            with open(path, "rb") as file:
+                self.lines = file.read().splitlines(keepends=True)
+        except OSError as why:
+            raise NotPlain(f"cannot read {path}: {why.strerror}") from None
         if shutil.which("station_check") is None:
             raise NotPlain("no station_check is on the path")
         run = subprocess.run(["station_check", "words", "--", path], capture_output=True, text=True)
@@ -80,6 +93,6 @@ class FieldFile:
     def write(self, path, copied):
         """Writes a new file: of each line what is answered for it, a block or a blank line."""
         blocks = iter(self.blocks)
-        with open(path, "xb") as file:
+        with new_file(path) as file:
             for line in self.lines:
                 file.write(copied(next(blocks)) if line.strip(b" \r\n") else line)

@@ -19,7 +19,7 @@ import shlex
 import sys
 from itertools import groupby
 
-from field_blocks import END, SET, STATION, FieldFile, NotPlain
+from field_blocks import END, SET, STATION, FieldFile, NotPlain, new_file
 
 # A block, or those from one to another.
 NUMBERS = re.compile(r"([1-9]\d*)(?:-([1-9]\d*))?")
@@ -47,8 +47,10 @@ def sets_of(field):
 def of_set(field, station, number):
     """The blocks of a set."""
     found = [set for set in list(sets_of(field)) if set[:2] == (station, number)]
-    if len(found) != 1:
-        raise NotPlain(f"{len(found) or 'no'} sets {number} of a station {station}")
+    if not found:
+        raise NotPlain(f"station {station} has no set {number}")
+    if len(found) > 1:
+        raise NotPlain(f"station {station} has {len(found)} sets {number}")
     return found[0][2]
 
 
@@ -66,10 +68,14 @@ def closing_sights(field):
     return closing
 
 
+def range_said(first, last):
+    return f"block {first}" if first == last else f"blocks {first}-{last}"
+
+
 def numbered(field, first, last):
     """The blocks from one number to another."""
     if not first <= last <= len(field.blocks):
-        raise NotPlain(f"no blocks {first}-{last}: the file has {len(field.blocks)}")
+        raise NotPlain(f"no {range_said(first, last)}: the file has {len(field.blocks)}")
     return field.blocks[first - 1 : last]
 
 
@@ -78,7 +84,7 @@ def left_out(field, asked):
     blocks, said = [], []
     for first, last in asked.blocks or []:
         blocks += numbered(field, first, last)
-        said.append(f"block {first}" if first == last else f"blocks {first}-{last}")
+        said.append(range_said(first, last))
     for station, number in asked.set or []:
         blocks += of_set(field, station, number)
         said.append(f"set {number} of {station}")
@@ -144,7 +150,7 @@ def main():
         blocks, said = left_out(field, asked)
         if os.path.exists(asked.copy):
             raise NotPlain(f"{asked.copy} is there already")
-        with open(log, "xb") as file:
+        with new_file(log) as file:
             file.writelines(log_of(asked, blocks, said))
         field.write(asked.copy, lambda block: b"" if block.number in blocks else block.line)
     except (NotPlain, OSError) as why:

@@ -154,11 +154,14 @@ class MarkSetsTest(CopyTest):
     def test_a_copy_is_a_new_file(self):
         self.field.write_bytes(job("12", "AA"))
         script = [sys.executable, EXAMPLES / "mark_sets.py", "--station=S1"]
-        for copy in [self.field.name, "none/copy.gsi"]:
-            done = self.run_in_folder([*script, self.field.name, copy])
+        for field, copy, said in [
+            ("field.gsi", "field.gsi", "field.gsi is there already"),
+            ("field.gsi", "none/copy.gsi", "cannot write none/copy.gsi: No such file or directory"),
+            ("none.gsi", "copy.gsi", "cannot read none.gsi: No such file or directory"),
+        ]:
+            done = self.run_in_folder([*script, field, copy])
             self.assertEqual((1, ""), (done.returncode, done.stdout))
-        done = self.run_in_folder([*script, "none.gsi", "copy.gsi"])
-        self.assertEqual((1, ""), (done.returncode, done.stdout))
+            self.assertEqual(f"mark_sets.py: {said}\n", done.stderr)
 
     def test_it_is_said_where_station_check_is_missing(self):
         self.field.write_bytes(job("12", "AA"))
@@ -223,15 +226,18 @@ class PrepareTest(CopyTest):
 
     def test_what_is_not_there_is_refused_with_a_reason(self):
         for args, said in [
-            (["--blocks", "52"], "no blocks 52-52: the file has 51"),
+            (["--blocks", "52"], "no block 52: the file has 51"),
             (["--blocks", "5-4"], "no blocks 5-4"),
-            (["--set", "P7", "5"], "no sets 5 of a station P7"),
-            (["--set", "P8", "1"], "no sets 1 of a station P8"),
+            (["--set", "P7", "5"], "station P7 has no set 5"),
+            (["--set", "P8", "1"], "station P8 has no set 1"),
             (["--closing"], "no set has a closing sight"),
         ]:
             status, _, answer = self.prepared(P7, *args)
             self.assertEqual(1, status)
             self.assertTrue(answer.startswith(f"prepare.py: {said}"), answer)
+        twice = edited(P7, (b"42....+0000000000000002", b"42....+0000000000000001"))
+        said = "prepare.py: station P7 has 2 sets 1\n"
+        self.assertEqual((1, "", said), self.prepared(twice, "--set", "P7", "1"))
         self.assertEqual(1, self.prepared(P7.replace(b"\n", b"\r"), "--blocks", "2")[0])
         for args in [[], ["--blocks", "x"], ["--blocks", "0"], ["--blocks"], ["--set", "P7"]]:
             self.assertEqual(2, self.prepared(P7, *args)[0], args)
