@@ -221,6 +221,14 @@ def found_program(options):
     return os.path.abspath(program)
 
 
+def enter(folder):
+    """Makes a folder the current one."""
+    try:
+        os.chdir(folder)
+    except OSError as why:
+        raise CannotCheck(f"cannot open {folder}: {why.strerror}") from None
+
+
 def main():
     asked = command_line().parse_args()
     limits = stated(asked, "two-c", "two-i")
@@ -229,7 +237,7 @@ def main():
     sys.stdout.reconfigure(errors="surrogateescape")
     try:
         program = found_program(options)
-        os.chdir(asked.folder)
+        enter(asked.folder)
         folder = Folder()
         folder.check(program, options, jobs)
         well = report(folder, folder.left(program, limits, jobs))

@@ -212,8 +212,8 @@ class FolderTest(ProgramTest):
         (self.folder / "files").mkdir()
         (self.folder / "empty").mkdir()
         for said, args in [
-            ("No such file", {"folder": self.folder / "none"}),
-            ("No such file", {"folder": ""}),
+            ("none: No such file or directory\n", {"folder": self.folder / "none"}),
+            ("check_folder.py: cannot open : No such file", {"folder": ""}),
             ("usage: ", {"folder": "-x"}),
             ("no station_check is on the path", {"path": self.folder / "empty"}),
         ]:
