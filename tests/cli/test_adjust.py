@@ -199,7 +199,9 @@ class AdjustTest(ProgramTest):
         self.assertEqual([f"{start}.S1.csv"], [str(p) for p in self.folder.glob("some.*.csv")])
         self.assertEqual(2, self.run_adjust("--all=x", "--station=S1", stdin=listed)[0])
         nowhere = self.folder / "none" / "x"
-        self.assertEqual(1, self.run_adjust("--all", nowhere, stdin=listed)[0])
+        status, _, said = self.run_adjust("--all", nowhere, stdin=answer_of(["list", EXAMPLE])[1])
+        cannot = f"adjust.py: cannot write {nowhere}.S1.csv: No such file or directory\n"
+        self.assertEqual((1, cannot), (status, said))
 
     def test_what_is_no_list_is_said(self):
         one = answer_of(["list", EXAMPLE])[1]
