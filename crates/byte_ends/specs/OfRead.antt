@@ -9,7 +9,7 @@ use Rattle.byte_ends.specs.Source.{Told, ended, broken_off}
 abbrev pub reader_of : {R : Type 0} → OfRead R → R
 reader_of s = s.reader
 
--- what is told in a state: nothing, until the reader has ended or failed
+-- what it tells in a state: nothing, until the reader has ended or failed
 abbrev pub told_in : State → Option Told
 told_in Open = None
 told_in Ended = Some ended
@@ -29,7 +29,7 @@ read_told s = told_in s.state
 abbrev pub read_failed : {R : Type 0} → OfRead R → Bool
 read_failed s = failed_in s.state
 
--- what is told after a read of a reader that was not over: a read that gave bytes, or had no room,
+-- what it tells after a read of a reader that was not over: a read that gave bytes, or had no room,
 -- is no end
 abbrev pub told_after : {E : Type 0} → Result ℕ E → ℕ → Option Told
 told_after (Ok n) room = if n == 0 && not (room == 0) then Some ended else None

@@ -1,4 +1,5 @@
--- What a source tells, and what a read does to it.
+-- What a source tells, and what a read does to it. To tell is to let contracts know the bytes that
+-- are still to come, beforehand: a slice does, a file does not.
 use Rattle.std.specs.Prelude.{◌≡◌, ℕ, ◌<◌, Bool, true, false, List, [], ◌++◌, length, take, ⊤, Option, Some, None, IfSome, Result, Ok, Err}
 
 -- the bytes that a source still gives, and whether it then fails
@@ -14,7 +15,8 @@ HasEnded t = (t.bytes ≡ []) × (t.fails ≡ false)
 abbrev pub HasBrokenOff : Told → Type 0
 HasBrokenOff t = (t.bytes ≡ []) × (t.fails ≡ true)
 
--- What was told before is told after too, and this holds of both; or nothing was told.
+-- A source that told before still tells, and this holds of what it tells then and now; or it told
+-- nothing.
 abbrev pub WhereTold : {A B : Type 0} → Option A → Option B → (A → B → Type 0) → Type 0
 WhereTold None new P = ⊤
 WhereTold (Some old) None P = ⊥
@@ -49,8 +51,8 @@ ended = record { bytes = []; fails = false }
 abbrev pub broken_off : Told
 broken_off = record { bytes = []; fails = true }
 
--- An end, of a read with some room, and a failure are told from then on, by every source: no byte
--- comes after them, but the same end or failure again.
+-- From an end, of a read with some room, or a failure on, every source tells it: no byte comes
+-- after, but the same end or failure again.
 abbrev pub TellsOver : {E : Type 0} → Option Told → Result ℕ E → ℕ → Type 0
 TellsOver new (Ok n) room = n ≡ 0 → 0 < room → new ≡ Some ended
 TellsOver new (Err e) room = new ≡ Some broken_off

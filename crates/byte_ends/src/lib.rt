@@ -2,7 +2,7 @@
 //! goes.
 //!
 //! A [`Source`] is read and a [`Sink`] is written. In contracts, and only there, a source may tell
-//! what bytes are left in it and whether it ends or fails behind them; a sink tells whether it has
+//! what bytes are left in it and whether it ends or fails after them; a sink tells whether it has
 //! ever failed, and may tell the bytes that it holds. So a caller says of any reader or writer what
 //! it answers, however the bytes are cut.
 //!

@@ -9,7 +9,7 @@ use crate::failed::Failed;
 /// A source that has ended or failed is over: no byte comes after that, but the same end or failure
 /// again.
 pub trait Source: Drop {
-    // The bytes left in it and whether it fails behind them, where that is known: of a source that
+    // The bytes left in it and whether it fails after them, where that is known: of a source that
     // tells from its beginning, and of any other once it is over.
     ghost told: { Self → Option Told };
 
