@@ -25,8 +25,8 @@ pub fn some_verdict()
         → (verdict : Result Accepted KernelFault) × IsVerdict station sheet limit verdict }
 {}
 
-/// A sheet is accepted just where it is of the station, the residuals add up, the observations hold
-/// all together and the residuals keep the limit, if one is stated.
+/// A sheet is accepted exactly where it is of the station, the residuals add up, the observations
+/// hold all together and the residuals keep the limit, if one is stated.
 pub fn acceptance()
     ensures matches { (station : StationValue) (sheet : SheetValue) (limit : Option ℕ)
         → IsAcceptedSheet station sheet limit → Matches station sheet }

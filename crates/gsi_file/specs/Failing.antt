@@ -25,6 +25,7 @@ failed_with old (Ok x) = old
 failed_with old (Err (At number kind)) = failed_at old kind
 failed_with old (Err Memory) = old
 
--- A read has failed just where `Read` is answered; once the end or a fault is settled none is made.
+-- A read has failed exactly where `Read` is answered; once the end or a fault is settled none is
+-- made.
 abbrev pub failed_in : {A : Type 0} → Bool → Bool → Result A FileFault → Bool
 failed_in settled old r = if settled then old else failed_with old r

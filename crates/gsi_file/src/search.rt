@@ -20,7 +20,7 @@ use byte_ends::Source;
 pub(crate) struct Found {
     /// How many bytes it has.
     pub(crate) line: usize,
-    /// How many bytes are used up with it: the byte that ends it, too, and a line feed behind that.
+    /// How many bytes are used up with it: the byte that ends it, too, and a line feed after that.
     pub(crate) used: usize,
     /// How many bytes of the file may be taken after it.
     pub(crate) room: usize,

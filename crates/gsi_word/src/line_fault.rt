@@ -12,7 +12,7 @@ pub enum LineFault {
     Byte(usize),
     /// What stands at the place of this word, from 1, is none: it is too short, begins with other
     /// than two digits, has a blank in its information, lacks its sign, or a byte other than a
-    /// blank stands behind it. A line without any word has this fault at word 1. Transfer the file
+    /// blank follows it. A line without any word has this fault at word 1. Transfer the file
     /// from the instrument again.
     #[error("word {0} is missing, cut short or not written as GSI: transfer the file again")]
     Word(usize),

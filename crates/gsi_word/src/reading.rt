@@ -2,7 +2,7 @@
 //!
 //! A line is looked at twice, from left to right. First all its bytes: whether each may stand in a
 //! line. Then the words: of printable bytes only the two digits, the information, the sign and the
-//! byte behind the word are left to be tested, and the content is not looked at again.
+//! byte after the word are left to be tested, and the content is not looked at again.
 
 ghost use Rattle.std.specs.Prelude.{◌≡◌, ◌≢◌, ◌↔◌, ◌⊎◌, ◌≤◌, ◌+◌, length, drop, replicate, All, Any, IsTrue, IfOk, IfErr};
 ghost use Rattle.std.specs.Bool.{OnTrue, OnFalse};
@@ -144,7 +144,7 @@ fn begins_word(bytes: &[u8], width: u8) -> bool
     bytes.len() == size || bytes[size] == b' '
 }
 
-/// What stands behind the first word and the blank after it.
+/// What follows the first word and the blank after it.
 fn after_word(bytes: &[u8], width: u8) -> &[u8]
     requires { 7 + width ≤ length bytes.now }
     ensures { result.now ≡ drop (8 + width) bytes.now }

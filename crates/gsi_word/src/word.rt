@@ -9,13 +9,13 @@ use crate::decimal::decimal_number;
 use crate::zeros::zeros_before;
 use std::marker::Model;
 
-/// Where the information of a word begins, behind the two digits of its index.
+/// Where the information of a word begins, after the two digits of its index.
 pub(crate) const INFO: usize = 2;
 
-/// Where the sign of a word stands, behind four bytes of information.
+/// Where the sign of a word stands, after four bytes of information.
 pub(crate) const SIGN: usize = 6;
 
-/// Where the content of a word begins, behind the sign.
+/// Where the content of a word begins, after the sign.
 pub(crate) const CONTENT: usize = 7;
 
 /// How many bytes the content of a word has in a GSI-8 line.

@@ -147,7 +147,7 @@ with_fields d (Some c) = with_kind (kind_of c.kind) d c
 unfoldable pub with_row : DraftValue → List (List ℕ) → DraftValue
 with_row d row = with_fields d (columns_of row)
 
--- why a row was not taken: its fault, or want of memory
+-- why a row was not taken: its fault, or that memory ran out
 abbrev pub ExplainsRow : Refusal → Option RowKind → Type 0
 ExplainsRow (Fault k) found = found ≡ Some k
 ExplainsRow Memory found = Unit {0}

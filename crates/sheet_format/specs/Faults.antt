@@ -177,8 +177,8 @@ pub record IsFirstFault (rows : List (List (List ℕ))) (place : ℕ) (kind : Ro
   pub before : NoFaultBefore rows place
 
 -- The fault of a sheet's bytes: too many of them; else the first row with a fault, counted from 1,
--- where the row after the last is `Unfinished` if no observation was the last. Want of memory is no
--- fault of the bytes.
+-- where the row after the last is `Unfinished` if no observation was the last. That memory ran out
+-- is no fault of the bytes.
 abbrev pub IsSheetFault : List ℕ → SheetFault → Type 0
 IsSheetFault bytes TooLong = LONGEST_SHEET < length bytes
 IsSheetFault bytes (Row number kind) =
@@ -186,7 +186,7 @@ IsSheetFault bytes (Row number kind) =
     × IsFirstFault (records_of bytes) place kind
 IsSheetFault bytes Memory = ⊥
 
--- A refusal is the fault of the bytes, or want of memory.
+-- A refusal is the fault of the bytes, or that memory ran out.
 abbrev pub IsFaultOrMemory : List ℕ → SheetFault → Type 0
 IsFaultOrMemory bytes fault = IsSheetFault bytes fault ⊎ (fault ≡ Memory)
 

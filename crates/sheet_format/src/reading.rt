@@ -26,7 +26,7 @@ pub fn read_sheet(alloc: Global, bytes: &[u8]) -> Result<Sheet, SheetFault>
     ensures sheet { IfOk result (λ sheet. IsSheetText bytes.now sheet) }
     ensures fault { IfErr result (λ fault. IsFaultOrMemory bytes.now fault) }
 
-    // Bytes that stand for a sheet, and bytes with a fault, get no other answer but want of memory.
+    // Bytes that stand for a sheet, and bytes with a fault, get no other answer but out of memory.
     ensures stands { (sheet : SheetValue) → IsSheetText bytes.now sheet → (result ≡ Ok sheet)
         ⊎ (result ≡ Err Memory) }
     ensures refused { (fault : SheetFault) → IsSheetFault bytes.now fault → (result ≡ Err fault)

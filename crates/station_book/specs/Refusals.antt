@@ -6,7 +6,7 @@ use Rattle.station_book.specs.declared.fault.BookKind.{BookKind}
 use Rattle.station_book.specs.declared.fault.Refusal.{Refusal}
 use Rattle.station_book.specs.declared.fault.Refusal.TheVariants.{Kind, Memory}
 
--- the fault is this one; where memory is wanting there is none
+-- the fault is this one; where memory ran out there is none
 abbrev pub ExplainsRefusal : Option BookKind → Refusal → Type 0
 ExplainsRefusal fault (Kind k) = fault ≡ Some k
 ExplainsRefusal fault Memory = fault ≡ None
@@ -16,7 +16,7 @@ abbrev pub ExplainsFault : ℕ → Option BookKind → BookFault → Type 0
 ExplainsFault n fault (At m k) = (m ≡ n) × (fault ≡ Some k)
 ExplainsFault n fault NoMemory = fault ≡ None
 
--- memory was wanting only where some is needed
+-- memory ran out only where some is needed
 abbrev pub WantsOnly : Bool → Refusal → Type 0
 WantsOnly needed (Kind k) = Unit {0}
 WantsOnly needed Memory = needed ≡ true

@@ -15,6 +15,6 @@ pub record SomeBytesCame (told : Option Told) (So : Told → Type 0) : Type 0 wh
 abbrev pub SomeLinesCame : Option Told → (FileAnswers → Type 0) → Type 0
 SomeLinesCame told So = SomeBytesCame told (λ gsi. So (file_answers gsi))
 
--- the bytes that are handed in whole: all of them came, and then the end
+-- the bytes that are passed whole: all of them came, and then the end
 abbrev pub handed_in : List ℕ → Told
 handed_in bytes = record { bytes = bytes; fails = false }

@@ -1,5 +1,5 @@
--- Which faults a call may answer, whatever its readers and writers tell. Each part's want of memory
--- is answered as `Memory`, and `Write` only where a call of the writer failed.
+-- Which faults a call may answer, whatever its readers and writers tell. That memory ran out is
+-- answered as `Memory`, whichever part it was, and `Write` only where a call of the writer failed.
 use Rattle.std.specs.Prelude.{◌≡◌, Bool, true, Result, Ok, Err}
 use Rattle.gsi_file.specs.declared.file_fault.FileFault.TheVariants as file
 use Rattle.gsi_file.specs.declared.file_fault.FileKind.{FileKind}
@@ -25,14 +25,14 @@ of_sheet sheet.TooLong = Sheet sheet.TooLong
 of_sheet (sheet.Row number kind) = Sheet (sheet.Row number kind)
 of_sheet sheet.Memory = Memory
 
--- A fault of the field file or of its blocks, or want of memory.
+-- A fault of the field file or of its blocks, or that memory ran out.
 abbrev pub IsOfFile : Fault → Type 0
 IsOfFile (Gsi (file.At number what)) = Unit {0}
 IsOfFile (Book (book.At number what)) = Unit {0}
 IsOfFile Memory = Unit {0}
 IsOfFile fault = ⊥
 
--- A fault that comes from the sheet on, or want of memory. The kernel's fault `Name`, that the
+-- A fault that comes from the sheet on, or that memory ran out. The kernel's fault `Name`, that the
 -- sheet is of another station, is none of these: the station was found by the sheet's name.
 abbrev pub IsOfSheet : Fault → Type 0
 IsOfSheet SheetRead = Unit {0}
@@ -69,7 +69,7 @@ IsOfWords Write = Unit {0}
 IsOfWords Memory = Unit {0}
 IsOfWords fault = ⊥
 
--- A call of the writer failed just where the answer says so.
+-- A call of the writer failed exactly where the answer says so.
 abbrev pub FailsAtWrite : {A : Type 0} → Result A Fault → Bool → Bool → Type 0
 FailsAtWrite (Err Write) old new = new ≡ true
 FailsAtWrite (Err fault) old new = new ≡ old
@@ -86,7 +86,7 @@ abbrev pub HandsOn : {A : Type 0} → Result A Fault → Bool → Type 0
 HandsOn (Ok x) handed_on = handed_on ≡ true
 HandsOn (Err fault) handed_on = Unit {0}
 
--- The same of words, where a fault of the file stands behind those before it.
+-- The same of words, where a fault of the file comes after them.
 abbrev pub HandsWordsOn : {A : Type 0} → Result A Fault → Bool → Type 0
 HandsWordsOn (Ok x) handed_on = handed_on ≡ true
 HandsWordsOn (Err (Gsi fault)) handed_on = handed_on ≡ true

@@ -14,13 +14,13 @@ use Rattle.station_book.specs.declared.fault.BookFault.TheVariants as book
 use Rattle.station_check.specs.declared.fault.Fault.{Fault}
 use Rattle.station_check.specs.declared.fault.Fault.TheVariants.{Gsi, Book}
 
--- The next line is no block and has this fault; or, behind the last line, the file breaks off with
+-- The next line is no block and has this fault; or, after the last line, the file breaks off with
 -- it.
 abbrev pub HasFileFault : List (List ℕ) → Option FileKind → FileKind → Type 0
 HasFileFault [] last kind = last ≡ Some kind
 HasFileFault (line ∷ lines) last kind = IsFileFault line kind
 
--- The next line is a block that has this fault after those before it; or, behind the last line, the
+-- The next line is a block that has this fault after those before it; or, after the last line, the
 -- file ends, and the set that is still open has it.
 abbrev pub HasBookFault :
     FaceLimits → History → List (List ℕ) → Option FileKind → BookKind → Type 0

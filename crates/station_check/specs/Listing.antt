@@ -18,7 +18,7 @@ pub record IsList (limits : FaceLimits) (answers : FileAnswers) (text : List ℕ
   pub text_is : text ≡ list_text stations
 
 -- The list was written whole; or, where a call of the writer failed, some of its first bytes; else
--- the file's first fault is answered, or want of memory.
+-- the file's first fault is answered, or that memory ran out.
 abbrev pub WritesList : FaceLimits → FileAnswers → {A : Type 0} → Result A Fault
     → Option (List ℕ) → Option (List ℕ) → Type 0
 WritesList limits answers (Ok x) old new =

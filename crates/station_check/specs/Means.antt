@@ -55,7 +55,7 @@ pub record IsMeansText (limits : FaceLimits) (answers : FileAnswers) (name : Lis
 
 -- The sheet of means was written whole; or, where a call of the writer failed, some of its first
 -- bytes; or there is no station of this name, or a set of it is incomplete; else the file's first
--- fault is answered, or want of memory.
+-- fault is answered, or that memory ran out.
 abbrev pub WritesMeans : FaceLimits → FileAnswers → List ℕ → {A : Type 0} → Result A Fault
     → Option (List ℕ) → Option (List ℕ) → Type 0
 WritesMeans limits answers name (Ok x) old new =

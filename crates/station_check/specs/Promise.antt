@@ -16,7 +16,7 @@ pub record KeepsPromise (limits : FaceLimits) (most : Option ℕ) (file : FileAn
   -- What an acceptance says, and what each refusal says.
   pub accepted : IfOk r (IsAccepted limits most file stated)
   pub refused : IfErr r (TellsOfRefusal limits most file stated)
-  -- The answer is the whole verdict, and no other verdict stands, want of memory aside.
+  -- The answer is the whole verdict, and no other verdict stands, unless memory runs out.
   pub verdict : AnswersVerdict limits most file stated r
   pub no_other : IsOnlyVerdict limits most file stated r
   -- Where the field file comes to a fault, that is the answer, whatever the sheet is.

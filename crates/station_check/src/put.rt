@@ -1,6 +1,6 @@
 //! Pieces of text, put at a place of a page's room.
 //!
-//! Each call answers the place behind its piece. So the place stands in a register until the line
+//! Each call answers the place after its piece. So the place stands in a register until the line
 //! is whole, and no byte of it waits for the last one's count. A piece of a constant length is a
 //! load and a store.
 
@@ -9,7 +9,7 @@ ghost use Rattle.std.specs.Prelude.{◌≡◌, ◌≤◌, ◌+◌, ◌++◌, len
 use crate::page::PAGE;
 use itoa::{Buffer, Integer};
 
-/// The room of a page: the text up to a place stands, and what is behind it may be written over.
+/// The room of a page: the text up to a place stands, and what is after it may be written over.
 pub(crate) type Room = [u8; PAGE];
 
 /// Puts bytes.
