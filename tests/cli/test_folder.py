@@ -186,6 +186,16 @@ class FolderTest(ProgramTest):
         self.assertEqual((0, SUMMARY.format(2, 2, 2, 0, 0)), (status, lines[-1]))
         self.assertFalse((self.folder / "files" / "old.answer").exists())
 
+    def test_folders_inside_are_passed_over(self):
+        originals = self.folder / "files" / "originals"
+        originals.mkdir(parents=True)
+        (originals / "job.gsi").write_bytes(b"a line of titles\n" + STATION)
+        for name, content in ("job.gsi", STATION), ("job.csv", SHEET):
+            (self.folder / "files" / name).write_bytes(content)
+        status, lines, said = self.run_script()
+        self.assertEqual((0, SUMMARY.format(1, 1, 1, 0, 0), ""), (status, lines[-1], said))
+        self.assertEqual(["job.gsi"], [path.name for path in originals.iterdir()])
+
     def test_a_folder_without_a_fault_has_status_0(self):
         (self.folder / "files").mkdir()
         for number in range(RIGHT):
