@@ -73,7 +73,7 @@ def why_not(sheet, sheets, fields):
     """Why a sheet can't be checked, where its name doesn't tell which files belong together."""
     field = field_of(sheet, fields)
     if field is None:
-        return "no field file"
+        return "no field file of this name; capitals count"
     for files in sheets[sheet], fields[field]:
         if len(files) > 1:
             return f"one name for {' and '.join(files)}"

@@ -81,7 +81,7 @@ class FolderTest(ProgramTest):
         refusals = {
             WRONG_SHEET: ["refused: kernel: TargetSum 1", "no accepted sheet of station S1"],
             WRONG_FIELD: ["refused: block 3: Hz Unit"] * 2,
-            NO_FIELD: ["no field file"],
+            NO_FIELD: ["no field file of this name; capitals count"],
             NO_SHEET: ["no accepted sheet of station S1"],
         }
         wanted = []
@@ -174,10 +174,10 @@ class FolderTest(ProgramTest):
 
     def test_a_sheet_without_a_field_file_is_not_done(self):
         files = {"job.gsi": STATION, "job.csv": SHEET}
-        for name in ["jo.csv", "jobs.csv", "job .csv", "S1.csv"]:
+        for name in ["jo.csv", "jobs.csv", "job .csv", "S1.csv", "JOB.csv"]:
             status, lines = self.answers({**files, name: SHEET})
             self.assertEqual((1, SUMMARY.format(1, 1, 1, 0, 1)), (status, lines[-1]))
-            self.assertIn(f"{name[:-4]}: no field file", lines)
+            self.assertIn(f"{name[:-4]}: no field file of this name; capitals count", lines)
 
     def test_answers_of_before_and_other_files_play_no_part(self):
         files = {"job.gsi": STATION, "job.csv": SHEET, "-n.gsi": STATION, "-n.csv": SHEET}
