@@ -161,6 +161,9 @@ class ExplainTest(ProgramTest):
             (["Byte", "x"], ["Byte"]),
             (["TwoC", ":"], ["TwoC"]),
             (["Residuals"], ["Residual"]),
+            (["FaceTwise"], ["FaceUnclear", "FaceTwice"]),
+            (["targetsom"], ["TargetRow", "TargetSum"]),
+            (["kernel: Residal 17"], ["Residual"]),
         ]:
             with self.subTest(words):
                 lines = self.said_of_no_fault(*words).splitlines()
@@ -175,8 +178,10 @@ class ExplainTest(ProgramTest):
         self.assertEqual((2, b""), (status, stdout))
         start = f"error: no fault has the name '{' '.join(words)}'; "
         self.assertTrue(stderr.decode().startswith(start), stderr)
-        said = stderr.decode().removeprefix(start).split("\nUsage: station_check [COMMAND]\n")[0]
-        return said.rstrip("\n") + "\n"
+        said, usage, _ = stderr.decode().removeprefix(start).partition("\n\nUsage: station_check ")
+        self.assertNotEqual("", usage)
+        self.assertFalse(said.endswith("\n"), said)
+        return f"{said}\n"
 
     def test_an_output_that_takes_nothing_is_a_refusal(self):
         for words in ["explain", "explain TwoC"]:

@@ -374,6 +374,7 @@ fn explanation_asked_for<'a>(
         Some(fault) => Ok(Request::Explain { fault: Some(fault) }),
         None => {
             let near = list_of_near_names(alloc, name)?;
+            let near = near.as_str().trim_end();
             let message = if near.is_empty() {
                 format!(in alloc;
                     "no fault has the name '{line}'; 'station_check explain' lists all names"

@@ -9,6 +9,9 @@ use byte_ends::Sink;
 use station_check::{DONE, Fault, refuse, write_whole};
 use std::alloc::{AllocError, Global};
 
+/// How many bytes two texts begin with that begin alike.
+const ALIKE: usize = 4;
+
 /// Prints what a fault means, or the names of all faults, and answers the exit status: 0 where all
 /// was written, else 1, with the line of a refusal on `err`.
 pub fn run_explain<W: Sink, E: Sink>(
@@ -52,8 +55,8 @@ fn list_of_names(alloc: Global) -> Result<String, AllocError> {
     listed(alloc, None)
 }
 
-/// The names near a text, one a line, each with its meaning: those that have it as a part, or are a
-/// part of it, in capitals or small letters.
+/// The names near a text, one a line, each with its meaning: those that have it as a part, are a
+/// part of it, or begin as it does, in capitals or small letters.
 pub fn list_of_near_names(alloc: Global, text: &str) -> Result<String, AllocError> {
     listed(alloc, Some(text))
 }
@@ -89,9 +92,18 @@ fn add_names(text: &mut String, entry: &Explanation, near: Option<&str>) -> Resu
     Ok(())
 }
 
-/// Whether one of two texts is a part of the other.
+/// Whether one of two texts is a part of the other, or both begin alike, as a name that is spelled
+/// wrongly mostly does.
 fn is_near(name: &str, text: &str) -> bool {
-    is_part(text, name) || is_part(name, text)
+    is_part(text, name) || is_part(name, text) || begins_alike(name, text)
+}
+
+/// Whether two texts begin with the same bytes, in capitals or small letters.
+fn begins_alike(one: &str, other: &str) -> bool {
+    match (one.as_bytes().get(..ALIKE), other.as_bytes().get(..ALIKE)) {
+        (Some(one), Some(other)) => one.eq_ignore_ascii_case(other),
+        _ => false,
+    }
 }
 
 /// Whether a text of some bytes stands in another, in capitals or small letters.
