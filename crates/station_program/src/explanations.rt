@@ -153,13 +153,13 @@ Blanks at the end of a line may be left out of a copy.",
         meaning: "a byte of a line is no printable ASCII character",
         when: "\
 The byte at this place of the line, from 1, is outside 20 to 7E (hex). Tabs are such bytes, letters
-with accents, the byte 1A that old programs write at the end of a file, and the byte order mark, EF
-BB BF, that some editors write at its beginning.",
+with accents, the byte 1A that old programs write at the end of a file, the byte order mark, EF BB
+BF, that some editors write at its beginning, and the bytes 00 of a file in UTF-16.",
         example: "refused: block 1: Byte 16",
         remedy: "\
 Transfer the file again, with no conversion of characters. Where the byte is still
 there, check a copy: with a blank in place of a tab, a plain letter in place of one with an accent,
-and without a byte order mark or a final 1A.",
+without a byte order mark or a final 1A, and in ASCII where the file was in UTF-16.",
     },
     Explanation {
         names: &["Word"],
@@ -459,8 +459,8 @@ See that the path names a sheet: none that a station needs is so long.",
         names: &["Fields"],
         meaning: "a row of the sheet has not five columns",
         when: "\
-A row has five columns, parted by four commas, where columns may be empty. A column that begins with
-a quote goes on to the next quote, over commas and ends of lines.",
+A row has five columns, separated by four commas, where columns may be empty. A column that begins
+with a quote goes on to the next quote, over commas and ends of lines.",
         example: "refused: sheet row 3: Fields",
         remedy: "\
 Look at the commas and quotes of that row. A table program may have written semicolons
@@ -475,7 +475,8 @@ The first column of a row is its kind. The first row is of kind 'sheet'; then co
 'target', then 'set', then 'obs', with at least one of each.",
         example: "refused: sheet row 5: Kind",
         remedy: "\
-Put the rows into this order. A line of titles is no row, and stands in no sheet.",
+Put the rows into this order. A line of titles is no row, and stands in no sheet.
+Where row 1 looks right, the sheet may be in UTF-16: save it as plain text, in ASCII or UTF-8.",
     },
     Explanation {
         names: &["Version"],
@@ -646,7 +647,8 @@ orientations have a smaller sum of squares: the sheet is no least-squares adjust
         example: "refused: kernel: TargetSum 2",
         remedy: "\
 Ask for a sheet with exact numbers. One that was rounded has this fault: directions and
-orientations are stated times a denominator, so that none need be rounded.",
+orientations are stated times a denominator, so that none need be rounded. Of the examples,
+adjust.py writes such sheets.",
     },
     Explanation {
         names: &["SetSum"],
@@ -657,7 +659,8 @@ orientations have a smaller sum of squares: the sheet is no least-squares adjust
         example: "refused: kernel: SetSum 1",
         remedy: "\
 Ask for a sheet with exact numbers. One that was rounded has this fault: directions and
-orientations are stated times a denominator, so that none need be rounded.",
+orientations are stated times a denominator, so that none need be rounded. Of the examples,
+adjust.py writes such sheets.",
     },
     Explanation {
         names: &["NotConnected"],
