@@ -46,9 +46,17 @@ Limits are whole numbers: of 2c and 2i in units of 0.01 mgon, of residuals in ha
 0.005 mgon. So 0.3 mgon is --two-c 30, --two-i 30 and --residual 60.
 """
 
+# What 2c and 2i are, in the help of each command that has their limits.
+FACE_DIFFERENCES = [
+    b"The face difference 2c of a target",
+    b"direction in face II, less that in face I, less 200 gon",
+    b"The face difference 2i of a target",
+    b"both its zenith angles together, less 400 gon",
+]
+
 NOT_TEXT = (
     b"error: an argument is not UTF-8 text\n\n"
-    b"A file of such a name can be handed in as standard input: "
+    b"A file of such a name can be passed as standard input: "
     b"station_check list /dev/stdin < FILE\n"
 )
 
@@ -216,6 +224,7 @@ class CommandLineTest(ProgramTest):
             (["means", "--help"], [b"<STATION>", b"--two-c <N>", b"[default: 2000]"]),
             (["means", "--help"], [b"where no residual\nlimit is stated"]),
             (["list", "--help"], [b"0.01 mgon", b"--two-i <N>", b"[default: 2000]"]),
+            *(([command, "--help"], FACE_DIFFERENCES) for command in ["check", "means", "list"]),
             (["words", "--help"], [b"GSI-8, GSI-16 or both"]),
             (["help", "words"], [b"GSI-8, GSI-16 or both"]),
             (["check", "-h"], [b"Usage: station_check check [OPTIONS] <GSI> <SHEET>\n"]),

@@ -93,8 +93,9 @@ Example:
 
 const LIST_LONG_ABOUT: &str = "\
 Lists the stations of a field file that have sets. Under each station stand its observations: the
-set, the target, the two-face direction p in half units (0.005 mgon), and the face differences 2c
-and 2i in units of 0.00001 gon (0.01 mgon).";
+set, the target, the two-face direction p in half units (0.005 mgon), and the face differences in
+units of 0.00001 gon (0.01 mgon): 2c, the direction in face II, less that in face I, less 200 gon;
+and 2i, both zenith angles together, less 400 gon.";
 
 const LIST_EXAMPLE: &str = "\
 Exit status:
@@ -145,6 +146,14 @@ Example:
   station_check explain block 4: TwoC
 
   TwoC: the face difference 2c of a pair is above its limit";
+
+const TWO_C_LONG_HELP: &str = "\
+The limit of 2c, in units of 0.01 mgon: 0 to 1000000. The face difference 2c of a target
+is its direction in face II, less that in face I, less 200 gon";
+
+const TWO_I_LONG_HELP: &str = "\
+The limit of 2i, in units of 0.01 mgon: 0 to 1000000. The face difference 2i of a target
+is both its zenith angles together, less 400 gon";
 
 const FAULT: &str = "FAULT";
 
@@ -205,7 +214,7 @@ pub enum Request<'a> {
 ///
 /// # Errors
 ///
-/// What `clap` says of a mistake; help or the version that was asked for; want of memory.
+/// What `clap` says of a mistake; help or the version that was asked for; that memory ran out.
 pub fn asked_for<'a>(alloc: Global, words: &'a [String]) -> Result<Request<'a>, Error> {
     let mut program = program(alloc)?;
     let matches = program.try_get_matches_from_mut(words)?;
@@ -301,12 +310,12 @@ fn given<'a>(alloc: Global, name: &'a str) -> Arg<'a> {
 
 /// A command with the options of the limits of face differences.
 fn with_limits<'a>(alloc: Global, command: Command<'a>) -> Result<Command<'a>, Error> {
-    let two_c = face_limit(alloc, TWO_C).help(
-        "The limit of 2c, in units of 0.01 mgon: 0 to 1000000",
-    );
-    let two_i = face_limit(alloc, TWO_I).help(
-        "The limit of 2i, in units of 0.01 mgon: 0 to 1000000",
-    );
+    let two_c = face_limit(alloc, TWO_C)
+        .help("The limit of 2c, in units of 0.01 mgon: 0 to 1000000")
+        .long_help(TWO_C_LONG_HELP);
+    let two_i = face_limit(alloc, TWO_I)
+        .help("The limit of 2i, in units of 0.01 mgon: 0 to 1000000")
+        .long_help(TWO_I_LONG_HELP);
     Ok(command.arg(two_c)?.arg(two_i)?)
 }
 

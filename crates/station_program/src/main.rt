@@ -36,7 +36,7 @@ const USAGE: u8 = 2;
 const NOT_TEXT: &str = "\
 error: an argument is not UTF-8 text
 
-A file of such a name can be handed in as standard input: station_check list /dev/stdin < FILE
+A file of such a name can be passed as standard input: station_check list /dev/stdin < FILE
 
 For more information, try '--help'.";
 
