@@ -1,7 +1,8 @@
 """Refused memory: each allocation of a run in turn, alone and with all that follow it.
 
-A run with a refusal answers want of memory, with nothing on standard output, or what it answers
-with ample memory. Without a C compiler the library can't be built, and its tests are skipped.
+A run with a refusal answers that memory ran out, with nothing on standard output, or what it
+answers with ample memory. Without a C compiler the library can't be built, and its tests are
+skipped.
 """
 
 import itertools
@@ -113,7 +114,7 @@ class RefusedMemoryTest(ProgramTest):
         self.fail(f"{run}: a run makes more than {MOST_CALLS} allocations")
 
     def check_refusals(self, run, answers):
-        """Each answer is the one with ample memory, or want of memory; and the latter was met."""
+        """Each answer is the one with ample memory, or out of memory; and the latter was met."""
         ample = answer_of(self.words_of(run), FIELD)
         self.assertLessEqual(set(answers), {ample, NO_MEMORY})
         self.assertIn(NO_MEMORY, answers)

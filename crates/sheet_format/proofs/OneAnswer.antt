@@ -104,7 +104,8 @@ made-of bytes s text =
 pub one-sheet : (bytes : List ℕ) (s t : SheetValue) → IsSheetText bytes s → IsSheetText bytes t → s ≡ t
 one-sheet bytes s t a b = sym (made-of bytes s a) ∙ made-of bytes t b
 
--- An answer that is right whenever it is a sheet or a fault is the one that the bytes have, or want of memory.
+-- An answer that is right whenever it is a sheet or a fault is the one that the bytes have, or out
+-- of memory.
 pub answers-sheet : (bytes : List ℕ) (r : Result SheetValue SheetFault) → IfOk r (IsSheetText bytes) → IfErr r (IsFaultOrMemory bytes) → (s : SheetValue) → IsSheetText bytes s → (r ≡ Ok s) ⊎ (r ≡ Err Memory)
 answers-sheet bytes (Ok t) ok err s text = inl (ap (λ (x : SheetValue). Ok x) (one-sheet bytes t s ok text))
 answers-sheet bytes (Err f) ok err s text = elim err [

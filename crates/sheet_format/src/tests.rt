@@ -66,7 +66,7 @@ fn expect_answer(rt: &impl Abort, alloc: Global, text: &str, expected: &str) -> 
 }
 
 /// Whether a writer with this room, which takes so many bytes at a time, gets the beginning of the
-/// sheet above that it has room for, and the call succeeds just where that is all.
+/// sheet above that it has room for, and the call succeeds exactly where that is all.
 fn is_begun(alloc: Global, sheet: &Sheet, room: usize, step: usize) -> Result<bool, Fail> {
     let mut held = Held::new(alloc, room, step.max(1), false)?;
     let is_written = write_sheet(alloc, sheet, &mut held).is_ok();

@@ -1,4 +1,4 @@
--- A field file comes to a fault just where that is its first.
+-- A field file comes to a fault exactly where that is its first.
 use Rattle.std.proofs.Common.{◌≡◌, ℕ, List, [], ◌∷◌, Option, Some, None, Err, refl, sym, ap, subst, inl, inr}
 use Rattle.std.specs.Prelude.{◌+◌, ◌++◌, length, reverse}
 use mathlib.Core.List.{reverse_aux}
