@@ -20,7 +20,7 @@ Explains (Some e) text = text ≡ meaning_text e
 Explains None text = Unit {0}
 
 -- A run that prints this text: with Ok it was written whole and handed on; where a call of `out`
--- failed, and just there the answer says so, some of its first bytes were; at any other refusal
+-- failed, and only there the answer says so, some of its first bytes were; at any other refusal
 -- nothing was asked of `out`.
 pub record IsExplainRun {A W : Type 0} (fault : Option Explanation) (failed : W → Bool)
     (holds : W → Option (List ℕ)) (handed_on : W → Bool) (out out' : W) (r : Result A Fault)
