@@ -24,7 +24,8 @@ use Rattle.station_book.proofs.SlotLaws.{enumerate-append}
 use Rattle.station_book.proofs.ComputedLaws.{computed_two_c, computed_two_i, computed_direction}
 use Rattle.station_book.proofs.WithinLaws.{AreWithin, AllWithin, within_limits, place_on_circle}
 use Rattle.station_book.proofs.TakeLaws.{at_own}
-use Rattle.station_book.proofs.EndLaws.{AreComputed, same_end, same_stations, map_reverse}
+use Rattle.station_book.proofs.EndLaws.{AreComputed, same_end, same_stations}
+use Rattle.indexmap.proofs.ReorderLemmas.{map-reverse}
 
 zip_append : {A B : Type 0} (R : A → B → Type 0) (xs zs : List A) (ys ws : List B) → AllZip R xs ys
     → AllZip R zs ws → AllZip R (xs ++ zs) (ys ++ ws)
@@ -191,7 +192,7 @@ module _ (limits : FaceLimits) where
       let zip = zip_reverse (IsSurveyed limits h) (stations_in h) (reverse ss)
       (all_surveyed h clean (stations_in h) (reverse ss) c) in
       subst (λ (sts : List Place). AllZip (IsSurveyed limits h) sts ss)
-      (sym (map_reverse (λ s. station (before s)) (first_sets h)))
+      (sym (map-reverse (λ s. station (before s)) (first_sets h)))
       (subst (λ (zs : List SurveyedStation). AllZip (IsSurveyed limits h)
       (reverse (stations_in h)) zs) (reverse-reverse ss) zip)
 

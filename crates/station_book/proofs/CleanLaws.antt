@@ -9,9 +9,9 @@ use Rattle.station_book.specs.declared.fault.BookKind.TheVariants as kinds
 use Rattle.station_book.specs.Limits.{FaceLimits}
 use Rattle.station_book.specs.Blocks.{opens_station, opens_set, closes_set, is_sight, has_two, lacks, number, angle_fault, is_of_face}
 use Rattle.station_book.specs.Places.{History, station, is_empty, is_open, is_reading}
-use Rattle.station_book.specs.Faults.{had_sets, has_set_number, is_face_taken, is_beyond, has_no_two_c, has_no_two_i, end_faults, station_faults, set_faults, reading_faults, faults, fault_after, first_of}
+use Rattle.station_book.specs.Faults.{had_sets, has_set_number, is_face_taken, is_beyond, has_no_two_c, has_no_two_i, end_faults, set_faults, reading_faults, faults, fault_after, first_of}
 use Rattle.station_book.proofs.CodeLaws.{no_station_at_set}
-use Rattle.station_book.proofs.KeptLaws.{none_stands, none_when}
+use Rattle.station_book.proofs.KeptLaws.{none_stands, none_when, fourth}
 use Rattle.station_book.proofs.StepLaws.{sight_opens_nothing}
 
 second : {X : Type 0} (x y : Bool) (whole a b c : X) → whole ≡ cond x a (cond y b c)
@@ -19,36 +19,6 @@ second : {X : Type 0} (x y : Bool) (whole a b c : X) → whole ≡ cond x a (con
 second true y whole a b c w f g = cc
 second false true whole a b c w f g = w
 second false false whole a b c w f g = cc
-
-fourth : {X : Type 0} (x y z r : Bool) (whole a b c d e : X)
-    → whole ≡ cond x a (cond y b (cond z c (cond r d e))) → (x || (y || z)) ≡ false → r ≡ true
-    → whole ≡ d
-fourth true y z r whole a b c d e w f g = cc
-fourth false true z r whole a b c d e w f g = cc
-fourth false false true r whole a b c d e w f g = cc
-fourth false false false true whole a b c d e w f g = w
-fourth false false false false whole a b c d e w f g = cc
-
--- a block with code 10
-pub record IsCleanStation (b : GsiBlock) : Type 0 where
-  pub one_name : has_two 42 b ≡ false
-  pub some_name : lacks 42 b ≡ false
-
-pub clean_station : (limits : FaceLimits) (past : History) (b : GsiBlock) → opens_station b ≡ true
-    → fault_after limits past b ≡ None → IsCleanStation b
-unfolding fault_after
-clean_station limits past b e clean =
-    let whole : faults limits past b ≡ end_faults past ++ station_faults b =
-    ap (λ v. cond v (end_faults past ++ station_faults b)
-    (cond (opens_set b) (end_faults past ++ set_faults past b)
-    (cond (closes_set b) (end_faults past)
-    (cond (is_sight b && is_open past) (reading_faults limits past b) [])))) e in
-    let none = (none_stands (end_faults past ++ station_faults b)
-    (sym (ap first_of whole) ∙ clean)).1.1 in
-    record {
-      one_name = none_when (has_two 42 b) (kinds.WordTwice 42) none.0;
-      some_name = none_when (lacks 42 b) kinds.StationName none.1.0;
-    }
 
 -- a block with code 20
 pub record IsCleanSet (past : History) (b : GsiBlock) : Type 0 where

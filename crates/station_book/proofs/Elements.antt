@@ -196,15 +196,6 @@ module _ {X Y : Type 0} where
   zip_left R (x ∷ xs) (z ∷ zs) zip y (inr h) = let r = zip_left R xs zs zip.1 y h in
       (r.0, inr r.1, r.2)
 
-  -- where each has a partner, there are partners for all
-  pub zip_of : (R : X → Y → Type 0) (xs : List X) → ((x : X) → In x xs → (y : Y) × R x y)
-      → (ys : List Y) × AllZip R xs ys
-  zip_of R [] each = ([], tt)
-  zip_of R (x ∷ xs) each =
-      let first = each x (inl refl) in
-      let rest = zip_of R xs (λ y h. each y (inr h)) in
-      (first.0 ∷ rest.0, (first.1, rest.1))
-
   -- what stands at one place of two lists
   pub matched : (f : X → Option Y) (xs : List X) (ys : List Y) → map f xs ≡ map (λ y. Some y) ys
       → (k : ℕ) (x : X) → IsAt xs k x → (d : Y) → f x ≡ Some (get_or ys k d)

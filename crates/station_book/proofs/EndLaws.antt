@@ -1,10 +1,10 @@
 -- The end of a set and of the file: the faults and the stations by what is kept are those by the
 -- blocks.
-use Rattle.std.proofs.Common.{◌≡◌, ℕ, ◌++◌, Bool, true, false, ◌&&◌, ◌||◌, List, [], ◌∷◌, map, reverse, Option, Some, None, is_some, is_none, refl, sym, ap, ◌∙◌, inl, inr, subst}
+use Rattle.std.proofs.Common.{◌≡◌, ℕ, Bool, true, false, ◌&&◌, ◌||◌, List, [], ◌∷◌, map, reverse, Option, Some, None, is_some, is_none, refl, sym, ap, ◌∙◌, inl, inr, subst}
 use Rattle.std.specs.List.{list_any, list_all, AllByRecursion}
 use Rattle.std.specs.Str.{bytes_eq}
 use Rattle.std.proofs.lemmas.Bool.{false≢true}
-use Rattle.std.proofs.lemmas.List.{reverse-append, reverse-reverse}
+use Rattle.std.proofs.lemmas.List.{reverse-reverse}
 use Rattle.std.proofs.lemmas.Slice.Eq.{bytes_eq-Decides}
 use Rattle.station_book.specs.declared.fault.BookKind.TheVariants as kinds
 use Rattle.station_book.specs.declared.stage.Stage.{Stage}
@@ -25,6 +25,7 @@ use Rattle.station_book.proofs.FaceLaws.{IsKept, some_there}
 use Rattle.station_book.proofs.KeptLaws.{open_kept}
 use Rattle.station_book.proofs.CoupleLaws.{open_in_set}
 use Rattle.station_book.proofs.StandLaws.{Parted, parted, HasOpenSet, open_set, open_has_set, survey_is}
+use Rattle.indexmap.proofs.ReorderLemmas.{map-reverse}
 
 pub some_sighted : (o : Option Place) → is_some (sighted o) ≡ is_some o
 some_sighted None = refl
@@ -157,21 +158,11 @@ answers h [] (e ∷ es) k = k
 answers h (st ∷ sts) [] k = k
 answers h (st ∷ sts) (e ∷ es) k = (survey_is h st e k.0, answers h sts es k.1)
 
-map_snoc : {X Y : Type 0} (f : X → Y) (xs : List X) (x : X)
-    → map f (xs ++ x ∷ []) ≡ map f xs ++ f x ∷ []
-map_snoc f [] x = refl
-map_snoc f (y ∷ xs) x = ap (λ r. f y ∷ r) (map_snoc f xs x)
-
-pub map_reverse : {X Y : Type 0} (f : X → Y) (xs : List X) → map f (reverse xs) ≡ reverse (map f xs)
-map_reverse f [] = refl
-map_reverse f (x ∷ xs) = ap (map f) (reverse-append (x ∷ []) xs) ∙ map_snoc f (reverse xs) x
-    ∙ ap (λ ys. ys ++ f x ∷ []) (map_reverse f xs) ∙ sym (reverse-append (f x ∷ []) (map f xs))
-
 -- THE LAW of the answer: what is kept gives the stations of the blocks
 pub same_stations : (k : Kept) (past : History) → StandsFor k.limits k past
     → AreComputed past (stations_in past) (reverse (surveys_of k.shelf))
 same_stations k past h =
     subst (λ (ss : List SurveyedStation). AreComputed past (stations_in past) ss)
     (ap (map survey_of) (sym (reverse-reverse k.shelf))
-    ∙ map_reverse survey_of (reverse k.shelf))
+    ∙ map-reverse survey_of (reverse k.shelf))
     (answers past (stations_in past) k.shelf h.stations)

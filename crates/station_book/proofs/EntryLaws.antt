@@ -4,7 +4,7 @@ use Rattle.std.proofs.Common.{◌≡◌, ◌≢◌, ℕ, zero, suc, ◌+◌, ◌
 use Rattle.std.specs.List.{list_any, list_all}
 use Rattle.std.specs.Str.{bytes_eq}
 use Rattle.std.proofs.lemmas.Bool.{cases_lt, cases_eq, false≢true, eq-eqb}
-use Rattle.std.proofs.lemmas.List.{length-append, length-set, get_or_append_left, get_or-append-add, get_or-set_same, get_or-set_other}
+use Rattle.std.proofs.lemmas.List.{length-append, length-set, get_or_append_left, get_or-append-add, get_or-set_same, get_or-set_other, length-replicate}
 use Rattle.std.proofs.lemmas.List.Elements.{All-push, All-weaker, All-set, All-replicate}
 use Rattle.std.proofs.lemmas.List.Quantifiers.{all_pairs_push}
 use Rattle.std.proofs.lemmas.Slice.Eq.{bytes_eq-Decides}
@@ -19,7 +19,7 @@ use Rattle.station_book.specs.declared.slot.Slot.{Slot}
 use Rattle.station_book.specs.Faults.{when, first_of}
 use Rattle.station_book.specs.Slots.{slot_at, empty_slot, with_side, is_unread, is_single, obs_of, faces_of, IsKeptSlot}
 use Rattle.station_book.specs.Sound.{AreSoFar}
-use Rattle.station_book.specs.Entries.{EntryValue, first_entry, closed, with_set, place_of, is_new_to, entry_faults_at, entry_faults, with_reading_at, IsEntry, MayEnd}
+use Rattle.station_book.specs.Entries.{EntryValue, closed, with_set, place_of, is_new_to, entry_faults_at, entry_faults, with_reading_at, IsEntry, MayEnd}
 use Rattle.std.specs.Prelude.{IfErr, IfNone}
 use Rattle.station_book.specs.Limits.{FaceLimits}
 use Rattle.station_book.specs.declared.faces.Faces.{Faces}
@@ -95,21 +95,12 @@ absent_number n (m ∷ sets) e (suc k) d lt = absent_number n sets
       right true b e = cc
       right false b e = e
 
-slot_at_replicate : (n t : ℕ) → slot_at (replicate n empty_slot) t ≡ empty_slot
-slot_at_replicate zero t = refl
-slot_at_replicate (suc n) zero = refl
-slot_at_replicate (suc n) (suc t) = slot_at_replicate n t
-
-pub length_replicate : {X : Type 0} (n : ℕ) (x : X) → length (replicate n x) ≡ n
-length_replicate zero x = refl
-length_replicate (suc n) x = ap suc (length_replicate n x)
-
 -- after a set
 pub set_is_entry : (n : ℕ) (e : EntryValue) → IsEntry e → MayEnd e
     → list_any (λ m. eqb m n) e.sets ≡ false → length e.sets < 40 → IsSetNumber n
     → IsEntry (with_set n e)
 set_is_entry n e h may new few number = record {
-  same_length = length_replicate (length e.slots) empty_slot ∙ h.same_length;
+  same_length = length-replicate (length e.slots) empty_slot ∙ h.same_length;
   paired = paired_more e.faces (faces_of e.slots) e.obs
       (obs_of (length e.sets - 1) e.slots) h.paired (pairs_match (length e.sets - 1) e.slots);
   few_targets = h.few_targets;
@@ -131,7 +122,7 @@ set_is_entry n e h may new few number = record {
   obs = closed_obs e h may
 
   targets : length e.targets ≡ length (replicate (length e.slots) empty_slot)
-  targets = sym (length_replicate (length e.slots) empty_slot ∙ h.same_length)
+  targets = sym (length-replicate (length e.slots) empty_slot ∙ h.same_length)
 
   after : AreSoFar (length e.sets) (replicate (length e.slots) empty_slot) (closed e).obs
   after = record {
@@ -140,27 +131,6 @@ set_is_entry n e h may new few number = record {
     each_set = obs.each_set;
     each_target = λ t lt. inl (obs.each_target t (let l = targets in omega (arith, l, lt)));
   }
-
--- the first set
-pub first_is_entry : (n : ℕ) → IsSetNumber n → IsEntry (first_entry n)
-first_is_entry n number = record {
-  same_length = refl;
-  paired = refl;
-  few_targets = omega arith;
-  some_set = omega arith;
-  few_sets = omega arith;
-  angles = λ k d lt. absurd (omega arith);
-  names = λ k d lt. absurd (omega arith);
-  different = λ i j d lt inside. absurd (omega arith);
-  numbers = All-push IsSetNumber [] n (λ k d lt. absurd (omega arith)) number;
-  different_sets = λ i j d lt inside. absurd (omega arith);
-  sound = record {
-    within = λ k d lt. absurd (omega arith);
-    ordered = λ i j d lt inside. absurd (omega arith);
-    each_set = λ s lt. absurd (omega arith);
-    each_target = λ t lt. absurd (omega arith);
-  };
-}
 
 read_now : (f : Bool) (v : Sight) (s : Slot) → is_unread (with_side f v s) ≡ false
 read_now false v s = refl

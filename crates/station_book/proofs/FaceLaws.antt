@@ -2,13 +2,14 @@
 use Rattle.std.proofs.Common.{◌≡◌, ℕ, Bool, true, false, ltb, ◌<◌, ◌&&◌, ◌||◌, not, List, [], ◌∷◌, map, Option, Some, None, is_some, is_none, refl, sym, ap, ◌∙◌, inl, inr, ◌⊎◌, arith}
 use Rattle.std.specs.List.{list_any, AllByRecursion}
 use Rattle.std.specs.Str.{bytes_eq}
-use Rattle.std.proofs.lemmas.Bool.{and_parts, and_from, cases_Bool, false≢true, or_cases, ltb-true}
+use Rattle.std.proofs.lemmas.Bool.{and_parts, and_from, cases_Bool, false≢true, or_cases, ltb-true, or_right}
 use Rattle.std.proofs.lemmas.Slice.Eq.{bytes_eq-Decides}
 use Rattle.gsi_word.specs.Blocks.{GsiBlock}
 use Rattle.station_book.specs.Blocks.{is_of_face, sight}
 use Rattle.station_book.specs.Places.{Place, reading_in, is_among, target_at, stands}
 use Rattle.station_book.specs.Faults.{has_one_face, face_at}
 use Rattle.station_book.proofs.Membership.{In, any_from, any_to, find_some, find_found, all_in, same_test}
+use Rattle.station_book.proofs.Elements.{in_map, of_map}
 
 -- what a book keeps of the open set: the readings of each target of the station, in face I and in
 -- face II
@@ -51,17 +52,6 @@ none_or_some : {X : Type 0} (o : Option X) → (o ≡ None) ⊎ ((x : X) × (o �
 none_or_some None = inl refl
 none_or_some (Some x) = inr (x, refl)
 
-in_map : {X Y : Type 0} (f : X → Y) (x : X) (xs : List X) → In x xs → In (f x) (map f xs)
-in_map f x [] h = h
-in_map f x (y ∷ ys) (inl h) = inl (ap f h)
-in_map f x (y ∷ ys) (inr h) = inr (in_map f x ys h)
-
-of_map : {X Y : Type 0} (f : X → Y) (z : Y) (xs : List X) → In z (map f xs)
-    → (x : X) × In x xs × (z ≡ f x)
-of_map f z [] h = absurd h
-of_map f z (y ∷ ys) (inl h) = (y, inl refl, h)
-of_map f z (y ∷ ys) (inr h) = let r = of_map f z ys h in (r.0, inr r.1, r.2)
-
 pub some_there : (f : Bool) (name : List ℕ) (r : Place) (rs : List Place) → In r rs
     → target_at r ≡ name → stands (is_of_face f) r ≡ true → is_some (reading_in f name rs) ≡ true
 some_there f name r rs h e g = split (none_or_some (reading_in f name rs)) where
@@ -78,12 +68,8 @@ single_first : (s : Slot) → is_some s.first ≡ true → is_none s.second ≡ 
 single_first s e g = ap (λ v. (v && is_none s.second) || (is_none s.first && is_some s.second)) e
     ∙ ap (λ v. v || (is_none s.first && is_some s.second)) g
 
-or_right_true : (a b : Bool) → b ≡ true → (a || b) ≡ true
-or_right_true true b e = refl
-or_right_true false b e = e
-
 single_second : (s : Slot) → is_none s.first ≡ true → is_some s.second ≡ true → is_single s ≡ true
-single_second s e g = or_right_true (is_some s.first && is_none s.second)
+single_second s e g = or_right (is_some s.first && is_none s.second)
     (is_none s.first && is_some s.second) (and_from _ _ e g)
 
 -- a reading alone makes a single slot
@@ -160,7 +146,7 @@ one_face_by_slots targets rs kept = same_test (has_one_face rs)
       back e =
           let (s, inside, single) = any_to is_single (slots targets rs) e in
           let (name, listed, same) = of_map (slot rs) s targets inside in
-          lonely rs name (sym (ap is_single same) ∙ single)
+          lonely rs name (ap is_single same ∙ single)
 
 -- A new target has no reading.
 pub unseen : (targets : List (List ℕ)) (rs : List Place) (name : List ℕ) (f : Bool)

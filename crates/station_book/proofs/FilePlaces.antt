@@ -11,7 +11,7 @@ use Rattle.station_book.specs.Stations.{stations_of}
 use Rattle.station_book.proofs.Membership.{In, any_from, any_to, all_in}
 use Rattle.station_book.proofs.Elements.{in_map, of_map, in_reverse, of_reverse, of_filter}
 use Rattle.station_book.proofs.CodeLaws.{no_station_at_set}
-use Rattle.station_book.proofs.StepLaws.{is_open-opening, is_open-other, sight_opens_no_station}
+use Rattle.station_book.proofs.StepLaws.{is_open-opening, is_open-other, sight_opens_no_station, same_station}
 use Rattle.station_book.proofs.StationLaws.{any_station}
 use Rattle.station_book.proofs.NameLaws.{Pairwise, AreApart}
 use Rattle.station_book.proofs.OneReading.{length_place}
@@ -69,10 +69,6 @@ owner_placed p h r placed = split (last_placed p (before r)) where
   split : OfFile (before r) (last p (before r)) → OfFile h (last p (before r))
   split (inl e) = inl e
   split (inr k) = inr (before_placed h r (last p (before r)) placed k)
-
-same_station : (b : GsiBlock) (past : History) → opens_station b ≡ false
-    → station (b ∷ past) ≡ station past
-same_station b past e = ap (λ v. cond v (b ∷ past) (last opens_station past)) e
 
 -- the station of an open set is the station
 pub station_of_set : (past : History) → is_open past ≡ true

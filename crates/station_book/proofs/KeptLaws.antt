@@ -12,9 +12,10 @@ use Rattle.station_book.specs.Blocks.{target, is_of_face, opens_station, opens_s
 use Rattle.station_book.specs.Places.{History, Place, is_among, with_new, is_open}
 use Rattle.station_book.specs.Faults.{face, faults, reading_faults, fault_after, IsWithoutFault, open_readings, when, first_of}
 use Rattle.station_book.specs.Limits.{FaceLimits}
-use Rattle.station_book.proofs.Membership.{In, any_from, any_to}
+use Rattle.station_book.proofs.Membership.{any_from, any_to}
 use Rattle.station_book.proofs.FaceLaws.{IsKept}
 use Rattle.station_book.proofs.StepLaws.{open_targets, readings-opening, readings-more, readings-other, targets-more, targets-other, sight_opens_no_station}
+use Rattle.station_book.proofs.Elements.{in_left, in_right}
 
 -- where none is the first, none stands
 pub none_stands : {X : Type 0} (os : List (Option X)) → first_of os ≡ None
@@ -26,15 +27,6 @@ none_stands (Some x ∷ rest) e = cc
 pub none_when : (b : Bool) (k : BookKind) → when b k ≡ None → b ≡ false
 none_when true k e = cc
 none_when false k e = refl
-
-in_left : {X : Type 0} (x : X) (xs ys : List X) → In x xs → In x (xs ++ ys)
-in_left x [] ys h = absurd h
-in_left x (y ∷ xs) ys (inl h) = inl h
-in_left x (y ∷ xs) ys (inr h) = inr (in_left x xs ys h)
-
-in_last : {X : Type 0} (x : X) (xs : List X) → In x (xs ++ x ∷ [])
-in_last x [] = inl refl
-in_last x (y ∷ xs) = inr (in_last x xs)
 
 -- a listed name stays listed, and a new one is
 pub among_more : (names : List (List ℕ)) (name other : List ℕ) → is_among names other ≡ true
@@ -50,7 +42,7 @@ among_new names name = split (is_among names name) refl where
   split : (v : Bool) → is_among names name ≡ v
       → is_among (cond v names (names ++ name ∷ [])) name ≡ true
   split true e = e
-  split false e = any_from (λ m. bytes_eq m name) name (names ++ name ∷ []) (in_last name names)
+  split false e = any_from (λ m. bytes_eq m name) name (names ++ name ∷ []) (in_right name names (name ∷ []) (inl refl))
       ((bytes_eq-Decides name name).1 refl)
 
 kept_more : (names : List (List ℕ)) (name : List ℕ) (rs : List Place)
@@ -84,7 +76,7 @@ a_face limits past b e =
     (none_when (not (is_of_face false b || is_of_face true b)) kinds.FaceUnclear
     (none_stands (reading_faults limits past b) e).1.1.1.1.1.0)
 
-fourth : {X : Type 0} (x y z r : Bool) (whole a b c d e : X)
+pub fourth : {X : Type 0} (x y z r : Bool) (whole a b c d e : X)
     → whole ≡ cond x a (cond y b (cond z c (cond r d e))) → (x || (y || z)) ≡ false → r ≡ true
     → whole ≡ d
 fourth true y z r whole a b c d e w f g = cc

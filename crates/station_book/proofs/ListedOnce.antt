@@ -2,7 +2,7 @@
 use Rattle.std.proofs.Common.{◌≡◌, ◌≢◌, ℕ, ◌+◌, ◌<◌, ◌≤◌, true, false, cond, ◌&&◌, eqb, List, [], ◌∷◌, ◌++◌, length, map, filter, reverse, Option, Some, None, refl, sym, ap, ◌∙◌, inl, inr, ◌⊎◌, subst, arith}
 use Rattle.std.specs.List.{AllPairs, AllByRecursion, AllZip, Contains, enumerate_from, filter_map, flat_map, cons_option}
 use Rattle.std.proofs.lemmas.Bool.{cases_Bool, and_parts, eqb-true, eq-eqb, false≢true}
-use Rattle.std.proofs.lemmas.List.{reverse-append}
+use Rattle.std.proofs.lemmas.List.{reverse-append, length-map}
 use Rattle.adjust_kernel.specs.declared.obs.Obs.{Obs}
 use Rattle.adjust_kernel.specs.Matching.{Key, key_of_obs, observed}
 use Rattle.station_book.specs.Limits.{FaceLimits}
@@ -228,10 +228,6 @@ all_of : {X : Type 0} (P : X → Type 0) (xs : List X) → ((x : X) → In x xs 
 all_of P [] each = tt
 all_of P (x ∷ xs) each = (each x (inl refl), all_of P xs (λ y k. each y (inr k)))
 
-length_map : {X Y : Type 0} (f : X → Y) (xs : List X) → length (map f xs) ≡ length xs
-length_map f [] = refl
-length_map f (x ∷ xs) = let l = length_map f xs in omega (arith, l)
-
 once : (limits : FaceLimits) (h : History) (st : Place) (s : SurveyedStation)
     → IsWithoutFault limits h → OfFile h st → IsSurveyed limits h st s
     → AllPairs AreTwo (observed s.station)
@@ -250,8 +246,8 @@ once limits h st s clean placed surveyed =
     }
 
     sets_long : length (reverse (sets_of st h)) ≡ length s.station.sets
-    sets_long = sym (length_map (λ s. at number None s) (reverse (sets_of st h)))
-        ∙ ap length surveyed.sets ∙ length_map (λ (n : ℕ). Some n) s.station.sets
+    sets_long = sym (length-map (reverse (sets_of st h)) (λ s. at number None s))
+        ∙ ap length surveyed.sets ∙ length-map s.station.sets (λ (n : ℕ). Some n)
 
     inside : AllByRecursion (Inside s.station.sets s.station.targets) (couples_of st h)
     inside = all_of (Inside s.station.sets s.station.targets) (couples_of st h) (λ c k.

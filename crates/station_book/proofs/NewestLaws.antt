@@ -25,7 +25,7 @@ pub some_newest : (s : ShelfValue) → 0 < length s → HasNewest s
 some_newest [] some = absurd (omega (arith, some))
 some_newest (e ∷ older) some = record { newest = e; older = older; is = refl }
 
-or_turned : (a b : Bool) → (a || (b || false)) ≡ (b || a)
+pub or_turned : (a b : Bool) → (a || (b || false)) ≡ (b || a)
 or_turned true true = refl
 or_turned true false = refl
 or_turned false true = refl

@@ -16,7 +16,8 @@ use Rattle.station_book.proofs.Elements.{in_contains, contains_in, zip_left}
 use Rattle.station_book.proofs.KeptLaws.{none_stands, none_when}
 use Rattle.station_book.proofs.FilePlaces.{listed_station, set_of_reading}
 use Rattle.station_book.proofs.NameLaws.{its_station}
-use Rattle.station_book.proofs.WholeFile.{may_end, open_reading, second_false, no_reading_lost}
+use Rattle.station_book.proofs.WholeFile.{may_end, open_reading, no_reading_lost}
+use Rattle.station_book.proofs.StationLaws.{right_false}
 
 -- a reading of this set
 record HasReading (h : History) (set : Place) : Type 0 where
@@ -44,7 +45,7 @@ open_has_reading : (past : History) (set : Place) → opening past ≡ set → i
 open_has_reading past set e s clean =
     let now : is_open past ≡ true = ap (λ (p : Place). stands opens_set p) e ∙ s in
     let some : is_empty (open_readings past) ≡ false =
-    second_false (is_open past) (is_empty (open_readings past)) now
+    right_false (is_open past) (is_empty (open_readings past)) now
     (none_when (is_open past && is_empty (open_readings past)) kinds.EmptySet
     (none_stands (end_faults past) clean).0) in
     let r = some_in (open_readings past) some in

@@ -5,16 +5,11 @@ use Rattle.std.proofs.lemmas.Bool.{cases_Bool, false≢true, eq-eqb}
 use Rattle.station_book.specs.declared.fault.BookKind.TheVariants as kinds
 use Rattle.gsi_word.specs.Blocks.{GsiBlock}
 use Rattle.station_book.specs.Blocks.{opens_station, opens_set}
-use Rattle.station_book.specs.Places.{History, Place, places, last, before, is_same, is_set, station, is_empty}
+use Rattle.station_book.specs.Places.{History, Place, places, before, is_same, is_set, station, is_empty}
 use Rattle.station_book.specs.Faults.{open_sets, had_sets, same_name, faults, fault_after, set_faults, end_faults, IsWithoutFault, first_of, name_at}
 use Rattle.station_book.specs.Limits.{FaceLimits}
-use Rattle.station_book.proofs.StepLaws.{sets-station, sets-other}
+use Rattle.station_book.proofs.StepLaws.{sets-station, sets-other, same_station}
 use Rattle.station_book.proofs.KeptLaws.{none_stands, none_when}
-
--- a block without code 10 leaves the station
-same_station : (b : GsiBlock) (past : History) → opens_station b ≡ false
-    → station (b ∷ past) ≡ station past
-same_station b past e = ap (λ v. cond v (b ∷ past) (last opens_station past)) e
 
 -- what the tests of a block of code 20 found
 set_is_clean : (limits : FaceLimits) (past : History) (b : GsiBlock) → opens_station b ≡ false

@@ -1,7 +1,7 @@
 -- What a block does to what is looked up in the places before it.
 use Rattle.std.proofs.Common.{◌≡◌, ℕ, suc, ◌≤◌, Bool, true, false, cond, ◌&&◌, eqb, List, [], ◌∷◌, length, filter, refl, sym, ap, ◌∙◌, arith, subst, inl, inr, ◌⊎◌}
 use Rattle.std.specs.List.{AllByRecursion}
-use Rattle.std.proofs.lemmas.Bool.{ne_eqb, eq-eqb, cases_Bool}
+use Rattle.std.proofs.lemmas.Bool.{ne_eqb, eq-eqb, and_right}
 use Rattle.gsi_word.specs.Blocks.{GsiBlock}
 use Rattle.station_book.specs.Places.{History, Place, places, last, before, belonging, is_same}
 
@@ -24,17 +24,13 @@ keep : {X : Type 0} (test : X → Bool) (x : X) (xs ys : List X) → test x ≡ 
     → filter test (x ∷ xs) ≡ x ∷ ys
 keep test x xs ys e f = ap (λ v. cond v (x ∷ filter test xs) (filter test xs)) e ∙ ap (λ r. x ∷ r) f
 
-and_false : (a b : Bool) → b ≡ false → (a && b) ≡ false
-and_false true b e = e
-and_false false b e = refl
-
 -- nothing belongs to a place that is still to come
 pub none_later : (p : GsiBlock → Bool) (kind : Place → Bool) (owner : Place) (past : History)
     → length past ≤ length owner → belonging p kind owner past ≡ []
 none_later p kind owner [] le = refl
 none_later p kind owner (b ∷ past) le =
     skip (λ place. kind place && is_same (last p (before place)) owner) (b ∷ past) (places past) []
-    (and_false (kind (b ∷ past)) (is_same (last p past) owner)
+    (and_right (kind (b ∷ past)) (is_same (last p past) owner)
     (ne_eqb (length (last p past)) (length owner)
     (λ e. let l = length-last p past in absurd (omega arith))))
     (none_later p kind owner past (omega arith))
@@ -84,7 +80,7 @@ pub belonging-other : (p : GsiBlock → Bool) (kind : Place → Bool) (owner : P
     → belonging p kind owner (b ∷ past) ≡ belonging p kind owner past
 belonging-other p kind owner b past e = skip
     (λ place. kind place && is_same (last p (before place)) owner) (b ∷ past) (places past) _
-    (and_false (kind (b ∷ past)) _ e) refl
+    (and_right (kind (b ∷ past)) _ e) refl
 
 owners : (p : GsiBlock → Bool) (kind : Place → Bool) (b : GsiBlock) (past : History)
     → AllByRecursion (λ s. last p (before s) ≡ last p past) (belonging p kind (last p past) past)
@@ -109,10 +105,3 @@ owners p kind b past ih (inr e) (inr k) =
     let Q : Place → Type 0 = λ o. AllByRecursion (λ s. last p (before s) ≡ o)
     (belonging p kind (last p past) past) in
     subst P (sym (belonging-same p kind b past e k)) (subst Q (sym l) ih)
-
--- each has this owner
-pub belonging-owner : (p : GsiBlock → Bool) (kind : Place → Bool) (past : History)
-    → AllByRecursion (λ s. last p (before s) ≡ last p past) (belonging p kind (last p past) past)
-belonging-owner p kind [] = tt
-belonging-owner p kind (b ∷ past) = owners p kind b past (belonging-owner p kind past)
-    (cases_Bool (p b)) (cases_Bool (kind (b ∷ past)))

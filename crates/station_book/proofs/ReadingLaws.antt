@@ -2,8 +2,8 @@
 use Rattle.std.proofs.Common.{◌≡◌, ◌≢◌, ℕ, zero, suc, ◌+◌, ◌<◌, ◌≤◌, Bool, true, false, cond, not, ◌||◌, List, [], ◌∷◌, ◌++◌, length, map, filter, get_or, set, Option, Some, None, AllPairs, refl, sym, ap, ◌∙◌, inl, inr, ◌⊎◌, arith, append-nil}
 use Rattle.std.specs.List.{AllByRecursion, list_any, enumerate_from, filter_map}
 use Rattle.std.specs.Str.{bytes_eq}
-use Rattle.std.proofs.lemmas.Bool.{cases_Bool, false≢true, cases_eq, cases_lt}
-use Rattle.std.proofs.lemmas.List.{length-set, ext_get_or, get_or-set_same, get_or-set_other}
+use Rattle.std.proofs.lemmas.Bool.{cases_Bool, false≢true, cases_eq, cases_lt, or_parts}
+use Rattle.std.proofs.lemmas.List.{length-set, ext_get_or, get_or-set_same, get_or-set_other, map-append}
 use Rattle.std.proofs.lemmas.List.Elements.{filter_map-append}
 use Rattle.std.proofs.lemmas.List.Folds.{list_any_at}
 use Rattle.std.proofs.lemmas.List.Quantifiers.{all_pairs_push, position-Some}
@@ -82,10 +82,6 @@ any_snoc p (y ∷ xs) x = ap (λ v. p y || v) (any_snoc p xs x)
       assoc true b c = refl
       assoc false b c = refl
 
-or_false : (a b : Bool) → (a || b) ≡ false → (a ≡ false) × (b ≡ false)
-or_false true b e = cc
-or_false false b e = (refl, e)
-
 -- a name that is no target has no reading
 no_reading_of : (name : List ℕ) (readings : List Place)
     → is_among (targets_in readings) name ≡ false
@@ -108,12 +104,12 @@ no_reading_of name (r ∷ rs) e = split (is_among (targets_in rs) (target_at r))
             → bytes_eq (target_at r) name ≡ false
         by (inl b) = absurd (false≢true (sym e ∙ among b t))
         by (inr b) = b
-      split false t e rest = let p = or_false (is_among (targets_in rs) name)
+      split false t e rest = let p = or_parts (is_among (targets_in rs) name)
           (bytes_eq (target_at r) name)
           (sym (any_snoc (λ o. bytes_eq o name) (targets_in rs) (target_at r)) ∙ e) in
           (p.1, rest p.0)
 
-all_filter : {X : Type 0} (P : X → Type 0) (p : X → Bool) (xs : List X) → AllByRecursion P xs
+pub all_filter : {X : Type 0} (P : X → Type 0) (p : X → Bool) (xs : List X) → AllByRecursion P xs
     → AllByRecursion P (filter p xs)
 all_filter P p [] all = tt
 all_filter P p (x ∷ xs) all = split (p x) (all_filter P p xs all.1) where
@@ -146,16 +142,11 @@ obs_empty n slots =
 faces_empty : (slots : List Slot) → faces_of (slots ++ empty_slot ∷ []) ≡ faces_of slots
 faces_empty slots = filter_map-append faces_at slots (empty_slot ∷ []) ∙ append-nil (faces_of slots)
 
-map_snoc : {X Y : Type 0} (f : X → Y) (xs : List X) (x : X)
-    → map f (xs ++ x ∷ []) ≡ map f xs ++ f x ∷ []
-map_snoc f [] x = refl
-map_snoc f (y ∷ xs) x = ap (λ r. f y ∷ r) (map_snoc f xs x)
-
 -- the slots of a set without a reading of the new target
 slots_new : (targets : List (List ℕ)) (name : List ℕ) (rs : List Place)
     → AllByRecursion (λ r. bytes_eq (target_at r) name ≡ false) rs
     → slots_of (targets ++ name ∷ []) rs ≡ slots_of targets rs ++ empty_slot ∷ []
-slots_new targets name rs all = map_snoc (slot_of rs) targets name
+slots_new targets name rs all = map-append (slot_of rs) targets (name ∷ [])
     ∙ ap (λ s. slots_of targets rs ++ s ∷ []) (empty_of name rs all)
 
 -- older sets: the reading is in none of them
@@ -265,7 +256,7 @@ others_stay : (targets : List (List ℕ)) (r : Place) (rs : List Place)
     → is_among targets (target_at r) ≡ false → slots_of targets (r ∷ rs) ≡ slots_of targets rs
 others_stay [] r rs e = refl
 others_stay (t ∷ ts) r rs e =
-    let p = or_false (bytes_eq t (target_at r)) (is_among ts (target_at r)) e in
+    let p = or_parts (bytes_eq t (target_at r)) (is_among ts (target_at r)) e in
     let q : bytes_eq (target_at r) t ≡ false = apart (target_at r) t
     (λ same. false≢true (sym p.0 ∙ (bytes_eq-Decides t (target_at r)).1 (sym same))) in
     λ i. slot_other r t rs q i ∷ others_stay ts r rs p.1 i
@@ -327,8 +318,8 @@ reading_stands st newest older readings r name e s says mine none h = split
             targets = (λ j. h.targets j ++ says.target_is j ∷ []) ∙ sym more;
             numbers = h.numbers;
             slots = (λ j. h.slots j ++ with_side s.is_second s.sight empty_slot ∷ [])
-                ∙ sym (map_snoc (slot_of (r ∷ in_set newest readings)) (targets_in readings)
-                (target_at r) ∙ (λ j. others_stay (targets_in readings) r
+                ∙ sym (map-append (slot_of (r ∷ in_set newest readings)) (targets_in readings)
+                (target_at r ∷ []) ∙ (λ j. others_stay (targets_in readings) r
                 (in_set newest readings) out j ++ own j ∷ []))
                 ∙ (λ j. slots_of (sym more j) (sym mine j));
             obs = h.obs ∙ sym (ap (λ ts. obs_in ts (r ∷ readings) older) more

@@ -1,9 +1,9 @@
 -- The fault of a block of code 20 by what is kept is its fault by the blocks before it.
-use Rattle.std.proofs.Common.{◌≡◌, ℕ, suc, Bool, true, false, cond, leb, eqb, ◌&&◌, ◌||◌, List, [], ◌∷◌, ◌++◌, length, map, Option, Some, None, is_none, refl, sym, ap, ◌∙◌, inl, inr, ◌⊎◌, subst, arith}
+use Rattle.std.proofs.Common.{◌≡◌, ℕ, suc, Bool, true, false, cond, leb, eqb, ◌&&◌, ◌||◌, List, [], ◌∷◌, ◌++◌, length, map, Option, Some, None, is_none, refl, sym, ap, ◌∙◌, inl, inr, ◌⊎◌, subst}
 use Rattle.std.specs.List.{list_any}
 use Rattle.std.specs.Str.{bytes_eq}
 use Rattle.std.proofs.lemmas.Bool.{cases_Bool, false≢true}
-use Rattle.std.proofs.lemmas.List.{length-append, length-map}
+use Rattle.std.proofs.lemmas.List.{length-map}
 use Rattle.std.proofs.lemmas.List.Folds.{list_any-append}
 use Rattle.station_book.specs.declared.fault.BookKind.{BookKind}
 use Rattle.station_book.specs.declared.fault.BookKind.TheVariants as kinds
@@ -26,11 +26,12 @@ use Rattle.station_book.proofs.Membership.{same_bytes}
 use Rattle.station_book.proofs.StepLaws.{sets-other}
 use Rattle.station_book.proofs.KeptLaws.{none_stands, none_when}
 use Rattle.station_book.proofs.StationLaws.{had_sets_by_names}
-use Rattle.station_book.proofs.StandLaws.{Parted, parted, open_has_set}
+use Rattle.station_book.proofs.StandLaws.{Parted, parted, open_has_set, length_numbers}
 use Rattle.station_book.proofs.TakeLaws.{station_as, set_as, then_second}
 use Rattle.station_book.proofs.OnceLaws.{no_had_sets}
 use Rattle.station_book.proofs.EndLaws.{same_end}
 use Rattle.station_book.proofs.FaultLaws.{first_append}
+use Rattle.station_book.proofs.NewestLaws.{or_turned}
 
 -- what is kept of the open station, where it has a set
 pub record HasOpenEntry (past : History) (shelf : ShelfValue) : Type 0 where
@@ -110,12 +111,6 @@ any_map : {X Y : Type 0} (p : Y → Bool) (f : X → Y) (xs : List X)
 any_map p f [] = refl
 any_map p f (x ∷ xs) = ap (λ v. p (f x) || v) (any_map p f xs)
 
-or_turned : (a b : Bool) → (a || (b || false)) ≡ (b || a)
-or_turned true true = refl
-or_turned true false = refl
-or_turned false true = refl
-or_turned false false = refl
-
 any_last : {X : Type 0} (p : X → Bool) (xs : List X) (x : X)
     → list_any p (xs ++ x ∷ []) ≡ (p x || list_any p xs)
 any_last p xs x = list_any-append p xs (x ∷ []) ∙ or_turned (list_any p xs) (p x)
@@ -170,11 +165,6 @@ any_numbers n [] = refl
 any_numbers n (s ∷ older) = ap (λ v. same_number (number_at s) (Some n) || v) (any_numbers n older)
     ∙ sym (any_last (λ m. same_number m (Some n)) (numbers_in older) (number_at s))
 
-count_numbers : (sets : List Place) → length (numbers_in sets) ≡ length sets
-count_numbers [] = refl
-count_numbers (s ∷ older) = let l = length-append (numbers_in older)
-    (number_at s ∷ []) in let m = count_numbers older in omega (arith, l, m)
-
 kept_numbers : (past : History) (shelf : ShelfValue) (e : HasOpenEntry past shelf)
     → numbers_in (open_sets past) ≡ map (λ n. Some n) (last_of shelf).sets
 kept_numbers past shelf e = ap numbers_in e.sets ∙ sym e.is.numbers
@@ -188,7 +178,7 @@ known_number past shelf n e =
 
 count_sets : (past : History) (shelf : ShelfValue) → HasOpenEntry past shelf
     → length (open_sets past) ≡ length (last_of shelf).sets
-count_sets past shelf e = sym (count_numbers (open_sets past))
+count_sets past shelf e = sym (length_numbers (open_sets past))
     ∙ ap length (kept_numbers past shelf e) ∙ length-map (last_of shelf).sets (λ n. Some n)
 
 -- the tests of a block of code 20, but for that of its word 42

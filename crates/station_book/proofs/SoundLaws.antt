@@ -1,7 +1,7 @@
 -- What is kept of a station makes a station of the kernel once its last set is closed.
-use Rattle.std.proofs.Common.{◌≡◌, ℕ, zero, suc, ◌+◌, ◌<◌, ◌≤◌, Bool, true, false, ◌&&◌, ◌||◌, List, [], ◌∷◌, ◌++◌, length, get_or, All, Any, AllPairs, Option, Some, None, is_some, is_none, inl, inr, ◌⊎◌, refl, sym, ap, ◌∙◌, subst, arith}
+use Rattle.std.proofs.Common.{◌≡◌, ℕ, zero, suc, ◌+◌, ◌<◌, ◌≤◌, true, false, ◌&&◌, ◌||◌, List, [], ◌∷◌, ◌++◌, length, get_or, All, Any, AllPairs, Option, Some, None, is_some, is_none, inl, inr, ◌⊎◌, refl, sym, ap, ◌∙◌, subst, arith}
 use Rattle.std.specs.List.{list_any, list_all, enumerate_from, filter_map, cons_option}
-use Rattle.std.proofs.lemmas.Bool.{cases_Bool, cases_lt}
+use Rattle.std.proofs.lemmas.Bool.{cases_Bool, cases_lt, or_parts}
 use Rattle.std.proofs.lemmas.List.Elements.{All-cons, All-append, All-weaker}
 use Rattle.adjust_kernel.specs.declared.obs.Obs.{Obs}
 use Rattle.adjust_kernel.specs.Stations.{IsObs, IsBefore, AreObs}
@@ -93,10 +93,6 @@ any_cons : (P : Obs → Type 0) (o : Option Obs) (rest : List Obs) → Any P res
 any_cons P None rest h = h
 any_cons P (Some o) rest h = any_tail P o rest h
 
-or_false : (a b : Bool) → (a || b) ≡ false → (a ≡ false) × (b ≡ false)
-or_false true b e = cc
-or_false false b e = (refl, e)
-
 -- the place of this set and target
 record IsAt (set target : ℕ) (o : Obs) : Type 0 where
   pub of_set : o.set ≡ set
@@ -121,14 +117,14 @@ read_is_observed set m zero (s ∷ slots) lt e f =
     let n : m ≡ m + 0 = omega arith in
     subst (λ (k : ℕ). Any (IsAt set k) (observed set m (s ∷ slots))) n
     (both_read set m s.first s.second (observed set (m + 1) slots) e
-    (or_false (is_single s) (list_any is_single slots) f).0)
+    (or_parts (is_single s) (list_any is_single slots) f).0)
 read_is_observed set m (suc t) (s ∷ slots) lt e f =
     let n : (m + 1) + t ≡ m + suc t = omega arith in
     subst (λ (k : ℕ). Any (IsAt set k) (observed set m (s ∷ slots))) n
     (any_cons (IsAt set ((m + 1) + t)) (observation_of set m s.first s.second)
     (observed set (m + 1) slots)
     (read_is_observed set (m + 1) t slots (omega arith) e
-    (or_false (is_single s) (list_any is_single slots) f).1))
+    (or_parts (is_single s) (list_any is_single slots) f).1))
 
 -- not all are unread: one was read
 some_read : (slots : List Slot) → list_all is_unread slots ≡ false

@@ -3,11 +3,11 @@
 use Rattle.std.proofs.Common.{◌≡◌, ℕ, suc, ◌-◌, ◌<◌, ◌≤◌, Bool, true, false, cond, ◌&&◌, ◌||◌, List, [], ◌∷◌, ◌++◌, length, map, filter, replicate, Some, refl, sym, ap, ◌∙◌, inl, inr, ◌⊎◌, subst, arith}
 use Rattle.std.specs.List.{AllByRecursion}
 use Rattle.std.proofs.lemmas.Bool.{cases_Bool, false≢true, and_parts, ne_eqb, eq-eqb}
-use Rattle.std.proofs.lemmas.List.{length-append}
+use Rattle.std.proofs.lemmas.List.{length-append, map-append, length-map}
 use Rattle.station_book.specs.Slots.{empty_slot, obs_of, faces_of}
 use Rattle.station_book.specs.Entries.{EntryValue, first_entry, with_set, with_reading}
 use Rattle.station_book.specs.declared.sight.Sighting.{Sighting}
-use Rattle.station_book.proofs.ReadingLaws.{Says, IsInNone, reading_stands}
+use Rattle.station_book.proofs.ReadingLaws.{Says, IsInNone, reading_stands, all_filter}
 use Rattle.station_book.specs.Shelves.{ShelfValue, survey_of, with_station}
 use Rattle.station_book.proofs.CoupleLaws.{none_in_later}
 use Rattle.station_book.proofs.NewestLaws.{HasNewest}
@@ -20,7 +20,7 @@ use Rattle.station_book.specs.Keeps.{slots_of, targets_in, obs_in, faces_in, num
 use Rattle.station_book.proofs.PlaceLaws.{length-last, belonging-more, belonging-same, belonging-fresh}
 use Rattle.station_book.proofs.OlderLaws.{belonging-older, owners_in_order}
 use Rattle.station_book.proofs.CodeLaws.{no_set_at_station}
-use Rattle.station_book.proofs.StepLaws.{sight_opens_nothing, sight_opens_no_station, is_open-opening, is_open-other, sets-station, sets-more, sets-other}
+use Rattle.station_book.proofs.StepLaws.{sight_opens_nothing, sight_opens_no_station, is_open-opening, is_open-other, sets-station, sets-more, sets-other, same_station}
 
 -- no reading: all slots are empty
 pub no_readings : (targets : List (List ℕ))
@@ -28,19 +28,10 @@ pub no_readings : (targets : List (List ℕ))
 no_readings [] = refl
 no_readings (t ∷ ts) = ap (λ ss. empty_slot ∷ ss) (no_readings ts)
 
-length_map : {X Y : Type 0} (f : X → Y) (xs : List X) → length (map f xs) ≡ length xs
-length_map f [] = refl
-length_map f (x ∷ xs) = ap suc (length_map f xs)
-
-length_numbers : (sets : List Place) → length (numbers_in sets) ≡ length sets
+pub length_numbers : (sets : List Place) → length (numbers_in sets) ≡ length sets
 length_numbers [] = refl
 length_numbers (s ∷ older) = let l = length-append (numbers_in older)
     (number_at s ∷ []) in let m = length_numbers older in omega (arith, l, m)
-
-map_more : {X Y : Type 0} (f : X → Y) (xs : List X) (x : X)
-    → map f (xs ++ x ∷ []) ≡ map f xs ++ f x ∷ []
-map_more f [] x = refl
-map_more f (y ∷ xs) x = ap (λ r. f y ∷ r) (map_more f xs x)
 
 -- after the first set
 pub first_stands : (st set : Place) (name : List ℕ) (n : ℕ) → name_at st ≡ Some name
@@ -62,13 +53,13 @@ pub set_stands : (st set newest : Place) (older readings : List Place) (name : L
 set_stands st set newest older readings name n e numbered none h = record {
   named_so = h.named_so;
   targets = h.targets;
-  numbers = map_more (λ m. Some m) e.sets n ∙ (λ i. h.numbers i ++ sym numbered i ∷ []);
+  numbers = map-append (λ m. Some m) e.sets (n ∷ []) ∙ (λ i. h.numbers i ++ sym numbered i ∷ []);
   slots = slots;
   obs = (λ i. h.obs i ++ obs_of (last_place i) (h.slots i));
   faces = (λ i. h.faces i ++ faces_of (h.slots i));
 } where
   sets : length e.sets ≡ suc (length older)
-  sets = sym (length_map (λ m. Some m) e.sets) ∙ ap length h.numbers
+  sets = sym (length-map e.sets (λ m. Some m)) ∙ ap length h.numbers
       ∙ length_numbers (newest ∷ older)
 
   last_place : length e.sets - 1 ≡ length older
@@ -78,7 +69,7 @@ set_stands st set newest older readings name n e numbered none h = record {
       (in_set set readings)
   slots =
       ap (λ (k : ℕ). replicate k empty_slot)
-      (ap length h.slots ∙ length_map _ (targets_in readings))
+      (ap length h.slots ∙ length-map (targets_in readings) _)
       ∙ sym (no_readings (targets_in readings)) ∙ ap (slots_of (targets_in readings)) (sym none)
 
 -- what a station gives once its last set is closed
@@ -89,7 +80,7 @@ survey_is h st e k = by (sets_of st h) refl k where
       → IsComputed st (sets_of st h) (station_readings st h) (survey_of e)
   by [] s k = absurd k
   by (newest ∷ older) s k =
-      let count : length e.1.sets ≡ suc (length older) = sym (length_map (λ n. Some n) e.1.sets)
+      let count : length e.1.sets ≡ suc (length older) = sym (length-map e.1.sets (λ n. Some n))
       ∙ ap length k.numbers ∙ length_numbers (newest ∷ older) in
       let last : length e.1.sets - 1 ≡ length older = omega (arith, count) in record {
         named_so = k.named_so;
@@ -211,25 +202,12 @@ pub record HasOpenLast (past : History) : Type 0 where
   pub stations : stations_in past ≡ station past ∷ rest
   pub older : AllByRecursion (λ st. length st < length (station past)) rest
 
-all_filter : {X : Type 0} (P : X → Type 0) (p : X → Bool) (xs : List X) → AllByRecursion P xs
-    → AllByRecursion P (filter p xs)
-all_filter P p [] all = tt
-all_filter P p (x ∷ xs) all = split (p x) (all_filter P p xs all.1) where
-  split : (v : Bool) → AllByRecursion P (filter p xs)
-      → AllByRecursion P (cond v (x ∷ filter p xs) (filter p xs))
-  split true r = (all.0, r)
-  split false r = r
-
 below_new : (n : ℕ) (past : History) (xs : List Place) → length (station past) ≤ n
     → AllByRecursion (λ s. length (last opens_station (before s)) ≤ length (station past)) xs
     → AllByRecursion (λ st. length st < suc n) (map (λ s. station (before s)) xs)
 below_new n past [] le all = tt
 below_new n past (x ∷ xs) le all =
     ((let a = all.0 in omega (arith, a, le)), below_new n past xs le all.1)
-
-same_station : (b : GsiBlock) (past : History) → opens_station b ≡ false
-    → station (b ∷ past) ≡ station past
-same_station b past e = ap (λ v. cond v (b ∷ past) (last opens_station past)) e
 
 abbrev pub Parted : History → Type 0
 Parted past = ((open_sets past ≡ [])

@@ -1,40 +1,17 @@
 -- The stations that have sets, and a station's sets.
-use Rattle.std.proofs.Common.{◌≡◌, ℕ, Bool, true, false, cond, ◌&&◌, ◌||◌, not, List, [], ◌∷◌, map, filter, Option, None, refl, sym, ap, ◌∙◌, inl, inr, ◌⊎◌, subst}
+use Rattle.std.proofs.Common.{◌≡◌, Bool, true, false, cond, ◌&&◌, ◌||◌, not, List, [], ◌∷◌, filter, refl, sym, ap, ◌∙◌, inl, inr, ◌⊎◌, subst}
 use Rattle.std.specs.List.{list_any}
-use Rattle.std.proofs.lemmas.Bool.{and_parts, and_from, cases_Bool, false≢true}
+use Rattle.std.proofs.lemmas.Bool.{and_parts, and_from, cases_Bool, false≢true, or_left, or_right, and_right}
 use Rattle.gsi_word.specs.Blocks.{GsiBlock}
-use Rattle.station_book.specs.Blocks.{opens_station, opens_set, number}
-use Rattle.station_book.specs.Places.{at, History, Place, places, last, before, belonging, is_same, is_set, station, first_sets, is_empty}
-use Rattle.station_book.specs.Faults.{open_sets, had_sets, same_name, same_number, has_set_number, name_at}
+use Rattle.station_book.specs.Blocks.{opens_station, opens_set}
+use Rattle.station_book.specs.Places.{History, Place, places, last, before, belonging, is_same, is_set, station, first_sets, is_empty}
+use Rattle.station_book.specs.Faults.{open_sets, had_sets, same_name, name_at}
 use Rattle.station_book.proofs.PlaceLaws.{belonging-fresh, belonging-same}
 use Rattle.station_book.proofs.Membership.{In, any_from, any_to, same_test}
 
--- the numbers that a book keeps of the station's sets answer whether one has this number
-pub number_by_kept : (n : Option ℕ) (past : History)
-    → has_set_number n past ≡ list_any (λ m. same_number m n)
-    (map (λ s. at number None s) (open_sets past))
-number_by_kept n past = any_map (open_sets past) where
-  any_map : (xs : List Place)
-      → list_any (λ s. same_number (at number None s) n) xs ≡ list_any (λ m. same_number m n)
-      (map (λ s. at number None s) xs)
-  any_map [] = refl
-  any_map (x ∷ xs) = ap (λ v. same_number (at number None x) n || v) (any_map xs)
-
-head_true : (a b : Bool) → a ≡ true → (a || b) ≡ true
-head_true true b e = refl
-head_true false b e = cc
-
-and_false : (a b : Bool) → b ≡ false → (a && b) ≡ false
-and_false true b e = e
-and_false false b e = refl
-
-right_false : (a b : Bool) → a ≡ true → (a && b) ≡ false → b ≡ false
+pub right_false : (a b : Bool) → a ≡ true → (a && b) ≡ false → b ≡ false
 right_false true b e f = f
 right_false false b e f = cc
-
-rest_true : (a b : Bool) → b ≡ true → (a || b) ≡ true
-rest_true true b e = refl
-rest_true false b e = e
 
 -- where some place belongs to the last owner, what holds of the owner is found at a place
 some_owner : (p : GsiBlock → Bool) (kind : Place → Bool) (f : Place → Bool) (past : History)
@@ -49,9 +26,9 @@ some_owner p kind f (b ∷ past) full e = split (cases_Bool (p b)) (cases_Bool (
           → list_any (λ s. kind s && f (last p (before s))) (places (b ∷ past)) ≡ true
       split (inl h) k ih = absurd
           (false≢true (sym full ∙ ap is_empty (belonging-fresh p kind b past h)))
-      split (inr h) (inl k) ih = head_true (kind (b ∷ past) && f (last p past)) _
+      split (inr h) (inl k) ih = or_left (kind (b ∷ past) && f (last p past)) _
           (and_from _ _ k (sym (ap (λ v. f (cond v (b ∷ past) (last p past))) h) ∙ e))
-      split (inr h) (inr k) ih = rest_true (kind (b ∷ past) && f (last p past)) _
+      split (inr h) (inr k) ih = or_right (kind (b ∷ past) && f (last p past)) _
           (ih (sym (ap is_empty (belonging-same p kind b past h k)) ∙ full)
           (sym (ap (λ v. f (cond v (b ∷ past) (last p past))) h) ∙ e))
 
@@ -83,16 +60,16 @@ any_station f (b ∷ past) = split (cases_Bool (opens_set b)) (cases_Bool (is_em
           (and_from (opens_set b) (is_empty (open_sets past)) s e))
       split (inl s) (inr e) (inl g) ih =
           let found = some_owner opens_station is_set f past e g in
-          head_true (opens_set b && f (station past)) _ (and_from _ _ s g) ∙ sym (sym ih ∙ found)
+          or_left (opens_set b && f (station past)) _ (and_from _ _ s g) ∙ sym (sym ih ∙ found)
           ∙ sym (ap (λ v. list_any (λ s. f (station (before s)))
           (cond v ((b ∷ past) ∷ first_sets past) (first_sets past)))
-          (and_false (opens_set b) (is_empty (open_sets past)) e))
+          (and_right (opens_set b) (is_empty (open_sets past)) e))
       split (inl s) (inr e) (inr g) ih =
           ap (λ v. v || list_any (λ s. is_set s && f (station (before s))) (places past))
-          (and_false (opens_set b) (f (station past)) g) ∙ ih
+          (and_right (opens_set b) (f (station past)) g) ∙ ih
           ∙ sym (ap (λ v. list_any (λ s. f (station (before s)))
           (cond v ((b ∷ past) ∷ first_sets past) (first_sets past)))
-          (and_false (opens_set b) (is_empty (open_sets past)) e))
+          (and_right (opens_set b) (is_empty (open_sets past)) e))
 
 -- what a filter leaves out
 left_out : {X : Type 0} (p : X → Bool) (x : X) (xs : List X) → filter p xs ≡ [] → In x xs

@@ -8,7 +8,7 @@ use Rattle.gsi_word.specs.Blocks.{GsiBlock}
 use Rattle.gsi_word.specs.Words.{GsiWord}
 use Rattle.gsi_word.specs.Names.{name_of}
 use Rattle.station_book.specs.Blocks.{opens_station, opens_set, closes_set, is_opening, is_sight, target, found, is_absent, begins}
-use Rattle.station_book.specs.Places.{History, Place, last, stands, is_open, is_set, is_reading, station, targets_of, distinct, with_new, target_at}
+use Rattle.station_book.specs.Places.{History, last, stands, is_open, is_set, is_reading, station, targets_of, distinct, with_new, target_at}
 use Rattle.station_book.specs.Faults.{open_readings, open_sets}
 use Rattle.station_book.proofs.PlaceLaws.{belonging-fresh, belonging-more, belonging-same}
 
@@ -34,6 +34,11 @@ pub readings-other : (b : GsiBlock) (past : History) → is_opening b ≡ false
     → is_reading (b ∷ past) ≡ false → open_readings (b ∷ past) ≡ open_readings past
 readings-other b past e r = belonging-same is_opening is_reading b past e r
 
+-- a block without code 10 leaves the station
+pub same_station : (b : GsiBlock) (past : History) → opens_station b ≡ false
+    → station (b ∷ past) ≡ station past
+same_station b past e = ap (λ v. cond v (b ∷ past) (last opens_station past)) e
+
 -- the sets of the station after a block
 pub sets-station : (b : GsiBlock) (past : History) → opens_station b ≡ true
     → open_sets (b ∷ past) ≡ []
@@ -50,14 +55,6 @@ sets-other b past e s = belonging-same opens_station is_set b past e s
 -- the targets of the station after a block
 abbrev pub open_targets : History → List (List ℕ)
 open_targets past = targets_of (station past) past
-
-names_at : List Place → List (List ℕ)
-names_at rs = map (λ r. target_at r) rs
-
-pub targets-station : (b : GsiBlock) (past : History) → opens_station b ≡ true
-    → open_targets (b ∷ past) ≡ []
-targets-station b past e = ap (λ rs. distinct (map (λ r. target_at r) rs))
-    (belonging-fresh opens_station is_reading b past e)
 
 pub targets-more : (b : GsiBlock) (past : History) → opens_station b ≡ false
     → is_reading (b ∷ past) ≡ true

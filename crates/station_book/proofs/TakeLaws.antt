@@ -23,7 +23,7 @@ use Rattle.station_book.specs.Keeps.{IsStage, Stand, stations_in}
 use Rattle.station_book.specs.Readings as said
 use Rattle.station_book.specs.Standing.{StandsFor}
 use Rattle.station_book.proofs.RoleLaws.{station_is, set_is, close_is, sight_is}
-use Rattle.station_book.proofs.StepLaws.{is_open-opening, is_open-other, sets-station, sets-other}
+use Rattle.station_book.proofs.StepLaws.{is_open-opening, is_open-other, sets-station, sets-other, same_station}
 use Rattle.station_book.specs.Limits.{FaceLimits}
 use Rattle.station_book.proofs.FaceLaws.{one_face}
 use Rattle.station_book.proofs.KeptLaws.{none_stands, none_when}
@@ -47,10 +47,6 @@ sight_as b r e = sight_is b ∙ ap (λ q. is_measurement q && not (lacks 21 b)) 
 opening_as : (b : GsiBlock) (r : Role) → role_of b ≡ r
     → is_opening b ≡ (is_station r || (is_set_code r || is_close r))
 opening_as b r e = λ i. station_as b r e i || (set_as b r e i || close_as b r e i)
-
-same_station : (b : GsiBlock) (past : History) → opens_station b ≡ false
-    → station (b ∷ past) ≡ station past
-same_station b past e = ap (λ v. cond v (b ∷ past) (last opens_station past)) e
 
 no_reading : (b : GsiBlock) (past : History) → is_sight b ≡ false → is_reading (b ∷ past) ≡ false
 no_reading b past e = ap (λ v. v && is_open past) e

@@ -24,6 +24,7 @@ use Rattle.station_book.proofs.FirstFault.{fault_or_none, no_first_fault, one_fi
 use Rattle.station_book.proofs.FilePlaces.{HasItsSet, last_placed, owner_placed, same_of_file, set_of_reading, set_station}
 use Rattle.station_book.proofs.CoupleReadings.{IsRead}
 use Rattle.station_book.proofs.RecordedLaws.{IsPairObserved, pair_observed}
+use Rattle.station_book.proofs.StationLaws.{right_false}
 
 -- a reading of the other face, in the set and of the target of this one
 record HasOther (h : History) (r : Place) : Type 0 where
@@ -43,10 +44,6 @@ other_later b past r o = record {
   of_target = o.of_target;
   of_face = o.of_face;
 }
-
-pub second_false : (a b : Bool) → a ≡ true → (a && b) ≡ false → b ≡ false
-second_false true b e f = f
-second_false false b e f = cc
 
 -- a reading of the set that is open
 pub record IsOpenReading (past : History) (r : Place) : Type 0 where
@@ -80,7 +77,7 @@ other_in_open past r listed clean = split
           ∙ (and_parts (stands is_sight r) (is_open (before r)) own.reading).1
 
       paired : has_one_face (open_readings past) ≡ false
-      paired = second_false (is_open past) (has_one_face (open_readings past)) now
+      paired = right_false (is_open past) (has_one_face (open_readings past)) now
           (none_when (is_open past && has_one_face (open_readings past)) kinds.OneFace
           (none_stands (end_faults past) clean).1.0)
 

@@ -3,7 +3,7 @@ use Rattle.std.specs.Map.{values_of}
 use Rattle.std.proofs.lemmas.List.{ext_get_or, get_or-replicate}
 use Rattle.indexmap.specs.Layout.{length-set_value_at}
 use Rattle.station_book.specs.Slots.{empty_slot}
-use Rattle.station_book.proofs.EntryLaws.{length_replicate}
+use Rattle.std.proofs.lemmas.List.{length-replicate}
 use Rattle.station_book.proofs.TargetLaws.{same_keys, length_values, emptied}
 use Rattle.station_book.proofs.targets.Targets.empty_slots.Goals as goal
 
@@ -26,7 +26,7 @@ returns-clause-slots c =
     let same = c.slots.invariant.size in
     let whole = c.slots.invariant.whole in
     let values = length_values es in
-    let size = length_replicate n empty_slot in
+    let size = length-replicate n empty_slot in
     ext_get_or empty_slot (values_of es) (replicate n empty_slot)
     (omega (arith, same, whole, values, size))
     (λ i lt. c.slots.invariant.empty i (omega (arith, same, whole, values, lt))
