@@ -40,6 +40,7 @@ mod version;
 mod writing;
 
 pub use fault::{RowKind, SheetFault, WriteFault};
+pub use number::{SHORT, of_digits};
 pub use reading::{LONGEST_SHEET, read_sheet};
 pub use writing::write_sheet;
 

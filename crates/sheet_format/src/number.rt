@@ -40,11 +40,11 @@ fn is_canonical(bytes: &[u8]) -> bool
 }
 
 /// The most bytes of a field that is read digit by digit: 64 bits hold its number.
-const SHORT: usize = 18;
+pub const SHORT: usize = 18;
 
-/// The number of at most so many bytes, if all are digits.
+/// The number of at most [`SHORT`] bytes, if all are digits; of no bytes it is 0.
 #[inline(always)]
-fn of_digits(digits: &[u8]) -> Option<u64>
+pub fn of_digits(digits: &[u8]) -> Option<u64>
     requires { length digits.now ≤ SHORT }
     ensures value { IfSome result (λ number. number ≡ digits_value 10 digits.now) }
     ensures bound { IfSome result (λ number. number < 10 ^ 18) }
