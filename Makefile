@@ -27,7 +27,7 @@ DIST ?= build/dist
 
 # The crates that the program is made of, lowest first, as crates.txt lists them: no tests, and no
 # libraries that no command uses yet.
-CRATES := $(filter-out %_tests sheet_nearness sheet_near,$(shell sed -n 's/^\([a-z_]*\):.*/\1/p' crates.txt))
+CRATES := $(filter-out %_tests sheet_nearness sheet_near direction_table,$(shell sed -n 's/^\([a-z_]*\):.*/\1/p' crates.txt))
 
 # What each recipe that proves begins with.
 NEED_TOOLCHAIN = command -v $(RT) > /dev/null || { \

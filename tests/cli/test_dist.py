@@ -15,7 +15,7 @@ EXAMPLES = "share/doc/station_check/examples"
 TIME = 120
 
 # The libraries that no command uses.
-NOT_OF_THE_PROGRAM = {"sheet_nearness", "sheet_near"}
+NOT_OF_THE_PROGRAM = {"sheet_nearness", "sheet_near", "direction_table"}
 
 
 def output_of(*command, **more):
