@@ -1,1 +1,3 @@
 pub mod Gons
+pub mod Rows
+pub mod Faults

@@ -3,6 +3,7 @@
 ghost use Rattle.std.specs.Prelude.{◌≡◌, ◌==◌, ◌<◌, ◌≤◌, ◌^◌, ◌*◌, length, pos, true, false, IfSome, IfNone, OnSome};
 ghost use Rattle.std.specs.List.{position};
 ghost use Rattle.std.specs.Str.Parse.{digits_value};
+ghost use Rattle.adjust_kernel.specs.Within.{IsWithin};
 ghost use Rattle.direction_table.specs.Gons as spec;
 
 use sheet_format::of_digits;
@@ -107,6 +108,7 @@ impl Gons {
     /// The direction, if it is below a full circle.
     pub(crate) fn on_circle(self) -> Option<i64>
         ensures value { IfSome result (λ value. value ≡ spec.signed self.is_negative self.size) }
+        ensures small { IfSome result (λ value. IsWithin (pos CIRCLE) value) }
         ensures some { OnSome result (self.size < CIRCLE) }
         ensures none { IfNone result (CIRCLE ≤ self.size) }
     {

@@ -5,6 +5,11 @@
 //! digits, below 400 in size.
 #![tactic(auto)]
 
+mod columns;
+mod draft;
+mod entry;
+mod fault;
 mod gon;
 
+pub use fault::RowKind;
 pub use gon::CIRCLE;

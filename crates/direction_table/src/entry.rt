@@ -1,0 +1,79 @@
+//! What a row states: its columns are tested in a fixed order.
+
+ghost use Rattle.std.specs.Prelude.{◌≡◌, ◌<◌, [], length, pos, slice_index_or, true, false, None, Some, IfErr, IfNone, IfOk, IfSome, OnOk, OnSome};
+ghost use Rattle.std.specs.List.{position};
+ghost use Rattle.std.specs.Str.{bytes_eq};
+ghost use Rattle.adjust_kernel.specs.Within.{IsWithin};
+ghost use Rattle.sheet_format.specs.Faults.{is_name};
+ghost use Rattle.direction_table.specs.Faults as faults;
+ghost use Rattle.direction_table.specs.Gons as spec;
+ghost use Rattle.direction_table.specs.Rows.{columns_view, has_name};
+
+use crate::columns::Columns;
+use crate::fault::RowKind;
+use crate::gon::{CIRCLE, Gons};
+use adjust_kernel::Name;
+
+/// The direction that a row states, and the place of its target.
+#[derive(Clone, Copy)]
+pub(crate) struct Entry {
+    pub(crate) place: usize,
+    /// In units of the ninth decimal of a gon.
+    pub(crate) direction: i64,
+}
+
+/// The name of a field.
+fn name_of(field: &[u8]) -> Option<Name>
+    ensures value { IfSome result (λ name. name ≡ field.now) }
+    ensures some { OnSome result (is_name field.now ≡ true) }
+    ensures none { IfNone result (is_name field.now ≡ false) }
+{
+    Name::new(field)
+}
+
+/// The direction of a field, or what is wrong with it.
+fn direction_of(field: &[u8]) -> Result<i64, RowKind>
+    ensures value { IfOk result (λ direction. direction ≡ spec.direction_value field.now) }
+    ensures small { IfOk result (λ direction. IsWithin (pos CIRCLE) direction) }
+    ensures faultless { OnOk result (faults.direction_fault field.now ≡ None) }
+    ensures err { IfErr result (λ kind. faults.direction_fault field.now ≡ Some kind) }
+{
+    let gons = Gons::of(field).ok_or(RowKind::Number)?;
+    gons.on_circle().ok_or(RowKind::Range)
+}
+
+/// The place of the first target of this name.
+fn first_named(targets: &[Name], name: &Name) -> Option<usize>
+    ensures { result ≡ position (λ target. bytes_eq target name.now) targets.now }
+{
+    targets.iter().position(|target| target.is_same(name))
+}
+
+/// The place of the target of this name.
+fn place_of(targets: &[Name], name: &Name) -> Option<usize>
+    ensures inside { IfSome result (λ place. place < length targets.now) }
+    ensures name { IfSome result (λ place. slice_index_or targets.now place [] ≡ name.now) }
+    ensures some { OnSome result (has_name targets.now name.now ≡ true) }
+    ensures none { IfNone result (has_name targets.now name.now ≡ false) }
+{
+    first_named(targets, name)
+}
+
+/// What the columns of a row state, or their first fault.
+pub(crate) fn entry_of(columns: &Columns<'_>, targets: &[Name]) -> Result<Entry, RowKind>
+    ensures faultless { OnOk result
+        (faults.entry_fault targets.now (columns_view columns.now) ≡ None) }
+    ensures inside { IfOk result (λ entry. entry.place < length targets.now) }
+    ensures name { IfOk result
+        (λ entry. slice_index_or targets.now entry.place [] ≡ (columns_view columns.now).name) }
+    ensures direction { IfOk result
+        (λ entry. entry.direction ≡ spec.direction_value (columns_view columns.now).direction) }
+    ensures small { IfOk result (λ entry. IsWithin (pos CIRCLE) entry.direction) }
+    ensures err { IfErr result
+        (λ kind. faults.entry_fault targets.now (columns_view columns.now) ≡ Some kind) }
+{
+    let name = name_of(columns.name).ok_or(RowKind::Name)?;
+    let direction = direction_of(columns.direction)?;
+    let place = place_of(targets, &name).ok_or(RowKind::Unknown)?;
+    Ok(Entry { place, direction })
+}

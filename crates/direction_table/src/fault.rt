@@ -1,0 +1,29 @@
+//! Why bytes are no table of directions.
+
+use adjust_kernel::LONGEST_NAME;
+use thiserror::Error;
+
+/// What is wrong with a row of a table, in the order in which it is looked for.
+#[derive(Clone, Copy, Debug, PartialEq, Eq, Error)]
+pub enum RowKind {
+    /// The row has not two columns: write the name and the direction, with a comma between them.
+    #[error("not two columns: write the name and the direction, with a comma between them")]
+    Fields,
+    /// Its name is not 1 to 16 bytes from the blank to the tilde: write the name of the field file.
+    #[error("the name is not 1 to {most} bytes from the blank to the tilde: \
+        write the field file's name", most = LONGEST_NAME)]
+    Name,
+    /// Its direction is no number of gon in the form of a table: write 1 to 3 digits, a point and at
+    /// most 9 decimals.
+    #[error("the direction is no number: write 1 to 3 digits, and a point with at most 9 decimals")]
+    Number,
+    /// Its direction is a full circle or more: write one below 400 gon.
+    #[error("the direction is a full circle or more: write one below 400 gon")]
+    Range,
+    /// The station has no target of this name: leave the row out, or write the target's name.
+    #[error("the station has no target of this name: leave the row out, or mend the name")]
+    Unknown,
+    /// A row before has this name: leave out one of the two.
+    #[error("a row before has this name: leave out one of the two")]
+    Twice,
+}
