@@ -3,3 +3,7 @@ pub mod Sizes
 pub mod TwoColumns
 pub mod NamedTargets
 pub mod RowsTaken
+pub mod RowsRead
+pub mod NextRows
+pub mod StatedDirections
+pub mod OneAnswer

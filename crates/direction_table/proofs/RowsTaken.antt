@@ -2,7 +2,7 @@
 use Rattle.std.proofs.Common.{◌≡◌, ◌≢◌, ◌∙◌, ℕ, ◌<◌, Bool, true, false, List, [], ◌∷◌, ◌++◌, map, length, get_or, Option, None, Some, refl, sym, ap, arith, ℤ, inl, inr, length-set, get_or-set_other, get_or-set_same, ◌==◌, Result, Ok, Err}
 use Rattle.std.specs.Prelude.{if◌then◌else◌, not, slice_set, ◌||◌}
 use Rattle.std.specs.Option.{is_some, option_or}
-use Rattle.std.specs.Result.{IfErr, IsErrAnd}
+use Rattle.std.specs.Result.{IfErr, IsErr, IsErrAnd, MatchResult}
 use Rattle.std.specs.Str.{bytes_eq}
 use Rattle.std.proofs.lemmas.Bool.{cases_Bool, cases_lt, eqb-false, eqb-true, false_from_ne_true}
 use Rattle.std.proofs.lemmas.List.{ext_get_or, get_or-map, length-map}
@@ -145,3 +145,7 @@ some-there (Some v) e = (v, refl)
 pub none-there : (o : Option ℤ) → is_some o ≡ false → o ≡ None
 none-there None e = refl
 none-there (Some v) e = cc e
+
+pub lifted-cases : {T E : Type 0} (r : Result T E) (P Q : E → Type 0) (R : T → Type 0) → IsErr r × IsErrAnd r P → ((k : E) → P k → Q k) → MatchResult r R Q
+lifted-cases (Ok x) P Q R h f = cc (h.0)
+lifted-cases (Err k) P Q R h f = f k h.1

@@ -1,3 +1,4 @@
 pub mod Gons
 pub mod Rows
 pub mod Faults
+pub mod Tables

@@ -1,10 +1,15 @@
 //! Why bytes are no table of directions.
 
+ghost use Rattle.std.specs.Prelude.{◌≡◌};
+ghost use Rattle.direction_table.specs.declared.fault.TableFault.TheVariants.{Memory};
+
+use crate::reading::LONGEST_TABLE;
 use adjust_kernel::LONGEST_NAME;
+use std::alloc::AllocError;
 use thiserror::Error;
 
 /// What is wrong with a row of a table, in the order in which it is looked for.
-#[derive(Clone, Copy, Debug, PartialEq, Eq, Error)]
+#[derive(Clone, Copy, Debug, PartialEq, Eq, Drop, Error)]
 pub enum RowKind {
     /// The row has not two columns: write the name and the direction, with a comma between them.
     #[error("not two columns: write the name and the direction, with a comma between them")]
@@ -26,4 +31,29 @@ pub enum RowKind {
     /// A row before has this name: leave out one of the two.
     #[error("a row before has this name: leave out one of the two")]
     Twice,
+}
+
+/// Why bytes are no table of directions.
+#[derive(Clone, Copy, Debug, PartialEq, Eq, Drop, Error)]
+pub enum TableFault {
+    /// There are more bytes than a table may have: see whether they are a table.
+    #[error("longer than {most} bytes: see whether it is a table", most = LONGEST_TABLE)]
+    TooLong,
+    /// The first row with a fault, from 1, and its fault: mend that row.
+    #[error("row {0}: {1}")]
+    Row(u32, RowKind),
+    /// The first target of the station, from 1, of which there is no row: add one.
+    #[error("target {0} has no row: add one")]
+    Missing(u32),
+    /// Memory ran out. This is no fault of the table: with more memory it may be read.
+    #[error("out of memory: read the table again with more")]
+    Memory,
+}
+
+impl From<AllocError> for TableFault {
+    ghost from_gives = { λ _ fault. fault ≡ Memory };
+
+    fn from(_: AllocError) -> TableFault {
+        TableFault::Memory
+    }
 }

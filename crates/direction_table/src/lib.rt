@@ -10,6 +10,9 @@ mod draft;
 mod entry;
 mod fault;
 mod gon;
+pub mod laws;
+mod reading;
 
-pub use fault::RowKind;
+pub use fault::{RowKind, TableFault};
 pub use gon::CIRCLE;
+pub use reading::{LONGEST_TABLE, read_table};

@@ -1,0 +1,52 @@
+-- A table of directions: a row of two columns for each target, its name and its direction, in any
+-- order.
+use Rattle.std.specs.Prelude.{◌≡◌, ◌⊎◌, ℕ, ◌≤◌, ◌<◌, ◌+◌, List, length, map, slice_index_or, ℤ, Option, Some, None}
+use Rattle.adjust_kernel.specs.Firsts.{IsFirstWhere}
+use Rattle.sheet_format.specs.Rows.{records_of}
+use Rattle.direction_table.specs.Faults.{HasNoFault, IsFirstFault}
+use Rattle.direction_table.specs.Rows.{direction_in}
+use Rattle.direction_table.specs.declared.fault.TableFault.{TableFault}
+use Rattle.direction_table.specs.declared.fault.TableFault.TheVariants.{TooLong, Row, Missing, Memory}
+use Rattle.direction_table.specs.declared.reading.TheConstants.{LONGEST_TABLE}
+
+-- what these rows state of each of the targets: a direction, or none
+abbrev pub stated_by : List (List (List ℕ)) → List (List ℕ) → List (Option ℤ)
+stated_by rows targets = map (direction_in rows) targets
+
+-- Bytes are a table of these targets and directions: they are not too many, no row has a fault, and
+-- of each target a row states its direction.
+pub record IsTableText (targets : List (List ℕ)) (bytes : List ℕ) (directions : List ℤ) :
+    Type 0 where
+  pub short : length bytes ≤ LONGEST_TABLE
+  pub faultless : HasNoFault targets (records_of bytes)
+  pub stated : stated_by (records_of bytes) targets ≡ map Some directions
+
+-- no direction is stated at this place
+abbrev pub IsNoneAt : List (Option ℤ) → ℕ → Type 0
+IsNoneAt stated place = slice_index_or stated place None ≡ None
+
+-- this is the first place, from 1, at which no direction is stated
+abbrev pub IsFirstMissing : List (Option ℤ) → ℕ → Type 0
+IsFirstMissing stated number =
+    (place : ℕ) × (number ≡ place + 1) × IsFirstWhere (IsNoneAt stated) (length stated) place
+
+-- The fault of a table's bytes: too many of them; else the first row with a fault, from 1; else the
+-- first target of which there is no row, from 1. That memory ran out is no fault of the bytes.
+abbrev pub IsTableFault : List (List ℕ) → List ℕ → TableFault → Type 0
+IsTableFault targets bytes TooLong = LONGEST_TABLE < length bytes
+IsTableFault targets bytes (Row number kind) =
+    (length bytes ≤ LONGEST_TABLE) × (place : ℕ) × (number ≡ place + 1)
+    × IsFirstFault targets (records_of bytes) place kind
+IsTableFault targets bytes (Missing number) =
+    (length bytes ≤ LONGEST_TABLE) × HasNoFault targets (records_of bytes)
+    × IsFirstMissing (stated_by (records_of bytes) targets) number
+IsTableFault targets bytes Memory = ⊥
+
+-- a refusal is the fault of the bytes, or memory ran out
+abbrev pub IsFaultOrMemory : List (List ℕ) → List ℕ → TableFault → Type 0
+IsFaultOrMemory targets bytes fault = IsTableFault targets bytes fault ⊎ (fault ≡ Memory)
+
+-- a refusal names the first place at which no direction is stated, or memory ran out
+abbrev pub IsMissingOrMemory : List (Option ℤ) → TableFault → Type 0
+IsMissingOrMemory stated fault =
+    ((number : ℕ) × (fault ≡ Missing number) × IsFirstMissing stated number) ⊎ (fault ≡ Memory)
