@@ -16,3 +16,6 @@ mod reading;
 pub use fault::{RowKind, TableFault};
 pub use gon::CIRCLE;
 pub use reading::{LONGEST_TABLE, read_table};
+
+#[cfg(test)]
+mod tests;

@@ -1,0 +1,137 @@
+//! What no clause says: that the definitions are those of the worked rows, that calls succeed, and
+//! what the bytes are.
+
+use crate::{RowKind, TableFault, read_table};
+use adjust_kernel::{Name, Obs, Station};
+use std::alloc::Global;
+use std::process::Abort;
+use std::test::Fail;
+
+/// A station of two targets, A and B.
+fn station(rt: &impl Abort, alloc: Global) -> Result<Station, Fail> {
+    let mut targets = Vec::new(alloc);
+    let mut sets = Vec::new(alloc);
+    let mut obs = Vec::new(alloc);
+    sets.push(1)?;
+    for (target, name) in [b"A".as_slice(), b"B".as_slice()].into_iter().enumerate() {
+        targets.push(Name::new(name).expect(rt, "a name"))?;
+        obs.push(Obs {
+            set: 0,
+            target: target as u32,
+            value: 0,
+        })?;
+    }
+    let name = Name::new(b"S1").expect(rt, "a name");
+    Ok(Station::new(name, targets, sets, obs).expect(rt, "a station"))
+}
+
+/// The answer to these bytes as text.
+fn answer_of(rt: &impl Abort, alloc: Global, bytes: &[u8]) -> Result<String, Fail> {
+    let station = station(rt, alloc)?;
+    match read_table(alloc, station.targets(), bytes) {
+        Ok(directions) => Ok(format!(in alloc; "{directions:?}")?),
+        Err(fault) => Ok(format!(in alloc; "{fault:?}")?),
+    }
+}
+
+/// Tables of A and B, and their answers.
+const TABLES: [(&str, &str); 12] = [
+    ("A,0\nB,50.00003\n", "[0, 50000030000]"),
+    ("B,50.00003\nA,0\n", "[0, 50000030000]"),
+    ("A,-0.00001\nB,399.99999\n", "[-10000, 399999990000]"),
+    (
+        "A,000.000000001\r\n\n\"B\",-399.999999999",
+        "[1, -399999999999]",
+    ),
+    ("A,-0\nB,7\n", "[0, 7000000000]"),
+    ("", "Missing(1)"),
+    ("B,1\n", "Missing(1)"),
+    ("A,1\n", "Missing(2)"),
+    ("A,1\nB,2\nA,1\n", "Row(3, Twice)"),
+    ("A,1\nC,2\n", "Row(2, Unknown)"),
+    ("A,1\nA,2\nC,400\n", "Row(2, Twice)"),
+    ("A,1\nB,2\n,\n", "Row(3, Name)"),
+];
+
+#[test]
+fn worked_tables_are_read(rt: HostRuntime) -> Result<(), Fail> {
+    for (text, expected) in TABLES {
+        let found = answer_of(&rt, rt.alloc(), text.as_bytes())?;
+        assert_eq!(rt; found.as_str(), expected, "of {text}");
+    }
+    Ok(())
+}
+
+/// First rows, and the fault of each.
+const ROWS: [(&str, &str); 18] = [
+    ("A", "Row(1, Fields)"),
+    ("A,1,2", "Row(1, Fields)"),
+    (",1", "Row(1, Name)"),
+    ("12345678901234567,x", "Row(1, Name)"),
+    ("A,", "Row(1, Number)"),
+    ("A,-", "Row(1, Number)"),
+    ("A,1e2", "Row(1, Number)"),
+    ("A,+5", "Row(1, Number)"),
+    ("A,--5", "Row(1, Number)"),
+    ("A, 5", "Row(1, Number)"),
+    ("A,5.", "Row(1, Number)"),
+    ("A,.5", "Row(1, Number)"),
+    ("A,0.0000000001", "Row(1, Number)"),
+    ("A,0001", "Row(1, Number)"),
+    ("A,400", "Row(1, Range)"),
+    ("A,401", "Row(1, Range)"),
+    ("C,-400.000000000", "Row(1, Range)"),
+    ("C,1", "Row(1, Unknown)"),
+];
+
+#[test]
+fn a_row_has_its_first_fault(rt: HostRuntime) -> Result<(), Fail> {
+    for (text, expected) in ROWS {
+        let found = answer_of(&rt, rt.alloc(), text.as_bytes())?;
+        assert_eq!(rt; found.as_str(), expected, "of {text}");
+    }
+    Ok(())
+}
+
+const FAULTS: &str = "\
+row 7: not two columns: write the name and the direction, with a comma between them
+row 7: the name is not 1 to 16 bytes from the blank to the tilde: write the field file's name
+row 7: the direction is no number: write 1 to 3 digits, and a point with at most 9 decimals
+row 7: the direction is a full circle or more: write one below 400 gon
+row 7: the station has no target of this name: leave the row out, or mend the name
+row 7: a row before has this name: leave out one of the two
+longer than 1048576 bytes: see whether it is a table
+target 7 has no row: add one
+out of memory: read the table again with more
+";
+
+#[test]
+fn a_fault_is_told_in_words(rt: HostRuntime) -> Result<(), Fail> {
+    let mut texts = String::new(rt.alloc());
+    for fault in [
+        TableFault::Row(7, RowKind::Fields),
+        TableFault::Row(7, RowKind::Name),
+        TableFault::Row(7, RowKind::Number),
+        TableFault::Row(7, RowKind::Range),
+        TableFault::Row(7, RowKind::Unknown),
+        TableFault::Row(7, RowKind::Twice),
+        TableFault::TooLong,
+        TableFault::Missing(7),
+        TableFault::Memory,
+    ] {
+        texts.push_str(format!(in rt.alloc(); "{fault}\n")?.as_str())?;
+    }
+    assert_eq!(rt; texts.as_str(), FAULTS);
+    Ok(())
+}
+
+#[test]
+fn a_table_of_too_many_bytes_is_refused(rt: HostRuntime) -> Result<(), Fail> {
+    let mut text = vec![in rt.alloc(); b'\n'; crate::LONGEST_TABLE]?;
+    let found = answer_of(&rt, rt.alloc(), &text)?;
+    assert_eq!(rt; found.as_str(), "Missing(1)");
+    text.push(b'\n')?;
+    let found = answer_of(&rt, rt.alloc(), &text)?;
+    assert_eq!(rt; found.as_str(), "TooLong");
+    Ok(())
+}
