@@ -25,9 +25,10 @@ DOCUMENT_FOLDER := share/doc/station_check
 # Where `make dist` puts what it makes.
 DIST ?= build/dist
 
-# The crates that the program is made of, lowest first, as crates.txt lists them: no tests, and no
-# libraries that no command uses yet.
-CRATES := $(filter-out %_tests sheet_nearness sheet_near direction_table,$(shell sed -n 's/^\([a-z_]*\):.*/\1/p' crates.txt))
+# The crates that the program is made of, lowest first, as crates.txt lists them: no tests, no
+# libraries that no command uses yet, and not that of the page.
+CRATES := $(filter-out %_tests sheet_nearness sheet_near sheet_apart stated_directions direction_table station_page, \
+  $(shell sed -n 's/^\([a-z_]*\)[ :].*/\1/p' crates.txt))
 
 # What each recipe that proves begins with.
 NEED_TOOLCHAIN = command -v $(RT) > /dev/null || { \

@@ -103,7 +103,7 @@ class Progress:
 
     def __init__(self, room):
         self.room, self.start = Path(room), time.monotonic()
-        names = re.findall(r"^(\w+):", (ROOT / "crates.txt").read_text(), re.MULTILINE)
+        names = re.findall(r"^(\w+)(?: staticlib)?:", (ROOT / "crates.txt").read_text(), re.MULTILINE)
         crates = [ROOT / "crates" / name for name in names]
         self.sources = {crate.name: sources(crate) for crate in crates}
         self.wrong = {crate.name: len([*crate.glob("must-fail/*.edit")]) for crate in crates}

@@ -14,8 +14,15 @@ EXAMPLES = "share/doc/station_check/examples"
 
 TIME = 120
 
-# The libraries that no command uses.
-NOT_OF_THE_PROGRAM = {"sheet_nearness", "sheet_near", "direction_table"}
+# The libraries that no command uses, and the page's.
+NOT_OF_THE_PROGRAM = {
+    "sheet_nearness",
+    "sheet_near",
+    "sheet_apart",
+    "stated_directions",
+    "direction_table",
+    "station_page",
+}
 
 
 def output_of(*command, **more):

@@ -47,7 +47,7 @@ mod word_line;
 mod words;
 
 pub use accepted::accepted_line;
-pub use check::{check_bytes, check_slices};
+pub use check::{check_bytes, check_slices, handed_in};
 pub use fault::Fault;
 pub use list::write_list;
 pub use means::write_means;

@@ -1,0 +1,65 @@
+-- What each call answers, of the very bytes that it was given. `room` is how many bytes there is room
+-- for, `answered` the status, and `shown` what was handed out.
+use Rattle.std.specs.Prelude.{◌≢◌, ℕ, Bool, List, [], Some, Result, Err, IfErr}
+use Rattle.gsi_file.specs.FileAnswers.{file_answers}
+use Rattle.adjust_kernel.specs.declared.accepted.Accepted.{Accepted}
+use Rattle.station_book.specs.Limits.{FaceLimits}
+use Rattle.station_check.specs.Came.{handed_in}
+use Rattle.station_check.specs.Causes.{IsOfCheck}
+use Rattle.station_check.specs.declared.fault.Fault.{Fault}
+use Rattle.station_check.specs.declared.fault.Fault.TheVariants.{Write}
+use Rattle.station_check.specs.Endings.{status_of}
+use Rattle.station_check.specs.Listing.{WritesList}
+use Rattle.station_check.specs.Means.{WritesMeans}
+use Rattle.station_check.specs.Promise.{KeepsPromise}
+use Rattle.station_check.specs.Words.{WritesWords}
+use Rattle.station_page.specs.HandedOut.{HandsOut, verdict_line, text_or_refusal, refusal_text}
+use Rattle.station_page.specs.Limits.{States, residual_limit}
+
+-- The status and the line are those of the verdict on these bytes, of which the whole promise is
+-- kept.
+pub record IsCheckOf (two_c two_i : ℕ) (is_stated : Bool) (residual : ℕ) (gsi sheet : List ℕ)
+    (room answered : ℕ) (shown : List ℕ) : Type 0 where
+  pub limits : FaceLimits
+  pub states : States two_c two_i limits
+  pub verdict : Result Accepted Fault
+  pub promise : KeepsPromise limits (residual_limit is_stated residual)
+      (file_answers (handed_in gsi)) (handed_in sheet) verdict
+  pub of_check : IfErr verdict IsOfCheck
+  pub hands_out : HandsOut (status_of verdict) (verdict_line verdict) room answered shown
+
+-- The status and the text are those of the list of these bytes; no write fails.
+pub record IsListOf (two_c two_i : ℕ) (gsi : List ℕ) (room answered : ℕ) (shown : List ℕ)
+    : Type 0 where
+  pub limits : FaceLimits
+  pub states : States two_c two_i limits
+  pub answer : Result (Unit {0}) Fault
+  pub text : List ℕ
+  pub writes : WritesList limits (file_answers (handed_in gsi)) answer (Some []) (Some text)
+  pub unfailed : answer ≢ Err Write
+  pub hands_out : HandsOut (status_of answer) (text_or_refusal text answer) room answered shown
+
+-- The status and the text are those of the sheet of means of the station of this name; no write
+-- fails.
+pub record IsMeansOf (two_c two_i : ℕ) (gsi name : List ℕ) (room answered : ℕ) (shown : List ℕ)
+    : Type 0 where
+  pub limits : FaceLimits
+  pub states : States two_c two_i limits
+  pub answer : Result (Unit {0}) Fault
+  pub text : List ℕ
+  pub writes : WritesMeans limits (file_answers (handed_in gsi)) name answer
+      (Some []) (Some text)
+  pub unfailed : answer ≢ Err Write
+  pub hands_out : HandsOut (status_of answer) (text_or_refusal text answer) room answered shown
+
+-- The status, the text and the line of a refusal are those of the words of these bytes; no write
+-- fails. At a fault of the file its line stands beside the words of the blocks before it.
+pub record IsWordsOf (gsi : List ℕ) (room refusal_room answered : ℕ) (shown refusal : List ℕ)
+    : Type 0 where
+  pub answer : Result ℕ Fault
+  pub text : List ℕ
+  pub writes : WritesWords answer (Some []) (Some text) (file_answers (handed_in gsi))
+  pub unfailed : answer ≢ Err Write
+  pub status : ℕ
+  pub hands_text_out : HandsOut (status_of answer) text room status shown
+  pub hands_line_out : HandsOut status (refusal_text answer) refusal_room answered refusal

@@ -1,0 +1,27 @@
+-- What a call hands out: its status, and a text at the front of the room that it was given.
+use Rattle.std.specs.Prelude.{◌≡◌, ◌<◌, ◌≤◌, ℕ, List, [], length, Result, Ok, Err}
+use Rattle.adjust_kernel.specs.declared.accepted.Accepted.{Accepted}
+use Rattle.station_check.specs.declared.fault.Fault.{Fault}
+use Rattle.station_check.specs.VerdictLines.{accepted_line, refusal_line}
+use Rattle.station_page.specs.declared.hand_out.TheConstants.{TOO_LITTLE_ROOM}
+
+-- The text is handed out whole, with this status, exactly where there is room for it; else nothing
+-- is, and the status says so.
+pub record HandsOut (status : ℕ) (text : List ℕ) (room answered : ℕ) (shown : List ℕ) : Type 0 where
+  pub fits : length text ≤ room → (answered ≡ status) × (shown ≡ text)
+  pub too_little : room < length text → (answered ≡ TOO_LITTLE_ROOM) × (shown ≡ [])
+
+-- the line of a verdict
+abbrev pub verdict_line : Result Accepted Fault → List ℕ
+verdict_line (Ok accepted) = accepted_line accepted
+verdict_line (Err fault) = refusal_line fault
+
+-- the text of an answer; of a refusal its line, in the place of any text
+abbrev pub text_or_refusal : {A : Type 0} → List ℕ → Result A Fault → List ℕ
+text_or_refusal text (Ok x) = text
+text_or_refusal text (Err fault) = refusal_line fault
+
+-- the line of a refusal, where the answer is one
+abbrev pub refusal_text : {A : Type 0} → Result A Fault → List ℕ
+refusal_text (Ok x) = []
+refusal_text (Err fault) = refusal_line fault

@@ -1,0 +1,4 @@
+pub mod Limits
+pub mod HandedOut
+pub mod Answers
+pub mod Texts

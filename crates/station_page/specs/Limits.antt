@@ -1,0 +1,24 @@
+-- The limits that a page states by numbers (profile).
+use Rattle.std.specs.Prelude.{◌≡◌, ◌≤◌, ℕ, Bool, true, false, Option, Some, None, ⊤}
+use Rattle.adjust_kernel.specs.declared.limits.TheConstants.{LARGEST_RESIDUAL_LIMIT}
+use Rattle.station_book.specs.Limits.{FaceLimits}
+use Rattle.station_book.specs.declared.limits.TheConstants.{LARGEST_LIMIT}
+
+-- Neither limit of face differences is above the largest.
+abbrev pub AreFaceLimits : ℕ → ℕ → Type 0
+AreFaceLimits two_c two_i = (two_c ≤ LARGEST_LIMIT) × (two_i ≤ LARGEST_LIMIT)
+
+-- The residual limit, where it is said that one is stated, is not above the largest.
+abbrev pub IsResidualLimit : Bool → ℕ → Type 0
+IsResidualLimit true residual = residual ≤ LARGEST_RESIDUAL_LIMIT
+IsResidualLimit false residual = ⊤
+
+-- These are the limits of face differences that the numbers state.
+pub record States (two_c two_i : ℕ) (limits : FaceLimits) : Type 0 where
+  pub states_two_c : limits.two_c ≡ two_c
+  pub states_two_i : limits.two_i ≡ two_i
+
+-- the residual limit that the number states, where it is said that one is stated
+abbrev pub residual_limit : Bool → ℕ → Option ℕ
+residual_limit true residual = Some residual
+residual_limit false residual = None

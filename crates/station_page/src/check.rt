@@ -1,0 +1,83 @@
+//! The check of a sheet, for a page.
+
+ghost use Rattle.std.specs.Prelude.{◌≡◌, ◌≤◌, length, take, IfOk, IfErr};
+ghost use Rattle.station_check.specs.Endings.{status_of};
+ghost use Rattle.station_page.specs.Answers.{IsCheckOf};
+ghost use Rattle.station_page.specs.HandedOut.{HandsOut, verdict_line};
+ghost use Rattle.station_page.specs.Limits.{AreFaceLimits, IsResidualLimit, residual_limit};
+ghost use Rattle.station_page.specs.declared.hand_out.TheConstants.{BEYOND_LIMITS};
+
+use crate::hand_out::{BEYOND_LIMITS, hand_out};
+use adjust_kernel::{Accepted, ResidualLimit};
+use station_book::Limits;
+use station_check::{DONE, Fault, REFUSED, accepted_line, check_slices, refusal_line};
+use std::alloc::Global;
+
+/// Checks a sheet against a field file, both whole, and hands out the line of the verdict.
+///
+/// The limits of 2c and 2i are in units of 0.00001 gon, at most 1,000,000; `residual` is the
+/// residual limit in half units (0.005 mgon each), at most 2,000, where `is_stated` says that one is
+/// stated, and else no matter what.
+///
+/// Answers 0 where the sheet is accepted, 1 where it is refused, 2 for a limit above the largest, and
+/// 3 where `out` has too little room; 192 bytes are always enough.
+#[unsafe(no_mangle)]
+pub extern "C" fn station_page_check(
+    alloc: Global,
+    gsi: &[u8],
+    sheet: &[u8],
+    two_c: u32,
+    two_i: u32,
+    is_stated: bool,
+    residual: u32,
+    out: &mut [u8],
+    written: &mut usize,
+) -> u8
+    ensures check { AreFaceLimits two_c two_i → IsResidualLimit is_stated residual
+        → IsCheckOf two_c two_i is_stated residual gsi.now sheet.now (length out.old) result
+        (take written.new out.new) }
+    ensures beyond { (AreFaceLimits two_c two_i → IsResidualLimit is_stated residual → ⊥)
+        → (result ≡ BEYOND_LIMITS) × (written.new ≡ 0) }
+    ensures fits { written.new ≤ length out.old }
+{
+    *written = 0;
+    let Some(limits) = Limits::new(two_c, two_i) else {
+        return BEYOND_LIMITS;
+    };
+    let Ok(residual) = residual_limit(is_stated, residual) else {
+        return BEYOND_LIMITS;
+    };
+    let verdict = check_slices(alloc, gsi, sheet, limits, residual);
+    hand_out_verdict(&verdict, out, written)
+}
+
+/// A residual limit is above the largest.
+#[derive(Clone, Copy, Drop)]
+struct BeyondLimits;
+
+/// The residual limit, where it is said that one is stated.
+fn residual_limit(is_stated: bool, residual: u32) -> Result<Option<ResidualLimit>, BeyondLimits>
+    ensures ok { IfOk result (λ limit. limit ≡ residual_limit is_stated residual) }
+    ensures valid { IfOk result (λ _. IsResidualLimit is_stated residual) }
+    ensures err { IfErr result (λ _. IsResidualLimit is_stated residual → ⊥) }
+{
+    if !is_stated {
+        return Ok(None);
+    }
+    match ResidualLimit::new(residual) {
+        Some(limit) => Ok(Some(limit)),
+        None => Err(BeyondLimits),
+    }
+}
+
+/// Hands out the line of a verdict.
+fn hand_out_verdict(verdict: &Result<Accepted, Fault>, out: &mut [u8], written: &mut usize) -> u8
+    ensures hands_out { HandsOut (status_of verdict.now) (verdict_line verdict.now)
+        (length out.old) result (take written.new out.new) }
+    ensures fits { written.new ≤ length out.old }
+{
+    match verdict {
+        Ok(accepted) => hand_out(DONE, accepted_line(*accepted).as_slice(), out, written),
+        Err(fault) => hand_out(REFUSED, refusal_line(*fault).as_slice(), out, written),
+    }
+}

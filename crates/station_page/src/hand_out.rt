@@ -1,0 +1,49 @@
+//! How a call hands out its text.
+
+ghost use Rattle.std.specs.Prelude.{◌≡◌, ◌≤◌, length, take};
+ghost use Rattle.station_check.specs.Endings.{status_of};
+ghost use Rattle.station_page.specs.HandedOut.{HandsOut, text_or_refusal};
+
+use station_check::{DONE, Fault, REFUSED, refusal_line};
+
+/// The status where a limit is above the largest: nothing is answered.
+pub(crate) const BEYOND_LIMITS: u8 = 2;
+
+/// The status where the text has more bytes than there is room for: it is to be asked for again,
+/// with more.
+pub(crate) const TOO_LITTLE_ROOM: u8 = 3;
+
+/// Hands out a text at the front of `out`, with its length, and answers this status, where there is
+/// room for it.
+pub(crate) fn hand_out(status: u8, text: &[u8], out: &mut [u8], written: &mut usize) -> u8
+    ensures hands_out { HandsOut status text.now (length out.old) result
+        (take written.new out.new) }
+    ensures fits { written.new ≤ length out.old }
+    ensures kept { length out.new ≡ length out.old }
+{
+    *written = 0;
+    if out.len() < text.len() {
+        return TOO_LITTLE_ROOM;
+    }
+    out[..text.len()].copy_from_slice(text);
+    *written = text.len();
+    status
+}
+
+/// Hands out the text of an answer, or the line of the refusal in its place.
+pub(crate) fn hand_out_answer(
+    answer: &Result<(), Fault>,
+    text: &[u8],
+    out: &mut [u8],
+    written: &mut usize,
+) -> u8
+    ensures hands_out { HandsOut (status_of answer.now) (text_or_refusal text.now answer.now)
+        (length out.old) result (take written.new out.new) }
+    ensures fits { written.new ≤ length out.old }
+    ensures kept { length out.new ≡ length out.old }
+{
+    match answer {
+        Ok(()) => hand_out(DONE, text, out, written),
+        Err(fault) => hand_out(REFUSED, refusal_line(*fault).as_slice(), out, written),
+    }
+}

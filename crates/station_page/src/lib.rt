@@ -1,0 +1,23 @@
+//! The calls of the library for a page in a browser: bytes in, bytes out, and no files.
+//!
+//! | Export | Does |
+//! |---|---|
+//! | `station_page_check` | checks a sheet against a field file, and hands out the line of the verdict |
+//! | `station_page_list` | hands out the list of a field file's stations |
+//! | `station_page_means` | hands out the sheet of means of a station |
+//! | `station_page_words` | hands out the words of a field file |
+//!
+//! Each is given whole files as slices, and numbers in the place of options. It hands out its text at
+//! the front of a slice, and how long that is. Its answer is the status of the program's command, 0
+//! or 1; where it could answer nothing it is one of its own: 2 for a limit above the largest, 3 for a
+//! slice with too little room.
+//!
+//! What a page does is this crate and what makes a module of it, which no contract speaks of.
+#![tactic(auto)]
+
+mod check;
+mod hand_out;
+mod list;
+mod means;
+mod text;
+mod words;

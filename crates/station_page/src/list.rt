@@ -1,0 +1,58 @@
+//! The list of a field file's stations, for a page.
+
+ghost use Rattle.std.specs.Prelude.{◌≡◌, ◌≢◌, ◌≤◌, [], length, take, Some, Err};
+ghost use Rattle.gsi_file.specs.FileAnswers.{file_answers};
+ghost use Rattle.station_check.specs.Came.{handed_in};
+ghost use Rattle.station_check.specs.Listing.{WritesList};
+ghost use Rattle.station_check.specs.declared.fault.Fault.TheVariants.{Write};
+ghost use Rattle.station_page.specs.Answers.{IsListOf};
+ghost use Rattle.station_page.specs.Limits.{AreFaceLimits};
+ghost use Rattle.station_page.specs.Texts.{text_of};
+ghost use Rattle.station_page.specs.declared.hand_out.TheConstants.{BEYOND_LIMITS};
+
+use crate::hand_out::{BEYOND_LIMITS, hand_out_answer};
+use crate::text::Text;
+use station_book::Limits;
+use station_check::{Fault, handed_in, write_list};
+use std::alloc::Global;
+
+/// Hands out the list of the stations of a whole field file, or the line of the refusal.
+///
+/// The limits of 2c and 2i are in units of 0.00001 gon, at most 1,000,000. Answers 0 for the list, 1
+/// for a refusal, 2 for a limit above the largest, and 3 where `out` has too little room.
+#[unsafe(no_mangle)]
+pub extern "C" fn station_page_list(
+    alloc: Global,
+    gsi: &[u8],
+    two_c: u32,
+    two_i: u32,
+    out: &mut [u8],
+    written: &mut usize,
+) -> u8
+    ensures list { AreFaceLimits two_c two_i → IsListOf two_c two_i gsi.now (length out.old) result
+        (take written.new out.new) }
+    ensures beyond { (AreFaceLimits two_c two_i → ⊥)
+        → (result ≡ BEYOND_LIMITS) × (written.new ≡ 0) }
+    ensures fits { written.new ≤ length out.old }
+{
+    *written = 0;
+    let Some(limits) = Limits::new(two_c, two_i) else {
+        return BEYOND_LIMITS;
+    };
+    let (answer, text) = list_of(alloc, gsi, limits);
+    hand_out_answer(&answer, text.bytes(), out, written)
+}
+
+/// The list of a field file's stations.
+fn list_of(alloc: Global, gsi: &[u8], limits: Limits) -> (Result<(), Fault>, Text)
+    ensures writes { WritesList limits (file_answers (handed_in gsi.now)) result.0
+        (Some []) (Some (text_of result.1)) }
+    ensures unfailed { result.0 ≢ Err Write }
+{
+    let mut text = Text::new(alloc);
+    match write_list(alloc, handed_in(gsi), limits, &mut text) {
+        // A text in memory can't be written where there is no memory for it.
+        Err(Fault::Write) => (Err(Fault::Memory), text),
+        answer => (answer, text),
+    }
+}
