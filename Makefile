@@ -6,6 +6,7 @@ PREFIX ?= /usr/local
 PYTHON ?= python3
 PROGRAM := build/station_check
 PROGRAM_CRATE := station_program
+PAGE := build/station_check.html
 EXAMPLE := examples/station_s1.gsi
 SHEET := examples/station_s1.csv
 
@@ -35,7 +36,7 @@ NEED_TOOLCHAIN = command -v $(RT) > /dev/null || { \
   echo "make: the Rattle toolchain is missing: no command '$(RT)' is found; put it on PATH, or name it as RT=/path/to/rt" >&2; \
   exit 1; }
 
-.PHONY: run test sweep check bench install uninstall dist clean
+.PHONY: run page test sweep check bench install uninstall dist clean
 
 # Builds the proved program and runs it on an example.
 run: $(PROGRAM)
@@ -47,6 +48,13 @@ run: $(PROGRAM)
 	@$(PROGRAM) means $(EXAMPLE) S1
 	@echo '$$ station_check words $(EXAMPLE)'
 	@$(PROGRAM) words $(EXAMPLE)
+
+# Makes the page that checks in a browser, one file, of the proved calls.
+page: $(PAGE)
+
+$(PAGE): $(SOURCES) $(wildcard page/*.py) page/heap.c page/station_check.html
+	@$(NEED_TOOLCHAIN)
+	@RT='$(RT)' $(PYTHON) page/build.py $@
 
 # The gate: every proof from nothing, the wrong bodies, the tests, the stored run; then the tests of the command line.
 test:

@@ -16,6 +16,7 @@ LINKED = [
     *sorted(ROOT.glob("crates/*/README.md")),
     ROOT / "conformance" / "README.md",
     ROOT / "examples" / "README.md",
+    ROOT / "page" / "README.md",
 ]
 
 LINK = re.compile(r"\]\(([^)#]*)(?:#([^)]*))?\)")

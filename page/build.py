@@ -1,0 +1,174 @@
+"""Makes the page: `python3 page/build.py OUT.html`.
+
+rattle proves the crate station_page and compiles it for x86-64. On the way the module that it hands
+to clang is kept; it is retargeted to wasm64, compiled by the kit's clang with the
+marks that rattle gives for wasm64, and linked with the heap by the kit's linker. README.md says what
+is trusted of that, and why it isn't done by `rt lib` alone.
+"""
+
+import base64
+import hashlib
+import os
+import re
+import shutil
+import subprocess
+import sys
+from pathlib import Path
+
+import retarget
+
+HERE = Path(__file__).resolve().parent
+ROOT = HERE.parent
+CRATE = "station_page"
+# The library that stands on all others of the crate's.
+LIBRARY = "station_check"
+RT = os.environ.get("RT", "rt")
+
+# Where what is made on the way stays: the tests link it again with another heap.
+ROOM = ROOT / "build" / "page"
+
+# How rattle has clang compile a module for wasm64.
+TARGET = [f"--target={retarget.TRIPLE}", "-mcpu=lime1"]
+CAREFUL = (
+    "-mllvm -expand-div-rem-bits=64 -mllvm -expand-fp-convert-bits=64 -ffunction-sections "
+    "-fdata-sections -mllvm -trap-unreachable -mllvm -disable-machine-licm -mllvm "
+    "-disable-postra-machine-licm -mllvm -sink-common-insts=false --no-default-config "
+    "-no-canonical-prefixes -fintegrated-cc1 -fno-crash-diagnostics -Werror"
+).split()
+FREE_STANDING = ["-O2", "-ffreestanding", "-nostdinc", "-fno-builtin"]
+
+# A clang that keeps a copy of the module that it compiles.
+KEEPING_CLANG = """\
+#!/bin/sh
+for word; do case "$word" in *.bc) cp "$word" '{kept}' ;; esac; done
+exec '{clang}' "$@"
+"""
+
+
+def run(*command, **how):
+    """Runs a command; where it fails, shows what it said, and stops."""
+    words = [str(word) for word in command]
+    ran = subprocess.run(words, stdout=subprocess.PIPE, stderr=subprocess.STDOUT, text=True, **how)
+    if ran.returncode:
+        sys.exit(f"{ran.stdout[-3000:]}\npage: this failed: {words[0]} .. {words[-1]}")
+    return ran.stdout
+
+
+def libraries():
+    """The libraries that each crate of the repository names."""
+    lines = (ROOT / "crates.txt").read_text().splitlines()
+    rows = [re.match(r"(\w+)[^:]*:(.*)", line) for line in lines if not line.startswith("#")]
+    return {row[1]: row[2].split() for row in rows if row}
+
+
+def below(crate, named):
+    """The crates of the repository that a crate stands on, however far."""
+    found = {name for name in named[crate] if name in named}
+    return found.union(*(below(name, named) for name in found))
+
+
+def words_of_build(kit):
+    """What rattle is told of the crate, as `rt lib` tells it."""
+    named = libraries()
+    built = {name: ROOT / "crates" / name / "out" / "rlib" for name in sorted(below(CRATE, named))}
+    yield from ["--crate-name", CRATE, "src/lib.rt", "--extern", f"std={kit}/rlibs/std.rlib"]
+    for name in named[CRATE]:
+        folder = built.get(name, kit / "rlibs")
+        yield from ["--extern", f"{name}={folder}/{name}.rlib"]
+    for folder in [kit / "rlibs", *built.values()]:
+        yield from ["-L", f"dependency={folder}"]
+    yield from ["--antt-project", f"{kit}/rattle/logic/antt-project.json"]
+    yield from ["--logic-built", f"{kit}/logic_built", "--links", f"{CRATE}=", "--jobs", "1"]
+    yield from ["--crate-type", "staticlib", "--incremental", "out/incremental"]
+
+
+def keeping_toolchain(kit, room):
+    """A copy of the kit's toolchain, by links, whose clang keeps the module; and where it is kept."""
+    kept, tools = room / "module.bc", room / "toolchain"
+    (tools / "bin").mkdir(parents=True)
+    (tools / "lib").symlink_to(kit / "toolchain" / "lib")
+    for tool in (kit / "toolchain" / "bin").iterdir():
+        if tool.name != "clang":
+            (tools / "bin" / tool.name).symlink_to(tool)
+    clang = tools / "bin" / "clang"
+    clang.write_text(KEEPING_CLANG.format(kept=kept, clang=kit / "toolchain" / "bin" / "clang"))
+    clang.chmod(0o755)
+    return tools, kept
+
+
+def proved_module(kit, room):
+    """The module that rattle makes of the proved crate for x86-64."""
+    crate = ROOT / "crates" / CRATE
+    run(RT, "lib", cwd=ROOT / "crates" / LIBRARY, stdin=subprocess.DEVNULL)
+    tools, kept = keeping_toolchain(kit, room)
+    words = [*words_of_build(kit), "--toolchain", tools, "-o", room / "lib.a"]
+    run(kit / "bin" / "rattle", "build", *words, cwd=crate)
+    return kept
+
+
+def compiled(kit, module, room):
+    """Retargets a module and compiles it."""
+    clang = kit / "toolchain" / "bin" / "clang"
+    old, new, made = room / "old.ll", room / "new.ll", room / "page.o"
+    run(clang, "-x", "ir", module, "-S", "-emit-llvm", "-Xclang", "-disable-llvm-passes", "-o", old)
+    new.write_text(retarget.retargeted(old.read_text()))
+    run(clang, *TARGET, *CAREFUL, "-O3", "-c", "-x", "ir", new, "-o", made)
+    return made
+
+
+def linked(kit, made, to, room, *of_heap):
+    """Links a compiled module with the heap, which is compiled with these options."""
+    tools, heap, archive = kit / "toolchain" / "bin", room / "heap.o", room / "libpage.a"
+    run(tools / "clang", *TARGET, *FREE_STANDING, *of_heap, "-c", HERE / "heap.c", "-o", heap)
+    archive.unlink(missing_ok=True)
+    run(tools / "llvm-ar", "--format=gnu", "rcs", archive, made, heap)
+    link = [kit / "bin" / "rattle-link", "--target", retarget.TRIPLE]
+    run(*link, "--toolchain", kit / "toolchain", "-o", to, archive)
+
+
+def git(*words):
+    """What git says of the repository; nothing where it isn't one."""
+    try:
+        return subprocess.run(["git", *words], cwd=ROOT, capture_output=True, text=True).stdout.strip()
+    except FileNotFoundError:
+        return ""
+
+
+def version():
+    """The commit that the page is made of."""
+    changed = ", with changes" if git("status", "--porcelain") else ""
+    return (git("rev-parse", "--short=12", "HEAD") or "not known") + changed
+
+
+def page(module):
+    """The text of the page around a module."""
+    text = (HERE / "station_check.html").read_text()
+    words = {
+        "@MODULE@": base64.b64encode(module).decode(),
+        "@SHA256@": hashlib.sha256(module).hexdigest(),
+        "@COMMIT@": version(),
+    }
+    for word, value in words.items():
+        text = text.replace(word, value)
+    return text
+
+
+def kit_of(rt):
+    """The folder of the toolchain."""
+    return Path(run(rt, "doc").strip()).parent
+
+
+def main():
+    if len(sys.argv) != 2:
+        sys.exit("usage: build.py OUT.html")
+    out, kit = Path(sys.argv[1]), kit_of(RT)
+    shutil.rmtree(ROOM, ignore_errors=True)
+    ROOM.mkdir(parents=True)
+    wasm = ROOM / "page.wasm"
+    linked(kit, compiled(kit, proved_module(kit, ROOM), ROOM), wasm, ROOM)
+    out.write_text(page(wasm.read_bytes()))
+    print(f"{out}: {out.stat().st_size} bytes")
+
+
+if __name__ == "__main__":
+    main()
