@@ -1,4 +1,5 @@
-"""Runs the tests of tests/cli over the built program, as many side by side as there are processors.
+"""Runs the tests of tests/cli over the built program, and those of tests/page, as many side by side as
+there are processors.
 
 `python3 tests/command_line.py [WORD..]` runs those whose names have one of the words. With SWEEP in
 the environment the sweeps are run whole. Each test is reported when it has ended; what failed and
@@ -14,10 +15,11 @@ from concurrent.futures import ProcessPoolExecutor, as_completed
 from pathlib import Path
 from typing import NamedTuple
 
-FOLDER = Path(__file__).resolve().parent / "cli"
+FOLDERS = [str(Path(__file__).resolve().parent / name) for name in ("cli", "page")]
 
 # Words of the tests that take longest: they begin first.
 LONGEST = [
+    "test_page_calls",
     "test_want_of_memory_is_a_refusal",
     "test_generated",
     "test_the_model_answers",
@@ -52,7 +54,8 @@ class Counts(NamedTuple):
 
 def load():
     """All tests, one by one."""
-    suites = [unittest.defaultTestLoader.discover(str(FOLDER))]
+    sys.path[:0] = FOLDERS
+    suites = [unittest.TestLoader().discover(folder) for folder in FOLDERS]
     while suites:
         suite = suites.pop()
         if isinstance(suite, unittest.TestSuite):
@@ -64,8 +67,8 @@ def load():
 def outcome_of(name):
     """Runs the test of a name."""
     result, start = unittest.TestResult(), time.monotonic()
-    if str(FOLDER) not in sys.path:
-        sys.path.insert(0, str(FOLDER))
+    if FOLDERS[0] not in sys.path:
+        sys.path[:0] = FOLDERS
     unittest.defaultTestLoader.loadTestsFromName(name).run(result)
     failures = [said for _, said in result.failures + result.errors]
     failures += ["it passes, and is marked as failing"] * len(result.unexpectedSuccesses)
