@@ -1,7 +1,8 @@
 //! The check of a sheet, for a page.
 
-ghost use Rattle.std.specs.Prelude.{◌≡◌, ◌≤◌, length, take, IfOk, IfErr};
+ghost use Rattle.std.specs.Prelude.{◌≡◌, ◌<◌, ◌≤◌, length, take, IfOk, IfErr};
 ghost use Rattle.station_check.specs.Endings.{status_of};
+ghost use Rattle.station_check.specs.declared.verdict_line.TheConstants.{LONGEST_VERDICT_LINE};
 ghost use Rattle.station_page.specs.Answers.{IsCheckOf};
 ghost use Rattle.station_page.specs.HandedOut.{HandsOut, verdict_line};
 ghost use Rattle.station_page.specs.Limits.{AreFaceLimits, IsResidualLimit, residual_limit};
@@ -38,6 +39,8 @@ pub extern "C" fn station_page_check(
         (take written.new out.new) }
     ensures beyond { (AreFaceLimits two_c two_i → IsResidualLimit is_stated residual → ⊥)
         → (result ≡ BEYOND_LIMITS) × (written.new ≡ 0) }
+    ensures answers { AreFaceLimits two_c two_i → IsResidualLimit is_stated residual
+        → LONGEST_VERDICT_LINE ≤ length out.old → result < 2 }
     ensures fits { written.new ≤ length out.old }
 {
     *written = 0;
@@ -74,6 +77,7 @@ fn residual_limit(is_stated: bool, residual: u32) -> Result<Option<ResidualLimit
 fn hand_out_verdict(verdict: &Result<Accepted, Fault>, out: &mut [u8], written: &mut usize) -> u8
     ensures hands_out { HandsOut (status_of verdict.now) (verdict_line verdict.now)
         (length out.old) result (take written.new out.new) }
+    ensures answers { LONGEST_VERDICT_LINE ≤ length out.old → result < 2 }
     ensures fits { written.new ≤ length out.old }
 {
     match verdict {
