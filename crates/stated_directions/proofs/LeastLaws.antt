@@ -1,0 +1,51 @@
+-- Every least-squares choice of a station is near a sheet of it, with what the sheet leaves open.
+use Rattle.std.proofs.Common.{◌≡◌, ℕ, ◌≤◌, List, [], ◌∷◌, map, length, ℤ, pos, arith, ap, refl, sym, ◌∙◌, subst}
+use Rattle.std.proofs.lemmas.List.{length-map}
+use Rattle.adjust_kernel.specs.Least.{IsNoLargerSum}
+use Rattle.adjust_kernel.specs.Matching.{Matches, key_of_row, key_of_obs}
+use Rattle.adjust_kernel.specs.Pairs.{choice_stated_by, reading_of, readings_of}
+use Rattle.adjust_kernel.specs.Readings.{Reading}
+use Rattle.adjust_kernel.specs.Residuals.{Choice}
+use Rattle.adjust_kernel.specs.Sheets.{SheetValue}
+use Rattle.adjust_kernel.specs.Stations.{StationValue}
+use Rattle.adjust_kernel.specs.Turns.{with_turns}
+use Rattle.adjust_kernel.specs.Verdict.{readings}
+use Rattle.adjust_kernel.specs.declared.obs.Obs.{Obs}
+use Rattle.adjust_kernel.specs.declared.row.Row.{Row}
+use Rattle.sheet_nearness.specs.Nearness.{IsNear, IsNearAllNoLarger}
+use Rattle.stated_directions.specs.LeastOf.{IsLeastOf, observed_with}
+
+-- the observations with no full turns
+abbrev plain : List Obs → List Reading
+plain obs = map (λ o. reading_of o (pos 0)) obs
+
+-- other turns take the place of those of the rows
+other_turns : (obs : List Obs) (rows : List Row) (turns : List ℤ) → length rows ≡ length obs → with_turns (readings_of obs rows) turns ≡ with_turns (plain obs) turns
+other_turns [] rows turns h = refl
+other_turns (o ∷ obs) [] turns h = absurd (omega (arith, h))
+other_turns (o ∷ obs) (r ∷ rows) [] h = refl
+other_turns (o ∷ obs) (r ∷ rows) (k ∷ turns) h = ap (λ rs. reading_of o k ∷ rs) (other_turns obs rows turns (omega (arith, h)))
+
+-- the turns of the rows are such turns
+own_turns : (obs : List Obs) (rows : List Row) → length rows ≡ length obs → readings_of obs rows ≡ with_turns (plain obs) (map (λ r. r.turn) rows)
+own_turns [] rows h = refl
+own_turns (o ∷ obs) [] h = absurd (omega (arith, h))
+own_turns (o ∷ obs) (r ∷ rows) h = ap (λ rs. reading_of o r.turn ∷ rs) (own_turns obs rows (omega (arith, h)))
+
+as_many : (obs : List Obs) (rows : List Row) → length rows ≡ length obs → length (readings_of obs rows) ≡ length obs
+as_many [] rows h = refl
+as_many (o ∷ obs) [] h = absurd (omega (arith, h))
+as_many (o ∷ obs) (r ∷ rows) h = omega (arith, as_many obs rows (omega (arith, h)))
+
+pub least_is_near : (station : StationValue) (sheet : SheetValue) (near : ℕ) (c : Choice) (turns : List ℤ)
+    → Matches station sheet → 1 ≤ sheet.denominator → IsNearAllNoLarger station sheet near → IsLeastOf station c turns
+    → IsNear (length station.sets) (length station.targets) (choice_stated_by sheet) (readings station sheet) near c turns
+least_is_near station sheet near c turns matches positive all l =
+    let rows : length sheet.rows ≡ length station.obs = sym (length-map sheet.rows key_of_row) ∙ ap length matches.rows ∙ length-map station.obs (key_of_obs station.sets station.targets) in
+    let count : length (readings station sheet) ≡ length station.obs = as_many station.obs sheet.rows rows in
+    let no_larger : IsNoLargerSum c (observed_with station turns) (choice_stated_by sheet) (observed_with station (map (λ r. r.turn) sheet.rows)) =
+    l.least (choice_stated_by sheet) (map (λ r. r.turn) sheet.rows) (length-map sheet.rows (λ (r : Row). r.turn) ∙ rows) positive in
+    let here : IsNoLargerSum c (with_turns (readings station sheet) turns) (choice_stated_by sheet) (readings station sheet) =
+    subst (λ rs. IsNoLargerSum c rs (choice_stated_by sheet) (readings station sheet)) (sym (other_turns station.obs sheet.rows turns rows))
+    (subst (λ rs. IsNoLargerSum c (observed_with station turns) (choice_stated_by sheet) rs) (sym (own_turns station.obs sheet.rows rows)) no_larger) in
+    all c turns (l.each ∙ sym count) l.positive here

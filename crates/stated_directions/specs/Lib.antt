@@ -1,0 +1,2 @@
+pub mod LeastOf
+pub mod Faults

@@ -1,0 +1,41 @@
+//! Why a station's least-squares directions are not told.
+ghost use Rattle.std.specs.Prelude.{◌≡◌};
+ghost use Rattle.stated_directions.specs.Faults.{of_kernel, of_near};
+
+use adjust_kernel::KernelFault;
+use sheet_near::NearFault;
+use thiserror::Error;
+
+/// Why a station's least-squares directions are not told.
+#[derive(Clone, Copy, Debug, PartialEq, Eq, Drop, Error)]
+pub enum AdjustFault {
+    /// `NotConnected`: nothing holds all sets and targets together; or `Residual`: an observation
+    /// lies further from the near sheet than the limit. No other fault of the kernel comes.
+    #[error("{0}")]
+    Kernel(KernelFault),
+    /// The near sheet leaves half of 0.000001 gon open, or more.
+    #[error("the near sheet leaves half of 0.000001 gon open, or more")]
+    Unclear,
+    /// Memory ran out.
+    #[error("out of memory")]
+    Memory,
+}
+
+impl From<KernelFault> for AdjustFault {
+    ghost from_gives = { λ fault given. given ≡ of_kernel fault };
+
+    fn from(fault: KernelFault) -> AdjustFault {
+        AdjustFault::Kernel(fault)
+    }
+}
+
+impl From<NearFault> for AdjustFault {
+    ghost from_gives = { λ fault given. given ≡ of_near fault };
+
+    fn from(fault: NearFault) -> AdjustFault {
+        match fault {
+            NearFault::NotConnected => AdjustFault::Kernel(KernelFault::NotConnected),
+            NearFault::Memory => AdjustFault::Memory,
+        }
+    }
+}
