@@ -1,3 +1,4 @@
+pub mod Naming
 pub mod Explaining
 pub mod CommandLine
 pub mod Answering

@@ -1,14 +1,14 @@
 //! What the words of a command line ask for. Each subcommand is one case of `Request` and one
 //! command of the builder.
 
-ghost use Rattle.std.specs.Prelude.{IfSome};
-ghost use Rattle.clap.specs.Words.{found_of};
+ghost use Rattle.std.specs.Prelude.{◌≡◌, ◌↔◌, IfSome, IfOk, IfErr, IsTrue};
+ghost use Rattle.clap.specs.Words.{found_of, kind_of};
+ghost use Rattle.station_program.specs.Naming.{Names, IsFaultIn, IsNameIn, IsNumber};
 ghost use Rattle.station_program.specs.CommandLine.{StatesLimits, StatesResidual, IsAskedFor};
+ghost use Rattle.station_program.specs.CommandLine.{AsksToExplain, IsMistakenName};
 
 use crate::explain::list_of_near_names;
-use crate::explanations::{
-    Explanation, explanation_named, explanation_named_in_any_case, explanations,
-};
+use crate::explanations::{Explanation, explanation_meant};
 use adjust_kernel::{LARGEST_RESIDUAL_LIMIT, ResidualLimit};
 use clap::error::ErrorKind;
 use clap::{Arg, ArgAction, ArgMatches, Command, Error, value_parser};
@@ -210,16 +210,21 @@ pub enum Request<'a> {
     },
 }
 
-/// What the words of a command line, of which the first is the program's name, ask for.
+/// What the words of a command line, of which the first is the program's name, ask for. A fault is
+/// looked for in the table of explanations.
 ///
 /// # Errors
 ///
 /// What `clap` says of a mistake; help or the version that was asked for; that memory ran out.
-pub fn asked_for<'a>(alloc: Global, words: &'a [String]) -> Result<Request<'a>, Error> {
+pub fn asked_for<'a>(
+    alloc: Global,
+    table: &[&'static [Explanation]],
+    words: &'a [String],
+) -> Result<Request<'a>, Error> {
     let mut program = program(alloc)?;
     let matches = program.try_get_matches_from_mut(words)?;
     if let Some(("explain", found)) = matches.subcommand() {
-        return explanation_asked_for(alloc, &mut program, found);
+        return explanation_asked_for(alloc, table, &mut program, found);
     }
     match request_of(&matches) {
         Some(request) => Ok(request),
@@ -366,59 +371,81 @@ fn request_of<'a>(matches: &ArgMatches<'a>) -> Option<Request<'a>>
     }
 }
 
-/// The explanation that is asked for; a mistake where no fault has the name.
+/// The explanation that is asked for; a mistake where no fault of the table has the name.
 fn explanation_asked_for<'a>(
     alloc: Global,
+    table: &[&'static [Explanation]],
     program: &mut Command<'a>,
     found: &ArgMatches<'a>,
-) -> Result<Request<'a>, Error> {
+) -> Result<Request<'a>, Error>
+    ensures asked { IfOk result (AsksToExplain (found_of found.now) table.now) }
+    ensures mistake { IfErr result (IsMistakenName (found_of found.now) table.now) }
+{
     let Some(words) = found.get_strs(FAULT) else {
         return Ok(Request::Explain { fault: None });
     };
-    let line = joined(alloc, words)?;
+    let line = words.join(alloc, " ")?;
     let name = fault_named_in(line.as_str());
-    let groups = explanations();
-    let in_any_case = || explanation_named_in_any_case(&groups, name);
-    match explanation_named(&groups, name).or_else(in_any_case) {
+    match explanation_meant(table, name) {
         Some(fault) => Ok(Request::Explain { fault: Some(fault) }),
-        None => {
-            let near = list_of_near_names(alloc, name)?;
-            let near = near.as_str().trim_end();
-            let message = if near.is_empty() {
-                format!(in alloc;
-                    "no fault has the name '{line}'; 'station_check explain' lists all names"
-                )?
-            } else {
-                format!(in alloc; "no fault has the name '{line}'; these are near:\n\n{near}")?
-            };
-            Err(program.error(ErrorKind::InvalidValue, message.as_str())?)
-        }
+        None => Err(no_such_fault(alloc, table, program, line.as_str(), name)?),
     }
 }
 
-/// Words with a blank after each but the last.
-fn joined(alloc: Global, words: &[&str]) -> Result<String, AllocError> {
-    let mut line = String::new(alloc);
-    for (place, word) in words.iter().enumerate() {
-        if place > 0 {
-            line.push(' ')?;
-        }
-        line.push_str(word)?;
-    }
-    Ok(line)
+/// The mistake of a line with a name that no fault of the table has: names near it are in its text.
+fn no_such_fault<'a>(
+    alloc: Global,
+    table: &[&'static [Explanation]],
+    program: &mut Command<'a>,
+    line: &str,
+    name: &str,
+) -> Result<Error, AllocError>
+    ensures { IfOk result (λ error. kind_of error ≡ ErrorKind.InvalidValue) }
+{
+    let near = list_of_near_names(alloc, table, name)?;
+    let near = near.as_str().trim_end();
+    let message = if near.is_empty() {
+        format!(in alloc;
+            "no fault has the name '{line}'; 'station_check explain' lists all names"
+        )?
+    } else {
+        format!(in alloc; "no fault has the name '{line}'; these are near:\n\n{near}")?
+    };
+    program.error(ErrorKind::InvalidValue, message.as_str())
 }
 
 /// The name of a fault in the line of a refusal, or in a part of it: without what stands before it,
 /// and without the number that it carries.
-fn fault_named_in(line: &str) -> &str {
-    let fault = match line.rsplit_once(": ") {
+fn fault_named_in(line: &str) -> &str
+    ensures { Names line.now result.now }
+{
+    name_in(fault_in(line))
+}
+
+/// The fault that a line tells of, without what stands before it.
+fn fault_in(line: &str) -> &str
+    ensures { IsFaultIn line.now result.now }
+{
+    match line.rsplit_once(": ") {
         Some((_, fault)) => fault,
         None => line,
-    };
-    match fault.rsplit_once(' ') {
-        Some((name, number)) if number.bytes().all(|byte| byte.is_ascii_digit()) => name,
-        _ => fault,
     }
+}
+
+/// The name of a fault, without the number that it carries.
+fn name_in(fault: &str) -> &str
+    ensures { IsNameIn fault.now result.now }
+{
+    match fault.rsplit_once(" ") {
+        Some((name, word)) => { if is_number(word) { name } else { fault } }
+        None => fault,
+    }
+}
+
+fn is_number(word: &str) -> bool
+    ensures { IsTrue result ↔ IsNumber word.now }
+{
+    word.as_bytes().iter().all(|byte| byte.is_ascii_digit())
 }
 
 /// The limits of face differences, unless one is missing or out of its range.

@@ -4,7 +4,7 @@ ghost use Rattle.std.specs.Prelude.{◌≡◌, IfOk, option_map, string_bytes};
 ghost use Rattle.station_check.specs.Endings.{EndsWith};
 ghost use Rattle.station_program.specs.Explaining.{meaning_text, IsExplainRun};
 
-use crate::explanations::{Explanation, explanations};
+use crate::explanations::Explanation;
 use byte_ends::Sink;
 use station_check::{DONE, Fault, refuse, write_whole};
 use std::alloc::{AllocError, Global};
@@ -16,6 +16,7 @@ const ALIKE: usize = 4;
 /// was written, else 1, with the line of a refusal on `err`.
 pub fn run_explain<W: Sink, E: Sink>(
     alloc: Global,
+    table: &[&'static [Explanation]],
     fault: Option<&Explanation>,
     out: &mut W,
     err: &mut E,
@@ -24,7 +25,7 @@ pub fn run_explain<W: Sink, E: Sink>(
         W.failed W.holds W.handed_on out.old out.new)
         result E.failed E.holds err.old err.new }
 {
-    match print(alloc, fault, out) {
+    match print(alloc, table, fault, out) {
         Ok(()) => DONE,
         Err(fault) => refuse(fault, err),
     }
@@ -32,13 +33,18 @@ pub fn run_explain<W: Sink, E: Sink>(
 
 /// Prints what a fault means, or the names of all faults. The text is made in memory, written, and
 /// flushed once.
-fn print<W: Sink>(alloc: Global, fault: Option<&Explanation>, out: &mut W) -> Result<(), Fault>
+fn print<W: Sink>(
+    alloc: Global,
+    table: &[&'static [Explanation]],
+    fault: Option<&Explanation>,
+    out: &mut W,
+) -> Result<(), Fault>
     ensures { IsExplainRun (option_map (λ e. e.now) fault.entry)
         W.failed W.holds W.handed_on out.old out.new result }
 {
     let text = match fault {
         Some(fault) => explanation_text(alloc, fault),
-        None => list_of_names(alloc),
+        None => list_of_names(alloc, table),
     };
     let text = match text {
         Ok(text) => text,
@@ -51,20 +57,28 @@ fn print<W: Sink>(alloc: Global, fault: Option<&Explanation>, out: &mut W) -> Re
 }
 
 /// The names of all faults, one a line, each with its meaning.
-fn list_of_names(alloc: Global) -> Result<String, AllocError> {
-    listed(alloc, None)
+fn list_of_names(alloc: Global, table: &[&'static [Explanation]]) -> Result<String, AllocError> {
+    listed(alloc, table, None)
 }
 
 /// The names near a text, one a line, each with its meaning: those that have it as a part, are a
 /// part of it, or begin as it does, in capitals or small letters.
-pub fn list_of_near_names(alloc: Global, text: &str) -> Result<String, AllocError> {
-    listed(alloc, Some(text))
+pub fn list_of_near_names(
+    alloc: Global,
+    table: &[&'static [Explanation]],
+    text: &str,
+) -> Result<String, AllocError> {
+    listed(alloc, table, Some(text))
 }
 
 /// The names near a text, or all where there is no text, one a line, each with its meaning.
-fn listed(alloc: Global, near: Option<&str>) -> Result<String, AllocError> {
+fn listed(
+    alloc: Global,
+    table: &[&'static [Explanation]],
+    near: Option<&str>,
+) -> Result<String, AllocError> {
     let mut text = String::new(alloc);
-    for group in explanations() {
+    for group in table {
         add_group(&mut text, group, near)?;
     }
     Ok(text)

@@ -4,6 +4,7 @@
 ghost use Rattle.std.specs.Prelude.{◌≡◌, ◌≢◌, ◌↔◌, IfSome, IfNone, IsTrue, IsFalse};
 ghost use Rattle.std.specs.Prelude.{All, Any, Contains};
 ghost use Rattle.std.specs.Str.{str_eq_ignore_ascii_case};
+ghost use Rattle.station_program.specs.Naming.{IsMeant, IsNoNameInAnyCase};
 
 /// What is said of a fault.
 #[derive(Clone, Copy, Debug)]
@@ -52,7 +53,7 @@ fn explanation_of<'a>(entries: &'a [Explanation], name: &str) -> Option<&'a Expl
 }
 
 /// The explanation of this name among groups of explanations; none where it is no name of any.
-pub fn explanation_named<'a>(groups: &[&'a [Explanation]], name: &str) -> Option<&'a Explanation>
+fn explanation_named<'a>(groups: &[&'a [Explanation]], name: &str) -> Option<&'a Explanation>
     ensures found { IfSome result (λ e. Any (λ g. Contains g.now e.now) groups.now) }
     ensures named { IfSome result (λ e. Any (λ n. n.now ≡ name.now) e.now.names.now) }
     ensures missing { IfNone result
@@ -76,7 +77,7 @@ fn explanation_in_any_case<'a>(entries: &'a [Explanation], name: &str) -> Option
 
 /// The explanation of this name in capitals or small letters among groups of explanations; none
 /// where it is no name of any.
-pub fn explanation_named_in_any_case<'a>(
+fn explanation_named_in_any_case<'a>(
     groups: &[&'a [Explanation]],
     name: &str,
 ) -> Option<&'a Explanation>
@@ -91,6 +92,18 @@ pub fn explanation_named_in_any_case<'a>(
     groups
         .iter()
         .find_map(|&group| explanation_in_any_case(group, name))
+}
+
+/// The explanation that a name means among groups of explanations: that of the fault which has it
+/// just as it is written, else in capitals or small letters; none where no fault has it.
+pub fn explanation_meant<'a>(groups: &[&'a [Explanation]], name: &str) -> Option<&'a Explanation>
+    ensures meant { IfSome result (λ e. IsMeant groups.now name.now e.now) }
+    ensures missing { IfNone result (IsNoNameInAnyCase groups.now name.now) }
+{
+    match explanation_named(groups, name) {
+        Some(explanation) => Some(explanation),
+        None => explanation_named_in_any_case(groups, name),
+    }
 }
 
 /// The explanations of all faults that the line of a refusal can name, in groups, about in the

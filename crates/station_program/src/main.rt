@@ -23,6 +23,7 @@ use clap::Error;
 use clap::error::ErrorKind;
 use command_line::{Request, asked_for};
 use explain::run_explain;
+use explanations::{Explanation, explanations};
 use printable::Printable;
 use station_check::{DONE, REFUSED, run_check, run_list, run_means, run_words};
 use std::fs::File;
@@ -48,15 +49,17 @@ const TERMINAL_IS_READ: &str =
     "reading from the terminal; Ctrl-D ends the input, and 'station_check --help' explains";
 
 fn main(rt: HostRuntime) -> ExitCode {
-    ExitCode::from(status_of_run(&rt))
+    ExitCode::from(status_of_run(&rt, &explanations()))
 }
 
-fn status_of_run(rt: &HostRuntime) -> u8
+/// The exit status of the run that the words of the command line ask for. The table holds the
+/// explanations of all faults.
+fn status_of_run(rt: &HostRuntime, table: &[&'static [Explanation]]) -> u8
     ensures { result ≤ 2 }
 {
     match command_line_words(rt) {
-        Ok(words) => match asked_for(rt.alloc(), words.as_slice()) {
-            Ok(request) => match answer(rt, &request) {
+        Ok(words) => match asked_for(rt.alloc(), table, words.as_slice()) {
+            Ok(request) => match answer(rt, table, &request) {
                 Ok(status) => status,
                 Err(unopened) => cannot_open(rt, &unopened),
             },
@@ -139,7 +142,11 @@ fn note_terminal<T: IsTerminal>(rt: &HostRuntime, input: &T) {
 }
 
 /// The exit status of a request. All its files are opened before any is read, the field file first.
-fn answer<'a>(rt: &HostRuntime, request: &Request<'a>) -> Result<u8, Unopened<'a>>
+fn answer<'a>(
+    rt: &HostRuntime,
+    table: &[&'static [Explanation]],
+    request: &Request<'a>,
+) -> Result<u8, Unopened<'a>>
     ensures status { IfOk result (λ status. status ≤ 1) }
     ensures run { IfOk result (IsAnswered FileType Stdin Stdout Stderr request.now) }
 {
@@ -181,7 +188,9 @@ fn answer<'a>(rt: &HostRuntime, request: &Request<'a>) -> Result<u8, Unopened<'a
             note_terminal(rt, &input);
             Ok(run_words(rt.alloc(), OfRead::new(input), &mut out, &mut err))
         }
-        Request::Explain { fault } => Ok(run_explain(rt.alloc(), fault, &mut out, &mut err)),
+        Request::Explain { fault } => {
+            Ok(run_explain(rt.alloc(), table, fault, &mut out, &mut err))
+        }
     }
 }
 
