@@ -28,7 +28,7 @@ DIST ?= build/dist
 
 # The crates that the program is made of, lowest first, as crates.txt lists them: no tests, no
 # libraries that no command uses yet, and not that of the page.
-CRATES := $(filter-out %_tests sheet_nearness sheet_near sheet_apart stated_directions direction_table station_page, \
+CRATES := $(filter-out %_tests sheet_nearness sheet_near sheet_apart stated_directions direction_table station_compare station_page, \
   $(shell sed -n 's/^\([a-z_]*\)[ :].*/\1/p' crates.txt))
 
 # What each recipe that proves begins with.

@@ -21,6 +21,7 @@ NOT_OF_THE_PROGRAM = {
     "sheet_apart",
     "stated_directions",
     "direction_table",
+    "station_compare",
     "station_page",
 }
 

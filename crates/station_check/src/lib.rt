@@ -53,6 +53,7 @@ pub use list::write_list;
 pub use means::write_means;
 pub use refused::refusal_line;
 pub use runs::{DONE, REFUSED, refuse, run_check, run_list, run_means, run_words};
+pub use survey::survey as stations_of_file;
 pub use verdict_line::{LONGEST_VERDICT_LINE, VerdictLine};
 pub use whole_text::write_whole;
 pub use words::write_words;
