@@ -1,5 +1,6 @@
 pub mod Digits
 pub mod Sizes
+pub mod WrittenDirections
 pub mod TwoColumns
 pub mod NamedTargets
 pub mod RowsTaken

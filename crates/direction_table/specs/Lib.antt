@@ -1,4 +1,5 @@
 pub mod Gons
+pub mod Texts
 pub mod Rows
 pub mod Faults
 pub mod Tables

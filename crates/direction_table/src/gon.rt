@@ -9,13 +9,13 @@ ghost use Rattle.direction_table.specs.Gons as spec;
 use sheet_format::of_digits;
 
 /// A gon, in units of the ninth decimal.
-const GON: u64 = 1_000_000_000;
+pub(crate) const GON: u64 = 1_000_000_000;
 
 /// A full circle of 400 gon, in units of the ninth decimal.
 pub const CIRCLE: u64 = 400 * GON;
 
 /// The most decimals of a direction.
-const MOST_DECIMALS: usize = 9;
+pub(crate) const MOST_DECIMALS: usize = 9;
 
 /// The most digits before the point.
 const MOST_WHOLE: usize = 3;

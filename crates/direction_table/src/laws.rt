@@ -1,7 +1,9 @@
 //! Laws of the definitions that contracts cite. The functions do nothing.
 
-ghost use Rattle.std.specs.Prelude.{◌≡◌, ◌⊎◌, List, ℕ, ℤ};
+ghost use Rattle.std.specs.Prelude.{◌≡◌, ◌⊎◌, List, ℕ, ℤ, pos, true};
+ghost use Rattle.direction_table.specs.Gons.{direction_value, is_below_circle, is_direction};
 ghost use Rattle.direction_table.specs.Tables.{IsTableFault, IsTableText};
+ghost use Rattle.direction_table.specs.Texts as spec;
 ghost use Rattle.direction_table.specs.declared.fault.TableFault.{TableFault};
 ghost use Rattle.direction_table.specs.declared.gon.TheConstants.{CIRCLE};
 ghost use Rattle.direction_table.specs.declared.reading.TheConstants.{LONGEST_TABLE};
@@ -30,6 +32,17 @@ pub fn some_answer()
     ensures { (targets : List (List ℕ)) (bytes : List ℕ)
         → ((directions : List ℤ) × IsTableText targets bytes directions)
         ⊎ ((fault : TableFault) × IsTableFault targets bytes fault) }
+{}
+
+/// The text of a direction that its decimals write exactly is a direction, below a full circle, and
+/// is read as the same number.
+pub fn direction_reads_back()
+    ensures form { (count direction : ℕ) → spec.AreDecimals count → spec.IsWhole count direction
+        → is_direction (spec.direction_text count direction) ≡ true }
+    ensures small { (count direction : ℕ) → spec.AreDecimals count → spec.IsWhole count direction
+        → is_below_circle (spec.direction_text count direction) ≡ true }
+    ensures value { (count direction : ℕ) → spec.AreDecimals count → spec.IsWhole count direction
+        → direction_value (spec.direction_text count direction) ≡ pos direction }
 {}
 
 /// The bounds of a table in digits: its bytes, and a full circle in units of the ninth decimal of a

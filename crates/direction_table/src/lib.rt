@@ -6,16 +6,20 @@
 #![tactic(auto)]
 
 mod columns;
+mod decimals;
 mod draft;
 mod entry;
 mod fault;
 mod gon;
 pub mod laws;
 mod reading;
+mod text;
 
+pub use decimals::{Decimals, MOST_WRITTEN};
 pub use fault::{RowKind, TableFault};
 pub use gon::CIRCLE;
 pub use reading::{LONGEST_TABLE, read_table};
+pub use text::push_direction;
 
 #[cfg(test)]
 mod tests;

@@ -1,7 +1,7 @@
 //! What no clause says: that the definitions are those of the worked rows, that calls succeed, and
 //! what the bytes are.
 
-use crate::{RowKind, TableFault, read_table};
+use crate::{Decimals, RowKind, TableFault, push_direction, read_table};
 use adjust_kernel::{Name, Obs, Station};
 use std::alloc::Global;
 use std::process::Abort;
@@ -133,5 +133,42 @@ fn a_table_of_too_many_bytes_is_refused(rt: HostRuntime) -> Result<(), Fail> {
     text.push(b'\n')?;
     let found = answer_of(&rt, rt.alloc(), &text)?;
     assert_eq!(rt; found.as_str(), "TooLong");
+    Ok(())
+}
+
+/// Directions in units of the ninth decimal, with so many decimals, and their texts.
+const WRITTEN: [(u64, u32, &str); 9] = [
+    (0, 6, "0.000000"),
+    (50_000_030_000, 6, "50.000030"),
+    (50_000_030_000, 5, "50.00003"),
+    (399_999_999_990, 8, "399.99999999"),
+    (399_900_000_000, 1, "399.9"),
+    (7_000_000_000, 1, "7.0"),
+    (10, 8, "0.00000001"),
+    (100_000_000_000, 2, "100.00"),
+    (1_987_654_321, 3, "1.987"),
+];
+
+#[test]
+fn worked_directions_are_written(rt: HostRuntime) -> Result<(), Fail> {
+    let mut text = Vec::new(rt.alloc());
+    for (direction, count, expected) in WRITTEN {
+        let decimals = Decimals::new(count).expect(&rt, "a number of decimals");
+        text.clear();
+        push_direction(&mut text, direction, decimals)?;
+        assert_eq!(rt; text.as_slice(), expected.as_bytes(), "of {direction}");
+    }
+    Ok(())
+}
+
+#[test]
+fn decimals_are_1_to_8(rt: HostRuntime) -> Result<(), Fail> {
+    assert!(rt; Decimals::new(0).is_none());
+    assert!(rt; Decimals::new(9).is_none());
+    let least = Decimals::new(1).expect(&rt, "1 decimal");
+    assert_eq!(rt; least.step(), 100_000_000);
+    let most = Decimals::new(8).expect(&rt, "8 decimals");
+    assert_eq!(rt; most.step(), 10);
+    assert_eq!(rt; most.count(), 8);
     Ok(())
 }
