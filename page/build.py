@@ -13,6 +13,7 @@ import re
 import shutil
 import subprocess
 import sys
+import tempfile
 from pathlib import Path
 
 import retarget
@@ -82,10 +83,9 @@ def words_of_build(kit):
     yield from ["--crate-type", "staticlib", "--incremental", "out/incremental"]
 
 
-def keeping_toolchain(kit, room):
-    """A copy of the kit's toolchain, by links, whose clang keeps the module; and where it is kept."""
-    kept, tools = room / "module.bc", room / "toolchain"
-    (tools / "bin").mkdir(parents=True)
+def keeping_toolchain(kit, kept, tools):
+    """Makes a copy of the kit's toolchain, by links, whose clang keeps the module there."""
+    (tools / "bin").mkdir()
     (tools / "lib").symlink_to(kit / "toolchain" / "lib")
     for tool in (kit / "toolchain" / "bin").iterdir():
         if tool.name != "clang":
@@ -93,16 +93,18 @@ def keeping_toolchain(kit, room):
     clang = tools / "bin" / "clang"
     clang.write_text(KEEPING_CLANG.format(kept=kept, clang=kit / "toolchain" / "bin" / "clang"))
     clang.chmod(0o755)
-    return tools, kept
 
 
 def proved_module(kit, room):
     """The module that rattle makes of the proved crate for x86-64."""
     crate = ROOT / "crates" / CRATE
     run(RT, "lib", cwd=ROOT / "crates" / LIBRARY, stdin=subprocess.DEVNULL)
-    tools, kept = keeping_toolchain(kit, room)
-    words = [*words_of_build(kit), "--toolchain", tools, "-o", room / "lib.a"]
-    run(kit / "bin" / "rattle", "build", *words, cwd=crate)
+    kept = room / "module.bc"
+    # (rt takes no links inside the repository)
+    with tempfile.TemporaryDirectory(prefix="page-toolchain-") as tools:
+        keeping_toolchain(kit, kept, Path(tools))
+        words = [*words_of_build(kit), "--toolchain", tools, "-o", room / "lib.a"]
+        run(kit / "bin" / "rattle", "build", *words, cwd=crate)
     return kept
 
 
