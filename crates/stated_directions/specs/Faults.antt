@@ -1,5 +1,5 @@
 -- Why a station's least-squares directions are not told.
-use Rattle.std.specs.Prelude.{ℕ, Some}
+use Rattle.std.specs.Prelude.{ℕ, Some, length, ℤ}
 use Rattle.adjust_kernel.specs.Matching.{Matches}
 use Rattle.adjust_kernel.specs.Pairs.{choice_stated_by}
 use Rattle.adjust_kernel.specs.Sheets.{SheetValue}
@@ -7,10 +7,11 @@ use Rattle.adjust_kernel.specs.Stations.{StationValue}
 use Rattle.adjust_kernel.specs.Verdict.{Stands}
 use Rattle.adjust_kernel.specs.declared.kernel_fault.KernelFault.{KernelFault}
 use Rattle.adjust_kernel.specs.declared.kernel_fault.KernelFault.TheVariants as kernel
-use Rattle.sheet_apart.specs.Apart.{IsClear}
+use Rattle.sheet_apart.specs.Apart.{IsApart, IsClear}
 use Rattle.sheet_near.specs.declared.fault.NearFault.{NearFault}
 use Rattle.sheet_near.specs.declared.fault.NearFault.TheVariants as near
-use Rattle.sheet_nearness.specs.Nearness.{AreTied, IsTiedWithin, most_apart_of}
+use Rattle.sheet_nearness.specs.Nearness.{AreTied, IsNearnessOf}
+use Rattle.sheet_nearness.specs.declared.nearness.Nearness.{Nearness}
 use Rattle.stated_directions.specs.declared.fault.AdjustFault.{AdjustFault}
 use Rattle.stated_directions.specs.declared.fault.AdjustFault.TheVariants.{Kernel, Unclear, Memory}
 
@@ -29,13 +30,24 @@ pub record IsFarInSheet (station : StationValue) (limit number : ℕ) : Type 0 w
   pub matches : Matches station sheet
   pub far : Stands station sheet (Some limit) (kernel.Residual number)
 
--- What is near some sheet of the station is not known to half of 0.000001 gon.
-pub record IsUnclear (station : StationValue) : Type 0 where
+-- Some sheet of the station keeps the limit, and by the fewest observations that lead from the first
+-- target to all others, what is near it is not known to half of 0.000001 gon.
+pub record IsUnclear (station : StationValue) (limit : ℕ) : Type 0 where
   pub sheet : SheetValue
   pub matches : Matches station sheet
-  pub steps : ℕ
-  pub tied : IsTiedWithin station sheet steps
-  pub unclear : ¬ IsClear (choice_stated_by sheet) (most_apart_of station sheet steps)
+  pub nearness : Nearness
+  pub is_nearness : IsNearnessOf station sheet limit nearness
+  pub unclear : ¬ IsClear (choice_stated_by sheet) nearness.most
+
+-- Some sheet of the station keeps the limit, what is near it is clear, and stated directions are so
+-- far apart from it and from what is near it.
+pub record IsTold (station : StationValue) (limit : ℕ) (stated : ℕ → ℤ) (apart : ℕ) : Type 0 where
+  pub sheet : SheetValue
+  pub matches : Matches station sheet
+  pub nearness : Nearness
+  pub is_nearness : IsNearnessOf station sheet limit nearness
+  pub clear : IsClear (choice_stated_by sheet) nearness.most
+  pub is_apart : IsApart (length station.targets) (choice_stated_by sheet) stated nearness.most apart
 
 -- When each fault is answered: no fault of the kernel comes but two.
 abbrev pub IsAdjustFault : StationValue → ℕ → AdjustFault → Type 0
@@ -43,5 +55,5 @@ IsAdjustFault station limit (Kernel kernel.NotConnected) = ¬ AreTied station
 IsAdjustFault station limit (Kernel (kernel.Residual number)) =
     AreTied station × IsFarInSheet station limit number
 IsAdjustFault station limit (Kernel fault) = ⊥
-IsAdjustFault station limit Unclear = AreTied station × IsUnclear station
+IsAdjustFault station limit Unclear = AreTied station × IsUnclear station limit
 IsAdjustFault station limit Memory = Unit {0}

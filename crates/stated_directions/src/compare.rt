@@ -2,7 +2,7 @@
 ghost use Rattle.std.specs.Prelude.{◌≡◌, ◌≤◌, ◌-◌, List, ℤ, length, IfErr, IfOk};
 ghost use Rattle.adjust_kernel.specs.Residuals.{Choice};
 ghost use Rattle.sheet_apart.specs.Apart.{AreBroughtWithin, stated_by};
-ghost use Rattle.stated_directions.specs.Faults.{IsAdjustFault};
+ghost use Rattle.stated_directions.specs.Faults.{IsAdjustFault, IsTold};
 ghost use Rattle.stated_directions.specs.LeastOf.{IsLeastOf};
 
 use crate::fault::AdjustFault;
@@ -35,6 +35,7 @@ pub fn apart_from_least(
     ensures no_nearer { IfOk result (λ apart. 2 ≤ apart → (c : Choice) (turns : List ℤ)
         → IsLeastOf station.now c turns
         → ¬ AreBroughtWithin (length station.now.targets) c (stated_by stated.now) (apart - 2)) }
+    ensures told { IfOk result (IsTold station.now residual (stated_by stated.now)) }
     ensures fault { IfErr result (IsAdjustFault station.now residual) }
 {
     let sheet = near_sheet(alloc, station)?;
