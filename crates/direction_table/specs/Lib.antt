@@ -1,5 +1,6 @@
 pub mod Gons
 pub mod Texts
+pub mod TableTexts
 pub mod Rows
 pub mod Faults
 pub mod Tables

@@ -13,12 +13,14 @@ mod fault;
 mod gon;
 pub mod laws;
 mod reading;
+mod table;
 mod text;
 
 pub use decimals::{Decimals, MOST_WRITTEN};
 pub use fault::{RowKind, TableFault};
 pub use gon::CIRCLE;
 pub use reading::{LONGEST_TABLE, read_table};
+pub use table::{TargetDirection, table_text};
 pub use text::push_direction;
 
 #[cfg(test)]

@@ -1,7 +1,9 @@
 //! What no clause says: that the definitions are those of the worked rows, that calls succeed, and
 //! what the bytes are.
 
-use crate::{Decimals, RowKind, TableFault, push_direction, read_table};
+use crate::{
+    Decimals, RowKind, TableFault, TargetDirection, push_direction, read_table, table_text,
+};
 use adjust_kernel::{Name, Obs, Station};
 use std::alloc::Global;
 use std::process::Abort;
@@ -170,5 +172,23 @@ fn decimals_are_1_to_8(rt: HostRuntime) -> Result<(), Fail> {
     let most = Decimals::new(8).expect(&rt, "8 decimals");
     assert_eq!(rt; most.step(), 10);
     assert_eq!(rt; most.count(), 8);
+    Ok(())
+}
+
+#[test]
+fn a_worked_table_is_written(rt: HostRuntime) -> Result<(), Fail> {
+    let stated = [(b"A".as_slice(), 0), (b"B,1".as_slice(), 50_000_030_000)].map(|(
+        name,
+        direction,
+    )| {
+        let name = Name::new(name).expect(&rt, "a name");
+        TargetDirection { name, direction }
+    });
+    let decimals = Decimals::new(6).expect(&rt, "a number of decimals");
+    let text = table_text(rt.alloc(), &stated, decimals)?;
+    assert_eq!(rt;
+        text.as_slice(),
+        b"A,0.000000\n\"B,1\",50.000030\n".as_slice()
+    );
     Ok(())
 }

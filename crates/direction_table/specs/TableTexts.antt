@@ -1,0 +1,13 @@
+-- The text of a table of directions, as it is written.
+use Rattle.std.specs.Prelude.{ℕ, List, [], ◌∷◌, map}
+use Rattle.sheet_format.specs.Texts.{rows_text}
+use Rattle.direction_table.specs.Texts.{direction_text}
+use Rattle.direction_table.specs.declared.table.TargetDirection.{TargetDirection}
+
+-- the row of a target: its name, and its direction with so many decimals
+abbrev pub row_of : ℕ → TargetDirection → List (List ℕ)
+row_of count stated = stated.name ∷ direction_text count stated.direction ∷ []
+
+-- the text of a table: the rows of the targets, in their order
+abbrev pub table_text : ℕ → List TargetDirection → List ℕ
+table_text count stated = rows_text (map (row_of count) stated)
