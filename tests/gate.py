@@ -24,7 +24,7 @@ PROGRAM = ROOT / "build" / "station_check"
 COUNTS = re.compile(r"^(\d+) passed, (\d+) failed$")
 
 # How many minutes the gate takes on so many processors, with nothing beside it.
-MINUTES = {4: 100, 2: 170}
+MINUTES = {4: 110, 2: 180}
 
 # The memory that a check of the largest crate stays within, whose proof and tests may run side by
 # side, and that any other check stays within, in bytes.
