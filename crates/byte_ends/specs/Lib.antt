@@ -1,5 +1,6 @@
 pub mod Source
 pub mod Input
+pub mod Came
 pub mod Sink
 pub mod OfRead
 pub mod OfWrite

@@ -6,12 +6,15 @@
 //! ever failed, and may tell the bytes that it holds. So a caller says of any reader or writer what
 //! it answers, however the bytes are cut.
 //!
+//! [`read_whole`] takes all bytes of a source, up to a limit.
+//!
 //! [`OfRead`] and [`OfWrite`] are std's readers and writers, which tell no bytes. [`Script`] and
 //! [`Held`] tell theirs, for tests.
 #![tactic(auto)]
 
 mod failed;
 mod held;
+mod input;
 mod of_read;
 mod of_write;
 mod out_of_memory;
@@ -23,6 +26,7 @@ mod tests;
 
 pub use failed::Failed;
 pub use held::Held;
+pub use input::{InputFault, read_whole};
 pub use of_read::OfRead;
 pub use of_write::OfWrite;
 pub use out_of_memory::OutOfMemory;

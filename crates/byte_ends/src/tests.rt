@@ -1,6 +1,8 @@
 //! What no clause says: that calls succeed, and what std's own readers and writers get.
 
-use crate::{Failed, Held, OfRead, OfWrite, OutOfMemory, Script, Sink, Source};
+use crate::{
+    Failed, Held, InputFault, OfRead, OfWrite, OutOfMemory, Script, Sink, Source, read_whole,
+};
 use std::alloc::{AllocError, Global};
 use std::io::{self, Error, ErrorKind, Read, Write};
 use std::test::Fail;
@@ -60,24 +62,37 @@ fn read_to_end<S: Source>(
     Ok((bytes, false))
 }
 
-/// A reader or writer that fails at one call and counts its calls.
+/// A reader or writer that fails at one call, or gives or takes no byte there, then goes on, and
+/// counts its calls.
 #[derive(Drop)]
-struct FailsAt {
+struct StopsAt {
     call: u32,
+    fails: bool,
     calls: u32,
 }
 
-impl FailsAt {
+impl StopsAt {
+    fn new(call: u32, fails: bool) -> StopsAt {
+        StopsAt {
+            call,
+            fails,
+            calls: 0,
+        }
+    }
+
     fn answer(&mut self, bytes: usize) -> io::Result<usize> {
         self.calls = self.calls.saturating_add(1);
-        if self.calls == self.call {
+        if self.calls != self.call {
+            return Ok(bytes.min(1));
+        }
+        if self.fails {
             return Err(Error::from(ErrorKind::Interrupted));
         }
-        Ok(bytes.min(1))
+        Ok(0)
     }
 }
 
-impl Read for FailsAt {
+impl Read for StopsAt {
     fn read(&mut self, buf: &mut [u8]) -> io::Result<usize> {
         let given = self.answer(buf.len())?.min(buf.len());
         buf[..given].fill(b'A');
@@ -85,7 +100,7 @@ impl Read for FailsAt {
     }
 }
 
-impl Write for FailsAt {
+impl Write for StopsAt {
     fn write(&mut self, buf: &[u8]) -> io::Result<usize> {
         Ok(self.answer(buf.len())?.min(buf.len()))
     }
@@ -98,10 +113,7 @@ impl Write for FailsAt {
 #[test]
 fn one_read_is_one_call_of_the_reader_and_has_its_answer(rt: HostRuntime) {
     for failing in 1..5u32 {
-        let mut reader = FailsAt {
-            call: failing,
-            calls: 0,
-        };
+        let mut reader = StopsAt::new(failing, true);
         let mut buffer = [0u8; 4];
         for call in 1..8u32 {
             let want = if call == failing { Err(Failed) } else { Ok(1) };
@@ -115,10 +127,7 @@ fn one_read_is_one_call_of_the_reader_and_has_its_answer(rt: HostRuntime) {
 #[test]
 fn one_write_is_one_call_of_the_writer_and_has_its_answer(rt: HostRuntime) {
     for failing in 1..5u32 {
-        let mut writer = FailsAt {
-            call: failing,
-            calls: 0,
-        };
+        let mut writer = StopsAt::new(failing, true);
         for call in 1..8u32 {
             let mut sink = OfWrite::new(&mut writer);
             if call == 3 {
@@ -133,6 +142,54 @@ fn one_write_is_one_call_of_the_writer_and_has_its_answer(rt: HostRuntime) {
     }
 }
 
+/// The longest room and the longest piece that are tried.
+const LONGEST: usize = 70_000;
+
+/// What three reads into this room answer of a reader that stops at the second, and how many calls
+/// of the reader they were.
+fn three_reads(room: &mut [u8], fails: bool) -> ([Result<usize, Failed>; 3], u32) {
+    let mut source = OfRead::new(StopsAt::new(2, fails));
+    let answers = [source.read(room), source.read(room), source.read(room)];
+    (answers, source.into_inner().calls)
+}
+
+/// What three writes of this piece answer of a writer that stops at the second, and how many calls
+/// of the writer they were.
+fn three_writes(piece: &[u8], fails: bool) -> ([Result<usize, Failed>; 3], u32) {
+    let mut sink = OfWrite::new(StopsAt::new(2, fails));
+    let answers = [sink.write(piece), sink.write(piece), sink.write(piece)];
+    (answers, sink.into_inner().calls)
+}
+
+#[test]
+fn a_read_into_any_room_is_one_call_until_the_reader_is_over(rt: HostRuntime) -> Result<(), Fail> {
+    let mut bytes = vec![in rt.alloc(); 0u8; LONGEST]?;
+    for length in 1..=LONGEST {
+        let room = length.min(bytes.len());
+        let (answers, calls) = three_reads(&mut bytes[..room], true);
+        assert_eq!(rt; answers, [Ok(1), Err(Failed), Err(Failed)]);
+        assert_eq!(rt; calls, 2);
+        let (answers, calls) = three_reads(&mut bytes[..room], false);
+        assert_eq!(rt; answers, [Ok(1), Ok(0), Ok(0)]);
+        assert_eq!(rt; calls, 2);
+    }
+    Ok(())
+}
+
+#[test]
+fn a_write_of_any_length_is_one_call(rt: HostRuntime) -> Result<(), Fail> {
+    let bytes = vec![in rt.alloc(); 0u8; LONGEST]?;
+    for length in 1..=LONGEST {
+        let piece = &bytes[..length.min(bytes.len())];
+        for fails in [false, true] {
+            let (answers, calls) = three_writes(piece, fails);
+            assert_eq!(rt; answers, [Ok(1), Err(Failed), Ok(1)]);
+            assert_eq!(rt; calls, 3);
+        }
+    }
+    Ok(())
+}
+
 #[test]
 fn a_script_gives_its_bytes_and_then_ends_or_fails(rt: HostRuntime) -> Result<(), Fail> {
     for step in [1, 2, 3, 7, 10, 100] {
@@ -141,6 +198,38 @@ fn a_script_gives_its_bytes_and_then_ends_or_fails(rt: HostRuntime) -> Result<()
             let (bytes, failed) = read_to_end(rt.alloc(), &mut script, 10)?;
             assert_eq!(rt; &bytes[..], TEXT, "{step} bytes a read");
             assert_eq!(rt; failed, fails, "{step} bytes a read");
+        }
+    }
+    Ok(())
+}
+
+/// More bytes than two pieces of an input.
+const MANY: [u8; 9_000] = [7; 9_000];
+
+#[test]
+fn an_input_is_read_whole_up_to_its_limit(rt: HostRuntime) -> Result<(), Fail> {
+    // How many bytes there are, whether a read fails after them, the limit, and the answer.
+    let cases = [
+        (0, false, 0, None),
+        (0, true, 0, Some(InputFault::Read)),
+        (1, false, 0, Some(InputFault::TooLong)),
+        (1, false, 1, None),
+        (4_096, false, 4_096, None),
+        (4_097, false, 4_096, Some(InputFault::TooLong)),
+        (4_097, true, 4_097, Some(InputFault::Read)),
+        (9_000, true, 8_999, Some(InputFault::TooLong)),
+        (9_000, false, usize::MAX, None),
+    ];
+    for (len, fails, most, want) in cases {
+        for step in [1, 4_096, usize::MAX] {
+            let mut script = Script::new(MANY.get(..len).ok_or("too few")?, step, fails);
+            match read_whole(rt.alloc(), &mut script, most) {
+                Ok(bytes) => {
+                    assert_eq!(rt; want, None, "{len} bytes, {step} at a time");
+                    assert_eq!(rt; bytes.len(), len, "{step} at a time");
+                }
+                Err(fault) => assert_eq!(rt; want, Some(fault), "{len} bytes, {step} at a time"),
+            }
         }
     }
     Ok(())

@@ -1,0 +1,12 @@
+use Rattle.std.proofs.Common.{◌≡◌, ◌+◌, ◌-◌, vec_len}
+use Rattle.byte_ends.specs.Source.{HasGiven}
+use Rattle.byte_ends.proofs.input.read_whole.Given as goal
+
+abbrev pub invariant-reading : goal.invariant-reading
+invariant-reading g l = record {
+  given : HasGiven (g.S.Source.told l.fn.source) (g.S.Source.told l.source) l.bytes.items;
+  unfailed : g.S.Source.failed l.source ≡ g.S.Source.failed l.fn.source;
+}
+
+abbrev pub decreases-reading : goal.decreases-reading
+decreases-reading g l = l.fn.most + 1 - vec_len l.bytes
