@@ -4,6 +4,7 @@ use Rattle.std.specs.Prelude.{◌≡◌, ◌⊎◌, ℕ, ◌<◌, ◌+◌, ◌-�
 use Rattle.adjust_kernel.specs.declared.obs.Obs.{Obs}
 use Rattle.adjust_kernel.specs.declared.marks.TheConstants.{MOST_NODES}
 
+-- whether a node is marked
 abbrev pub mark : List Bool → ℕ → Bool
 mark marks n = slice_index_or marks n false
 

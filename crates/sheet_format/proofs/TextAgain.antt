@@ -26,7 +26,7 @@ use Rattle.sheet_format.proofs.RecordFacts.{records-end, records-step}
 use Rattle.sheet_format.proofs.TextLengths.{text-short}
 
 -- rows that were written are read as those rows
-records-written : (n : ℕ) (rows : List (List (List ℕ))) → length (rows_text rows) < n → records_from default_config n st.StartRecord (rows_text rows) ≡ map read_back rows
+pub records-written : (n : ℕ) (rows : List (List (List ℕ))) → length (rows_text rows) < n → records_from default_config n st.StartRecord (rows_text rows) ≡ map read_back rows
 unfolding next_record
 records-written n [] h = records-end n st.StartRecord [] refl
 records-written n (row ∷ rows) h =
@@ -34,7 +34,7 @@ records-written n (row ∷ rows) h =
     r.1 ∙ ap (λ (t : List (List (List ℕ))). read_back row ∷ t) (records-written r.0 rows r.2)
 
 -- rows that have fields are read back as they are
-back-entries : {X : Type 0} (f : X → List (List ℕ)) → ((x : X) → read_back (f x) ≡ f x) → (xs : List X) → map read_back (map f xs) ≡ map f xs
+pub back-entries : {X : Type 0} (f : X → List (List ℕ)) → ((x : X) → read_back (f x) ≡ f x) → (xs : List X) → map read_back (map f xs) ≡ map f xs
 back-entries f same [] = refl
 back-entries f same (x ∷ xs) = rw (same x, back-entries f same xs) refl
 

@@ -31,7 +31,7 @@ unfolding escaped
 length-escaped [] = omega arith
 length-escaped (c ∷ rest) = let h = escaped-more (c == 34) 34 c (escaped default_writer rest) (length rest) (length-escaped rest) in omega (arith, h)
 
-length-field : (field : List ℕ) → length (field_text default_writer field) ≤ 2 * length field + 2
+pub length-field : (field : List ℕ) → length (field_text default_writer field) ≤ 2 * length field + 2
 length-field field = by (needs_quotes default_writer field)
   where
     by : (b : Bool) → length (if b then quoted default_writer field else field) ≤ 2 * length field + 2
@@ -89,7 +89,7 @@ version-short version.Two = refl
 abbrev longest_row : ℕ
 longest_row = 128
 
-abbrev IsShort : List (List ℕ) → Type 0
+abbrev pub IsShort : List (List ℕ) → Type 0
 IsShort row = length (row_text default_writer row) ≤ 128
 
 sheet-short : (v : Version) (name : List ℕ) (d : ℕ) → IsName name → d < 10 ^ 13 → IsShort (sheet_fields v name d)
@@ -108,7 +108,7 @@ obs-short r ok =
     let value = decimal-short 8 r.value (omega arith) (omega (arith, ok.value)) (omega (arith, ok.value)) in
     omega (arith, length-row (codes "obs") (decimal r.set) r.target (decimal r.value) (signed_decimal r.turn), set-short r.set ok.set, ok.target.short, value, turn-short r.turn ok.turn)
 
-entries-short : {X : Type 0} (P : X → Type 0) (f : X → List (List ℕ)) → ((x : X) → P x → IsShort (f x)) → (xs : List X) → All P xs → length (rows_text (map f xs)) ≤ length xs * 128
+pub entries-short : {X : Type 0} (P : X → Type 0) (f : X → List (List ℕ)) → ((x : X) → P x → IsShort (f x)) → (xs : List X) → All P xs → length (rows_text (map f xs)) ≤ length xs * 128
 entries-short P f short [] ok = omega arith
 entries-short P f short (x ∷ xs) ok =
     omega (arith, length-append (row_text default_writer (f x)) (rows_text (map f xs)), short x (All-head P x xs ok), entries-short P f short xs (All-tail P x xs ok))

@@ -31,6 +31,7 @@ abbrev pub first_fault : List (Option RowKind) → Option RowKind
 first_fault [] = None
 first_fault (test ∷ later) = option_or test (first_fault later)
 
+-- whether a field has no byte
 abbrev pub is_empty : List ℕ → Bool
 is_empty field = length field == 0
 
@@ -59,6 +60,7 @@ versioned_fault v c = first_fault (
     ∷ unless (is_within (pos 1) (pos (largest_denominator v)) (value_of c.value)) fault.Range
     ∷ [])
 
+-- the same, by the version, where it names one
 abbrev pub by_version : Option Version → Fields → Option RowKind
 by_version None c = Some fault.Version
 by_version (Some v) c = versioned_fault v c
@@ -118,6 +120,7 @@ abbrev pub version_of_row : Option Fields → Version
 version_of_row None = version.One
 version_of_row (Some c) = unwrap_or (version_of c.number) version.One
 
+-- the version that these rows are read by: that of the first of them
 abbrev pub version_of_rows : List (List (List ℕ)) → Version
 version_of_rows [] = version.One
 version_of_rows (first ∷ others) = version_of_row (columns_of first)
@@ -126,6 +129,7 @@ version_of_rows (first ∷ others) = version_of_row (columns_of first)
 abbrev pub count_of : Kind → List (List (List ℕ)) → ℕ
 count_of k rows = count_by (λ row. names_kind k (first_field row)) rows
 
+-- what these rows say of one after them
 abbrev pub said_by : List (List (List ℕ)) → Before
 said_by rows = record {
   last = last_kind rows;
@@ -144,10 +148,12 @@ columns_fault b kind.Set c =
     option_or (set_fault b.version c) (unless (nat_lt b.sets MOST_SETS) fault.TooMany)
 columns_fault b kind.Obs c = option_or (obs_fault c) (unless (nat_lt b.obs MOST_ROWS) fault.TooMany)
 
+-- the fault of a row of five columns: its kind is none or may not stand there, and then its columns
 abbrev pub kind_fault : Before → Option Kind → Fields → Option RowKind
 kind_fault b None c = Some fault.Kind
 kind_fault b (Some k) c = option_or (unless (may_follow b.last k) fault.Kind) (columns_fault b k c)
 
+-- the fault of a row by the number of its columns, and then by what they hold
 abbrev pub fields_fault : Before → Option Fields → Option RowKind
 fields_fault b None = Some fault.Fields
 fields_fault b (Some c) = kind_fault b (kind_of c.kind) c

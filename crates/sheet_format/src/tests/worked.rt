@@ -86,7 +86,7 @@ pub(super) fn changed(alloc: Global, row: usize, line: &str) -> Result<String, A
     Ok(text)
 }
 
-/// What stands in a case before the mark, and what behind it.
+/// What stands in a case before the mark, and what after it.
 fn parts(rt: &impl Abort, case: &'static str) -> (&'static str, &'static str) {
     case.split_once('|').expect(rt, "a case")
 }
