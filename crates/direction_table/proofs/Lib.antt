@@ -8,3 +8,5 @@ pub mod RowsRead
 pub mod NextRows
 pub mod StatedDirections
 pub mod OneAnswer
+pub mod TableLengths
+pub mod TableAgain

@@ -1,5 +1,5 @@
 -- The text of a direction is read as the same number.
-use Rattle.std.proofs.Common.{◌≡◌, ◌∙◌, ℕ, zero, suc, true, false, List, [], ◌∷◌, ◌++◌, take, drop, length, refl, ap, sym, arith, length-append, ℤ, pos, ◌<◌, ◌≤◌, ◌+◌, ◌-◌, ◌*◌, ◌^◌, ◌/◌, ◌%◌}
+use Rattle.std.proofs.Common.{◌≡◌, ◌∙◌, ℕ, zero, suc, true, false, List, [], ◌∷◌, ◌++◌, length, refl, ap, sym, arith, length-append, pos, ◌<◌, ◌≤◌, ◌+◌, ◌-◌, ◌*◌, ◌^◌, ◌/◌, ◌%◌}
 use Rattle.std.specs.Prelude.{◌==◌, nat_lt, nat_le}
 use Rattle.std.specs.Char.{digit_value, is_ascii_digit}
 use Rattle.std.specs.Fmt.{decimal}
@@ -14,7 +14,7 @@ use Rattle.std.proofs.lemmas.Int.Digits.{digits_value_push}
 use Rattle.std.proofs.lemmas.List.Folds.{list_all-append}
 use Rattle.std.proofs.lemmas.Str.{digit_value_digit}
 use Rattle.sheet_format.proofs.CanonicalDecimals.{numerals}
-use Rattle.direction_table.specs.Gons.{are_digits, direction_value, is_below_circle, is_direction, is_fraction, is_negative, is_size, point_of, signed, size_value, unsigned}
+use Rattle.direction_table.specs.Gons.{are_digits, direction_value, is_below_circle, is_direction, is_negative, is_size, point_of, signed, size_value, unsigned}
 use Rattle.direction_table.specs.Texts.{AreDecimals, IsWhole, decimals_of, direction_text}
 use Rattle.direction_table.proofs.Sizes.{Parts, parts-size, parts-value}
 
@@ -166,3 +166,10 @@ text-value k d few-decimals exact =
     let f = front-of (d / 10 ^ 9) (gons-below d exact.0) in
     ap (λ b. signed b (size_value (unsigned (direction_text k d)))) ((no-minus (decimal (d / 10 ^ 9)) (46 ∷ decimals_of k d) f.digits f.some).1)
     ∙ ap pos (unsigned-size k d few-decimals exact)
+
+-- at most three digits, a point and eight decimals
+pub text-length : (k d : ℕ) → AreDecimals k → IsWhole k d → length (direction_text k d) ≤ 12
+text-length k d few-decimals exact =
+    let f = front-of (d / 10 ^ 9) (gons-below d exact.0) in
+    let long = length-append (decimal (d / 10 ^ 9)) (46 ∷ decimals_of k d) in
+    omega (arith, long, f.short, many k d, few-decimals.1)

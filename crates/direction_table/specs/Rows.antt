@@ -19,11 +19,12 @@ columns_of _ = None
 abbrev pub columns_view : Columns → Fields
 columns_view c = record { name = c.name.now; direction = c.direction.now }
 
--- the name of a row, and what stands beside it
+-- the name of a row
 abbrev pub name_of : List (List ℕ) → List ℕ
 name_of [] = []
 name_of (name ∷ others) = name
 
+-- what stands beside the name: the field of the direction
 abbrev pub beside_name : List (List ℕ) → List ℕ
 beside_name [] = []
 beside_name (name ∷ []) = []

@@ -1,12 +1,15 @@
 //! Laws of the definitions that contracts cite. The functions do nothing.
 
-ghost use Rattle.std.specs.Prelude.{◌≡◌, ◌⊎◌, List, ℕ, ℤ, pos, true};
+ghost use Rattle.std.specs.Prelude.{◌≡◌, ◌⊎◌, All, List, ℕ, ℤ, pos, true};
+ghost use Rattle.adjust_kernel.specs.Stations.{AreTargets};
 ghost use Rattle.direction_table.specs.Gons.{direction_value, is_below_circle, is_direction};
+ghost use Rattle.direction_table.specs.TableTexts.{directions_of, names_of, table_text};
 ghost use Rattle.direction_table.specs.Tables.{IsTableFault, IsTableText};
 ghost use Rattle.direction_table.specs.Texts as spec;
 ghost use Rattle.direction_table.specs.declared.fault.TableFault.{TableFault};
 ghost use Rattle.direction_table.specs.declared.gon.TheConstants.{CIRCLE};
 ghost use Rattle.direction_table.specs.declared.reading.TheConstants.{LONGEST_TABLE};
+ghost use Rattle.direction_table.specs.declared.table.TargetDirection.{TargetDirection};
 
 /// Bytes are a table of one list of directions at most.
 pub fn one_table()
@@ -43,6 +46,15 @@ pub fn direction_reads_back()
         → is_below_circle (spec.direction_text count direction) ≡ true }
     ensures value { (count direction : ℕ) → spec.AreDecimals count → spec.IsWhole count direction
         → direction_value (spec.direction_text count direction) ≡ pos direction }
+{}
+
+/// The text of the table of all targets, in their order, is a table of them and of the directions
+/// that were written, where so many decimals write each of these exactly.
+pub fn table_reads_back()
+    ensures { (targets : List (List ℕ)) (count : ℕ) (stated : List TargetDirection)
+        → AreTargets targets → names_of stated ≡ targets → spec.AreDecimals count
+        → All (λ row. spec.IsWhole count row.direction) stated
+        → IsTableText targets (table_text count stated) (directions_of stated) }
 {}
 
 /// The bounds of a table in digits: its bytes, and a full circle in units of the ninth decimal of a

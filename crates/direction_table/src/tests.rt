@@ -1,6 +1,8 @@
 //! What no clause says: that the definitions are those of the worked rows, that calls succeed, and
 //! what the bytes are.
 
+mod memory;
+
 use crate::{
     Decimals, RowKind, TableFault, TargetDirection, push_direction, read_table, table_text,
 };
@@ -9,27 +11,29 @@ use std::alloc::Global;
 use std::process::Abort;
 use std::test::Fail;
 
-/// A station of two targets, A and B.
-fn station(rt: &impl Abort, alloc: Global) -> Result<Station, Fail> {
+/// A station of targets of these names.
+fn station_of(rt: &impl Abort, alloc: Global, names: &[&[u8]]) -> Result<Station, Fail> {
     let mut targets = Vec::new(alloc);
     let mut sets = Vec::new(alloc);
     let mut obs = Vec::new(alloc);
     sets.push(1)?;
-    for (target, name) in [b"A".as_slice(), b"B".as_slice()].into_iter().enumerate() {
+    let mut target = 0u32;
+    for name in names {
         targets.push(Name::new(name).expect(rt, "a name"))?;
         obs.push(Obs {
             set: 0,
-            target: target as u32,
+            target,
             value: 0,
         })?;
+        target = target.saturating_add(1);
     }
     let name = Name::new(b"S1").expect(rt, "a name");
     Ok(Station::new(name, targets, sets, obs).expect(rt, "a station"))
 }
 
-/// The answer to these bytes as text.
+/// The answer to these bytes as text, for targets A and B.
 fn answer_of(rt: &impl Abort, alloc: Global, bytes: &[u8]) -> Result<String, Fail> {
-    let station = station(rt, alloc)?;
+    let station = station_of(rt, alloc, &[b"A", b"B"])?;
     match read_table(alloc, station.targets(), bytes) {
         Ok(directions) => Ok(format!(in alloc; "{directions:?}")?),
         Err(fault) => Ok(format!(in alloc; "{fault:?}")?),
@@ -190,5 +194,85 @@ fn a_worked_table_is_written(rt: HostRuntime) -> Result<(), Fail> {
         text.as_slice(),
         b"A,0.000000\n\"B,1\",50.000030\n".as_slice()
     );
+    Ok(())
+}
+
+/// Names of targets: such as go into quotes, a blank, and the longest.
+const NAMES: [&[u8]; 5] = [b"A,1", b"B\"", b"\"C, D\"", b" ", b"0123456789abcdef"];
+
+/// Targets of these names, with these directions.
+fn stated_of(
+    rt: &impl Abort,
+    alloc: Global,
+    names: &[&[u8]],
+    directions: &[u64],
+) -> Result<Vec<TargetDirection>, Fail> {
+    let mut stated = Vec::new(alloc);
+    for (name, direction) in names.iter().zip(directions) {
+        stated.push(TargetDirection {
+            name: Name::new(name).expect(rt, "a name"),
+            direction: *direction,
+        })?;
+    }
+    Ok(stated)
+}
+
+/// Whether these directions were read, in their order.
+fn are_read(read: &[i64], stated: &[TargetDirection]) -> bool {
+    read.len() == stated.len()
+        && read
+            .iter()
+            .zip(stated)
+            .all(|(read, row)| u64::try_from(*read) == Ok(row.direction))
+}
+
+/// The largest direction of each number of decimals.
+const LARGEST: [(u32, u64); 8] = [
+    (1, 399_900_000_000),
+    (2, 399_990_000_000),
+    (3, 399_999_000_000),
+    (4, 399_999_900_000),
+    (5, 399_999_990_000),
+    (6, 399_999_999_000),
+    (7, 399_999_999_900),
+    (8, 399_999_999_990),
+];
+
+#[test]
+fn a_table_of_each_number_of_decimals_is_read_again(rt: HostRuntime) -> Result<(), Fail> {
+    for (count, largest) in LARGEST {
+        let decimals = Decimals::new(count).expect(&rt, "a number of decimals");
+        let directions = [0, largest, 7_000_000_000, 50_100_000_000, decimals.step()];
+        let stated = stated_of(&rt, rt.alloc(), &NAMES, &directions)?;
+        let station = station_of(&rt, rt.alloc(), &NAMES)?;
+        let text = table_text(rt.alloc(), &stated, decimals)?;
+        let read = read_table(rt.alloc(), station.targets(), &text).expect(&rt, "a table");
+        assert!(rt; are_read(&read, &stated), "with {count} decimals");
+    }
+    Ok(())
+}
+
+/// The table of the five targets with 2 decimals.
+const FIVE: &[u8] = b"\
+\"A,1\",0.00
+\"B\"\"\",399.99
+\"\"\"C, D\"\"\",7.00
+ ,50.10
+0123456789abcdef,0.01
+";
+
+#[test]
+fn names_that_ask_for_quotes_get_them(rt: HostRuntime) -> Result<(), Fail> {
+    let decimals = Decimals::new(2).expect(&rt, "2 decimals");
+    let directions = [
+        0,
+        399_990_000_000,
+        7_000_000_000,
+        50_100_000_000,
+        10_000_000,
+    ];
+    let stated = stated_of(&rt, rt.alloc(), &NAMES, &directions)?;
+    let text = table_text(rt.alloc(), &stated, decimals)?;
+    assert_eq!(rt; text.as_slice(), FIVE);
     Ok(())
 }

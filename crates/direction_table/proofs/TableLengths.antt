@@ -1,0 +1,37 @@
+-- The text of a table of all targets is far shorter than a table may be.
+use Rattle.std.proofs.Common.{◌≡◌, ℕ, ◌+◌, ◌*◌, ◌≤◌, List, [], ◌∷◌, ◌++◌, length, All, arith, length-append}
+use Rattle.csv.specs.Writing.{default_writer, field_text, fields_text, is_blank, row_text}
+use Rattle.adjust_kernel.specs.Names.{IsName}
+use Rattle.adjust_kernel.specs.declared.limits.TheConstants.{MOST_TARGETS}
+use Rattle.sheet_format.proofs.TextLengths.{IsShort, entries-short, length-field}
+use Rattle.direction_table.specs.Texts.{AreDecimals, IsWhole, direction_text}
+use Rattle.direction_table.specs.TableTexts.{row_of, table_text}
+use Rattle.direction_table.specs.declared.reading.TheConstants.{LONGEST_TABLE}
+use Rattle.direction_table.specs.declared.table.TargetDirection.{TargetDirection}
+use Rattle.direction_table.proofs.WrittenDirections.{text-length}
+
+-- A target with its name, and with a direction that so many decimals write exactly.
+pub record IsWritten (count : ℕ) (stated : TargetDirection) : Type 0 where
+  pub name : IsName stated.name
+  pub exact : IsWhole count stated.direction
+
+-- the text of a row of two fields
+joined-length : (a b : List ℕ) → length ((a ++ (44 ∷ (b ++ []))) ++ (10 ∷ [])) ≡ length a + length b + 2
+joined-length a b =
+    let second = b ++ [] in
+    let both = a ++ (44 ∷ second) in
+    omega (arith, length-append b [], length-append a (44 ∷ second), length-append both (10 ∷ []))
+
+length-row : (a b : List ℕ) → length (row_text default_writer (a ∷ b ∷ [])) ≤ 2 * (length a + length b) + 6
+unfolding fields_text is_blank
+length-row a b =
+    let joined = joined-length (field_text default_writer a) (field_text default_writer b) in
+    omega (arith, joined, length-field a, length-field b)
+
+row-short : (count : ℕ) → AreDecimals count → (stated : TargetDirection) → IsWritten count stated → IsShort (row_of count stated)
+row-short count few stated ok =
+    omega (arith, length-row stated.name (direction_text count stated.direction), ok.name.short, text-length count stated.direction few ok.exact)
+
+pub table-short : (count : ℕ) (stated : List TargetDirection) → length stated ≤ MOST_TARGETS → AreDecimals count → All (IsWritten count) stated → length (table_text count stated) ≤ LONGEST_TABLE
+table-short count stated room few ok =
+    omega (arith, room, entries-short (IsWritten count) (row_of count) (row-short count few) stated ok)
