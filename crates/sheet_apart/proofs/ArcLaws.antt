@@ -31,7 +31,7 @@ way_round_is circle from to h =
     record { turns = turns; there = omega (arith, ints, is); below = below }
 
 -- numbers below a circle that differ by full circles are one
-no_circle : (circle x y : ℕ) (k : ℤ) → x < circle → y < circle → pos x ≡ pos y +ℤ pos circle *ℤ k → x ≡ y
+pub no_circle : (circle x y : ℕ) (k : ℤ) → x < circle → y < circle → pos x ≡ pos y +ℤ pos circle *ℤ k → x ≡ y
 no_circle circle x y (pos zero) hx hy e =
     let f : pos circle *ℤ pos 0 ≡ pos 0 = same_value (num (pos circle) ⊗ num (pos 0)) (num (pos 0)) (omega arith) in
     omega (arith, ints, e, f)

@@ -11,7 +11,7 @@ use Rattle.adjust_kernel.proofs.Ring.{num, ◌⊕◌, ◌⊖◌, ◌⊗◌, same
 use Rattle.sheet_apart.specs.Arcs.{IsArc, IsExtent, IsSpread, IsWayRound}
 use Rattle.sheet_apart.proofs.ArcLaws.{way_round_is}
 
-one_is_first : (a b : ℤ) → (a ≤ℤ b) ⊎ (b ≤ℤ a)
+pub one_is_first : (a b : ℤ) → (a ≤ℤ b) ⊎ (b ≤ℤ a)
 one_is_first (pos a) (pos b) = by (dec_le a b)
   where
     by : Dec (a ≤ b) → (pos a ≤ℤ pos b) ⊎ (pos b ≤ℤ pos a)

@@ -4,7 +4,7 @@ use Rattle.std.specs.Prelude.{ℕ, ◌+◌, ◌*◌, ◌≤◌, ◌<◌, List, �
 use Rattle.adjust_kernel.specs.Residuals.{Choice}
 use Rattle.adjust_kernel.specs.Within.{IsWithin}
 use Rattle.sheet_apart.specs.Arcs.{IsSpread}
-use Rattle.sheet_apart.specs.declared.units.TheConstants.{CIRCLE, HALF_UNIT, UNIT}
+use Rattle.sheet_apart.specs.declared.units.TheConstants.{CIRCLE, CLEAR_BELOW, HALF_UNIT, UNIT}
 
 -- the direction that a list states for a target
 abbrev pub stated_by : List ℤ → ℕ → ℤ
@@ -19,20 +19,25 @@ abbrev pub circle_of : Choice → ℕ
 circle_of c = c.denominator * CIRCLE
 
 -- One rotation, over any denominator, and full circles bring each stated direction so near the
--- choice's: within so many units of 0.000001 gon.
-pub record AreBroughtWithin (targets : ℕ) (c : Choice) (stated : ℕ → ℤ) (most : ℕ) : Type 0 where
+-- choice's: within so many halves of 0.000000001 gon.
+pub record AreBroughtNear (targets : ℕ) (c : Choice) (stated : ℕ → ℤ) (most : ℕ) : Type 0 where
   pub parts : ℕ
   pub positive : 1 ≤ parts
   pub rotation : ℤ
   pub circles : ℕ → ℤ
   pub each : (t : ℕ) → t < targets
-      → IsWithin (pos (most * (UNIT * c.denominator * parts)))
-      (pos parts *ℤ (difference c stated t +ℤ pos (circle_of c) *ℤ circles t) -ℤ rotation)
+      → IsWithin (pos (most * (c.denominator * parts)))
+      (pos 2
+      *ℤ (pos parts *ℤ (difference c stated t +ℤ pos (circle_of c) *ℤ circles t) -ℤ rotation))
 
--- What is this near a choice, in half units times its denominator, is nearer than half of 0.000001
--- gon.
+-- The same, within so many units of 0.000001 gon.
+abbrev pub AreBroughtWithin : ℕ → Choice → (ℕ → ℤ) → ℕ → Type 0
+AreBroughtWithin targets c stated most = AreBroughtNear targets c stated (2 * UNIT * most)
+
+-- What is this near a choice, in half units times its denominator, is nearer than an eighth of
+-- 0.000001 gon.
 abbrev pub IsClear : Choice → ℕ → Type 0
-IsClear c near = 2 * HALF_UNIT * near < UNIT * c.denominator
+IsClear c near = HALF_UNIT * near < CLEAR_BELOW * c.denominator
 
 -- the least whole number that is not below a fraction
 pub record IsRoundedUp (numerator denominator whole : ℕ) : Type 0 where

@@ -4,16 +4,16 @@ ghost use Rattle.adjust_kernel.specs.Pairs.{choice_stated_by};
 ghost use Rattle.sheet_apart.specs.Apart.{IsApart, IsClear, IsRoundedUp, stated_by};
 
 use crate::arc::spread;
-use crate::units::{CIRCLE, HALF_UNIT, UNIT};
+use crate::units::{CIRCLE, CLEAR_BELOW, HALF_UNIT, UNIT};
 use adjust_kernel::Sheet;
 
-/// Whether what is so near a sheet, in half units times its denominator, is nearer than half of
-/// 0.000001 gon.
+/// Whether what is so near a sheet, in half units times its denominator, is nearer than an eighth
+/// of 0.000001 gon.
 pub fn is_clear(sheet: &Sheet, near: u128) -> bool
     ensures { IsTrue result ↔ IsClear (choice_stated_by sheet.now) near }
 {
-    near.saturating_mul(2 * u128::from(HALF_UNIT))
-        < u128::from(UNIT) * u128::from(sheet.denominator())
+    near.saturating_mul(u128::from(HALF_UNIT))
+        < u128::from(CLEAR_BELOW) * u128::from(sheet.denominator())
 }
 
 /// Nothing is further apart on the circle, in units of 0.000001 gon: half a circle, and 1.

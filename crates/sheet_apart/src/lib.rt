@@ -17,7 +17,7 @@ mod units;
 
 pub use apart::{apart_of, is_clear};
 pub use rounding::rounded;
-pub use units::{CIRCLE, HALF_UNIT, UNIT};
+pub use units::{CIRCLE, CLEAR_BELOW, HALF_UNIT, UNIT};
 
 #[cfg(test)]
 mod tests;

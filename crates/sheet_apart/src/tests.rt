@@ -78,14 +78,14 @@ fn half_the_spread_and_what_is_left_open_are_rounded_up(rt: HostRuntime) -> Resu
 }
 
 #[test]
-fn what_is_near_counts_up_to_half_a_unit(rt: HostRuntime) -> Result<(), Fail> {
-    // 0.000001 gon is a fifth of a half unit, so half of it a tenth: 100 of 1,000 parts.
+fn what_is_near_counts_up_to_an_eighth_of_a_unit(rt: HostRuntime) -> Result<(), Fail> {
+    // 0.000001 gon is a fifth of a half unit, so an eighth of it a fortieth: 25 of 1,000 parts.
     let thousandths = sheet_of(&rt, rt.alloc(), 1_000, &[0, 10_000_006_000])?;
     let cases = [
         (0, Some(15)),
         (1, Some(16)),
-        (99, Some(16)),
-        (100, None),
+        (24, Some(16)),
+        (25, None),
         (u128::MAX, None),
     ];
     for (near, want) in cases {
