@@ -1,1 +1,4 @@
+pub mod Pushed
 pub mod LeastLaws
+pub mod ToldLaws
+pub mod TiesLaws

@@ -1,5 +1,5 @@
 -- Why a station's least-squares directions are not told.
-use Rattle.std.specs.Prelude.{ℕ, Some, length, ℤ}
+use Rattle.std.specs.Prelude.{ℕ, Some}
 use Rattle.adjust_kernel.specs.Matching.{Matches}
 use Rattle.adjust_kernel.specs.Pairs.{choice_stated_by}
 use Rattle.adjust_kernel.specs.Sheets.{SheetValue}
@@ -7,13 +7,14 @@ use Rattle.adjust_kernel.specs.Stations.{StationValue}
 use Rattle.adjust_kernel.specs.Verdict.{Stands}
 use Rattle.adjust_kernel.specs.declared.kernel_fault.KernelFault.{KernelFault}
 use Rattle.adjust_kernel.specs.declared.kernel_fault.KernelFault.TheVariants as kernel
-use Rattle.sheet_apart.specs.Apart.{IsApart, IsClear}
+use Rattle.sheet_apart.specs.Apart.{IsClear}
 use Rattle.sheet_near.specs.declared.fault.NearFault.{NearFault}
 use Rattle.sheet_near.specs.declared.fault.NearFault.TheVariants as near
-use Rattle.sheet_nearness.specs.Nearness.{AreTied, IsNearnessOf}
+use Rattle.sheet_nearness.specs.Nearness.{AreTied}
 use Rattle.sheet_nearness.specs.declared.nearness.Nearness.{Nearness}
 use Rattle.stated_directions.specs.declared.fault.AdjustFault.{AdjustFault}
 use Rattle.stated_directions.specs.declared.fault.AdjustFault.TheVariants.{Kernel, Unclear, Memory}
+use Rattle.stated_directions.specs.Told.{IsMeasured}
 
 -- a fault of the kernel as one of these
 abbrev pub of_kernel : KernelFault → AdjustFault
@@ -31,23 +32,12 @@ pub record IsFarInSheet (station : StationValue) (limit number : ℕ) : Type 0 w
   pub far : Stands station sheet (Some limit) (kernel.Residual number)
 
 -- Some sheet of the station keeps the limit, and by the fewest observations that lead from the first
--- target to all others, what is near it is not known to half of 0.000001 gon.
+-- target to all others, what is near it is not known to an eighth of 0.000001 gon.
 pub record IsUnclear (station : StationValue) (limit : ℕ) : Type 0 where
   pub sheet : SheetValue
-  pub matches : Matches station sheet
   pub nearness : Nearness
-  pub is_nearness : IsNearnessOf station sheet limit nearness
+  pub measured : IsMeasured station limit sheet nearness
   pub unclear : ¬ IsClear (choice_stated_by sheet) nearness.most
-
--- Some sheet of the station keeps the limit, what is near it is clear, and stated directions are so
--- far apart from it and from what is near it.
-pub record IsTold (station : StationValue) (limit : ℕ) (stated : ℕ → ℤ) (apart : ℕ) : Type 0 where
-  pub sheet : SheetValue
-  pub matches : Matches station sheet
-  pub nearness : Nearness
-  pub is_nearness : IsNearnessOf station sheet limit nearness
-  pub clear : IsClear (choice_stated_by sheet) nearness.most
-  pub is_apart : IsApart (length station.targets) (choice_stated_by sheet) stated nearness.most apart
 
 -- When each fault is answered: no fault of the kernel comes but two.
 abbrev pub IsAdjustFault : StationValue → ℕ → AdjustFault → Type 0

@@ -1,2 +1,3 @@
 pub mod LeastOf
+pub mod Told
 pub mod Faults

@@ -2,14 +2,14 @@
 ghost use Rattle.std.specs.Prelude.{◌≡◌, ◌≤◌, ◌-◌, List, ℤ, length, IfErr, IfOk};
 ghost use Rattle.adjust_kernel.specs.Residuals.{Choice};
 ghost use Rattle.sheet_apart.specs.Apart.{AreBroughtWithin, stated_by};
-ghost use Rattle.stated_directions.specs.Faults.{IsAdjustFault, IsTold};
+ghost use Rattle.stated_directions.specs.Faults.{IsAdjustFault};
 ghost use Rattle.stated_directions.specs.LeastOf.{IsLeastOf};
+ghost use Rattle.stated_directions.specs.Told.{IsTold};
 
 use crate::fault::AdjustFault;
+use crate::measured::measured_sheet;
 use adjust_kernel::{ResidualLimit, Station};
 use sheet_apart::apart_of;
-use sheet_near::near_sheet;
-use sheet_nearness::nearness_of;
 use std::alloc::Global;
 
 /// How far stated directions, one for each target of a station, are apart from its least-squares
@@ -38,8 +38,7 @@ pub fn apart_from_least(
     ensures told { IfOk result (IsTold station.now residual (stated_by stated.now)) }
     ensures fault { IfErr result (IsAdjustFault station.now residual) }
 {
-    let sheet = near_sheet(alloc, station)?;
-    let nearness = nearness_of(station, &sheet, residual)?;
+    let (sheet, nearness) = measured_sheet(alloc, station, residual)?;
     let Some(apart) = apart_of(&sheet, nearness.most, stated) else {
         return Err(AdjustFault::Unclear);
     };

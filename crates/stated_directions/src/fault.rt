@@ -1,9 +1,11 @@
 //! Why a station's least-squares directions are not told.
 ghost use Rattle.std.specs.Prelude.{◌≡◌};
 ghost use Rattle.stated_directions.specs.Faults.{of_kernel, of_near};
+ghost use Rattle.stated_directions.specs.declared.fault.AdjustFault.TheVariants as adjust;
 
 use adjust_kernel::KernelFault;
 use sheet_near::NearFault;
+use std::alloc::AllocError;
 use thiserror::Error;
 
 /// Why a station's least-squares directions are not told.
@@ -13,8 +15,8 @@ pub enum AdjustFault {
     /// lies further from the near sheet than the limit. No other fault of the kernel comes.
     #[error("{0}")]
     Kernel(KernelFault),
-    /// The near sheet leaves half of 0.000001 gon open, or more.
-    #[error("the near sheet leaves half of 0.000001 gon open, or more")]
+    /// The near sheet leaves an eighth of 0.000001 gon open, or more.
+    #[error("the near sheet leaves an eighth of 0.000001 gon open, or more")]
     Unclear,
     /// Memory ran out.
     #[error("out of memory")]
@@ -37,5 +39,13 @@ impl From<NearFault> for AdjustFault {
             NearFault::NotConnected => AdjustFault::Kernel(KernelFault::NotConnected),
             NearFault::Memory => AdjustFault::Memory,
         }
+    }
+}
+
+impl From<AllocError> for AdjustFault {
+    ghost from_gives = { λ _ fault. fault ≡ adjust.Memory };
+
+    fn from(_: AllocError) -> AdjustFault {
+        AdjustFault::Memory
     }
 }

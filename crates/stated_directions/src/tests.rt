@@ -1,7 +1,8 @@
 //! Stated directions of stations worked by hand, and where memory is refused.
 
-use crate::{AdjustFault, apart_from_least};
+use crate::{AdjustFault, apart_from_least, rounded_directions};
 use adjust_kernel::{KernelFault, LARGEST_RESIDUAL_LIMIT, Name, Obs, ResidualLimit, Station};
+use sheet_apart::CIRCLE;
 use std::alloc::Global;
 use std::process::Abort;
 use std::test::Fail;
@@ -115,37 +116,247 @@ fn the_stated_limit_counts(rt: HostRuntime) -> Result<(), Fail> {
     Ok(())
 }
 
+/// Four targets 25 gon apart, in three sets, complete.
+const WHOLE: [(u32, u32, u32); 12] = [
+    (0, 0, 0),
+    (0, 1, 5_000_000),
+    (0, 2, 10_000_000),
+    (0, 3, 15_000_000),
+    (1, 0, 20_000_000),
+    (1, 1, 25_000_000),
+    (1, 2, 30_000_000),
+    (1, 3, 35_000_000),
+    (2, 0, 70_000_000),
+    (2, 1, 75_000_000),
+    (2, 2, 0),
+    (2, 3, 5_000_000),
+];
+
+/// The same with a gap in each set.
+const GAPS: [(u32, u32, u32); 6] = [
+    (0, 0, 0),
+    (0, 1, 5_000_000),
+    (1, 1, 25_000_000),
+    (1, 2, 30_000_000),
+    (2, 2, 0),
+    (2, 3, 5_000_000),
+];
+
 #[test]
 fn more_targets_and_gaps_take_no_more_than_they_need(rt: HostRuntime) -> Result<(), Fail> {
-    // Four targets 25 gon apart, in three sets: complete, and with a gap in each set.
-    let whole: [(u32, u32, u32); 12] = [
-        (0, 0, 0),
-        (0, 1, 5_000_000),
-        (0, 2, 10_000_000),
-        (0, 3, 15_000_000),
-        (1, 0, 20_000_000),
-        (1, 1, 25_000_000),
-        (1, 2, 30_000_000),
-        (1, 3, 35_000_000),
-        (2, 0, 70_000_000),
-        (2, 1, 75_000_000),
-        (2, 2, 0),
-        (2, 3, 5_000_000),
-    ];
-    let gaps: [(u32, u32, u32); 6] = [
-        (0, 0, 0),
-        (0, 1, 5_000_000),
-        (1, 1, 25_000_000),
-        (1, 2, 30_000_000),
-        (2, 2, 0),
-        (2, 3, 5_000_000),
-    ];
     let stated = [0, 25_000_000_000, 50_000_000_000, 75_000_000_000];
-    let cases: [&[(u32, u32, u32)]; 2] = [&whole, &gaps];
+    let cases: [&[(u32, u32, u32)]; 2] = [&WHOLE, &GAPS];
     for observed in cases {
         let station = station_of(&rt, rt.alloc(), 3, b"ABCD", observed)?;
         let answer = apart(&rt, rt.alloc(), &station, &stated, LARGEST_RESIDUAL_LIMIT);
         assert_eq!(rt; answer, Ok(0));
+    }
+    Ok(())
+}
+
+/// The directions of a station, rounded, under a limit.
+fn rounded(
+    rt: &impl Abort,
+    alloc: Global,
+    station: &Station,
+    step: u32,
+    limit: u32,
+) -> Result<Vec<u64>, AdjustFault> {
+    assert!(rt; step > 0);
+    assert_eq!(rt; CIRCLE % u64::from(step), 0);
+    let limit = ResidualLimit::new(limit).expect(rt, "a limit");
+    rounded_directions(alloc, station, step, limit)
+}
+
+/// Whether an answer is these directions.
+fn assert_rounded(rt: &impl Abort, alloc: Global, station: &Station, step: u32, want: &[u64]) {
+    match rounded(rt, alloc, station, step, LARGEST_RESIDUAL_LIMIT) {
+        Ok(directions) => assert_eq!(rt; directions.as_slice(), want),
+        Err(fault) => assert!(rt; false, "{fault}"),
+    }
+}
+
+#[test]
+fn least_directions_are_rounded_to_steps(rt: HostRuntime) -> Result<(), Fail> {
+    // B lies 50.00003 gon from A.
+    let station = station_of(&rt, rt.alloc(), 2, b"AB", &TWO_SETS)?;
+    let cases = [
+        (1_000, [0, 50_000_030_000]),
+        (10_000, [0, 50_000_030_000]),
+        (100_000, [0, 50_000_000_000]),
+        (100_000_000, [0, 50_000_000_000]),
+    ];
+    for (step, want) in cases {
+        assert_rounded(&rt, rt.alloc(), &station, step, &want);
+    }
+    Ok(())
+}
+
+#[test]
+fn directions_stand_on_the_circle_from_0(rt: HostRuntime) -> Result<(), Fail> {
+    // What A and B read, in half units of 0.000005 gon, the step, and B's direction.
+    let cases = [
+        // B lies 25 gon, or 0.00001 gon, before A.
+        ((5_000_000, 0), 1_000, 375_000_000_000),
+        ((2, 0), 1_000, 399_999_990_000),
+        ((0, 79_999_998), 1_000, 399_999_990_000),
+        ((0, 79_999_998), 10_000, 399_999_990_000),
+        // up to a full circle
+        ((0, 79_999_998), 100_000, 0),
+        ((79_999_998, 0), 1_000, 10_000),
+    ];
+    for ((first, second), step, want) in cases {
+        let station = station_of(&rt, rt.alloc(), 1, b"AB", &[(0, 0, first), (0, 1, second)])?;
+        assert_rounded(&rt, rt.alloc(), &station, step, &[0, want]);
+    }
+    Ok(())
+}
+
+/// Three sets of two targets, 1, 2 and 2 half units apart: 5/3 of 0.000005 gon, 0.000008333.. gon.
+const THIRDS: [(u32, u32, u32); 6] = [
+    (0, 0, 0),
+    (0, 1, 1),
+    (1, 0, 0),
+    (1, 1, 2),
+    (2, 0, 0),
+    (2, 1, 2),
+];
+
+#[test]
+fn the_nearest_step_is_taken(rt: HostRuntime) -> Result<(), Fail> {
+    let station = station_of(&rt, rt.alloc(), 3, b"AB", &THIRDS)?;
+    let cases = [(1, 8_333), (10, 8_330), (1_000, 8_000), (10_000, 10_000)];
+    for (step, want) in cases {
+        assert_rounded(&rt, rt.alloc(), &station, step, &[0, want]);
+    }
+    Ok(())
+}
+
+#[test]
+fn no_directions_are_told_of_what_holds_nothing_or_lies_far_off(
+    rt: HostRuntime,
+) -> Result<(), Fail> {
+    let parts = station_of(&rt, rt.alloc(), 2, b"AB", &[(0, 0, 0), (1, 1, 4)])?;
+    let even = station_of(&rt, rt.alloc(), 2, b"AB", &TWO_SETS)?;
+    let cases = [
+        (&parts, 2_000, KernelFault::NotConnected),
+        (&parts, 0, KernelFault::NotConnected),
+        (&even, 0, KernelFault::Residual(1)),
+    ];
+    for (station, limit, want) in cases {
+        match rounded(&rt, rt.alloc(), station, 1_000, limit) {
+            Ok(_) => assert!(rt; false, "no directions"),
+            Err(fault) => assert_eq!(rt; fault, AdjustFault::Kernel(want)),
+        }
+    }
+    Ok(())
+}
+
+#[test]
+fn what_was_rounded_is_apart_by_half_of_what_it_is_off(rt: HostRuntime) -> Result<(), Fail> {
+    // 8,333.3.. units of 0.000000001 gon: off by 0.3.., 333.3.., 1,666.6.. and 2,666.6..
+    let station = station_of(&rt, rt.alloc(), 3, b"AB", &THIRDS)?;
+    let cases = [(8_333, 1), (8_000, 1), (10_000, 1), (11_000, 2)];
+    for (second, want) in cases {
+        let stated = [0, second];
+        let answer = apart(&rt, rt.alloc(), &station, &stated, LARGEST_RESIDUAL_LIMIT);
+        assert_eq!(rt; answer, Ok(want));
+    }
+    Ok(())
+}
+
+/// How many blocks of memory are held at most.
+const BLOCKS: usize = 60_000;
+
+/// How many sizes of blocks are tried, each half of the one before: from 2^40 bytes down to 16.
+const SIZES: usize = 37;
+
+/// The bytes by which the memory that is left grows from try to try: fewer than any list takes.
+const STEP: usize = 16;
+
+/// Holds all memory that there is, but for a spare block that it gives back at the end.
+fn hoard_of_all_but(alloc: Global, spare: Vec<u8>) -> Vec<Vec<u8>> {
+    let mut hoard: Vec<Vec<u8>> = Vec::new(alloc);
+    if hoard.reserve(BLOCKS).is_err() {
+        return hoard;
+    }
+    let mut size: usize = 1 << 40;
+    for _ in 0..SIZES {
+        for _ in 0..BLOCKS {
+            match Vec::<u8>::with_capacity(alloc, size) {
+                Ok(block) => {
+                    if hoard.push(block).is_err() {
+                        return hoard;
+                    }
+                }
+                Err(_) => break,
+            }
+        }
+        size /= 2;
+    }
+    drop(spare);
+    hoard
+}
+
+/// With too little memory for these observations of four targets the answer is `Memory`, until there
+/// is enough.
+fn assert_each_refusal(
+    rt: &impl Abort,
+    alloc: Global,
+    observed: &[(u32, u32, u32)],
+) -> Result<(), Fail> {
+    let station = station_of(rt, alloc, 3, b"ABCD", observed)?;
+    for tries in 0..200usize {
+        let spare = Vec::<u8>::with_capacity(alloc, STEP * tries)?;
+        let held = hoard_of_all_but(alloc, spare);
+        let answer = rounded(rt, alloc, &station, 1_000, LARGEST_RESIDUAL_LIMIT);
+        drop(held);
+        match answer {
+            Err(fault) => assert_eq!(rt; fault, AdjustFault::Memory),
+            Ok(directions) => {
+                let want = [0, 25_000_000_000, 50_000_000_000, 75_000_000_000];
+                assert_eq!(rt; directions.as_slice(), want.as_slice());
+                assert!(rt; tries > 0);
+                return Ok(());
+            }
+        }
+    }
+    assert!(rt; false, "refused however much memory there was");
+    Ok(())
+}
+
+/// `rt test` runs it. `rt try --test` watches over memory itself, and ends the test in place of
+/// refusing.
+#[test]
+fn each_refused_growth_is_answered_by_memory(rt: HostRuntime) -> Result<(), Fail> {
+    assert_each_refusal(&rt, rt.alloc(), &WHOLE)
+}
+
+/// `rt test` runs it, as above.
+#[test]
+fn each_refused_growth_for_a_station_with_gaps_is_too(rt: HostRuntime) -> Result<(), Fail> {
+    assert_each_refusal(&rt, rt.alloc(), &GAPS)
+}
+
+#[test]
+fn a_fault_says_what_it_is(rt: HostRuntime) -> Result<(), Fail> {
+    let cases = [
+        (
+            AdjustFault::Kernel(KernelFault::NotConnected),
+            "no observations tie all sets and targets together",
+        ),
+        (
+            AdjustFault::Kernel(KernelFault::Residual(3)),
+            "the residual of row 3 is above the residual limit",
+        ),
+        (
+            AdjustFault::Unclear,
+            "the near sheet leaves an eighth of 0.000001 gon open, or more",
+        ),
+        (AdjustFault::Memory, "out of memory"),
+    ];
+    for (fault, want) in cases {
+        assert_eq!(rt; fault.to_string(rt.alloc())?.as_str(), want);
     }
     Ok(())
 }
