@@ -23,6 +23,8 @@ use Rattle.station_check.specs.declared.fault.Fault.{Fault}
 use Rattle.station_check.specs.Records.{ComesTo, at_end}
 use Rattle.station_check.specs.Surveys.{IsSurvey}
 use Rattle.station_check.specs.Accepted.{IsAccepted}
+use Rattle.station_check.specs.Means.{HasStation}
+use Rattle.station_check.specs.StationOfFile.{IsStationOfFile}
 use Rattle.station_check.specs.Judged.{IsJudgedSheet, IfKernels}
 
 -- Lines and the end after them come to these blocks: they are the blocks of the lines behind those
@@ -69,6 +71,32 @@ HasRecordedFaces = (limits : FaceLimits) (h : History) (stations : List Surveyed
 -- An accepted sheet keeps the residual limit.
 abbrev pub KeepsResiduals : Type 0
 KeepsResiduals = (station : StationValue) (sheet : SheetValue) (limit : Option ℕ) → IsAcceptedSheet station sheet limit → IfSome limit (KeepsLimit station sheet)
+
+-- The station that a name finds is that of the lines of the file.
+pub station_found : FindsIts → IsJustRecorded → HasRecordedFaces → (limits : FaceLimits) (file : FileAnswers) (name : List ℕ) (its : SurveyedStation) → AreLimits limits → HasStation limits file name its
+    → IsStationOfFile limits file name its
+station_found finds recorded beside limits file name its small has =
+    let blocks = has.survey.blocks in
+    let stations = has.stations in
+    let surveyed = has.survey.stations_are in
+    let well = came_well limits [] file.lines file.last blocks tt has.survey.file in
+    let in_order : well.more ≡ reverse blocks = sym (ap reverse well.split ∙ reverse-reverse well.more) in
+    let found = (finds limits blocks stations name its well.faultless surveyed).0 has.named in
+    record {
+      blocks = blocks;
+      ended = well.ended;
+      lines = subst (λ (bs : List GsiBlock). AllZip IsBlock file.lines bs) in_order well.each;
+      faultless = well.faultless;
+      closed = well.closed;
+      stations = stations;
+      surveyed = surveyed;
+      listed = found.0;
+      named = found.1;
+      only = λ other among same.
+          let e : Some other ≡ Some its = sym ((finds limits blocks stations name other well.faultless surveyed).1 (among, same)) ∙ has.named in cc;
+      exactly = λ k. subst (λ (n : List ℕ). Contains (observed its.station) k ↔ IsRecorded limits blocks n k) found.1 (recorded limits blocks stations its k small well.faultless surveyed found.0);
+      within = subst (λ (n : List ℕ). AllZip (IsRecordedWith limits blocks n) (observed its.station) its.faces) found.1 (beside limits blocks stations its surveyed found.0);
+    }
 
 -- A sheet that was judged well is accepted.
 pub accepted_of : FindsIts → IsJustRecorded → HasRecordedFaces → KeepsResiduals → (limits : FaceLimits) (most : Option ℕ) (file : FileAnswers) (told : Told) (stations : List SurveyedStation) (a : Accepted) → AreLimits limits → IsSurvey limits file stations → IsJudgedSheet stations most told (Ok a)

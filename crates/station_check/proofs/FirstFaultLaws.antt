@@ -76,7 +76,7 @@ is_first limits answers fault h =
     }
 
 -- where no block has a fault, none has that came before some of them
-clean_before : (limits : FaceLimits) (past : History) (more : List GsiBlock) → IsWithoutFault limits (reverse_aux more past) → IsWithoutFault limits past
+pub clean_before : (limits : FaceLimits) (past : History) (more : List GsiBlock) → IsWithoutFault limits (reverse_aux more past) → IsWithoutFault limits past
 clean_before limits past [] clean = clean
 clean_before limits past (b ∷ more) clean = (clean_before limits (b ∷ past) more clean).1
 

@@ -7,7 +7,8 @@ use Rattle.sheet_format.specs.declared.fault.SheetFault.TheVariants as sheet
 use Rattle.station_check.specs.declared.fault.Fault.{Fault}
 use Rattle.station_check.specs.declared.fault.Fault.TheVariants.{Gsi, Book, SheetRead, Sheet, NoStation, Means, Kernel, Write, Memory}
 use Rattle.station_check.specs.Causes.{IsOfFile}
-use Rattle.station_check.specs.SheetInput.{IsReadOut, LeavesAtFault}
+use Rattle.byte_ends.specs.Came.{IsReadOut}
+use Rattle.station_check.specs.SheetInput.{LeavesAtFault}
 
 -- A fault of the sheet's bytes is answered where the reader has ended.
 pub left_by_text : (fault : SheetFault) (told : Option Told) (failed failed' : Bool) → IsReadOut told failed failed' → LeavesAtFault (Sheet fault) told failed failed'

@@ -2,8 +2,6 @@
 use Rattle.std.specs.Prelude.{◌≡◌, ◌⊎◌, ℕ, Bool, true, List, Option, Result, Ok, Err}
 use Rattle.std.specs.Io.KnownBytes.{Appends}
 use Rattle.byte_ends.specs.Sink.{AppendsSome}
-use Rattle.station_check.specs.declared.fault.Fault.{Fault}
-use Rattle.station_check.specs.VerdictLines.{refusal_line}
 
 -- A writer got this text whole, and no call of it failed.
 pub record IsWritten {W : Type 0} (text : List ℕ) (failed : W → Bool)
@@ -24,22 +22,22 @@ WritesOrFails text failed holds old new =
     IsWritten text failed holds old new ⊎ IsCutShort text failed holds old new
 
 -- the exit status of an answer: 1 for a refusal of any kind, and else 0
-abbrev pub status_of : {A : Type 0} → Result A Fault → ℕ
+abbrev pub status_of : {A F : Type 0} → Result A F → ℕ
 status_of (Ok x) = 0
 status_of (Err fault) = 1
 
--- What `err` got of an answer: the line of a refusal; and where there is none, nothing was asked of
--- it.
-abbrev pub Reports : {A E : Type 0} → Result A Fault
+-- What `err` got of an answer: the line of a refusal, as its fault has it; and where there is none,
+-- nothing was asked of it.
+abbrev pub Reports : {A F E : Type 0} → (F → List ℕ) → Result A F
     → (E → Bool) → (E → Option (List ℕ)) → E → E → Type 0
-Reports (Ok x) failed holds old new = new ≡ old
-Reports (Err fault) failed holds old new = WritesOrFails (refusal_line fault) failed holds old new
+Reports line (Ok x) failed holds old new = new ≡ old
+Reports line (Err fault) failed holds old new = WritesOrFails (line fault) failed holds old new
 
 -- A run ended with an answer of which this is so: its status is that of the answer, and the line
 -- of a refusal went to `err`.
-pub record EndsWith {A E : Type 0} (So : Result A Fault → Type 0) (status : ℕ) (failed : E → Bool)
-    (holds : E → Option (List ℕ)) (err err' : E) : Type 0 where
-  pub answer : Result A Fault
+pub record EndsWith {A F E : Type 0} (line : F → List ℕ) (So : Result A F → Type 0) (status : ℕ)
+    (failed : E → Bool) (holds : E → Option (List ℕ)) (err err' : E) : Type 0 where
+  pub answer : Result A F
   pub so : So answer
   pub exits : status ≡ status_of answer
-  pub reports : Reports answer failed holds err err'
+  pub reports : Reports line answer failed holds err err'

@@ -8,6 +8,7 @@
 //! | `write_means` | writes the sheet of a station whose sets are complete: means |
 //! | `write_list` | writes the stations of a field file, their directions and face differences |
 //! | `write_words` | writes the words of a field file |
+//! | `stations_of_file` | the stations of a field file, for what else is made of them |
 //! | `run_check`, `run_means`, `run_list`, `run_words` | the same as commands: a line of the verdict or the text, the line of a refusal, and the exit status |
 //!
 //! Each reads its bytes from a `Source` and writes to a `Sink`, which may be a file, a slice, or what
@@ -51,9 +52,9 @@ pub use check::{check_bytes, check_slices, handed_in};
 pub use fault::Fault;
 pub use list::write_list;
 pub use means::write_means;
-pub use refused::refusal_line;
+pub use refused::{add_fault, add_kernel_fault, refusal_line};
 pub use runs::{DONE, REFUSED, refuse, run_check, run_list, run_means, run_words};
 pub use survey::survey as stations_of_file;
-pub use verdict_line::{LONGEST_VERDICT_LINE, VerdictLine};
+pub use verdict_line::{LONGEST_VERDICT_LINE, VerdictLine, add, add_numbered};
 pub use whole_text::write_whole;
 pub use words::write_words;

@@ -26,8 +26,8 @@ pub fn refusal_line(fault: Fault) -> VerdictLine
     line
 }
 
-/// Adds the text of a fault.
-fn add_fault(line: &mut VerdictLine, fault: Fault)
+/// Adds the text of a fault, to a line that has room for it.
+pub fn add_fault(line: &mut VerdictLine, fault: Fault)
     requires { array_vec_len line.old ≤ 12 }
     ensures items { line.new.items ≡ line.old.items ++ fault_text fault }
     ensures len { array_vec_len line.new ≤ array_vec_len line.old + 110 }
@@ -200,8 +200,9 @@ fn add_means_fault(line: &mut VerdictLine, fault: MeansFault)
     }
 }
 
-/// Adds the name of a fault of the kernel, and the number that it carries.
-fn add_kernel_fault(line: &mut VerdictLine, fault: KernelFault)
+/// Adds the name of a fault of the kernel, and the number that it carries, to a line that has room
+/// for them.
+pub fn add_kernel_fault(line: &mut VerdictLine, fault: KernelFault)
     requires { array_vec_len line.old ≤ 20 }
     ensures items { line.new.items ≡ line.old.items ++ kernel_fault_text fault }
     ensures len { array_vec_len line.new ≤ array_vec_len line.old + 20 }

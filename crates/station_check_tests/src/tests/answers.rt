@@ -3,9 +3,9 @@
 ghost use Rattle.std.specs.Prelude.{◌<◌};
 
 use super::files::{ACCEPTED, LIST, SHEET};
-use byte_ends::{Held, Script};
+use byte_ends::{Held, Script, Sink, Source};
 use station_book::Limits;
-use station_check::{run_check, run_list, run_means};
+use station_check::{run_check, run_list, run_means, run_words};
 use std::alloc::Global;
 use std::test::Fail;
 
@@ -15,6 +15,35 @@ pub const AMPLE: usize = 200_000;
 /// The limits of 2c and 2i that are taken where no others are named, in units of 0.00001 gon.
 pub fn usual_limits() -> Result<Limits, Fail> {
     Ok(Limits::new(2_000, 2_000).ok_or("no limits")?)
+}
+
+/// A command of the program, with the usual limits. The means are those of S1.
+#[derive(Clone, Copy, Debug)]
+pub enum Command {
+    Check,
+    Means,
+    List,
+    Words,
+}
+
+impl Command {
+    /// The status of a run of the command over these ends.
+    pub fn run<R: Source, Q: Source, W: Sink, E: Sink>(
+        self,
+        alloc: Global,
+        gsi: R,
+        sheet: &mut Q,
+        out: &mut W,
+        err: &mut E,
+    ) -> Result<u8, Fail> {
+        let limits = usual_limits()?;
+        Ok(match self {
+            Command::Check => run_check(alloc, gsi, sheet, limits, None, out, err),
+            Command::Means => run_means(alloc, gsi, b"S1", limits, out, err),
+            Command::List => run_list(alloc, gsi, limits, out, err),
+            Command::Words => run_words(alloc, gsi, out, err),
+        })
+    }
 }
 
 /// What a run answered: its status, what went out, and what was refused.

@@ -1,8 +1,9 @@
 //! Readers that fail or never end, and writers that fail, at the check, the list and the means.
 
-use super::answers::{AMPLE, usual_limits};
+use super::answers::{AMPLE, Command, usual_limits};
 use super::files::{
-    ACCEPTED, Broken, Endless, LIST, Noted, Recovers, SHEET, STATION, Stuck, with_blank_lines,
+    ACCEPTED, Broken, Endless, LIST, Noted, Recovers, Resumes, SHEET, STATION, Stuck, THREE_LINES,
+    THREE_LINES_WORDS, with_blank_lines,
 };
 use byte_ends::{Held, OfRead, OfWrite, Script};
 use gsi_file::{FileFault, FileKind};
@@ -10,6 +11,8 @@ use sheet_format::{LONGEST_SHEET, RowKind, SheetFault};
 use station_check::{
     Fault, check_bytes, run_check, run_list, write_list, write_means, write_words,
 };
+use std::alloc::Global;
+use std::process::Abort;
 use std::test::Fail;
 
 #[test]
@@ -71,6 +74,24 @@ fn a_sheet_that_broke_off_or_ended_is_not_read_on(rt: HostRuntime) -> Result<(),
             };
             assert_eq!(rt; verdict.err(), fault, "{} bytes", text.len());
             assert_eq!(rt; reader.asked_on, 0, "{} bytes", text.len());
+
+            let mut reader = Recovers::new(text, fails);
+            let mut sheet = OfRead::new(&mut reader);
+            let gsi = Script::new(STATION, AMPLE, false);
+            let mut out = Held::new(rt.alloc(), AMPLE, AMPLE, false)?;
+            let mut err = Held::new(rt.alloc(), AMPLE, AMPLE, false)?;
+            let status = Command::Check.run(rt.alloc(), gsi, &mut sheet, &mut out, &mut err)?;
+            drop(sheet);
+            let printed: &[u8] = if fault.is_none() { ACCEPTED } else { b"" };
+            let refused: &[u8] = match (fails, of_text) {
+                (true, _) => b"refused: sheet: Read\n",
+                (false, Some(_)) => b"refused: sheet row 1: Fields\n",
+                (false, None) => b"",
+            };
+            assert_eq!(rt; out.bytes(), printed, "run over {} bytes", text.len());
+            assert_eq!(rt; err.bytes(), refused, "run over {} bytes", text.len());
+            assert_eq!(rt; status, u8::from(fault.is_some()));
+            assert_eq!(rt; reader.asked_on, 0, "run over {} bytes", text.len());
         }
     }
     Ok(())
@@ -115,6 +136,141 @@ fn a_field_file_that_broke_off_or_ended_is_not_read_on(rt: HostRuntime) -> Resul
             assert_eq!(rt; reader.asked_on, 0, "words of {} bytes", text.len());
         }
     }
+    Ok(())
+}
+
+/// How many bytes the writers that fail once take at a time.
+const STEP: usize = 7;
+
+/// A command over a field file, what it writes where the file ends, and what it has written and the
+/// line of its refusal where the read after the last byte fails.
+#[derive(Clone, Copy)]
+struct Run {
+    command: Command,
+    gsi: &'static [u8],
+    text: &'static [u8],
+    written: &'static [u8],
+    refused: &'static [u8],
+}
+
+fn runs() -> [Run; 4] {
+    let of_all = |command, text| Run {
+        command,
+        gsi: STATION,
+        text,
+        written: b"",
+        refused: b"refused: block 13: Read\n",
+    };
+    [
+        of_all(Command::Check, ACCEPTED),
+        of_all(Command::Means, SHEET),
+        of_all(Command::List, LIST),
+        Run {
+            command: Command::Words,
+            gsi: &STATION[..THREE_LINES],
+            text: THREE_LINES_WORDS,
+            written: THREE_LINES_WORDS,
+            refused: b"refused: block 4: Read\n",
+        },
+    ]
+}
+
+#[test]
+fn a_run_over_a_field_file_that_broke_off_or_ended_does_not_read_on(
+    rt: HostRuntime,
+) -> Result<(), Fail> {
+    let alloc = rt.alloc();
+    for run in runs() {
+        let long = with_blank_lines(alloc, run.gsi)?;
+        for gsi in [run.gsi, long.as_slice()] {
+            for fails in [false, true] {
+                let mut reader = Recovers::new(gsi, fails);
+                let mut sheet = Script::new(SHEET, AMPLE, false);
+                let mut out = Held::new(alloc, AMPLE, AMPLE, false)?;
+                let mut err = Held::new(alloc, AMPLE, AMPLE, false)?;
+                let read = OfRead::new(&mut reader);
+                let status = run
+                    .command
+                    .run(alloc, read, &mut sheet, &mut out, &mut err)?;
+                let printed = if fails { run.written } else { run.text };
+                let refused = if fails { run.refused } else { b"" };
+                assert_eq!(rt; status, u8::from(fails), "{:?}", run.command);
+                assert_eq!(rt; out.bytes(), printed, "{:?}", run.command);
+                assert_eq!(rt; err.bytes(), refused, "{:?}", run.command);
+                assert_eq!(rt; reader.asked_on, 0, "{:?}", run.command);
+            }
+        }
+    }
+    Ok(())
+}
+
+#[test]
+fn a_writer_that_failed_once_is_not_written_on(rt: HostRuntime) -> Result<(), Fail> {
+    let alloc = rt.alloc();
+    // The words of 3,000 lines are three pages; each goes out by a call of its own.
+    let many = "110001+0000000A\n".repeat(alloc, 3_000)?;
+    for run in runs() {
+        // The last call is the flush.
+        for calls in 0..=run.text.len().div_ceil(STEP) {
+            let mut writer = Resumes::new(calls, STEP);
+            stops(&rt, alloc, run.command, run.gsi, &mut writer)?;
+            assert_eq!(rt;
+                writer.bytes,
+                run.text.len().min(calls.saturating_mul(STEP))
+            );
+        }
+    }
+    for calls in 0..=3 {
+        stops(
+            &rt,
+            alloc,
+            Command::Words,
+            many.as_bytes(),
+            &mut Resumes::new(calls, AMPLE),
+        )?;
+    }
+    // The line of a refusal is lost from there on.
+    let line = b"refused: block 1: Word 1\n";
+    for run in runs() {
+        for calls in 0..line.len().div_ceil(STEP) {
+            let mut writer = Resumes::new(calls, STEP);
+            let mut err = OfWrite::new(&mut writer);
+            let mut out = Held::new(alloc, AMPLE, AMPLE, false)?;
+            let mut sheet = Script::new(SHEET, AMPLE, false);
+            let gsi = Script::new(b"5", AMPLE, false);
+            let status = run.command.run(alloc, gsi, &mut sheet, &mut out, &mut err)?;
+            drop(err);
+            assert_eq!(rt; (status, out.bytes().len()), (1, 0), "{:?}", run.command);
+            assert_eq!(rt;
+                (writer.bytes, writer.asked_on),
+                (calls.saturating_mul(STEP), 0)
+            );
+        }
+    }
+    Ok(())
+}
+
+/// Runs a command whose writer fails once: it is refused for that, and the writer not asked again.
+fn stops(
+    rt: &impl Abort,
+    alloc: Global,
+    command: Command,
+    gsi: &[u8],
+    writer: &mut Resumes,
+) -> Result<(), Fail> {
+    let mut sheet = Script::new(SHEET, AMPLE, false);
+    let mut out = OfWrite::new(&mut *writer);
+    let mut err = Held::new(alloc, AMPLE, AMPLE, false)?;
+    let gsi = Script::new(gsi, 100, false);
+    let status = command.run(alloc, gsi, &mut sheet, &mut out, &mut err)?;
+    drop(out);
+    assert_eq!(rt; status, 1, "{command:?}");
+    assert_eq!(rt;
+        err.bytes(),
+        b"refused: write failed\n".as_slice(),
+        "{command:?}"
+    );
+    assert_eq!(rt; writer.asked_on, 0, "{command:?}");
     Ok(())
 }
 

@@ -1,11 +1,11 @@
 use Rattle.std.proofs.Common.{Err}
 use Rattle.byte_ends.specs.Source.{Told}
 use Rattle.gsi_file.specs.FileAnswers.{file_answers}
-use Rattle.station_check.specs.Came.{SomeBytesCame}
+use Rattle.byte_ends.specs.Came.{SomeBytesCame}
 use Rattle.station_check.specs.Judged.{IsChecked}
 use Rattle.station_check.specs.Promise.{KeepsPromise}
 use Rattle.station_check.specs.Surveys.{Surveys}
-use Rattle.station_check.proofs.Coming.{came_so, anything_came}
+use Rattle.byte_ends.proofs.Coming.{came_so, anything_came}
 use Rattle.station_check.proofs.Leaving.{left_alone}
 use Rattle.station_check.proofs.Promises.{PromiseLaws, promise_by_sheet, promise_by_file}
 use Rattle.station_check.proofs.Refusals.{of_check}

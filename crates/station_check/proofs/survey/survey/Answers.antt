@@ -5,7 +5,8 @@ use Rattle.gsi_file.specs.ToCome.{ToCome}
 use Rattle.gsi_file.specs.Standing.{to_come, gives}
 use Rattle.station_check.specs.declared.fault.Fault.TheVariants.{Memory}
 use Rattle.station_check.specs.Surveys.{Surveys}
-use Rattle.station_check.proofs.Coming.{anything_came, lines_came}
+use Rattle.byte_ends.proofs.Coming.{anything_came}
+use Rattle.station_check.proofs.Coming.{lines_came}
 use Rattle.station_check.proofs.survey.survey.Goals as goal
 
 pub returns-in-Err-clause-surveys : goal.returns-in-Err-clause-surveys
