@@ -1,56 +1,109 @@
 //! A field file and a table of directions, compared.
 ghost use Rattle.std.specs.Prelude.{◌≡◌};
+ghost use Rattle.adjust_kernel.specs.declared.limits.TheConstants.{LARGEST_RESIDUAL_LIMIT};
+ghost use Rattle.byte_ends.specs.Came.{SomeBytesCame};
+ghost use Rattle.byte_ends.specs.Input.{input_within};
+ghost use Rattle.direction_table.specs.declared.reading.TheConstants.{LONGEST_TABLE};
 ghost use Rattle.station_check.specs.Came.{SomeLinesCame};
-ghost use Rattle.station_book.specs.Stations.{SurveyedStation};
-ghost use Rattle.station_compare.specs.Comparing.{Compares, ComparesStation};
+ghost use Rattle.station_compare.specs.Answers.{Compares, IsUnreadAtFileFault, LeavesTable};
+ghost use Rattle.station_compare.specs.Comparing.{ByInput, ByTable};
 
+use crate::agreement::Agreement;
 use crate::fault::CompareFault;
-use adjust_kernel::{ResidualLimit, Station};
-use byte_ends::Source;
-use direction_table::read_table;
+use adjust_kernel::{LARGEST_RESIDUAL_LIMIT, ResidualLimit, Station};
+use byte_ends::{Source, read_whole};
+use direction_table::{LONGEST_TABLE, read_table};
 use stated_directions::apart_from_least;
 use station_book::Limits;
+use station_check::laws::{are_limits, station_of_file};
 use station_check::{Fault, stations_of_file};
 use std::alloc::Global;
 
-/// How far the directions that a table states are apart from the least-squares directions of the
-/// station of this name, in units of 0.000001 gon.
+/// Whether the directions that a table states agree with the least-squares directions of the station
+/// of this name, within so many units of 0.000001 gon.
 ///
-/// One rotation brings every stated direction so near to every least-squares choice of directions,
-/// orientations and full turns, and none brings them nearer by 2 units. No observation may lie
-/// further from the adjustment than the residual limit.
+/// Where they agree, one rotation brings every stated direction so near to the least-squares one, least
+/// over all directions, orientations and full turns, and none brings them nearer by 2 units. No
+/// observation may lie further from the adjustment than 2,000 half units (0.005 mgon each).
+///
+/// The field file is read to its end first, and the table's reader is not asked before.
 ///
 /// # Errors
 ///
 /// The first fault of the file; then `NoStation`; then that of the table; then that of the
-/// adjustment. `Memory` may stand in the place of any answer.
-pub fn compare_bytes<R: Source>(
+/// adjustment; then `Apart`. `Memory` may stand in the place of any answer.
+pub fn compare_bytes<R: Source, Q: Source>(
     alloc: Global,
     gsi: R,
-    table: &[u8],
+    table: &mut Q,
     name: &[u8],
     limits: Limits,
-    residual: ResidualLimit,
-) -> Result<u32, CompareFault>
-    ensures { SomeLinesCame (R.told gsi) (λ file.
-        Compares limits file table.now name.now residual result) }
+    within: u32,
+) -> Result<Agreement, CompareFault>
+    // Of the lines that came of the field file, and of the bytes that came of the table's reader:
+    // whatever the two readers are.
+    ensures compares { SomeLinesCame (R.told gsi) (λ file.
+        SomeBytesCame (Q.told table.old) (λ stated.
+        Compares limits file stated name.now within result)) }
+    // The table's reader is not asked where the field file has a fault or no such station; a failed
+    // read of it is never passed over; and a table is compared only where its reader has ended.
+    ensures unread { IsUnreadAtFileFault result table.old table.new }
+    ensures reader { LeavesTable result (Q.told table.new)
+        (Q.failed table.old) (Q.failed table.new) }
 {
+    // What the promise rests on.
+    station_of_file();
+    are_limits(limits);
     let stations = stations_of_file(alloc, gsi, limits)?;
     let Some(surveyed) = stations.get(name) else {
         return Err(CompareFault::File(Fault::NoStation));
     };
-    compare_station(alloc, surveyed.station(), table, residual)
+    compare_station(alloc, surveyed.station(), table, within)
 }
 
-/// The same of the bytes of a table, for the station.
-fn compare_station(
+/// The same of what comes of the table's reader, for the station.
+fn compare_station<Q: Source>(
     alloc: Global,
     station: &Station,
-    table: &[u8],
-    residual: ResidualLimit,
-) -> Result<u32, CompareFault>
-    ensures { ComparesStation station.now table.now residual result }
+    table: &mut Q,
+    within: u32,
+) -> Result<Agreement, CompareFault>
+    ensures compares { SomeBytesCame (Q.told table.old) (λ stated.
+        ByInput station.now within (input_within LONGEST_TABLE stated) result) }
+    ensures reader { LeavesTable result (Q.told table.new)
+        (Q.failed table.old) (Q.failed table.new) }
 {
-    let directions = read_table(alloc, station.targets(), table)?;
-    Ok(apart_from_least(alloc, station, &directions, residual)?)
+    let bytes = read_whole(alloc, table, LONGEST_TABLE)?;
+    compare_table(alloc, station, &bytes, within)
+}
+
+/// The same of the bytes of the table.
+fn compare_table(
+    alloc: Global,
+    station: &Station,
+    bytes: &[u8],
+    within: u32,
+) -> Result<Agreement, CompareFault>
+    ensures { ByTable station.now within bytes.now result }
+{
+    let directions = read_table(alloc, station.targets(), bytes)?;
+    let apart = apart_from_least(alloc, station, &directions, largest_limit())?;
+    if apart > within {
+        return Err(CompareFault::Apart(apart));
+    }
+    Ok(Agreement {
+        name: station.name(),
+        targets: station.targets().len() as u32,
+        apart,
+    })
+}
+
+/// The largest residual limit: no observation may lie further from an adjustment that is told.
+pub(crate) fn largest_limit() -> ResidualLimit
+    ensures { result ≡ LARGEST_RESIDUAL_LIMIT }
+{
+    let Some(limit) = ResidualLimit::new(LARGEST_RESIDUAL_LIMIT) else {
+        unreachable!()
+    };
+    limit
 }

@@ -1,10 +1,13 @@
-//! Why stated directions are not compared.
+//! Why stated directions don't agree, or aren't compared.
 ghost use Rattle.std.specs.Prelude.{◌≡◌};
-ghost use Rattle.station_compare.specs.Comparing.{of_adjust, of_file, of_table};
+ghost use Rattle.station_compare.specs.Faults.{of_adjust, of_file, of_input, of_table};
+ghost use Rattle.station_compare.specs.declared.fault.CompareFault.TheVariants.{Memory};
 
+use byte_ends::InputFault;
 use direction_table::TableFault;
 use stated_directions::AdjustFault;
 use station_check::Fault;
+use std::alloc::AllocError;
 use thiserror::Error;
 
 /// The first fault that stands.
@@ -13,12 +16,23 @@ pub enum CompareFault {
     /// The field file has a fault, or no station of this name.
     #[error("{0}")]
     File(Fault),
+    /// A read of the table failed: see whether it can be read to its end.
+    #[error("a read of the table failed: see whether it can be read to its end")]
+    TableRead,
     /// The bytes are no table of the station's directions: mend them at the row that is named.
     #[error("the table has a fault: {0}")]
     Table(TableFault),
     /// The station's least-squares directions are not told.
     #[error("the station can't be adjusted: {0}")]
     Adjust(AdjustFault),
+    /// The stated directions are so far apart from the least-squares ones, in units of 0.000001 gon,
+    /// and further than was asked for.
+    #[error("the directions are {0} units of 0.000001 gon apart from the least-squares ones")]
+    Apart(u32),
+    /// What was to be written couldn't be written whole: see whether the output is open and has
+    /// room.
+    #[error("a write failed: see whether the output is open and has room")]
+    Write,
     /// Memory ran out: run it again with more.
     #[error("out of memory: run it again with more")]
     Memory,
@@ -35,6 +49,18 @@ impl From<Fault> for CompareFault {
     }
 }
 
+impl From<InputFault> for CompareFault {
+    ghost from_gives = { λ fault given. given ≡ of_input fault };
+
+    fn from(fault: InputFault) -> CompareFault {
+        match fault {
+            InputFault::Read => CompareFault::TableRead,
+            InputFault::TooLong => CompareFault::Table(TableFault::TooLong),
+            InputFault::Memory => CompareFault::Memory,
+        }
+    }
+}
+
 impl From<TableFault> for CompareFault {
     ghost from_gives = { λ fault given. given ≡ of_table fault };
 
@@ -43,6 +69,14 @@ impl From<TableFault> for CompareFault {
             TableFault::Memory => CompareFault::Memory,
             fault => CompareFault::Table(fault),
         }
+    }
+}
+
+impl From<AllocError> for CompareFault {
+    ghost from_gives = { λ _ fault. fault ≡ Memory };
+
+    fn from(_: AllocError) -> CompareFault {
+        CompareFault::Memory
     }
 }
 

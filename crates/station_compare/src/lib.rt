@@ -1,15 +1,26 @@
 //! Any program's directions of a station, beside the least-squares ones of its field file.
 //!
-//! `compare_bytes` reads a field file and a table of directions, and tells how far the stated
-//! directions are apart from the least-squares directions of the station: least over all directions,
-//! orientations and full turns.
+//! `compare_bytes` reads a field file and a table of directions, and tells whether the stated
+//! directions agree with the least-squares directions of the station: least over all directions,
+//! orientations and full turns. `write_directions` writes such a table. `run_compare` and
+//! `run_directions` do the same as commands: the line of an agreement or the table, the line of a
+//! refusal, and the exit status.
 #![tactic(auto)]
 
+mod agreement;
 mod compare;
+mod directions;
 mod fault;
+pub mod laws;
+mod refused;
+mod runs;
 
+pub use agreement::{Agreement, agreement_line};
 pub use compare::compare_bytes;
+pub use directions::{directions_text, write_directions};
 pub use fault::CompareFault;
+pub use refused::refusal_line;
+pub use runs::{run_compare, run_directions};
 
 #[cfg(test)]
 mod tests;

@@ -1,8 +1,10 @@
 //! The worked station S1 beside tables of its directions: through the whole, and with each fault.
 
-use crate::{CompareFault, compare_bytes};
-use adjust_kernel::{KernelFault, LARGEST_RESIDUAL_LIMIT, ResidualLimit};
-use byte_ends::Script;
+mod ends;
+
+use crate::{Agreement, CompareFault, agreement_line, compare_bytes, refusal_line, run_compare};
+use adjust_kernel::{KernelFault, Name};
+use byte_ends::{Held, Script};
 use direction_table::{RowKind, TableFault};
 use stated_directions::AdjustFault;
 use station_book::Limits;
@@ -35,37 +37,68 @@ const PARTS: &[u8] = b"410001+00000010 42....+000000S2\n\
 110007+0000000B 21.102+30000000 22.102+30000000\n\
 410008+00000030\n";
 
+/// Two sets, whose two-face directions of B are half a circle apart.
+const TIE: &[u8] = b"410001+00000010 42....+000000S3\n\
+410002+00000020 42....+00000001\n\
+110003+0000000A 21.102+00000000 22.102+10000000\n\
+110004+0000000B 21.102+00000000 22.102+10000000\n\
+110005+0000000B 21.102+20000000 22.102+30000000\n\
+110006+0000000A 21.102+20000000 22.102+30000000\n\
+410007+00000020 42....+00000002\n\
+110008+0000000A 21.102+00000000 22.102+10000000\n\
+110009+0000000B 21.102+20000000 22.102+10000000\n\
+110010+0000000B 21.102+00000000 22.102+30000000\n\
+110011+0000000A 21.102+20000000 22.102+30000000\n\
+410012+00000030\n";
+
+fn limits(rt: &impl Abort) -> Limits {
+    Limits::new(100, 100).expect(rt, "limits")
+}
+
+/// How far apart the directions of a table are, or why not told.
 fn compared(
     rt: &impl Abort,
     alloc: Global,
     gsi: &[u8],
     name: &[u8],
     table: &[u8],
+    within: u32,
 ) -> Result<u32, CompareFault> {
-    let limits = Limits::new(100, 100).expect(rt, "limits");
-    let residual = ResidualLimit::new(LARGEST_RESIDUAL_LIMIT).expect(rt, "a limit");
     let gsi = Script::new(gsi, usize::MAX, false);
-    compare_bytes(alloc, gsi, table, name, limits, residual)
+    let mut table = Script::new(table, usize::MAX, false);
+    let answer = compare_bytes(alloc, gsi, &mut table, name, limits(rt), within);
+    answer.map(|agreement| agreement.apart)
 }
 
 #[test]
 fn tables_lie_beside_the_least_directions(rt: HostRuntime) -> Result<(), Fail> {
-    let cases: [(&[u8], u32); 5] = [
-        (b"A,0\nB,50.00003\n", 0),
-        (b"B,50.000030\nA,0.000000\n", 0),
-        (b"A,100.0001\nB,150.0001\n", 15),
-        (b"A,399.99999\nB,50.00002\n", 0),
-        (b"A,-0.00001\nB,50.00003\n", 5),
+    let cases: [(&[u8], u32, Result<u32, CompareFault>); 8] = [
+        (b"A,0\nB,50.00003\n", 0, Ok(0)),
+        (b"B,50.000030\nA,0.000000\n", 0, Ok(0)),
+        (
+            b"A,100.0001\nB,150.0001\n",
+            10,
+            Err(CompareFault::Apart(15)),
+        ),
+        (
+            b"A,100.0001\nB,150.0001\n",
+            14,
+            Err(CompareFault::Apart(15)),
+        ),
+        (b"A,100.0001\nB,150.0001\n", 15, Ok(15)),
+        (b"A,100.0001\nB,150.0001\n", 16, Ok(15)),
+        (b"A,399.99999\nB,50.00002\n", 0, Ok(0)),
+        (b"A,-0.00001\nB,50.00003\n", 5, Ok(5)),
     ];
-    for (table, want) in cases {
-        assert_eq!(rt; compared(&rt, rt.alloc(), S1, b"S1", table), Ok(want));
+    for (table, within, want) in cases {
+        assert_eq!(rt; compared(&rt, rt.alloc(), S1, b"S1", table, within), want);
     }
     Ok(())
 }
 
 #[test]
 fn the_first_fault_is_answered(rt: HostRuntime) -> Result<(), Fail> {
-    let cases: [(&[u8], &[u8], &[u8], CompareFault); 5] = [
+    let cases: [(&[u8], &[u8], &[u8], CompareFault); 6] = [
         (S1, b"S2", b"", CompareFault::File(Fault::NoStation)),
         (
             S1,
@@ -91,9 +124,88 @@ fn the_first_fault_is_answered(rt: HostRuntime) -> Result<(), Fail> {
             b"A,0\nB,0\n",
             CompareFault::Adjust(AdjustFault::Kernel(KernelFault::NotConnected)),
         ),
+        (
+            TIE,
+            b"S3",
+            b"A,0\nB,0\n",
+            CompareFault::Adjust(AdjustFault::Kernel(KernelFault::Residual(1))),
+        ),
     ];
     for (gsi, name, table, want) in cases {
-        assert_eq!(rt; compared(&rt, rt.alloc(), gsi, name, table), Err(want));
+        assert_eq!(rt; compared(&rt, rt.alloc(), gsi, name, table, 0), Err(want));
+    }
+    Ok(())
+}
+
+#[test]
+fn lines_are_as_the_formats_have_them(rt: HostRuntime) -> Result<(), Fail> {
+    let agreement = Agreement {
+        name: Name::new(b"S1").expect(&rt, "a name"),
+        targets: 2,
+        apart: 0,
+    };
+    let line: &[u8] = b"agrees S1: 2 targets, within 0\n";
+    assert_eq!(rt; agreement_line(agreement).as_slice(), line);
+    let cases: [(CompareFault, &[u8]); 8] = [
+        (
+            CompareFault::File(Fault::NoStation),
+            b"refused: no station\n",
+        ),
+        (CompareFault::TableRead, b"refused: table: Read\n"),
+        (
+            CompareFault::Table(TableFault::TooLong),
+            b"refused: table: TooLong\n",
+        ),
+        (
+            CompareFault::Table(TableFault::Row(12, RowKind::Unknown)),
+            b"refused: table row 12: Unknown\n",
+        ),
+        (
+            CompareFault::Table(TableFault::Missing(3)),
+            b"refused: table: Missing 3\n",
+        ),
+        (
+            CompareFault::Adjust(AdjustFault::Kernel(KernelFault::Residual(1))),
+            b"refused: adjust: Residual 1\n",
+        ),
+        (
+            CompareFault::Adjust(AdjustFault::Unclear),
+            b"refused: adjust: Unclear\n",
+        ),
+        (CompareFault::Apart(15), b"refused: compare: Apart 15\n"),
+    ];
+    for (fault, want) in cases {
+        assert_eq!(rt; refusal_line(fault).as_slice(), want);
+    }
+    Ok(())
+}
+
+#[test]
+fn a_run_prints_its_line_and_answers_its_status(rt: HostRuntime) -> Result<(), Fail> {
+    let cases: [(&[u8], bool, u8, &[u8], &[u8]); 3] = [
+        (
+            b"A,0\nB,50.00003\n",
+            false,
+            0,
+            b"agrees S1: 2 targets, within 0\n",
+            b"",
+        ),
+        (b"A,0\n", false, 1, b"", b"refused: table: Missing 2\n"),
+        (b"A,0\n", true, 1, b"", b"refused: table: Read\n"),
+    ];
+    for (table, fails, status, printed, refused) in cases {
+        let gsi = Script::new(S1, usize::MAX, false);
+        let mut table = Script::new(table, 1, fails);
+        let mut out = Held::new(rt.alloc(), 100, 100, false).map_err(|_| "no memory")?;
+        let mut err = Held::new(rt.alloc(), 100, 100, false).map_err(|_| "no memory")?;
+        let limits = limits(&rt);
+        let alloc = rt.alloc();
+        let answer = run_compare(
+            alloc, gsi, &mut table, b"S1", limits, 10, &mut out, &mut err,
+        );
+        assert_eq!(rt; answer, status);
+        assert_eq!(rt; out.bytes(), printed);
+        assert_eq!(rt; err.bytes(), refused);
     }
     Ok(())
 }

@@ -1,0 +1,139 @@
+-- A comparison of what was written as the station's own directions.
+use Rattle.std.proofs.Common.{◌≡◌, ℕ, zero, suc, ◌-◌, ◌^◌, ◌≤◌, ◌<◌, Bool, false, List, [], ◌∷◌, length, map, ℤ, pos, Err, arith, refl, ap, sym, subst, ◌∙◌, if◌then◌else◌}
+use Rattle.std.proofs.lemmas.Bool.{le-ltb}
+use Rattle.adjust_kernel.specs.Stations.{StationValue}
+use Rattle.adjust_kernel.specs.declared.kernel_fault.KernelFault.TheVariants.{Name, TargetRow, SetRow, ObsRow, Datum, TargetSum, SetSum, NotConnected, Residual}
+use Rattle.adjust_kernel.specs.declared.limits.TheConstants.{LARGEST_RESIDUAL_LIMIT}
+use Rattle.byte_ends.specs.Input.{Input, Ended, RanPast, input_within}
+use Rattle.byte_ends.specs.Source.{Told}
+use Rattle.direction_table.specs.TableTexts.{directions_of}
+use Rattle.direction_table.specs.Tables.{IsTableFault, IsTableText}
+use Rattle.direction_table.specs.Texts.{step_of}
+use Rattle.direction_table.specs.declared.fault.TableFault.{TableFault}
+use Rattle.direction_table.specs.declared.reading.TheConstants.{LONGEST_TABLE}
+use Rattle.direction_table.specs.declared.table.TargetDirection.{TargetDirection}
+use Rattle.gsi_file.specs.FileAnswers.{FileAnswers}
+use Rattle.sheet_apart.specs.Apart.{stated_by}
+use Rattle.stated_directions.proofs.TiesLaws.{measured_is_tied}
+use Rattle.stated_directions.specs.Faults.{IsAdjustFault}
+use Rattle.stated_directions.specs.Told.{AreTold, IsTold, as_stated}
+use Rattle.stated_directions.specs.declared.fault.AdjustFault.{AdjustFault}
+use Rattle.stated_directions.specs.declared.fault.AdjustFault.TheVariants as adjust
+use Rattle.station_book.specs.Limits.{AreLimits, FaceLimits}
+use Rattle.station_book.specs.Stations.{SurveyedStation}
+use Rattle.station_check.specs.StationOfFile.{IsStationOfFile}
+use Rattle.station_check.specs.declared.fault.Fault.{Fault}
+use Rattle.station_check.specs.declared.fault.Fault.TheVariants as lines
+use Rattle.station_compare.proofs.OneStation.{OneEachFile, never_none, no_file_fault, same_station}
+use Rattle.station_compare.specs.Agreeing.{Agrees}
+use Rattle.station_compare.specs.Answers.{Compares, IsRefusedByTable}
+use Rattle.station_compare.specs.Comparing.{ByInput, ByTable}
+use Rattle.station_compare.specs.Directions.{IsDirectionsText, StatesDirections, numbers_of}
+use Rattle.station_compare.specs.OwnDirections.{MayRefuse}
+use Rattle.station_compare.specs.declared.agreement.Agreement.{Agreement}
+use Rattle.station_compare.specs.declared.fault.CompareFault.{CompareFault}
+use Rattle.station_compare.specs.declared.fault.CompareFault.TheVariants.{File, TableRead, Table}
+use Rattle.station_compare.specs.declared.fault.CompareFault.TheVariants.{Adjust, Apart, Write, Memory}
+
+-- what the crates below prove: a file has one station of a name, bytes are one table or have a fault,
+-- and directions that were rounded to little are apart by little
+pub record OneEach : Type 0 where
+  pub file : OneEachFile
+  pub table : (targets : List (List ℕ)) (bytes : List ℕ) (a b : List ℤ) → IsTableText targets bytes a → IsTableText targets bytes b → a ≡ b
+  pub never_both : (targets : List (List ℕ)) (bytes : List ℕ) (directions : List ℤ) (fault : TableFault) → IsTableText targets bytes directions → IsTableFault targets bytes fault → ⊥
+  pub rounded : (station : StationValue) (limit other step apart : ℕ) (directions : List ℕ) → AreTold station limit step directions → IsTold station other (as_stated directions) apart → step ≤ 1_000 → apart ≤ 1
+
+power_small : (k : ℕ) → k ≤ 3 → 10 ^ k ≤ 1_000
+power_small zero h = omega arith
+power_small (suc zero) h = omega arith
+power_small (suc (suc zero)) h = omega arith
+power_small (suc (suc (suc zero))) h = omega arith
+power_small (suc (suc (suc (suc k)))) h = absurd (omega (arith, h))
+
+-- the step of 6 decimals or more
+small_step : (count : ℕ) → 6 ≤ count → step_of count ≤ 1_000
+small_step count many = power_small (9 - count) (omega (arith, many))
+
+-- what rows are read as are their numbers
+read_as : (rows : List TargetDirection) → directions_of rows ≡ map pos (numbers_of rows)
+read_as [] = refl
+read_as (row ∷ rows) = ap (λ ds. pos row.direction ∷ ds) (read_as rows)
+
+-- bytes that are not too many are read to their end
+read_whole : (bytes : List ℕ) → length bytes ≤ LONGEST_TABLE → input_within LONGEST_TABLE (record { bytes = bytes; fails = false }) ≡ Ended bytes
+read_whole bytes short = ap (λ (past : Bool). if past then RanPast else Ended bytes) (le-ltb LONGEST_TABLE (length bytes) short)
+
+module _ (one : OneEach) (count : ℕ) (text : List ℕ) (many : 6 ≤ count) where
+  -- own directions beside their station
+  module _ (station : StationValue) (own : IsDirectionsText station count text) where
+    own_apart : (directions : List ℤ) (apart : ℕ) → IsTableText station.targets text directions → IsTold station LARGEST_RESIDUAL_LIMIT (stated_by directions) apart → apart ≤ 1
+    own_apart directions apart states told =
+        let same : directions ≡ map pos (numbers_of own.stated) = one.table station.targets text directions (directions_of own.stated) states own.reads ∙ read_as own.stated in
+        one.rounded station LARGEST_RESIDUAL_LIMIT LARGEST_RESIDUAL_LIMIT (step_of count) apart (numbers_of own.stated) own.told
+        (subst (λ ds. IsTold station LARGEST_RESIDUAL_LIMIT (stated_by ds) apart) same told) (small_step count many)
+
+    no_more : (within apart : ℕ) → within < apart → apart ≤ 1 → (within ≡ 0) × (apart ≡ 1)
+    no_more within apart more few = (omega (arith, more, few), omega (arith, more, few))
+
+    unadjusted : (within : ℕ) (fault : AdjustFault) → IsAdjustFault station LARGEST_RESIDUAL_LIMIT fault → MayRefuse within (Adjust fault)
+    unadjusted within (adjust.Kernel NotConnected) h = h (measured_is_tied station LARGEST_RESIDUAL_LIMIT own.told.sheet own.told.nearness own.told.measured)
+    unadjusted within (adjust.Kernel (Residual n)) h = tt
+    unadjusted within (adjust.Kernel Name) h = h
+    unadjusted within (adjust.Kernel (TargetRow n)) h = h
+    unadjusted within (adjust.Kernel (SetRow n)) h = h
+    unadjusted within (adjust.Kernel (ObsRow n)) h = h
+    unadjusted within (adjust.Kernel Datum) h = h
+    unadjusted within (adjust.Kernel (TargetSum n)) h = h
+    unadjusted within (adjust.Kernel (SetSum n)) h = h
+    unadjusted within adjust.Unclear h = tt
+    unadjusted within adjust.Memory h = tt
+
+    by_table : (within : ℕ) (fault : CompareFault) → ByTable station within text (Err fault) → MayRefuse within fault
+    by_table within (File fault) h = h
+    by_table within TableRead h = h
+    by_table within (Table fault) h = absurd (one.never_both station.targets text (directions_of own.stated) fault own.reads h)
+    by_table within (Adjust fault) h = unadjusted within fault h.fault_stands
+    by_table within (Apart apart) h = no_more within apart h.0 (own_apart h.1.directions apart h.1.states h.1.told)
+    by_table within Write h = h
+    by_table within Memory h = tt
+
+  module _ (limits : FaceLimits) (small : AreLimits limits) (file : FileAnswers) (name : List ℕ) (own : StatesDirections limits file name count text) where
+    abbrev whole : Told
+    whole = record { bytes = text; fails = false }
+
+    read : input_within LONGEST_TABLE whole ≡ Ended text
+    read = read_whole text own.directions.reads.short
+
+    -- the station that a comparison finds is that of the directions
+    its : (other : SurveyedStation) → IsStationOfFile limits file name other → IsDirectionsText other.station count text
+    its other s = subst (λ (o : SurveyedStation). IsDirectionsText o.station count text) (same_station one.file limits small file name own.its other own.station s) own.directions
+
+    pub agrees_by_1 : (within : ℕ) (a : Agreement) → Agrees limits file whole name within a → a.apart ≤ 1
+    agrees_by_1 within a h =
+        let ended : Ended text ≡ Ended h.bytes = sym read ∙ h.whole in
+        let same : text ≡ h.bytes = cc in
+        own_apart h.its.station (its h.its h.station) h.directions a.apart (subst (λ bytes. IsTableText h.its.station.targets bytes h.directions) (sym same) h.states) h.told
+
+    refused_by_table : (within : ℕ) (fault : CompareFault) → IsRefusedByTable limits file whole name within fault → MayRefuse within fault
+    refused_by_table within fault h =
+        by_table h.its.station (its h.its h.station) within fault (subst (λ (input : Input). ByInput h.its.station within input (Err fault)) read h.by_input)
+
+    refused_by_file : (within : ℕ) (fault : Fault) → Compares limits file whole name within (Err (File fault)) → ⊥
+    refused_by_file within lines.NoStation h = never_none one.file limits small file name own.its own.station h
+    refused_by_file within (lines.Gsi fault) h = no_file_fault one.file limits small file name own.its own.station (lines.Gsi fault) h
+    refused_by_file within (lines.Book fault) h = no_file_fault one.file limits small file name own.its own.station (lines.Book fault) h
+    refused_by_file within lines.SheetRead h = no_file_fault one.file limits small file name own.its own.station lines.SheetRead h
+    refused_by_file within (lines.Sheet fault) h = no_file_fault one.file limits small file name own.its own.station (lines.Sheet fault) h
+    refused_by_file within (lines.Means fault) h = no_file_fault one.file limits small file name own.its own.station (lines.Means fault) h
+    refused_by_file within (lines.Kernel fault) h = no_file_fault one.file limits small file name own.its own.station (lines.Kernel fault) h
+    refused_by_file within lines.Write h = no_file_fault one.file limits small file name own.its own.station lines.Write h
+    refused_by_file within lines.Memory h = no_file_fault one.file limits small file name own.its own.station lines.Memory h
+
+    pub may_refuse : (within : ℕ) (fault : CompareFault) → Compares limits file whole name within (Err fault) → MayRefuse within fault
+    may_refuse within (File fault) h = refused_by_file within fault h
+    may_refuse within TableRead h = refused_by_table within TableRead h
+    may_refuse within (Table fault) h = refused_by_table within (Table fault) h
+    may_refuse within (Adjust fault) h = refused_by_table within (Adjust fault) h
+    may_refuse within (Apart apart) h = refused_by_table within (Apart apart) h
+    may_refuse within Write h = refused_by_table within Write h
+    may_refuse within Memory h = tt

@@ -1,0 +1,28 @@
+use Rattle.std.proofs.Common.{◌≡◌, ℕ, List, All, rules, sym, subst}
+use Rattle.direction_table.specs.TableTexts.{directions_of, names_of, table_text}
+use Rattle.direction_table.specs.Tables.{IsTableText}
+use Rattle.direction_table.specs.Texts.{IsWhole}
+use Rattle.station_compare.proofs.TablesOf.{all_by_part}
+use Rattle.station_compare.specs.Directions.{numbers_of}
+use Rattle.station_compare.proofs.directions.text_of_station.Goals as goal
+
+pub returns : goal.returns
+returns c =
+    let station = c.args.station.now in
+    let count = c.args.decimals in
+    let rows = c.in_ok-stated.stated.items in
+    let text = c.in_ok-table_text.field-0.items in
+    let text_is : text ≡ table_text count rows = search rules in
+    let named : names_of rows ≡ station.targets = search rules in
+    let whole : All (IsWhole count) (numbers_of rows) = search rules in
+    record {
+      stated = rows;
+      text_is = text_is;
+      named = named;
+      first = search rules;
+      whole = whole;
+      near = search rules;
+      told = search rules;
+      reads = subst (λ (t : List ℕ). IsTableText station.targets t (directions_of rows)) (sym text_is)
+          (c.table_reads_back.ensures station.targets count rows c.targets.ensures.valid.targets named (search rules) (all_by_part (IsWhole count) (λ row. row.direction) rows whole));
+    }

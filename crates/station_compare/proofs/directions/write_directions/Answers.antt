@@ -1,0 +1,23 @@
+use Rattle.std.proofs.Common.{refl, rules, Ok, Err}
+use Rattle.station_compare.proofs.directions.write_directions.Goals as goal
+
+pub returns-in_err-text : goal.returns-in_err-text
+returns-in_err-text g c = record {
+  answer = Err c.in_err-text.field-0.0;
+  tells = c.in_err-text.ensures;
+  printed = (search rules, refl);
+}
+
+pub returns-in-Ok : goal.returns-in-Ok
+returns-in-Ok g c = record {
+  answer = Ok c.in_ok-text.text.items;
+  tells = c.in_ok-text.ensures;
+  printed = (record { got = search rules; unfailed = search rules }, search rules);
+}
+
+pub returns : goal.returns
+returns g c = record {
+  answer = Ok c.in_ok-text.text.items;
+  tells = c.in_ok-text.ensures;
+  printed = (refl, record { got = search rules; call_failed = search rules });
+}

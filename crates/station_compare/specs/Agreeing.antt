@@ -1,0 +1,47 @@
+-- What an agreement says, in the order of the sentence: of the station of this name in the field file,
+-- whose observations are its two-face directions within the limits, one rotation brings every
+-- direction that the table states within so many units of 0.000001 gon of the least-squares one, least
+-- over all directions, orientations and full turns.
+use Rattle.std.specs.Prelude.{◌≡◌, ℕ, ◌≤◌, ◌-◌, List, length, ℤ}
+use Rattle.adjust_kernel.specs.Residuals.{Choice}
+use Rattle.adjust_kernel.specs.declared.limits.TheConstants.{LARGEST_RESIDUAL_LIMIT}
+use Rattle.byte_ends.specs.Input.{input_within, Ended}
+use Rattle.byte_ends.specs.Source.{Told}
+use Rattle.direction_table.specs.Tables.{IsTableText}
+use Rattle.direction_table.specs.declared.reading.TheConstants.{LONGEST_TABLE}
+use Rattle.gsi_file.specs.FileAnswers.{FileAnswers}
+use Rattle.sheet_apart.specs.Apart.{AreBroughtWithin, stated_by}
+use Rattle.stated_directions.specs.LeastOf.{IsLeastOf}
+use Rattle.stated_directions.specs.Told.{IsTold}
+use Rattle.station_book.specs.Limits.{FaceLimits}
+use Rattle.station_book.specs.Stations.{SurveyedStation}
+use Rattle.station_check.specs.StationOfFile.{IsStationOfFile}
+use Rattle.station_compare.specs.declared.agreement.Agreement.{Agreement}
+
+-- Of these lines of a field file, and of these bytes of a table and how they end, this is the
+-- agreement for the station of this name; `within` is what is asked for.
+pub record Agrees (limits : FaceLimits) (file : FileAnswers) (stated : Told) (name : List ℕ)
+    (within : ℕ) (a : Agreement) : Type 0 where
+  -- The station of this name: its observations are exactly its two-face directions, and every face
+  -- difference is within the limits.
+  pub its : SurveyedStation
+  pub station : IsStationOfFile limits file name its
+  -- The table was read to its end, and its bytes state these directions, one for each target.
+  pub bytes : List ℕ
+  pub whole : input_within LONGEST_TABLE stated ≡ Ended bytes
+  pub directions : List ℤ
+  pub states : IsTableText its.station.targets bytes directions
+  -- One rotation brings every stated direction so near to the least-squares one, whichever choice of
+  -- directions, orientations and full turns, over any denominator, is least.
+  pub brought : (c : Choice) (turns : List ℤ) → IsLeastOf its.station c turns
+      → AreBroughtWithin (length its.station.targets) c (stated_by directions) a.apart
+  -- And no rotation brings them nearer by 2 units.
+  pub no_nearer : 2 ≤ a.apart → (c : Choice) (turns : List ℤ) → IsLeastOf its.station c turns
+      → ¬ AreBroughtWithin (length its.station.targets) c (stated_by directions) (a.apart - 2)
+  -- It is half the spread of the differences from a near sheet of the station, and what that sheet
+  -- leaves open, rounded up; and no residual of the sheet is above the limit.
+  pub told : IsTold its.station LARGEST_RESIDUAL_LIMIT (stated_by directions) a.apart
+  -- That is no further than is asked for.
+  pub agrees : a.apart ≤ within
+  pub named : a.name ≡ its.station.name
+  pub counted : a.targets ≡ length its.station.targets

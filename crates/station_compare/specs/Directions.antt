@@ -1,0 +1,83 @@
+-- The table of a station's least-squares directions, as it is printed, and why there is none.
+use Rattle.std.specs.Prelude.{◌≡◌, ℕ, ◌+◌, ◌*◌, List, All, length, map, slice_index_or, ℤ, Result, Ok, Err}
+use Rattle.adjust_kernel.specs.Residuals.{Choice}
+use Rattle.adjust_kernel.specs.Stations.{StationValue}
+use Rattle.adjust_kernel.specs.declared.limits.TheConstants.{LARGEST_RESIDUAL_LIMIT}
+use Rattle.direction_table.specs.TableTexts.{directions_of, names_of, table_text}
+use Rattle.direction_table.specs.Tables.{IsTableText}
+use Rattle.direction_table.specs.Texts.{IsWhole, step_of}
+use Rattle.direction_table.specs.declared.table.TargetDirection.{TargetDirection}
+use Rattle.gsi_file.specs.FileAnswers.{FileAnswers}
+use Rattle.sheet_apart.specs.Apart.{AreBroughtNear}
+use Rattle.sheet_apart.specs.declared.units.TheConstants.{CLEAR_BELOW}
+use Rattle.stated_directions.specs.Faults.{IsAdjustFault}
+use Rattle.stated_directions.specs.LeastOf.{IsLeastOf}
+use Rattle.stated_directions.specs.Told.{AreTold, as_stated}
+use Rattle.station_book.specs.Limits.{FaceLimits}
+use Rattle.station_book.specs.Stations.{SurveyedStation}
+use Rattle.station_check.specs.Means.{HasNoStation}
+use Rattle.station_check.specs.Records.{FileComesTo}
+use Rattle.station_check.specs.StationOfFile.{IsStationOfFile}
+use Rattle.station_check.specs.declared.fault.Fault.TheVariants.{NoStation}
+use Rattle.station_compare.specs.declared.fault.CompareFault.{CompareFault}
+use Rattle.station_compare.specs.declared.fault.CompareFault.TheVariants.{File, Adjust, Memory}
+
+-- the numbers of rows: their directions, in units of 0.000000001 gon
+abbrev pub numbers_of : List TargetDirection → List ℕ
+numbers_of stated = map (λ row. row.direction) stated
+
+-- This is the text of the table of a station's least-squares directions, with so many decimals.
+pub record IsDirectionsText (station : StationValue) (count : ℕ) (text : List ℕ) : Type 0 where
+  -- A row for each target, in their order.
+  pub stated : List TargetDirection
+  pub text_is : text ≡ table_text count stated
+  pub named : names_of stated ≡ station.targets
+  -- The first direction is 0; and each is from 0 and below a full circle, and written exactly.
+  pub first : slice_index_or (numbers_of stated) 0 0 ≡ 0
+  pub whole : All (IsWhole count) (numbers_of stated)
+  -- One rotation brings every direction within half a unit of the last decimal, and an eighth of
+  -- 0.000001 gon, of the least-squares one, whichever choice of directions, orientations and full
+  -- turns, over any denominator, is least.
+  pub near : (c : Choice) (turns : List ℤ) → IsLeastOf station c turns
+      → AreBroughtNear (length station.targets) c (as_stated (numbers_of stated))
+      (step_of count + 2 * CLEAR_BELOW)
+  -- They are those of a near sheet of the station that keeps the residual limit, each rounded to its
+  -- last decimal; the middle of two goes up.
+  pub told : AreTold station LARGEST_RESIDUAL_LIMIT (step_of count) (numbers_of stated)
+  -- And the text is read as the table of these very directions.
+  pub reads : IsTableText station.targets text (directions_of stated)
+
+-- The file has a station of this name, and this is its table.
+pub record StatesDirections (limits : FaceLimits) (file : FileAnswers) (name : List ℕ) (count : ℕ)
+    (text : List ℕ) : Type 0 where
+  pub its : SurveyedStation
+  pub station : IsStationOfFile limits file name its
+  pub directions : IsDirectionsText its.station count text
+
+-- Why a station has no table: what its adjustment has, or that there was no memory.
+abbrev pub HasNoTable : StationValue → CompareFault → Type 0
+HasNoTable station (Adjust fault) = IsAdjustFault station LARGEST_RESIDUAL_LIMIT fault
+HasNoTable station Memory = Unit {0}
+HasNoTable station fault = ⊥
+
+-- The file has a station of this name, and this is why it has no table.
+pub record IsWithoutTable (limits : FaceLimits) (file : FileAnswers) (name : List ℕ)
+    (fault : CompareFault) : Type 0 where
+  pub its : SurveyedStation
+  pub station : IsStationOfFile limits file name its
+  pub none : HasNoTable its.station fault
+
+-- Why no table is printed: the first fault that stands, in the order of the file, the station and the
+-- adjustment.
+abbrev pub HasNoDirections :
+    FaceLimits → FileAnswers → List ℕ → CompareFault → Type 0
+HasNoDirections limits file name (File NoStation) = HasNoStation limits file name
+HasNoDirections limits file name (File fault) = FileComesTo limits file (Err fault)
+HasNoDirections limits file name Memory = Unit {0}
+HasNoDirections limits file name fault = IsWithoutTable limits file name fault
+
+-- What is answered: the text of the table, or why there is none.
+abbrev pub TellsDirections : FaceLimits → FileAnswers → List ℕ → ℕ
+    → Result (List ℕ) CompareFault → Type 0
+TellsDirections limits file name count (Ok text) = StatesDirections limits file name count text
+TellsDirections limits file name count (Err fault) = HasNoDirections limits file name fault

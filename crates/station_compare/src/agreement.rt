@@ -1,0 +1,32 @@
+//! What is said of a table that agrees, and its line.
+
+ghost use Rattle.std.specs.Prelude.{◌≡◌};
+ghost use Rattle.station_compare.specs.FaultTexts as spec;
+
+use adjust_kernel::Name;
+use station_check::{VerdictLine, add, add_numbered};
+
+/// A table of directions that agrees with its station, in numbers.
+#[derive(Clone, Copy, Debug, PartialEq, Eq, Drop)]
+pub struct Agreement {
+    /// The station.
+    pub name: Name,
+    /// How many targets it has.
+    pub targets: u32,
+    /// So near one rotation brings every stated direction to the least-squares one, in units of
+    /// 0.000001 gon.
+    pub apart: u32,
+}
+
+/// The line of a table that agrees, with its line feed.
+pub fn agreement_line(agreement: Agreement) -> VerdictLine
+    ensures { result.items ≡ spec.agreement_line agreement }
+{
+    let mut line = VerdictLine::new();
+    add(&mut line, b"agrees ");
+    add(&mut line, agreement.name.bytes());
+    add_numbered(&mut line, b": ", agreement.targets);
+    add_numbered(&mut line, b" targets, within ", agreement.apart);
+    add(&mut line, b"\n");
+    line
+}

@@ -1,0 +1,122 @@
+//! The table of a station's least-squares directions.
+ghost use Rattle.std.specs.Prelude.{◌≡◌, ◌≤◌, ◌%◌, length, map, MatchResult, IfOk};
+ghost use Rattle.sheet_apart.specs.declared.units.TheConstants.{CIRCLE};
+ghost use Rattle.direction_table.specs.Texts.{step_of};
+ghost use Rattle.station_check.specs.Came.{SomeLinesCame};
+ghost use Rattle.station_compare.specs.Directions.{StatesDirections, HasNoDirections};
+ghost use Rattle.station_compare.specs.Directions.{IsDirectionsText, HasNoTable, numbers_of};
+ghost use Rattle.station_compare.specs.Runs.{IsDirectionsRun};
+
+use crate::compare::largest_limit;
+use crate::fault::CompareFault;
+use adjust_kernel::{Name, Station};
+use byte_ends::{Sink, Source};
+use direction_table::laws::table_reads_back;
+use direction_table::{Decimals, TargetDirection, table_text};
+use stated_directions::rounded_directions;
+use station_book::Limits;
+use station_check::laws::{are_limits, station_of_file};
+use station_check::{Fault, stations_of_file, write_whole};
+use std::alloc::{AllocError, Global};
+
+/// The text of the table of the least-squares directions of the station of this name: a row for each
+/// target in their order, the first 0, each rounded to so many decimals of a gon.
+///
+/// One rotation brings every direction within half a unit of the last decimal, and an eighth of
+/// 0.000001 gon, of the least-squares one, least over all directions, orientations and full turns.
+/// No observation may lie further from the adjustment than 2,000 half units (0.005 mgon each).
+///
+/// # Errors
+///
+/// The first fault of the file; then `NoStation`; then that of the adjustment. `Memory` may stand in
+/// the place of any answer.
+pub fn directions_text<R: Source>(
+    alloc: Global,
+    gsi: R,
+    name: &[u8],
+    limits: Limits,
+    decimals: Decimals,
+) -> Result<Vec<u8>, CompareFault>
+    ensures { SomeLinesCame (R.told gsi) (λ file. MatchResult result
+        (λ text. StatesDirections limits file name.now decimals text.items)
+        (HasNoDirections limits file name.now)) }
+{
+    // What the promise rests on.
+    station_of_file();
+    are_limits(limits);
+    let stations = stations_of_file(alloc, gsi, limits)?;
+    let Some(surveyed) = stations.get(name) else {
+        return Err(CompareFault::File(Fault::NoStation));
+    };
+    text_of_station(alloc, surveyed.station(), decimals)
+}
+
+/// Writes that text, and flushes once.
+///
+/// # Errors
+///
+/// Those of the text; `Write` where a call of the writer failed. At any other nothing was asked of
+/// the writer.
+pub fn write_directions<R: Source, W: Sink>(
+    alloc: Global,
+    gsi: R,
+    name: &[u8],
+    limits: Limits,
+    decimals: Decimals,
+    writer: &mut W,
+) -> Result<(), CompareFault>
+    ensures { IsDirectionsRun limits (R.told gsi) name.now decimals
+        W.failed W.holds W.handed_on writer.old writer.new result }
+{
+    let text = directions_text(alloc, gsi, name, limits, decimals)?;
+    match write_whole(writer, &text) {
+        Ok(()) => Ok(()),
+        Err(_) => Err(CompareFault::Write),
+    }
+}
+
+/// The text of the table of a station.
+fn text_of_station(
+    alloc: Global,
+    station: &Station,
+    decimals: Decimals,
+) -> Result<Vec<u8>, CompareFault>
+    ensures { MatchResult result
+        (λ text. IsDirectionsText station.now decimals text.items)
+        (HasNoTable station.now) }
+{
+    // The text is read as this very table.
+    table_reads_back();
+    let directions = rounded_directions(alloc, station, step_of(decimals), largest_limit())?;
+    let stated = rows_of(alloc, station.targets(), &directions)?;
+    Ok(table_text(alloc, &stated, decimals)?)
+}
+
+/// The rows of these targets and directions.
+fn rows_of(
+    alloc: Global,
+    targets: &[Name],
+    directions: &[u64],
+) -> Result<Vec<TargetDirection>, AllocError>
+    requires { length directions.now ≡ length targets.now }
+    ensures names { IfOk result (λ rows. map (λ row. row.name) rows.items ≡ targets.now) }
+    ensures directions { IfOk result (λ rows. numbers_of rows.items ≡ directions.now) }
+{
+    let mut rows = Vec::with_capacity(alloc, targets.len())?;
+    for place in 0..targets.len() {
+        rows.push(TargetDirection {
+            name: targets[place],
+            direction: directions[place],
+        })?;
+    }
+    Ok(rows)
+}
+
+/// One unit of the last decimal, in units of 0.000000001 gon.
+fn step_of(decimals: Decimals) -> u32
+    ensures value { result ≡ step_of decimals }
+    ensures some { 1 ≤ result }
+    ensures circle { CIRCLE % result ≡ 0 }
+{
+    decimals.step() as u32
+}

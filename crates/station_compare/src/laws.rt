@@ -1,0 +1,36 @@
+//! Laws of the definitions that contracts cite. The functions do nothing.
+
+ghost use Rattle.std.specs.Prelude.{◌≤◌, ℕ, false, List, Err};
+ghost use Rattle.gsi_file.specs.FileAnswers.{FileAnswers};
+ghost use Rattle.station_book.specs.Limits.{FaceLimits, AreLimits};
+ghost use Rattle.station_compare.specs.Agreeing.{Agrees};
+ghost use Rattle.station_compare.specs.Answers.{Compares};
+ghost use Rattle.station_compare.specs.Directions.{StatesDirections};
+ghost use Rattle.station_compare.specs.OwnDirections.{MayRefuse};
+ghost use Rattle.station_compare.specs.declared.agreement.Agreement.{Agreement};
+ghost use Rattle.station_compare.specs.declared.fault.CompareFault.{CompareFault};
+
+/// What `write_directions` writes with 6 decimals or more, `compare_bytes` finds apart by 1 unit at
+/// most, of the same lines and by the same limits, whatever is asked for. It refuses it for no
+/// fault of the lines or of the table and not as `NotConnected`, and within 1 or more not as
+/// `Apart`. By the contracts alone it may go by another sheet of the station than the directions
+/// do, and refuse that (`Residual`, `Unclear`); and memory may run out.
+pub fn directions_agree()
+    ensures agrees { (limits : FaceLimits) (file : FileAnswers) (name text : List ℕ)
+        (count within : ℕ) (a : Agreement) → AreLimits limits
+        → 6 ≤ count → StatesDirections limits file name count text
+        → Agrees limits file (record { bytes = text; fails = false }) name within a
+        → a.apart ≤ 1 }
+    ensures refused { (limits : FaceLimits) (file : FileAnswers) (name text : List ℕ)
+        (count within : ℕ) (fault : CompareFault) → AreLimits limits
+        → 6 ≤ count → StatesDirections limits file name count text
+        → Compares limits file (record { bytes = text; fails = false }) name within (Err fault)
+        → MayRefuse within fault }
+{
+    station_check::laws::one_outcome();
+    station_check::laws::station_of_file();
+    station_book::laws::one_survey();
+    direction_table::laws::one_table();
+    direction_table::laws::never_both();
+    stated_directions::laws::rounded();
+}

@@ -1,0 +1,94 @@
+//! The commands `compare` and `directions`, over sources of bytes and sinks: each makes its call, and
+//! answers the exit status.
+
+ghost use Rattle.std.specs.Prelude.{◌≡◌};
+ghost use Rattle.station_check.specs.Endings.{EndsWith, WritesOrFails};
+ghost use Rattle.station_compare.specs.FaultTexts.{refusal_line};
+ghost use Rattle.station_compare.specs.FaultTexts as spec;
+ghost use Rattle.station_compare.specs.Runs.{IsCompareRun, IsDirectionsRun, PrintsAnswer};
+
+use crate::agreement::{Agreement, agreement_line};
+use crate::compare::compare_bytes;
+use crate::directions::write_directions;
+use crate::fault::CompareFault;
+use crate::refused::refusal_line;
+use byte_ends::{Sink, Source};
+use direction_table::Decimals;
+use station_book::Limits;
+use station_check::{DONE, REFUSED, write_whole};
+use std::alloc::Global;
+
+/// Compares the directions that a table states with those of the station of this name, and answers
+/// the exit status: 0 where they agree within so many units of 0.000001 gon and their line was written
+/// to `out`, else 1, with the line of a refusal on `err`. Where `err` fails, the line is lost and the
+/// status stays.
+pub fn run_compare<R: Source, Q: Source, W: Sink, E: Sink>(
+    alloc: Global,
+    gsi: R,
+    table: &mut Q,
+    name: &[u8],
+    limits: Limits,
+    within: u32,
+    out: &mut W,
+    err: &mut E,
+) -> u8
+    ensures { EndsWith {A = Unit {0}} refusal_line (IsCompareRun limits within (R.told gsi)
+        Q.told Q.failed table.old table.new name.now
+        W.failed W.holds W.handed_on out.old out.new)
+        result E.failed E.holds err.old err.new }
+{
+    let verdict = compare_bytes(alloc, gsi, table, name, limits, within);
+    match print_verdict(&verdict, out) {
+        Ok(()) => DONE,
+        Err(fault) => refuse(fault, err),
+    }
+}
+
+/// Writes the table of the least-squares directions of the station of this name to `out`, each rounded
+/// to so many decimals of a gon, and answers the exit status: 0 where all was written, else 1, with the
+/// line of a refusal on `err`.
+pub fn run_directions<R: Source, W: Sink, E: Sink>(
+    alloc: Global,
+    gsi: R,
+    name: &[u8],
+    limits: Limits,
+    decimals: Decimals,
+    out: &mut W,
+    err: &mut E,
+) -> u8
+    ensures { EndsWith {A = Unit {0}} refusal_line (IsDirectionsRun limits (R.told gsi) name.now
+        decimals W.failed W.holds W.handed_on out.old out.new)
+        result E.failed E.holds err.old err.new }
+{
+    match write_directions(alloc, gsi, name, limits, decimals, out) {
+        Ok(()) => DONE,
+        Err(fault) => refuse(fault, err),
+    }
+}
+
+/// Prints the line of a table that agrees, and hands on a refusal.
+fn print_verdict<W: Sink>(
+    verdict: &Result<Agreement, CompareFault>,
+    out: &mut W,
+) -> Result<(), CompareFault>
+    ensures { PrintsAnswer spec.agreement_line verdict.now
+        W.failed W.holds W.handed_on out.old out.new result }
+{
+    match verdict {
+        Ok(agreement) => match write_whole(out, agreement_line(*agreement).as_slice()) {
+            Ok(()) => Ok(()),
+            Err(_) => Err(CompareFault::Write),
+        },
+        Err(fault) => Err(*fault),
+    }
+}
+
+/// Writes the line of a refusal, and answers its status.
+fn refuse<E: Sink>(fault: CompareFault, err: &mut E) -> u8
+    ensures status { result ≡ 1 }
+    ensures line { WritesOrFails (refusal_line fault) E.failed E.holds err.old err.new }
+{
+    // Where `err` fails, the line is lost.
+    let _ = err.write_all(refusal_line(fault).as_slice());
+    REFUSED
+}
