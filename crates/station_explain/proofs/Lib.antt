@@ -1,0 +1,3 @@
+pub mod OkLaws
+pub mod NamingLaws
+pub mod ExplainingLaws

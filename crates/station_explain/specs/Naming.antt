@@ -1,0 +1,61 @@
+-- Which fault a text names.
+use Rattle.std.specs.Prelude.{◌≡◌, ◌≢◌, ◌⊎◌, ◌++◌, ℕ, List, IsTrue, IsFalse, codes}
+use Rattle.std.specs.Prelude.{All, Any, Contains}
+use Rattle.std.specs.Borrow.{Bor}
+use Rattle.std.specs.Char.{is_ascii_digit}
+use Rattle.std.specs.Str.{str_eq_ignore_ascii_case}
+use Rattle.station_explain.specs.declared.explanations.Explanation.{Explanation}
+
+-- The text has no such part.
+abbrev pub Lacks : List ℕ → List ℕ → Type 0
+Lacks part text = (front behind : List ℕ) → text ≢ front ++ (part ++ behind)
+
+-- What stands in front of the last such part of a text, and what stands behind it.
+pub record SplitsAtLast (part text front behind : List ℕ) : Type 0 where
+  pub whole : text ≡ front ++ (part ++ behind)
+  pub last : Lacks part behind
+
+-- The fault that a line tells of, with the number that it carries: what stands behind the line's
+-- last ": ", or the whole of it where it has none.
+abbrev pub IsFaultIn : List ℕ → List ℕ → Type 0
+IsFaultIn line fault = (Lacks (codes ": ") line × (fault ≡ line))
+    ⊎ ((front : List ℕ) × SplitsAtLast (codes ": ") line front fault)
+
+-- All its characters are digits.
+abbrev pub IsNumber : List ℕ → Type 0
+IsNumber word = All (λ c. IsTrue (is_ascii_digit c)) word
+
+-- The name of a fault with the number that it carries: the last word is left out where it is a
+-- number.
+abbrev pub IsNameIn : List ℕ → List ℕ → Type 0
+IsNameIn fault name = (Lacks (codes " ") fault × (name ≡ fault))
+    ⊎ ((front : List ℕ) × (word : List ℕ) × SplitsAtLast (codes " ") fault front word
+    × ((IsNumber word × (name ≡ front)) ⊎ (¬ (IsNumber word) × (name ≡ fault))))
+
+-- A line, or a part of it, has this name of a fault.
+abbrev pub Names : List ℕ → List ℕ → Type 0
+Names line name = (fault : List ℕ) × IsFaultIn line fault × IsNameIn fault name
+
+-- The fault has this name, written just so.
+abbrev pub HasName : List ℕ → Explanation → Type 0
+HasName name e = Any (λ n. n.now ≡ name) e.names.now
+
+-- The fault has this name, capitals and small letters alike.
+abbrev pub HasNameInAnyCase : List ℕ → Explanation → Type 0
+HasNameInAnyCase name e = Any (λ n. IsTrue (str_eq_ignore_ascii_case n.now name)) e.names.now
+
+-- No fault of the table has this name, written just so.
+abbrev pub IsNoName : List (Bor (List Explanation)) → List ℕ → Type 0
+IsNoName table name = All (λ g. All (λ e. All (λ n. n.now ≢ name) e.names.now) g.now) table
+
+-- No fault of the table has this name, capitals and small letters alike.
+abbrev pub IsNoNameInAnyCase : List (Bor (List Explanation)) → List ℕ → Type 0
+IsNoNameInAnyCase table name = All (λ g. All
+    (λ e. All (λ n. IsFalse (str_eq_ignore_ascii_case n.now name)) e.names.now) g.now) table
+
+-- The fault that a name means: one of the table that has it, written just so; where none has, one
+-- that has it with capitals and small letters alike.
+pub record IsMeant (table : List (Bor (List Explanation))) (name : List ℕ) (e : Explanation)
+    : Type 0 where
+  pub listed : Any (λ g. Contains g.now e) table
+  pub named : HasName name e ⊎ (IsNoName table name × HasNameInAnyCase name e)

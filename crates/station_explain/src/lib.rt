@@ -1,0 +1,19 @@
+//! What each fault means that the line of a refusal can name.
+//!
+//! | Call | Does |
+//! |---|---|
+//! | `all_explanations` | the explanations of all faults |
+//! | `fault_named_in` | the name of a fault in the line of a refusal, or in a part of it |
+//! | `explanation_meant` | the explanation of a name |
+//! | `list_of_near_names` | the names that are near a text which is no name |
+//! | `explaining_text` | what a fault means, or the names of all |
+//! | `run_explain` | the command: what a fault means, or the names of all, and the exit status |
+#![tactic(auto)]
+
+mod explain;
+mod explanations;
+mod naming;
+
+pub use explain::{explaining_text, list_of_near_names, run_explain};
+pub use explanations::{Explanation, all_explanations, explanation_meant};
+pub use naming::fault_named_in;

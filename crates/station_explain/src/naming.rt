@@ -1,0 +1,38 @@
+//! The name of a fault in a line that names it.
+
+ghost use Rattle.std.specs.Prelude.{◌↔◌, IsTrue};
+ghost use Rattle.station_explain.specs.Naming.{Names, IsFaultIn, IsNameIn, IsNumber};
+
+/// The name of a fault in the line of a refusal, or in a part of it: without what stands before it,
+/// and without the number that it carries.
+pub fn fault_named_in(line: &str) -> &str
+    ensures { Names line.now result.now }
+{
+    name_in(fault_in(line))
+}
+
+/// The fault that a line tells of, without what stands before it.
+fn fault_in(line: &str) -> &str
+    ensures { IsFaultIn line.now result.now }
+{
+    match line.rsplit_once(": ") {
+        Some((_, fault)) => fault,
+        None => line,
+    }
+}
+
+/// The name of a fault, without the number that it carries.
+fn name_in(fault: &str) -> &str
+    ensures { IsNameIn fault.now result.now }
+{
+    match fault.rsplit_once(" ") {
+        Some((name, word)) => { if is_number(word) { name } else { fault } }
+        None => fault,
+    }
+}
+
+fn is_number(word: &str) -> bool
+    ensures { IsTrue result ↔ IsNumber word.now }
+{
+    word.as_bytes().iter().all(|byte| byte.is_ascii_digit())
+}
