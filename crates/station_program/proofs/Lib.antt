@@ -1,3 +1,2 @@
-pub mod OkLaws
+pub mod CommandsLaws
 pub mod NamingLaws
-pub mod ExplainingLaws

@@ -1,4 +1,3 @@
-pub mod Naming
-pub mod Explaining
+pub mod Commands
 pub mod CommandLine
 pub mod Answering

@@ -1,165 +1,37 @@
 //! What the words of a command line ask for. Each subcommand is one case of `Request` and one
 //! command of the builder.
 
-ghost use Rattle.std.specs.Prelude.{◌≡◌, ◌↔◌, IfSome, IfOk, IfErr, IsTrue};
-ghost use Rattle.clap.specs.Words.{found_of, kind_of};
-ghost use Rattle.station_program.specs.Naming.{Names, IsFaultIn, IsNameIn, IsNumber};
-ghost use Rattle.station_program.specs.CommandLine.{StatesLimits, StatesResidual, IsAskedFor};
+ghost use Rattle.std.specs.Prelude.{◌≡◌, ◌≤◌, IfSome, IfOk, IfErr, codes};
+ghost use Rattle.std.specs.Prelude.{map, string_bytes};
+ghost use Rattle.clap.specs.Words.{app_of, found_of, kind_of, rule_of, subcommand_rows_of, with_rule};
+ghost use Rattle.station_program.specs.Commands.{alone, the_program, compare_words, check_words};
+ghost use Rattle.station_program.specs.Commands.{directions_words, means_words, list_words};
+ghost use Rattle.station_program.specs.Commands.{words_words, explain_words, given_rule};
+ghost use Rattle.station_program.specs.Commands.{field_file_rule, station_rule, number_rule};
+ghost use Rattle.station_program.specs.Commands.{limit_rule, two_c_rule, two_i_rule, residual_rule};
+ghost use Rattle.station_program.specs.Commands.{within_rule, decimals_rule, fault_rule};
+ghost use Rattle.station_program.specs.CommandLine.{StatesLimits, StatesNumber, StatesResidual};
+ghost use Rattle.station_program.specs.CommandLine.{IsAskedFor, IsGiven, IsAskedForBy, IsMistakeIn};
 ghost use Rattle.station_program.specs.CommandLine.{AsksToExplain, IsMistakenName};
 
-use crate::explain::list_of_near_names;
-use crate::explanations::{Explanation, explanation_meant};
+use crate::help;
 use adjust_kernel::{LARGEST_RESIDUAL_LIMIT, ResidualLimit};
 use clap::error::ErrorKind;
 use clap::{Arg, ArgAction, ArgMatches, Command, Error, value_parser};
+use direction_table::{Decimals, MOST_WRITTEN};
 use station_book::{LARGEST_LIMIT, Limits};
+use station_explain::{Explanation, explanation_meant, fault_named_in, list_of_near_names};
 use std::alloc::{AllocError, Global};
 
 const VERSION: &str = "0.1.0";
-
-const ABOUT: &str = "Checks survey station adjustments against the field file";
-
-const LONG_ABOUT: &str = "\
-Checks survey station adjustments against the field file.
-
-A total station writes directions to a field file in Leica's GSI format. Some program adjusts them,
-and states directions and orientations in a sheet. station_check reads both files, and accepts the
-sheet or names the first fault of either.
-
-Units: face differences and their limits are in units of 0.00001 gon (0.01 mgon), the last digit of
-an angle in gon. Two-face directions and residuals are in half units (0.005 mgon); a circle of
-400 gon is 80000000 half units.";
-
-const STATUSES: &str = "\
-Without a command, station_check prints the words of the field file on standard input.
-
-GSI and SHEET are paths. '-' is a path like any other, and not standard input: name /dev/stdin.
-
-Exit status:
-  0  accepted, or all was written
-  1  refused: the first fault is named on standard error
-  2  a mistake on the command line, or a file that cannot be opened
-
-Examples:
-  station_check check field.gsi sheet.csv
-  station_check means field.gsi S1 > sheet.csv
-  station_check list field.gsi
-  station_check < field.gsi
-  gunzip -c field.gsi.gz | station_check list /dev/stdin
-  station_check explain TwoC";
-
-const CHECK_LONG_ABOUT: &str = "\
-Checks a sheet against the station of its name in a field file.
-
-The sheet is accepted where its observations are exactly the two-face directions of its station in
-the field file, every face difference is within its limit, and no other directions and orientations
-give with the sheet's full turns a smaller sum of squared residuals. Else the first fault is named:
-of the field file, then of the sheet, then of the comparison.
-
-With --residual no residual of an accepted sheet is above the limit, and no other full turns give a
-smaller sum either.
-
-The greatest residual is printed as G/D: the residual times D in half units (0.005 mgon), and the
-denominator D of the sheet.";
-
-const CHECK_EXAMPLE: &str = "\
-Exit status:
-  0  accepted: the line of the acceptance is on standard output
-  1  refused: the first fault is named on standard error
-  2  a mistake on the command line, or GSI or SHEET cannot be opened
-
-Example:
-  station_check check --residual 200 field.gsi sheet.csv
-
-  accepted S1: 2 sets, 2 targets, 4 directions, greatest residual 4/4";
-
-const MEANS_LONG_ABOUT: &str = "\
-Prints the adjusted sheet of a station whose sets are complete: its directions and orientations are
-means. The sheet is one that 'check' accepts for the same field file and limits, where no residual
-limit is stated.
-
-STATION is compared byte by byte with the names in the field file, of which the zeros on the left
-are no part. A name that begins with '-' follows after '--'.";
-
-const MEANS_EXAMPLE: &str = "\
-Exit status:
-  0  the whole sheet was written
-  1  refused: the first fault is named on standard error, and nothing was written, unless a write
-     failed
-  2  a mistake on the command line, or GSI cannot be opened
-
-Example:
-  station_check means field.gsi S1 > sheet.csv";
-
-const LIST_LONG_ABOUT: &str = "\
-Lists the stations of a field file that have sets. Under each station stand its observations: the
-set, the target, the two-face direction p in half units (0.005 mgon), and the face differences in
-units of 0.00001 gon (0.01 mgon): 2c, the direction in face II, less that in face I, less 200 gon;
-and 2i, both zenith angles together, less 400 gon.";
-
-const LIST_EXAMPLE: &str = "\
-Exit status:
-  0  the whole list was written
-  1  refused: the first fault is named on standard error, and nothing was written, unless a write
-     failed
-  2  a mistake on the command line, or GSI cannot be opened
-
-Example:
-  station_check list field.gsi
-
-  station S1: 2 sets, 2 targets, 4 directions
-  set 1, target A: p 6, 2c 6, 2i -2";
-
-const WORDS_LONG_ABOUT: &str = "\
-Prints the words of a field file, one a line: the number of the block, the number of the word in
-its block, the index, the four bytes of information, and the sign with the content.
-
-A line that holds nothing but blanks is passed over and has no number. At the first fault the words
-of all blocks before it are printed, and the fault is named on standard error.";
-
-const WORDS_EXAMPLE: &str = "\
-Exit status:
-  0  all words were written
-  1  refused: the first fault is named on standard error
-  2  a mistake on the command line, or GSI cannot be opened
-
-Example:
-  station_check words field.gsi
-
-  1 1 41 0001 +00000010
-  1 2 42 .... +000000S1";
-
-const EXPLAIN_LONG_ABOUT: &str = "\
-Explains a fault that the line of a refusal names: when it comes, a line that names it, and what to
-do. Without FAULT, the names of all faults are printed, one a line.
-
-FAULT is the name as the line has it, in capitals or small letters. The whole line will do too, and
-quotes are not needed.";
-
-const EXPLAIN_EXAMPLE: &str = "\
-Exit status:
-  0  the explanation, or all names, were written
-  1  refused: a write failed, or there was no memory
-  2  a mistake on the command line: no fault has this name; names near it are on standard error
-
-Example:
-  station_check explain block 4: TwoC
-
-  TwoC: the face difference 2c of a pair is above its limit";
-
-const TWO_C_LONG_HELP: &str = "\
-The limit of 2c, in units of 0.01 mgon: 0 to 1000000. The face difference 2c of a target
-is its direction in face II, less that in face I, less 200 gon";
-
-const TWO_I_LONG_HELP: &str = "\
-The limit of 2i, in units of 0.01 mgon: 0 to 1000000. The face difference 2i of a target
-is both its zenith angles together, less 400 gon";
 
 const FAULT: &str = "FAULT";
 
 const GSI: &str = "GSI";
 
 const SHEET: &str = "SHEET";
+
+const TABLE: &str = "TABLE";
 
 const STATION: &str = "STATION";
 
@@ -169,8 +41,21 @@ const TWO_I: &str = "two-i";
 
 const RESIDUAL: &str = "residual";
 
+const WITHIN: &str = "within";
+
+const DECIMALS: &str = "decimals";
+
 /// The limit of a face difference that no option states, in units of 0.00001 gon.
 const USUAL_LIMIT: &str = "2000";
+
+/// How near a table must be where no option states it, in units of 0.000001 gon.
+const USUAL_WITHIN: &str = "10";
+
+/// The most that a table may be asked to be near, in units of 0.000001 gon.
+const LARGEST_WITHIN: u32 = 1_000_000;
+
+/// How many decimals a direction is written with where no option states it.
+const USUAL_DECIMALS: &str = "6";
 
 /// What the program is asked to do.
 #[derive(Debug, Drop)]
@@ -188,6 +73,24 @@ pub enum Request<'a> {
         gsi: &'a str,
         station: &'a str,
         limits: Limits,
+    },
+
+    /// Prints the least-squares directions of a station of the field file at this path, as a table.
+    Directions {
+        gsi: &'a str,
+        station: &'a str,
+        limits: Limits,
+        decimals: Decimals,
+    },
+
+    /// Compares the table at a path with a station of the field file at another: they agree within
+    /// so many units of 0.000001 gon.
+    Compare {
+        gsi: &'a str,
+        station: &'a str,
+        table: &'a str,
+        limits: Limits,
+        within: u32,
     },
 
     /// Lists the stations of the field file at this path.
@@ -220,7 +123,10 @@ pub fn asked_for<'a>(
     alloc: Global,
     table: &[&'static [Explanation]],
     words: &'a [String],
-) -> Result<Request<'a>, Error> {
+) -> Result<Request<'a>, Error>
+    ensures asked { IfOk result (IsAskedForBy (map string_bytes words.now) table.now) }
+    ensures mistake { IfErr result (IsMistakeIn (map string_bytes words.now) table.now) }
+{
     let mut program = program(alloc)?;
     let matches = program.try_get_matches_from_mut(words)?;
     if let Some(("explain", found)) = matches.subcommand() {
@@ -236,13 +142,18 @@ pub fn asked_for<'a>(
     }
 }
 
-fn program<'a>(alloc: Global) -> Result<Command<'a>, Error> {
+fn program<'a>(alloc: Global) -> Result<Command<'a>, Error>
+    ensures commands { IfOk result (λ command. app_of command ≡ the_program) }
+    ensures memory { IfErr result (λ error. kind_of error ≡ ErrorKind.OutOfMemory) }
+{
     let program = Command::new(alloc, "station_check")
         .version(VERSION)
         .propagate_version(true)
-        .about(ABOUT)
-        .long_about(LONG_ABOUT)
-        .after_help(STATUSES)
+        .about(help::ABOUT)
+        .long_about(help::LONG_ABOUT)
+        .after_help(help::STATUSES)
+        .subcommand(compare_command(alloc)?)?
+        .subcommand(directions_command(alloc)?)?
         .subcommand(check_command(alloc)?)?
         .subcommand(means_command(alloc)?)?
         .subcommand(list_command(alloc)?)?
@@ -251,101 +162,188 @@ fn program<'a>(alloc: Global) -> Result<Command<'a>, Error> {
     Ok(program)
 }
 
-fn check_command<'a>(alloc: Global) -> Result<Command<'a>, Error> {
+fn compare_command<'a>(alloc: Global) -> Result<Command<'a>, Error>
+    ensures words { IfOk result (λ command. app_of command ≡ alone compare_words) }
+    ensures memory { IfErr result (λ error. kind_of error ≡ ErrorKind.OutOfMemory) }
+{
+    let command = Command::new(alloc, "compare")
+        .about("Compares a table of directions with a field file, whatever program printed it")
+        .long_about(help::COMPARE_LONG_ABOUT)
+        .after_help(help::COMPARE_EXAMPLE)
+        .arg(field_file(alloc))?
+        .arg(station_name(alloc))?
+        .arg(given(alloc, TABLE).help("The table of directions, comma-separated text"))?;
+    let command = with_limits(alloc, command)?;
+    Ok(command.arg(within(alloc))?)
+}
+
+fn directions_command<'a>(alloc: Global) -> Result<Command<'a>, Error>
+    ensures words { IfOk result (λ command. app_of command ≡ alone directions_words) }
+    ensures memory { IfErr result (λ error. kind_of error ≡ ErrorKind.OutOfMemory) }
+{
+    let command = Command::new(alloc, "directions")
+        .about("Prints the least-squares directions of a station as a table")
+        .long_about(help::DIRECTIONS_LONG_ABOUT)
+        .after_help(help::DIRECTIONS_EXAMPLE)
+        .arg(field_file(alloc))?
+        .arg(station_name(alloc))?;
+    let command = with_limits(alloc, command)?;
+    Ok(command.arg(decimals(alloc))?)
+}
+
+fn check_command<'a>(alloc: Global) -> Result<Command<'a>, Error>
+    ensures words { IfOk result (λ command. app_of command ≡ alone check_words) }
+    ensures memory { IfErr result (λ error. kind_of error ≡ ErrorKind.OutOfMemory) }
+{
     let command = Command::new(alloc, "check")
         .about("Checks a sheet against a field file")
-        .long_about(CHECK_LONG_ABOUT)
-        .after_help(CHECK_EXAMPLE)
+        .long_about(help::CHECK_LONG_ABOUT)
+        .after_help(help::CHECK_EXAMPLE)
         .arg(field_file(alloc))?
         .arg(given(alloc, SHEET).help("The sheet, comma-separated text"))?;
     let command = with_limits(alloc, command)?;
     Ok(command.arg(residual_limit(alloc))?)
 }
 
-fn means_command<'a>(alloc: Global) -> Result<Command<'a>, Error> {
+fn means_command<'a>(alloc: Global) -> Result<Command<'a>, Error>
+    ensures words { IfOk result (λ command. app_of command ≡ alone means_words) }
+    ensures memory { IfErr result (λ error. kind_of error ≡ ErrorKind.OutOfMemory) }
+{
     let command = Command::new(alloc, "means")
         .about("Prints the adjusted sheet of a station whose sets are complete")
-        .long_about(MEANS_LONG_ABOUT)
-        .after_help(MEANS_EXAMPLE)
+        .long_about(help::MEANS_LONG_ABOUT)
+        .after_help(help::MEANS_EXAMPLE)
         .arg(field_file(alloc))?
-        .arg(given(alloc, STATION).help("The name of the station"))?;
+        .arg(station_name(alloc))?;
     with_limits(alloc, command)
 }
 
-fn list_command<'a>(alloc: Global) -> Result<Command<'a>, Error> {
+fn list_command<'a>(alloc: Global) -> Result<Command<'a>, Error>
+    ensures words { IfOk result (λ command. app_of command ≡ alone list_words) }
+    ensures memory { IfErr result (λ error. kind_of error ≡ ErrorKind.OutOfMemory) }
+{
     let command = Command::new(alloc, "list")
         .about("Lists the stations of a field file and their two-face directions")
-        .long_about(LIST_LONG_ABOUT)
-        .after_help(LIST_EXAMPLE)
+        .long_about(help::LIST_LONG_ABOUT)
+        .after_help(help::LIST_EXAMPLE)
         .arg(field_file(alloc))?;
     with_limits(alloc, command)
 }
 
-fn words_command<'a>(alloc: Global) -> Result<Command<'a>, Error> {
+fn words_command<'a>(alloc: Global) -> Result<Command<'a>, Error>
+    ensures words { IfOk result (λ command. app_of command ≡ alone words_words) }
+    ensures memory { IfErr result (λ error. kind_of error ≡ ErrorKind.OutOfMemory) }
+{
     let command = Command::new(alloc, "words")
         .about("Prints the words of a field file")
-        .long_about(WORDS_LONG_ABOUT)
-        .after_help(WORDS_EXAMPLE)
+        .long_about(help::WORDS_LONG_ABOUT)
+        .after_help(help::WORDS_EXAMPLE)
         .arg(field_file(alloc))?;
     Ok(command)
 }
 
-fn explain_command<'a>(alloc: Global) -> Result<Command<'a>, Error> {
+fn explain_command<'a>(alloc: Global) -> Result<Command<'a>, Error>
+    ensures words { IfOk result (λ command. app_of command ≡ alone explain_words) }
+    ensures memory { IfErr result (λ error. kind_of error ≡ ErrorKind.OutOfMemory) }
+{
     let command = Command::new(alloc, "explain")
         .about("Explains a fault that a refusal names")
-        .long_about(EXPLAIN_LONG_ABOUT)
-        .after_help(EXPLAIN_EXAMPLE)
-        .arg(
-            Arg::new(alloc, FAULT)
-                .num_args(0..)
-                .action(ArgAction::Append)
-                .help("The name of the fault, or the line of the refusal"),
-        )?;
+        .long_about(help::EXPLAIN_LONG_ABOUT)
+        .after_help(help::EXPLAIN_EXAMPLE)
+        .arg(words_of_fault(alloc))?;
     Ok(command)
 }
 
-fn field_file<'a>(alloc: Global) -> Arg<'a> {
+fn field_file<'a>(alloc: Global) -> Arg<'a>
+    ensures { rule_of result ≡ field_file_rule }
+{
     given(alloc, GSI).help("The field file, in GSI-8, GSI-16 or both")
 }
 
+fn words_of_fault<'a>(alloc: Global) -> Arg<'a>
+    ensures { rule_of result ≡ fault_rule }
+{
+    Arg::new(alloc, FAULT)
+        .num_args(0..)
+        .action(ArgAction::Append)
+        .help("The name of the fault, or the line of the refusal")
+}
+
+fn station_name<'a>(alloc: Global) -> Arg<'a>
+    ensures { rule_of result ≡ station_rule }
+{
+    given(alloc, STATION).help("The name of the station")
+}
+
 /// An argument that must be given.
-fn given<'a>(alloc: Global, name: &'a str) -> Arg<'a> {
+fn given<'a>(alloc: Global, name: &'a str) -> Arg<'a>
+    ensures { rule_of result ≡ given_rule name.entry.now }
+{
     Arg::new(alloc, name).required(true).action(ArgAction::Set)
 }
 
 /// A command with the options of the limits of face differences.
-fn with_limits<'a>(alloc: Global, command: Command<'a>) -> Result<Command<'a>, Error> {
+fn with_limits<'a>(alloc: Global, command: Command<'a>) -> Result<Command<'a>, Error>
+    ensures limits { IfOk result (λ limited.
+        app_of limited ≡ with_rule (with_rule (app_of command.entry) two_c_rule) two_i_rule) }
+    ensures memory { IfErr result (λ error. kind_of error ≡ ErrorKind.OutOfMemory) }
+{
     let two_c = face_limit(alloc, TWO_C)
         .help("The limit of 2c, in units of 0.01 mgon: 0 to 1000000")
-        .long_help(TWO_C_LONG_HELP);
+        .long_help(help::TWO_C_LONG_HELP);
     let two_i = face_limit(alloc, TWO_I)
         .help("The limit of 2i, in units of 0.01 mgon: 0 to 1000000")
-        .long_help(TWO_I_LONG_HELP);
+        .long_help(help::TWO_I_LONG_HELP);
     Ok(command.arg(two_c)?.arg(two_i)?)
 }
 
-fn face_limit<'a>(alloc: Global, name: &'a str) -> Arg<'a> {
-    number(alloc, name, LARGEST_LIMIT).default_value(USUAL_LIMIT)
+fn face_limit<'a>(alloc: Global, name: &'a str) -> Arg<'a>
+    ensures { rule_of result ≡ limit_rule name.entry.now }
+{
+    number(alloc, name, 0, LARGEST_LIMIT).default_value(USUAL_LIMIT)
 }
 
-fn residual_limit<'a>(alloc: Global) -> Arg<'a> {
-    number(alloc, RESIDUAL, LARGEST_RESIDUAL_LIMIT).help(
+fn residual_limit<'a>(alloc: Global) -> Arg<'a>
+    ensures { rule_of result ≡ residual_rule }
+{
+    number(alloc, RESIDUAL, 0, LARGEST_RESIDUAL_LIMIT).help(
         "The limit of residuals, in half units of 0.005 mgon: 0 to 2000 [default: none]",
     )
 }
 
-/// An option with a number from 0 up to a largest.
-fn number<'a>(alloc: Global, name: &'a str, largest: u32) -> Arg<'a> {
+fn within<'a>(alloc: Global) -> Arg<'a>
+    ensures { rule_of result ≡ within_rule }
+{
+    number(alloc, WITHIN, 0, LARGEST_WITHIN)
+        .default_value(USUAL_WITHIN)
+        .help("How near the directions must be, in units of 0.001 mgon: 0 to 1000000")
+        .long_help(help::WITHIN_LONG_HELP)
+}
+
+fn decimals<'a>(alloc: Global) -> Arg<'a>
+    ensures { rule_of result ≡ decimals_rule }
+{
+    number(alloc, DECIMALS, 1, MOST_WRITTEN)
+        .value_name("K")
+        .default_value(USUAL_DECIMALS)
+        .help("How many decimals of a gon a direction is written with: 1 to 8")
+        .long_help(help::DECIMALS_LONG_HELP)
+}
+
+/// An option with a number from a smallest up to a largest.
+fn number<'a>(alloc: Global, name: &'a str, smallest: u32, largest: u32) -> Arg<'a>
+    ensures { rule_of result ≡ number_rule name.entry.now smallest largest }
+{
     Arg::new(alloc, name)
         .long(name)
         .value_name("N")
         .action(ArgAction::Set)
-        .value_parser(value_parser!(u32).range(0..=i64::from(largest)))
+        .value_parser(value_parser!(u32).range(i64::from(smallest)..=i64::from(largest)))
 }
 
 /// The request, unless an argument is missing or out of its range.
 fn request_of<'a>(matches: &ArgMatches<'a>) -> Option<Request<'a>>
-    ensures { IfSome result (IsAskedFor matches.now) }
+    ensures { IfSome result (IsAskedFor (subcommand_rows_of matches.now)) }
 {
     match matches.subcommand() {
         Some(("check", found)) => Some(Request::Check {
@@ -356,7 +354,7 @@ fn request_of<'a>(matches: &ArgMatches<'a>) -> Option<Request<'a>>
         }),
         Some(("means", found)) => Some(Request::Means {
             gsi: found.get_str(GSI)?,
-            station: found.get_str(STATION)?,
+            station: station_of(found)?,
             limits: limits_of(found)?,
         }),
         Some(("list", found)) => Some(Request::List {
@@ -365,6 +363,19 @@ fn request_of<'a>(matches: &ArgMatches<'a>) -> Option<Request<'a>>
         }),
         Some(("words", found)) => Some(Request::Words {
             gsi: found.get_str(GSI)?,
+        }),
+        Some(("directions", found)) => Some(Request::Directions {
+            gsi: found.get_str(GSI)?,
+            station: station_of(found)?,
+            limits: limits_of(found)?,
+            decimals: decimals_of(found)?,
+        }),
+        Some(("compare", found)) => Some(Request::Compare {
+            gsi: found.get_str(GSI)?,
+            station: station_of(found)?,
+            table: found.get_str(TABLE)?,
+            limits: limits_of(found)?,
+            within: within_of(found)?,
         }),
         Some(_) => None,
         None => Some(Request::WordsOfInput),
@@ -414,38 +425,12 @@ fn no_such_fault<'a>(
     program.error(ErrorKind::InvalidValue, message.as_str())
 }
 
-/// The name of a fault in the line of a refusal, or in a part of it: without what stands before it,
-/// and without the number that it carries.
-fn fault_named_in(line: &str) -> &str
-    ensures { Names line.now result.now }
+/// The name of the station, unless it is missing.
+fn station_of<'a>(found: &ArgMatches<'a>) -> Option<&'a str>
+    ensures { IfSome result (λ station.
+        IsGiven (found_of found.now) (codes "STATION") station.now) }
 {
-    name_in(fault_in(line))
-}
-
-/// The fault that a line tells of, without what stands before it.
-fn fault_in(line: &str) -> &str
-    ensures { IsFaultIn line.now result.now }
-{
-    match line.rsplit_once(": ") {
-        Some((_, fault)) => fault,
-        None => line,
-    }
-}
-
-/// The name of a fault, without the number that it carries.
-fn name_in(fault: &str) -> &str
-    ensures { IsNameIn fault.now result.now }
-{
-    match fault.rsplit_once(" ") {
-        Some((name, word)) => { if is_number(word) { name } else { fault } }
-        None => fault,
-    }
-}
-
-fn is_number(word: &str) -> bool
-    ensures { IsTrue result ↔ IsNumber word.now }
-{
-    word.as_bytes().iter().all(|byte| byte.is_ascii_digit())
+    found.get_str(STATION)
 }
 
 /// The limits of face differences, unless one is missing or out of its range.
@@ -463,4 +448,23 @@ fn residual_of(found: &ArgMatches<'_>) -> Option<Option<ResidualLimit>>
         return Some(None);
     }
     Some(Some(ResidualLimit::new(found.get_one(RESIDUAL)?)?))
+}
+
+/// How many decimals a direction is written with, unless it is missing or out of its range.
+fn decimals_of(found: &ArgMatches<'_>) -> Option<Decimals>
+    ensures { IfSome result (StatesNumber (found_of found.now) (codes "decimals")) }
+{
+    Decimals::new(found.get_one(DECIMALS)?)
+}
+
+/// Within how many units of 0.000001 gon a table agrees, unless it is missing or out of its range.
+fn within_of(found: &ArgMatches<'_>) -> Option<u32>
+    ensures stated { IfSome result (StatesNumber (found_of found.now) (codes "within")) }
+    ensures range { IfSome result (λ within. within ≤ LARGEST_WITHIN) }
+{
+    let within: u32 = found.get_one(WITHIN)?;
+    if within > LARGEST_WITHIN {
+        return None;
+    }
+    Some(within)
 }

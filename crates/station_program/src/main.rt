@@ -5,27 +5,27 @@
 //! promise of the whole program stands at its `check_bytes`.
 #![tactic(auto)]
 
-ghost use Rattle.std.specs.Prelude.{◌≡◌, ◌≤◌, IfOk, IfErr, None, false};
+ghost use Rattle.std.specs.Prelude.{◌≡◌, ◌≤◌, IfOk, IfErr, OnErr, None, false};
 ghost use Rattle.std.specs.declared.fs.File.{File as FileType};
 ghost use Rattle.std.specs.declared.rt.Stdin.{Stdin};
 ghost use Rattle.std.specs.declared.rt.Stdout.{Stdout};
 ghost use Rattle.std.specs.declared.rt.Stderr.{Stderr};
 ghost use Rattle.byte_ends.specs.OfRead.{read_told, read_failed};
-ghost use Rattle.station_program.specs.Answering.{IsAnswered};
+ghost use Rattle.clap.specs.Words.{kind_of};
+ghost use Rattle.station_program.specs.Answering.{IsAnswered, IsStatusOfKind};
 
 mod command_line;
-mod explain;
-mod explanations;
+mod help;
 mod printable;
 
 use byte_ends::{OfRead, OfWrite};
 use clap::Error;
 use clap::error::ErrorKind;
 use command_line::{Request, asked_for};
-use explain::run_explain;
-use explanations::{Explanation, explanations};
 use printable::Printable;
 use station_check::{DONE, REFUSED, run_check, run_list, run_means, run_words};
+use station_compare::{run_compare, run_directions};
+use station_explain::{Explanation, all_explanations, run_explain};
 use std::fs::File;
 use std::io::IsTerminal;
 use std::process::ExitCode;
@@ -43,29 +43,39 @@ For more information, try '--help'.";
 
 const LIMITS_ARE_WHOLE: &str = "
 Limits are whole numbers: of 2c and 2i in units of 0.01 mgon, of residuals in half units of
-0.005 mgon. So 0.3 mgon is --two-c 30, --two-i 30 and --residual 60.";
+0.005 mgon, of --within in units of 0.001 mgon. So 0.3 mgon is --two-c 30, --two-i 30,
+--residual 60 and --within 300.";
 
 const TERMINAL_IS_READ: &str =
     "reading from the terminal; Ctrl-D ends the input, and 'station_check --help' explains";
 
 fn main(rt: HostRuntime) -> ExitCode {
-    ExitCode::from(status_of_run(&rt, &explanations()))
+    ExitCode::from(status_of_run(&rt, &all_explanations()))
 }
 
-/// The exit status of the run that the words of the command line ask for. The table holds the
+/// The exit status of the run that the words of the command line ask for. `faults` are the
 /// explanations of all faults.
-fn status_of_run(rt: &HostRuntime, table: &[&'static [Explanation]]) -> u8
+fn status_of_run(rt: &HostRuntime, faults: &[&'static [Explanation]]) -> u8
     ensures { result ≤ 2 }
 {
     match command_line_words(rt) {
-        Ok(words) => match asked_for(rt.alloc(), table, words.as_slice()) {
-            Ok(request) => match answer(rt, table, &request) {
-                Ok(status) => status,
-                Err(unopened) => cannot_open(rt, &unopened),
-            },
+        Ok(words) => match asked_for(rt.alloc(), faults, words.as_slice()) {
+            Ok(request) => status_of_answer(rt, answer(rt, faults, &request)),
             Err(error) => show(rt, &error),
         },
         Err(status) => status,
+    }
+}
+
+/// The exit status of an answer: that of its run, or that of a file that can't be opened, which is
+/// named on standard error.
+fn status_of_answer(rt: &HostRuntime, answered: Result<u8, Unopened<'_>>) -> u8
+    ensures answered { IfOk answered.entry (λ status. result ≡ status) }
+    ensures unopened { OnErr answered.entry (result ≡ 2) }
+{
+    match answered {
+        Ok(status) => status,
+        Err(unopened) => cannot_open(rt, &unopened),
     }
 }
 
@@ -94,25 +104,31 @@ fn out_of_memory(rt: &HostRuntime) -> u8
 /// Prints what the parse of the command line answered in place of a request: help, the version, or
 /// a mistake.
 fn show(rt: &HostRuntime, error: &Error) -> u8
-    ensures { result ≤ 2 }
+    ensures { IsStatusOfKind (kind_of error.now) result }
 {
-    if error.kind() == ErrorKind::OutOfMemory {
-        return out_of_memory(rt);
-    }
-    let printed = error.print(rt);
-    if error.kind() == ErrorKind::ValueValidation {
-        let _ = eprintln!(rt; "{LIMITS_ARE_WHOLE}");
-    }
-    if error.use_stderr() {
-        return USAGE;
-    }
-    match printed {
-        Ok(()) => DONE,
-        Err(_) => {
-            let _ = eprintln!(rt; "refused: write failed");
-            REFUSED
+    match error.kind() {
+        ErrorKind::OutOfMemory => out_of_memory(rt),
+        ErrorKind::DisplayHelp | ErrorKind::DisplayVersion => match error.print(rt) {
+            Ok(()) => DONE,
+            Err(_) => write_failed(rt),
+        },
+        ErrorKind::ValueValidation => {
+            let _ = error.print(rt);
+            let _ = eprintln!(rt; "{LIMITS_ARE_WHOLE}");
+            USAGE
+        }
+        _ => {
+            let _ = error.print(rt);
+            USAGE
         }
     }
+}
+
+fn write_failed(rt: &HostRuntime) -> u8
+    ensures { result ≡ 1 }
+{
+    let _ = eprintln!(rt; "refused: write failed");
+    REFUSED
 }
 
 /// A file that can't be opened.
@@ -144,11 +160,11 @@ fn note_terminal<T: IsTerminal>(rt: &HostRuntime, input: &T) {
 /// The exit status of a request. All its files are opened before any is read, the field file first.
 fn answer<'a>(
     rt: &HostRuntime,
-    table: &[&'static [Explanation]],
+    faults: &[&'static [Explanation]],
     request: &Request<'a>,
 ) -> Result<u8, Unopened<'a>>
     ensures status { IfOk result (λ status. status ≤ 1) }
-    ensures run { IfOk result (IsAnswered FileType Stdin Stdout Stderr request.now) }
+    ensures run { IfOk result (IsAnswered FileType Stdin Stdout Stderr faults.now request.now) }
 {
     let mut out = OfWrite::new(rt.stdout());
     let mut err = OfWrite::new(rt.stderr());
@@ -179,6 +195,43 @@ fn answer<'a>(
                 &mut err,
             ))
         }
+        Request::Directions {
+            gsi,
+            station,
+            limits,
+            decimals,
+        } => {
+            let gsi = open(rt, gsi)?;
+            Ok(run_directions(
+                rt.alloc(),
+                gsi,
+                station.as_bytes(),
+                limits,
+                decimals,
+                &mut out,
+                &mut err,
+            ))
+        }
+        Request::Compare {
+            gsi,
+            station,
+            table,
+            limits,
+            within,
+        } => {
+            let gsi = open(rt, gsi)?;
+            let mut table = open(rt, table)?;
+            Ok(run_compare(
+                rt.alloc(),
+                gsi,
+                &mut table,
+                station.as_bytes(),
+                limits,
+                within,
+                &mut out,
+                &mut err,
+            ))
+        }
         Request::List { gsi, limits } => {
             Ok(run_list(rt.alloc(), open(rt, gsi)?, limits, &mut out, &mut err))
         }
@@ -189,7 +242,7 @@ fn answer<'a>(
             Ok(run_words(rt.alloc(), OfRead::new(input), &mut out, &mut err))
         }
         Request::Explain { fault } => {
-            Ok(run_explain(rt.alloc(), table, fault, &mut out, &mut err))
+            Ok(run_explain(rt.alloc(), faults, fault, &mut out, &mut err))
         }
     }
 }

@@ -1,0 +1,120 @@
+-- The grammar of the command line: the commands, and the arguments and options of each, in the order
+-- in which they are read.
+use Rattle.std.specs.Prelude.{◌≡◌, ◌∷◌, [], ℕ, pos, true, false, List, Some, codes}
+use Rattle.clap.specs.Lexer.{usize_max}
+use Rattle.clap.specs.Simple.{new_shape}
+use Rattle.clap.specs.Words.{App, Rule, Shape, Text, new_rule}
+use Rattle.clap.specs.declared.builder.action.ArgAction.TheVariants.{Set, Append}
+use Rattle.clap.specs.declared.builder.value_parser.ValueParser.TheVariants.{Signed}
+use Rattle.adjust_kernel.specs.declared.limits.TheConstants.{LARGEST_RESIDUAL_LIMIT}
+use Rattle.station_book.specs.declared.limits.TheConstants.{LARGEST_LIMIT}
+
+-- An argument that must be given: one word.
+abbrev pub given_rule : Text → Rule
+given_rule id = record (new_rule id) { required = true; action = Some Set }
+
+-- An option `--id N`, which may be left out, of a whole number from a smallest up to a largest.
+abbrev pub number_rule : Text → ℕ → ℕ → Rule
+number_rule id smallest largest = record (new_rule id) {
+  long = Some id;
+  action = Some Set;
+  value_names = 1;
+  parser = Some (Signed (pos smallest) (pos largest));
+}
+
+-- The same, with the number that stands where it is left out.
+abbrev pub usual_rule : Text → ℕ → ℕ → Text → Rule
+usual_rule id smallest largest usual =
+    record (number_rule id smallest largest) { defaults = usual ∷ [] }
+
+-- The limit of a face difference: 0.02 gon where it is left out.
+abbrev pub limit_rule : Text → Rule
+limit_rule id = usual_rule id 0 LARGEST_LIMIT (codes "2000")
+
+-- The limit of 2c.
+abbrev pub two_c_rule : Rule
+two_c_rule = limit_rule (codes "two-c")
+
+-- The limit of 2i.
+abbrev pub two_i_rule : Rule
+two_i_rule = limit_rule (codes "two-i")
+
+-- The limit of residuals: none where it is left out.
+abbrev pub residual_rule : Rule
+residual_rule = number_rule (codes "residual") 0 LARGEST_RESIDUAL_LIMIT
+
+-- How near a table must be: 10 where it is left out.
+abbrev pub within_rule : Rule
+within_rule = usual_rule (codes "within") 0 1_000_000 (codes "10")
+
+-- How many decimals a direction is written with: 6 where it is left out.
+abbrev pub decimals_rule : Rule
+decimals_rule = usual_rule (codes "decimals") 1 8 (codes "6")
+
+-- The path of the field file.
+abbrev pub field_file_rule : Rule
+field_file_rule = given_rule (codes "GSI")
+
+-- The name of the station.
+abbrev pub station_rule : Rule
+station_rule = given_rule (codes "STATION")
+
+-- The words of a fault: any number of them.
+abbrev pub fault_rule : Rule
+fault_rule = record (new_rule (codes "FAULT")) {
+  action = Some Append;
+  range = Some (record { start_inclusive = 0; end_inclusive = usize_max });
+}
+
+-- A command of this name, with these arguments and options.
+abbrev pub command : Text → List Rule → Shape
+command name rules = record (new_shape name) { rules = rules }
+
+-- A command before it is one of a program's.
+abbrev pub alone : Shape → App
+alone s = record { top = s; subs = [] }
+
+-- `compare GSI STATION TABLE`
+abbrev pub compare_words : Shape
+compare_words = command (codes "compare")
+    (field_file_rule ∷ station_rule ∷ given_rule (codes "TABLE")
+    ∷ two_c_rule ∷ two_i_rule ∷ within_rule ∷ [])
+
+-- `directions GSI STATION`
+abbrev pub directions_words : Shape
+directions_words = command (codes "directions")
+    (field_file_rule ∷ station_rule ∷ two_c_rule ∷ two_i_rule ∷ decimals_rule ∷ [])
+
+-- `check GSI SHEET`
+abbrev pub check_words : Shape
+check_words = command (codes "check")
+    (field_file_rule ∷ given_rule (codes "SHEET") ∷ two_c_rule ∷ two_i_rule ∷ residual_rule ∷ [])
+
+-- `means GSI STATION`
+abbrev pub means_words : Shape
+means_words =
+    command (codes "means") (field_file_rule ∷ station_rule ∷ two_c_rule ∷ two_i_rule ∷ [])
+
+-- `list GSI`
+abbrev pub list_words : Shape
+list_words = command (codes "list") (field_file_rule ∷ two_c_rule ∷ two_i_rule ∷ [])
+
+-- `words GSI`
+abbrev pub words_words : Shape
+words_words = command (codes "words") (field_file_rule ∷ [])
+
+-- `explain`, with any words
+abbrev pub explain_words : Shape
+explain_words = command (codes "explain") (fault_rule ∷ [])
+
+-- The program: its commands, each of which has `--version` too.
+abbrev pub the_program : App
+the_program = record {
+  top = record (new_shape (codes "station_check")) {
+    is_leaf = false;
+    has_version = true;
+    propagate_version = true;
+  };
+  subs = compare_words ∷ directions_words ∷ check_words ∷ means_words ∷ list_words ∷ words_words
+      ∷ explain_words ∷ [];
+}

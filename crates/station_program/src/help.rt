@@ -1,0 +1,202 @@
+//! What `--help` says: of the program, and of each command.
+
+pub const ABOUT: &str = "Checks survey station adjustments against the field file";
+
+pub const LONG_ABOUT: &str = "\
+Checks survey station adjustments against the field file.
+
+A total station writes directions to a field file in Leica's GSI format. Some program adjusts them,
+and prints directions, rounded, or states directions and orientations in a sheet, exactly.
+station_check reads the field file and what the program made of it, and says that it is right or
+names the first fault: 'compare' for a table of directions, 'check' for a sheet.
+
+Units: face differences and their limits are in units of 0.00001 gon (0.01 mgon), the last digit of
+an angle in gon. Two-face directions and residuals are in half units (0.005 mgon); a circle of
+400 gon is 80000000 half units. How far a table is apart is in units of 0.000001 gon (0.001 mgon).";
+
+pub const STATUSES: &str = "\
+Without a command, station_check prints the words of the field file on standard input.
+
+GSI, TABLE and SHEET are paths. '-' is a path like any other, and not standard input: name
+/dev/stdin.
+
+Exit status:
+  0  it agrees, it is accepted, or all was written
+  1  refused: the first fault is named on standard error
+  2  a mistake on the command line, or a file that cannot be opened
+
+Examples:
+  station_check compare field.gsi S1 table.csv
+  station_check directions field.gsi S1 > table.csv
+  station_check check field.gsi sheet.csv
+  station_check means field.gsi S1 > sheet.csv
+  station_check list field.gsi
+  station_check < field.gsi
+  gunzip -c field.gsi.gz | station_check list /dev/stdin
+  station_check explain TwoC";
+
+pub const COMPARE_LONG_ABOUT: &str = "\
+Compares the directions that any program printed, complete sets or not, with the least-squares
+directions of a station in a field file: least over all directions, orientations and full turns.
+
+The table agrees where one rotation brings each of its directions within N units of 0.000001 gon
+(0.001 mgon) of the least-squares one. Else the first fault is named: of the field file, then of the
+table, then of the adjustment, in which no residual may be above 2000 half units (0.005 mgon); and
+at last how far they are apart.
+
+TABLE is comma-separated text: for each target of the station one row NAME,DIRECTION, in any order,
+with no row of titles. A direction is in gon, below 400: 1 to 3 digits, and a point with 1 to 9
+decimals where it has any, after a '-' where it is below 0. The first need not be 0.
+
+STATION is compared byte by byte with the names in the field file, of which the zeros on the left
+are no part. A name that begins with '-' follows after '--'.";
+
+pub const COMPARE_EXAMPLE: &str = "\
+Exit status:
+  0  it agrees: the line of the agreement is on standard output
+  1  refused: the first fault is named on standard error
+  2  a mistake on the command line, or GSI or TABLE cannot be opened
+
+Example:
+  station_check compare --within 10 field.gsi S1 table.csv
+
+  agrees S1: 2 targets, within 0";
+
+pub const DIRECTIONS_LONG_ABOUT: &str = "\
+Prints the least-squares directions of a station, complete sets or not, as a table: least over all
+directions, orientations and full turns. A residual above 2000 half units (0.005 mgon) is a fault.
+
+Each row is NAME,DIRECTION. The targets stand in the order in which the field file first observes
+them. Directions are in gon, from 0 up to 400; the first is 0. They are rounded to K decimals, and
+the middle of two goes up. 'compare' reads such a table.
+
+STATION is compared byte by byte with the names in the field file, of which the zeros on the left
+are no part. A name that begins with '-' follows after '--'.";
+
+pub const DIRECTIONS_EXAMPLE: &str = "\
+Exit status:
+  0  the whole table was written
+  1  refused: the first fault is named on standard error, and nothing was written, unless a write
+     failed
+  2  a mistake on the command line, or GSI cannot be opened
+
+Example:
+  station_check directions field.gsi S1 > table.csv
+
+  A,0.000000
+  B,50.000030";
+
+pub const CHECK_LONG_ABOUT: &str = "\
+Checks a sheet against the station of its name in a field file.
+
+The sheet is accepted where its observations are exactly the two-face directions of its station in
+the field file, every face difference is within its limit, and no other directions and orientations
+give with the sheet's full turns a smaller sum of squared residuals. Else the first fault is named:
+of the field file, then of the sheet, then of the comparison.
+
+With --residual no residual of an accepted sheet is above the limit, and no other full turns give a
+smaller sum either.
+
+The greatest residual is printed as G/D: the residual times D in half units (0.005 mgon), and the
+denominator D of the sheet.";
+
+pub const CHECK_EXAMPLE: &str = "\
+Exit status:
+  0  accepted: the line of the acceptance is on standard output
+  1  refused: the first fault is named on standard error
+  2  a mistake on the command line, or GSI or SHEET cannot be opened
+
+Example:
+  station_check check --residual 200 field.gsi sheet.csv
+
+  accepted S1: 2 sets, 2 targets, 4 directions, greatest residual 4/4";
+
+pub const MEANS_LONG_ABOUT: &str = "\
+Prints the adjusted sheet of a station whose sets are complete: its directions and orientations are
+means. The sheet is one that 'check' accepts for the same field file and limits, where no residual
+limit is stated.
+
+STATION is compared byte by byte with the names in the field file, of which the zeros on the left
+are no part. A name that begins with '-' follows after '--'.";
+
+pub const MEANS_EXAMPLE: &str = "\
+Exit status:
+  0  the whole sheet was written
+  1  refused: the first fault is named on standard error, and nothing was written, unless a write
+     failed
+  2  a mistake on the command line, or GSI cannot be opened
+
+Example:
+  station_check means field.gsi S1 > sheet.csv";
+
+pub const LIST_LONG_ABOUT: &str = "\
+Lists the stations of a field file that have sets. Under each station stand its observations: the
+set, the target, the two-face direction p in half units (0.005 mgon), and the face differences in
+units of 0.00001 gon (0.01 mgon): 2c, the direction in face II, less that in face I, less 200 gon;
+and 2i, both zenith angles together, less 400 gon.";
+
+pub const LIST_EXAMPLE: &str = "\
+Exit status:
+  0  the whole list was written
+  1  refused: the first fault is named on standard error, and nothing was written, unless a write
+     failed
+  2  a mistake on the command line, or GSI cannot be opened
+
+Example:
+  station_check list field.gsi
+
+  station S1: 2 sets, 2 targets, 4 directions
+  set 1, target A: p 6, 2c 6, 2i -2";
+
+pub const WORDS_LONG_ABOUT: &str = "\
+Prints the words of a field file, one a line: the number of the block, the number of the word in
+its block, the index, the four bytes of information, and the sign with the content.
+
+A line that holds nothing but blanks is passed over and has no number. At the first fault the words
+of all blocks before it are printed, and the fault is named on standard error.";
+
+pub const WORDS_EXAMPLE: &str = "\
+Exit status:
+  0  all words were written
+  1  refused: the first fault is named on standard error
+  2  a mistake on the command line, or GSI cannot be opened
+
+Example:
+  station_check words field.gsi
+
+  1 1 41 0001 +00000010
+  1 2 42 .... +000000S1";
+
+pub const EXPLAIN_LONG_ABOUT: &str = "\
+Explains a fault that the line of a refusal names: when it comes, a line that names it, and what to
+do. Without FAULT, the names of all faults are printed, one a line.
+
+FAULT is the name as the line has it, in capitals or small letters. The whole line will do too, and
+quotes are not needed.";
+
+pub const EXPLAIN_EXAMPLE: &str = "\
+Exit status:
+  0  the explanation, or all names, were written
+  1  refused: a write failed, or there was no memory
+  2  a mistake on the command line: no fault has this name; names near it are on standard error
+
+Example:
+  station_check explain block 4: TwoC
+
+  TwoC: the face difference 2c of a pair is above its limit";
+
+pub const TWO_C_LONG_HELP: &str = "\
+The limit of 2c, in units of 0.01 mgon: 0 to 1000000. The face difference 2c of a target
+is its direction in face II, less that in face I, less 200 gon";
+
+pub const TWO_I_LONG_HELP: &str = "\
+The limit of 2i, in units of 0.01 mgon: 0 to 1000000. The face difference 2i of a target
+is both its zenith angles together, less 400 gon";
+
+pub const WITHIN_LONG_HELP: &str = "\
+How near the directions must be, in units of 0.001 mgon: 0 to 1000000. Rounding to
+4 decimals of a gon moves a direction by up to 50 units, to 5 decimals by up to 5";
+
+pub const DECIMALS_LONG_HELP: &str = "\
+How many decimals of a gon a direction is written with: 1 to 8. The sixth is of
+0.001 mgon";
