@@ -1,6 +1,7 @@
 -- What each call answers, of the very bytes that it was given. `room` is how many bytes there is room
 -- for, `answered` the status, and `shown` what was handed out.
 use Rattle.std.specs.Prelude.{◌≢◌, ℕ, Bool, List, [], Some, Result, Err, IfErr}
+use Rattle.std.specs.Borrow.{Bor}
 use Rattle.gsi_file.specs.FileAnswers.{file_answers}
 use Rattle.adjust_kernel.specs.declared.accepted.Accepted.{Accepted}
 use Rattle.station_book.specs.Limits.{FaceLimits}
@@ -13,8 +14,16 @@ use Rattle.station_check.specs.Listing.{WritesList}
 use Rattle.station_check.specs.Means.{WritesMeans}
 use Rattle.station_check.specs.Promise.{KeepsPromise}
 use Rattle.station_check.specs.Words.{WritesWords}
+use Rattle.station_compare.specs.Answers.{Compares}
+use Rattle.station_compare.specs.Directions.{TellsDirections}
+use Rattle.station_compare.specs.declared.agreement.Agreement.{Agreement}
+use Rattle.station_compare.specs.declared.fault.CompareFault.{CompareFault}
+use Rattle.station_explain.specs.declared.explanations.Explanation.{Explanation}
+use Rattle.station_page.specs.Explained.{AnswersLine, explanation_or_refusal}
 use Rattle.station_page.specs.HandedOut.{HandsOut, verdict_line, text_or_refusal, refusal_text}
+use Rattle.station_page.specs.HandedOut.{comparison_line, table_or_refusal}
 use Rattle.station_page.specs.Limits.{States, residual_limit}
+use Rattle.station_page.specs.declared.explain.Unexplained.{Unexplained}
 
 -- The status and the line are those of the verdict on these bytes, of which the whole promise is
 -- kept.
@@ -63,3 +72,31 @@ pub record IsWordsOf (gsi : List ℕ) (room refusal_room answered : ℕ) (shown 
   pub status : ℕ
   pub hands_text_out : HandsOut (status_of answer) text room status shown
   pub hands_line_out : HandsOut status (refusal_text answer) refusal_room answered refusal
+
+-- The status and the table are those of the least-squares directions of the station of this name in
+-- these bytes, with so many decimals.
+pub record IsDirectionsOf (two_c two_i : ℕ) (gsi name : List ℕ) (decimals room answered : ℕ)
+    (shown : List ℕ) : Type 0 where
+  pub limits : FaceLimits
+  pub states : States two_c two_i limits
+  pub answer : Result (List ℕ) CompareFault
+  pub tells : TellsDirections limits (file_answers (handed_in gsi)) name decimals answer
+  pub hands_out : HandsOut (status_of answer) (table_or_refusal answer) room answered shown
+
+-- The status and the line are those of the comparison of these bytes of a table with the station of
+-- this name in these bytes of a field file, of which the whole promise is kept.
+pub record IsComparisonOf (two_c two_i : ℕ) (gsi table name : List ℕ) (within room answered : ℕ)
+    (shown : List ℕ) : Type 0 where
+  pub limits : FaceLimits
+  pub states : States two_c two_i limits
+  pub answer : Result Agreement CompareFault
+  pub compares : Compares limits (file_answers (handed_in gsi)) (handed_in table) name within answer
+  pub hands_out : HandsOut (status_of answer) (comparison_line answer) room answered shown
+
+-- The status and the text are those of the explanation that a line asks for, of the faults of a
+-- table.
+pub record IsExplanationOf (table : List (Bor (List Explanation))) (line : List ℕ)
+    (room answered : ℕ) (shown : List ℕ) : Type 0 where
+  pub answer : Result (List ℕ) Unexplained
+  pub answers : AnswersLine table line answer
+  pub hands_out : HandsOut (status_of answer) (explanation_or_refusal answer) room answered shown

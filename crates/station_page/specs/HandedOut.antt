@@ -3,6 +3,10 @@ use Rattle.std.specs.Prelude.{◌≡◌, ◌<◌, ◌≤◌, ℕ, List, [], leng
 use Rattle.adjust_kernel.specs.declared.accepted.Accepted.{Accepted}
 use Rattle.station_check.specs.declared.fault.Fault.{Fault}
 use Rattle.station_check.specs.VerdictLines.{accepted_line, refusal_line}
+use Rattle.station_compare.specs.FaultTexts.{agreement_line}
+use Rattle.station_compare.specs.FaultTexts as compare
+use Rattle.station_compare.specs.declared.agreement.Agreement.{Agreement}
+use Rattle.station_compare.specs.declared.fault.CompareFault.{CompareFault}
 use Rattle.station_page.specs.declared.hand_out.TheConstants.{TOO_LITTLE_ROOM}
 
 -- The text is handed out whole, with this status, exactly where there is room for it; else nothing
@@ -25,3 +29,13 @@ text_or_refusal text (Err fault) = refusal_line fault
 abbrev pub refusal_text : {A : Type 0} → Result A Fault → List ℕ
 refusal_text (Ok x) = []
 refusal_text (Err fault) = refusal_line fault
+
+-- the line of a comparison: that of the agreement, or of the refusal
+abbrev pub comparison_line : Result Agreement CompareFault → List ℕ
+comparison_line (Ok agreement) = agreement_line agreement
+comparison_line (Err fault) = compare.refusal_line fault
+
+-- the table of directions that is answered, or the line of the refusal in its place
+abbrev pub table_or_refusal : Result (List ℕ) CompareFault → List ℕ
+table_or_refusal (Ok table) = table
+table_or_refusal (Err fault) = compare.refusal_line fault

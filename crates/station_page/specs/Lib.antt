@@ -1,4 +1,5 @@
 pub mod Limits
 pub mod HandedOut
+pub mod Explained
 pub mod Answers
 pub mod Texts

@@ -3,6 +3,7 @@ use Rattle.std.specs.Prelude.{◌≡◌, ◌≤◌, ℕ, Bool, true, false, Opti
 use Rattle.adjust_kernel.specs.declared.limits.TheConstants.{LARGEST_RESIDUAL_LIMIT}
 use Rattle.station_book.specs.Limits.{FaceLimits}
 use Rattle.station_book.specs.declared.limits.TheConstants.{LARGEST_LIMIT}
+use Rattle.station_page.specs.declared.compare.TheConstants.{LARGEST_WITHIN}
 
 -- Neither limit of face differences is above the largest.
 abbrev pub AreFaceLimits : ℕ → ℕ → Type 0
@@ -12,6 +13,10 @@ AreFaceLimits two_c two_i = (two_c ≤ LARGEST_LIMIT) × (two_i ≤ LARGEST_LIMI
 abbrev pub IsResidualLimit : Bool → ℕ → Type 0
 IsResidualLimit true residual = residual ≤ LARGEST_RESIDUAL_LIMIT
 IsResidualLimit false residual = ⊤
+
+-- A table may be asked to agree within so many units of 0.000001 gon: at most 1 gon.
+abbrev pub IsWithin : ℕ → Type 0
+IsWithin within = within ≤ LARGEST_WITHIN
 
 -- These are the limits of face differences that the numbers state.
 pub record States (two_c two_i : ℕ) (limits : FaceLimits) : Type 0 where

@@ -6,9 +6,9 @@ ghost use Rattle.station_check.specs.declared.verdict_line.TheConstants.{LONGEST
 ghost use Rattle.station_page.specs.Answers.{IsCheckOf};
 ghost use Rattle.station_page.specs.HandedOut.{HandsOut, verdict_line};
 ghost use Rattle.station_page.specs.Limits.{AreFaceLimits, IsResidualLimit, residual_limit};
-ghost use Rattle.station_page.specs.declared.hand_out.TheConstants.{BEYOND_LIMITS};
+ghost use Rattle.station_page.specs.declared.hand_out.TheConstants.{OUT_OF_RANGE};
 
-use crate::hand_out::{BEYOND_LIMITS, hand_out};
+use crate::hand_out::{OUT_OF_RANGE, hand_out};
 use adjust_kernel::{Accepted, ResidualLimit};
 use station_book::Limits;
 use station_check::{DONE, Fault, REFUSED, accepted_line, check_slices, refusal_line};
@@ -20,7 +20,7 @@ use std::alloc::Global;
 /// residual limit in half units (0.005 mgon each), at most 2,000, where `is_stated` says that one is
 /// stated, and else no matter what.
 ///
-/// Answers 0 where the sheet is accepted, 1 where it is refused, 2 for a limit above the largest, and
+/// Answers 0 where the sheet is accepted, 1 where it is refused, 2 for a number out of its range, and
 /// 3 where `out` has too little room; 192 bytes are always enough.
 #[unsafe(no_mangle)]
 pub extern "C" fn station_page_check(
@@ -38,17 +38,17 @@ pub extern "C" fn station_page_check(
         → IsCheckOf two_c two_i is_stated residual gsi.now sheet.now (length out.old) result
         (take written.new out.new) }
     ensures beyond { (AreFaceLimits two_c two_i → IsResidualLimit is_stated residual → ⊥)
-        → (result ≡ BEYOND_LIMITS) × (written.new ≡ 0) }
+        → (result ≡ OUT_OF_RANGE) × (written.new ≡ 0) }
     ensures answers { AreFaceLimits two_c two_i → IsResidualLimit is_stated residual
         → LONGEST_VERDICT_LINE ≤ length out.old → result < 2 }
     ensures fits { written.new ≤ length out.old }
 {
     *written = 0;
     let Some(limits) = Limits::new(two_c, two_i) else {
-        return BEYOND_LIMITS;
+        return OUT_OF_RANGE;
     };
     let Ok(residual) = residual_limit(is_stated, residual) else {
-        return BEYOND_LIMITS;
+        return OUT_OF_RANGE;
     };
     let verdict = check_slices(alloc, gsi, sheet, limits, residual);
     hand_out_verdict(&verdict, out, written)

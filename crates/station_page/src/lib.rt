@@ -6,16 +6,22 @@
 //! | `station_page_list` | hands out the list of a field file's stations |
 //! | `station_page_means` | hands out the sheet of means of a station |
 //! | `station_page_words` | hands out the words of a field file |
+//! | `station_page_directions` | hands out the table of a station's least-squares directions |
+//! | `station_page_compare` | compares a table of directions, and hands out the line of the answer |
+//! | `station_page_explain` | hands out what the fault means that a text names |
 //!
 //! Each is given whole files as slices, and numbers in the place of options. It hands out its text at
 //! the front of a slice, and how long that is. Its answer is the status of the program's command, 0
-//! or 1; where it could answer nothing it is one of its own: 2 for a limit above the largest, 3 for a
+//! or 1; where it could answer nothing it is one of its own: 2 for a number out of its range, 3 for a
 //! slice with too little room.
 //!
 //! What a page does is this crate and what makes a module of it, which no contract speaks of.
 #![tactic(auto)]
 
 mod check;
+mod compare;
+mod directions;
+mod explain;
 mod hand_out;
 mod list;
 mod means;

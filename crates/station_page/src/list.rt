@@ -8,9 +8,9 @@ ghost use Rattle.station_check.specs.declared.fault.Fault.TheVariants.{Write};
 ghost use Rattle.station_page.specs.Answers.{IsListOf};
 ghost use Rattle.station_page.specs.Limits.{AreFaceLimits};
 ghost use Rattle.station_page.specs.Texts.{text_of};
-ghost use Rattle.station_page.specs.declared.hand_out.TheConstants.{BEYOND_LIMITS};
+ghost use Rattle.station_page.specs.declared.hand_out.TheConstants.{OUT_OF_RANGE};
 
-use crate::hand_out::{BEYOND_LIMITS, hand_out_answer};
+use crate::hand_out::{OUT_OF_RANGE, hand_out_answer};
 use crate::text::Text;
 use station_book::Limits;
 use station_check::{Fault, handed_in, write_list};
@@ -19,7 +19,7 @@ use std::alloc::Global;
 /// Hands out the list of the stations of a whole field file, or the line of the refusal.
 ///
 /// The limits of 2c and 2i are in units of 0.00001 gon, at most 1,000,000. Answers 0 for the list, 1
-/// for a refusal, 2 for a limit above the largest, and 3 where `out` has too little room.
+/// for a refusal, 2 for a number out of its range, and 3 where `out` has too little room.
 #[unsafe(no_mangle)]
 pub extern "C" fn station_page_list(
     alloc: Global,
@@ -32,12 +32,12 @@ pub extern "C" fn station_page_list(
     ensures list { AreFaceLimits two_c two_i → IsListOf two_c two_i gsi.now (length out.old) result
         (take written.new out.new) }
     ensures beyond { (AreFaceLimits two_c two_i → ⊥)
-        → (result ≡ BEYOND_LIMITS) × (written.new ≡ 0) }
+        → (result ≡ OUT_OF_RANGE) × (written.new ≡ 0) }
     ensures fits { written.new ≤ length out.old }
 {
     *written = 0;
     let Some(limits) = Limits::new(two_c, two_i) else {
-        return BEYOND_LIMITS;
+        return OUT_OF_RANGE;
     };
     let (answer, text) = list_of(alloc, gsi, limits);
     hand_out_answer(&answer, text.bytes(), out, written)

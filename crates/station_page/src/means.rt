@@ -8,9 +8,9 @@ ghost use Rattle.station_check.specs.declared.fault.Fault.TheVariants.{Write};
 ghost use Rattle.station_page.specs.Answers.{IsMeansOf};
 ghost use Rattle.station_page.specs.Limits.{AreFaceLimits};
 ghost use Rattle.station_page.specs.Texts.{text_of};
-ghost use Rattle.station_page.specs.declared.hand_out.TheConstants.{BEYOND_LIMITS};
+ghost use Rattle.station_page.specs.declared.hand_out.TheConstants.{OUT_OF_RANGE};
 
-use crate::hand_out::{BEYOND_LIMITS, hand_out_answer};
+use crate::hand_out::{OUT_OF_RANGE, hand_out_answer};
 use crate::text::Text;
 use station_book::Limits;
 use station_check::{Fault, handed_in, write_means};
@@ -20,7 +20,7 @@ use std::alloc::Global;
 /// the refusal.
 ///
 /// The limits of 2c and 2i are in units of 0.00001 gon, at most 1,000,000. Answers 0 for the sheet, 1
-/// for a refusal, 2 for a limit above the largest, and 3 where `out` has too little room.
+/// for a refusal, 2 for a number out of its range, and 3 where `out` has too little room.
 #[unsafe(no_mangle)]
 pub extern "C" fn station_page_means(
     alloc: Global,
@@ -34,12 +34,12 @@ pub extern "C" fn station_page_means(
     ensures means { AreFaceLimits two_c two_i → IsMeansOf two_c two_i gsi.now name.now
         (length out.old) result (take written.new out.new) }
     ensures beyond { (AreFaceLimits two_c two_i → ⊥)
-        → (result ≡ BEYOND_LIMITS) × (written.new ≡ 0) }
+        → (result ≡ OUT_OF_RANGE) × (written.new ≡ 0) }
     ensures fits { written.new ≤ length out.old }
 {
     *written = 0;
     let Some(limits) = Limits::new(two_c, two_i) else {
-        return BEYOND_LIMITS;
+        return OUT_OF_RANGE;
     };
     let (answer, text) = means_of(alloc, gsi, name, limits);
     hand_out_answer(&answer, text.bytes(), out, written)

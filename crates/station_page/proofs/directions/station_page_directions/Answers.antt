@@ -1,0 +1,23 @@
+use Rattle.std.proofs.Common.{ℕ, Ok, Err, rules, subst}
+use Rattle.gsi_file.specs.FileAnswers.{file_answers}
+use Rattle.station_check.specs.Came.{handed_in}
+use Rattle.station_compare.specs.Directions.{StatesDirections}
+use Rattle.station_page.proofs.directions.station_page_directions.Goals as goal
+
+pub returns-in-Ok-clause-directions : goal.returns-in-Ok-clause-directions
+returns-in-Ok-clause-directions c face decimals = record {
+  limits = c.in-Some.limits;
+  states = record { states_two_c = search rules; states_two_i = search rules };
+  answer = Ok c.in-Ok.table.items;
+  tells = subst (λ (count : ℕ). StatesDirections c.in-Some.limits (file_answers (handed_in c.args.gsi.now)) c.args.name.now count c.in-Ok.table.items) c.in-Some-new.ensures.some c.in-Ok.ensures;
+  hands_out = search rules;
+}
+
+pub returns-in-Err-clause-directions : goal.returns-in-Err-clause-directions
+returns-in-Err-clause-directions c face decimals = record {
+  limits = c.in-Some.limits;
+  states = record { states_two_c = search rules; states_two_i = search rules };
+  answer = Err c.in-Err.fault;
+  tells = c.in-Err.ensures;
+  hands_out = search rules;
+}

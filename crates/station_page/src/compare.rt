@@ -1,0 +1,100 @@
+//! The comparison of a table of directions, for a page.
+
+ghost use Rattle.std.specs.Prelude.{◌≡◌, ◌<◌, ◌≤◌, length, take};
+ghost use Rattle.gsi_file.specs.FileAnswers.{file_answers};
+ghost use Rattle.station_check.specs.Came.{handed_in};
+ghost use Rattle.station_check.specs.Endings.{status_of};
+ghost use Rattle.station_check.specs.declared.verdict_line.TheConstants.{LONGEST_VERDICT_LINE};
+ghost use Rattle.station_compare.specs.Answers.{Compares};
+ghost use Rattle.station_page.specs.Answers.{IsComparisonOf};
+ghost use Rattle.station_page.specs.HandedOut.{HandsOut, comparison_line};
+ghost use Rattle.station_page.specs.Limits.{AreFaceLimits, IsWithin};
+ghost use Rattle.station_page.specs.declared.hand_out.TheConstants.{OUT_OF_RANGE};
+
+use crate::hand_out::{OUT_OF_RANGE, hand_out};
+use station_book::Limits;
+use station_check::{DONE, REFUSED, handed_in};
+use station_compare::{Agreement, CompareFault, agreement_line, compare_bytes, refusal_line};
+use std::alloc::Global;
+
+/// A table may be asked to agree within at most so many units of 0.000001 gon: 1 gon.
+pub(crate) const LARGEST_WITHIN: u32 = 1_000_000;
+
+/// Compares the directions that a table states with those of the station of this name in a field
+/// file, both whole, and hands out the line of the agreement or of the refusal.
+///
+/// The limits of 2c and 2i are in units of 0.00001 gon, at most 1,000,000; the table agrees within
+/// `within` units of 0.000001 gon, at most 1,000,000.
+///
+/// Answers 0 where the table agrees, 1 where it is refused, 2 for a number out of its range, and 3
+/// where `out` has too little room; 192 bytes are always enough.
+#[unsafe(no_mangle)]
+pub extern "C" fn station_page_compare(
+    alloc: Global,
+    gsi: &[u8],
+    table: &[u8],
+    name: &[u8],
+    two_c: u32,
+    two_i: u32,
+    within: u32,
+    out: &mut [u8],
+    written: &mut usize,
+) -> u8
+    ensures compare { AreFaceLimits two_c two_i → IsWithin within
+        → IsComparisonOf two_c two_i gsi.now table.now name.now within (length out.old) result
+        (take written.new out.new) }
+    ensures beyond { (AreFaceLimits two_c two_i → IsWithin within → ⊥)
+        → (result ≡ OUT_OF_RANGE) × (written.new ≡ 0) }
+    ensures answers { AreFaceLimits two_c two_i → IsWithin within
+        → LONGEST_VERDICT_LINE ≤ length out.old → result < 2 }
+    ensures fits { written.new ≤ length out.old }
+{
+    *written = 0;
+    let Some(limits) = Limits::new(two_c, two_i) else {
+        return OUT_OF_RANGE;
+    };
+    if within > LARGEST_WITHIN {
+        return OUT_OF_RANGE;
+    }
+    let answer = compare_slices(alloc, gsi, table, name, limits, within);
+    hand_out_comparison(&answer, out, written)
+}
+
+/// Compares a table with the station of this name, where the bytes of both are at hand.
+fn compare_slices(
+    alloc: Global,
+    gsi: &[u8],
+    table: &[u8],
+    name: &[u8],
+    limits: Limits,
+    within: u32,
+) -> Result<Agreement, CompareFault>
+    ensures { Compares limits (file_answers (handed_in gsi.now)) (handed_in table.now) name.now
+        within result }
+{
+    compare_bytes(
+        alloc,
+        handed_in(gsi),
+        &mut handed_in(table),
+        name,
+        limits,
+        within,
+    )
+}
+
+/// Hands out the line of a comparison.
+fn hand_out_comparison(
+    answer: &Result<Agreement, CompareFault>,
+    out: &mut [u8],
+    written: &mut usize,
+) -> u8
+    ensures hands_out { HandsOut (status_of answer.now) (comparison_line answer.now)
+        (length out.old) result (take written.new out.new) }
+    ensures answers { LONGEST_VERDICT_LINE ≤ length out.old → result < 2 }
+    ensures fits { written.new ≤ length out.old }
+{
+    match answer {
+        Ok(agreement) => hand_out(DONE, agreement_line(*agreement).as_slice(), out, written),
+        Err(fault) => hand_out(REFUSED, refusal_line(*fault).as_slice(), out, written),
+    }
+}
