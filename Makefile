@@ -9,6 +9,7 @@ PROGRAM_CRATE := station_program
 PAGE := build/station_check.html
 EXAMPLE := examples/station_s1.gsi
 SHEET := examples/station_s1.csv
+TABLE := examples/station_s1_directions.csv
 
 # All that the program is made of. Tests and wrong bodies are no part of it.
 SOURCES := crates.txt HANDLES $(shell find crates \( -name out -o -name tests -o -name '*_tests' -o -name must-fail \) -prune \
@@ -20,15 +21,15 @@ SHARED := $(sort $(shell find share -type f))
 # The documents and the examples, as they lie in the repository, so that their links hold; those to crates/ and
 # conformance/ lead to the sources, which are not installed.
 DOCUMENTS := README.md CHANGELOG.md $(sort $(wildcard docs/*.md)) \
-  $(sort $(wildcard examples/*.md examples/*.gsi examples/*.csv examples/*.svg examples/*.py))
+  $(sort $(wildcard examples/*.md examples/*.gsi examples/*.csv examples/*.txt examples/*.svg examples/*.py))
 DOCUMENT_FOLDER := share/doc/station_check
 
 # Where `make dist` puts what it makes.
 DIST ?= build/dist
 
-# The crates that the program is made of, lowest first, as crates.txt lists them: no tests, no
-# libraries that no command uses yet, and not that of the page.
-CRATES := $(filter-out %_tests sheet_nearness sheet_near sheet_apart stated_directions direction_table station_compare station_page, \
+# The crates that the program is made of, lowest first, as crates.txt lists them: no tests, and not
+# that of the page.
+CRATES := $(filter-out %_tests station_page, \
   $(shell sed -n 's/^\([a-z_]*\)[ :].*/\1/p' crates.txt))
 
 # What each recipe that proves begins with.
@@ -42,17 +43,21 @@ NEED_TOOLCHAIN = command -v $(RT) > /dev/null || { \
 run: $(PROGRAM)
 	@echo '$$ station_check check $(EXAMPLE) $(SHEET)'
 	@$(PROGRAM) check $(EXAMPLE) $(SHEET)
+	@echo '$$ station_check compare $(EXAMPLE) S1 $(TABLE)'
+	@$(PROGRAM) compare $(EXAMPLE) S1 $(TABLE)
 	@echo '$$ station_check list $(EXAMPLE)'
 	@$(PROGRAM) list $(EXAMPLE)
 	@echo '$$ station_check means $(EXAMPLE) S1'
 	@$(PROGRAM) means $(EXAMPLE) S1
+	@echo '$$ station_check directions $(EXAMPLE) S1'
+	@$(PROGRAM) directions $(EXAMPLE) S1
 	@echo '$$ station_check words $(EXAMPLE)'
 	@$(PROGRAM) words $(EXAMPLE)
 
 # Makes the page that checks in a browser, one file, of the proved calls.
 page: $(PAGE)
 
-$(PAGE): $(SOURCES) $(wildcard page/*.py) page/heap.c page/station_check.html
+$(PAGE): $(SOURCES) $(wildcard page/*.py page/*.js) page/heap.c page/station_check.html
 	@$(NEED_TOOLCHAIN)
 	@RT='$(RT)' $(PYTHON) page/build.py $@
 
@@ -91,9 +96,10 @@ uninstall:
 	  rmdir "$(DESTDIR)$(PREFIX)/$(DOCUMENT_FOLDER)/$$folder" 2> /dev/null || true; \
 	done
 
-# An archive of what is installed, a Debian package where dpkg-deb is found, and their checksums, in $(DIST).
+# An archive of what is installed, a Debian package where dpkg-deb is found, the page where it was made, and their
+# checksums, in $(DIST).
 dist: $(PROGRAM)
-	@RT='$(RT)' CRATES='$(CRATES)' sh packaging/dist.sh '$(PROGRAM)' '$(DIST)'
+	@RT='$(RT)' CRATES='$(CRATES)' sh packaging/dist.sh '$(PROGRAM)' '$(DIST)' '$(PAGE)'
 
 clean:
 	rm -rf crates/*/out build

@@ -1,14 +1,15 @@
 #!/bin/sh
 # Makes what is handed on of a built program: an archive, a Debian package where dpkg-deb is found,
-# and their checksums. `make dist` calls it at the root of the repository:
+# the page where it was made, and their checksums. `make dist` calls it at the root of the repository:
 #
-#     sh packaging/dist.sh PROGRAM FOLDER
+#     sh packaging/dist.sh PROGRAM FOLDER PAGE
 #
 # CRATES names those that the program is made of, lowest first; MAINTAINER, as 'Name <address>',
 # stands in the Debian package.
 set -eu
 
 program=$1
+page=$3
 mkdir -p "$2"
 dist=$(cd "$2" && pwd)
 version=$("$program" --version | sed 's/.* //')
@@ -87,6 +88,11 @@ END
   SOURCE_DATE_EPOCH=$time dpkg-deb --root-owner-group --build "$root" "$dist/$deb" > /dev/null
   rm -rf "$root"
   made="$made $deb"
+fi
+
+if [ -f "$page" ]; then
+  cp "$page" "$dist/station_check-$version.html"
+  made="$made station_check-$version.html"
 fi
 
 # shellcheck disable=SC2086 # the names have no blanks

@@ -21,9 +21,12 @@ import retarget
 HERE = Path(__file__).resolve().parent
 ROOT = HERE.parent
 CRATE = "station_page"
-# The library that stands on all others of the crate's.
-LIBRARY = "station_check"
+# The libraries that stand on all others of the crate's.
+LIBRARIES = ["station_compare", "station_explain"]
 RT = os.environ.get("RT", "rt")
+
+# The scripts that stand in the page.
+SCRIPTS = ["calls.js", "picture.js", "page.js"]
 
 # Where what is made on the way stays: the tests link it again with another heap.
 ROOM = ROOT / "build" / "page"
@@ -98,7 +101,8 @@ def keeping_toolchain(kit, kept, tools):
 def proved_module(kit, room):
     """The module that rattle makes of the proved crate for x86-64."""
     crate = ROOT / "crates" / CRATE
-    run(RT, "lib", cwd=ROOT / "crates" / LIBRARY, stdin=subprocess.DEVNULL)
+    for library in LIBRARIES:
+        run(RT, "lib", cwd=ROOT / "crates" / library, stdin=subprocess.DEVNULL)
     kept = room / "module.bc"
     # (rt takes no links inside the repository)
     with tempfile.TemporaryDirectory(prefix="page-toolchain-") as tools:
@@ -143,9 +147,10 @@ def version():
 
 
 def page(module):
-    """The text of the page around a module."""
+    """The text of the page around a module, with its scripts in it."""
     text = (HERE / "station_check.html").read_text()
     words = {
+        **{f"@{name}@": (HERE / name).read_text() for name in SCRIPTS},
         "@MODULE@": base64.b64encode(module).decode(),
         "@SHA256@": hashlib.sha256(module).hexdigest(),
         "@COMMIT@": version(),

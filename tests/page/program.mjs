@@ -1,39 +1,63 @@
 // The program's command line over the calls of the page: node program.mjs PAGE WORD..
 //
-// Script and module are taken out of the page as it is.
+// Scripts and module are taken out of the page as it is. Beside the program's commands, `picture GSI
+// SHEET` gives the picture of an accepted sheet, and `time COMMAND WORD..` the milliseconds that the
+// fastest of some runs takes.
 import fs from 'node:fs';
 import vm from 'node:vm';
 
-const DEFAULT_LIMIT = 2000;
+const DEFAULTS = {
+  '--two-c': 2000, '--two-i': 2000, '--residual': null, '--within': 10, '--decimals': 6,
+};
+const RUNS = 5;
 
 const [page, ...words] = process.argv.slice(2);
 const text = fs.readFileSync(page, 'utf8');
 const part = id => text.match(new RegExp(`<script id="${id}"[^>]*>([^]*?)</script>`))[1];
 
-vm.runInThisContext(part('calls'));
-const calls = vm.runInThisContext('calls');
+for (const id of ['calls', 'picture']) vm.runInThisContext(part(id));
+const [calls, pictureOf] = ['calls', 'pictureOf'].map(name => vm.runInThisContext(name));
 const core = await WebAssembly.compile(Buffer.from(part('module'), 'base64'));
 
-const options = { '--two-c': DEFAULT_LIMIT, '--two-i': DEFAULT_LIMIT, '--residual': null };
-const operands = [];
+const options = { ...DEFAULTS }, operands = [];
 while (words.length > 0) {
   const [word, value] = words.shift().split('=');
   if (word in options) options[word] = Number(value ?? words.shift());
   else operands.push(word);
 }
 
-const [command, ...names] = operands;
 const bytesOf = file => new Uint8Array(fs.readFileSync(file));
+const nameOf = word => new TextEncoder().encode(word);
 const faces = [options['--two-c'], options['--two-i']];
 
 const answers = {
-  check: () => calls.check(core, bytesOf(names[0]), bytesOf(names[1]), ...faces, options['--residual']),
-  list: () => calls.list(core, bytesOf(names[0]), ...faces),
-  means: () => calls.means(core, bytesOf(names[0]), new TextEncoder().encode(names[1]), ...faces),
-  words: () => calls.words(core, bytesOf(names[0] ?? 0)),
+  check: (gsi, sheet) => calls.check(core, bytesOf(gsi), bytesOf(sheet), ...faces, options['--residual']),
+  list: gsi => calls.list(core, bytesOf(gsi), ...faces),
+  means: (gsi, name) => calls.means(core, bytesOf(gsi), nameOf(name), ...faces),
+  words: (gsi = 0) => calls.words(core, bytesOf(gsi)),
+  directions: (gsi, name) =>
+    calls.directions(core, bytesOf(gsi), nameOf(name), ...faces, options['--decimals']),
+  compare: (gsi, name, table) =>
+    calls.compare(core, bytesOf(gsi), bytesOf(table), nameOf(name), ...faces, options['--within']),
+  explain: (line = '') => calls.explain(core, nameOf(line)),
+  picture: async (gsi, sheet) => {
+    const { status, shown: [line] } = await answers.check(gsi, sheet);
+    const picture = pictureOf(fs.readFileSync(sheet, 'utf8'), new TextDecoder().decode(line).trimEnd());
+    return { status, shown: [nameOf(picture ?? '')] };
+  },
+  time: async (command, ...rest) => {
+    const took = [];
+    for (let run = 0; run < RUNS; run++) {
+      const start = performance.now();
+      await answers[command](...rest);
+      took.push(performance.now() - start);
+    }
+    return { status: 0, shown: [nameOf(`${Math.round(Math.min(...took))}\n`)] };
+  },
 };
 
-const { status, shown } = await answers[command ?? 'words']();
+const [command = 'words', ...rest] = operands;
+const { status, shown } = await answers[command](...rest);
 const streams = shown.length === 2 ? [1, 2] : [status === 0 ? 1 : 2];
-shown.forEach((bytes, nth) => fs.writeSync(streams[nth], bytes));
+shown.forEach((bytes, nth) => fs.writeFileSync(streams[nth], bytes));
 process.exitCode = status;

@@ -2,13 +2,15 @@
 
 import fcntl
 import os
+import random
 import shutil
 import subprocess
 import sys
+import tempfile
 import unittest
 from pathlib import Path
 
-from program import ROOT, TimedTest, answer_to
+from program import PROGRAM, ROOT, SWEEP, TimedTest, answer_to
 
 sys.path[:0] = [str(ROOT / "conformance"), str(ROOT / "page")]
 import build  # noqa: E402
@@ -16,7 +18,8 @@ import run  # noqa: E402
 
 PAGE = ROOT / "build" / "station_check.html"
 COMMAND_LINE = Path(__file__).with_name("program.mjs")
-EXAMPLES = [ROOT / "examples" / f"station_p7.{end}" for end in ("gsi", "csv")]
+EXAMPLES = [ROOT / "examples" / f"station_p7{end}" for end in (".gsi", ".csv", "_directions.csv")]
+DRAWN = ROOT / "examples" / "residuals.py"
 
 RT = os.environ.get("RT", "rt")
 
@@ -26,6 +29,9 @@ FLAGS = [[], ["--experimental-wasm-memory64"]]
 
 # How long the page's build may take, where it proves the crate: in seconds.
 TIME_OF_BUILD = 1_200
+
+# So many changed files are handed to the page and to the program.
+CHANGED = 400 if SWEEP else 40
 
 # So many allocations are refused, each of the first with all that follow it.
 REFUSED = 12
@@ -41,9 +47,17 @@ def node():
 
 
 def is_of_page(case):
-    """Whether a case's files can be handed in: they are there, and none is a folder."""
+    """Whether the files of a case can be handed in: they are there, and none is a folder."""
     paths = [run.FOLDER / case.name / word for word in case.args if "." in word]
     return case.expected[0] < 2 and all(path.is_file() for path in paths)
+
+
+def changed(data, chance):
+    """A file with a byte of it changed, mostly to another that a file has; now and then it is whole."""
+    if chance.random() < 0.3:
+        return data
+    at = chance.randrange(len(data))
+    return data[:at] + bytes([chance.choice(data + b"\t\xff")]) + data[at + 1 :]
 
 
 def make_page():
@@ -73,29 +87,91 @@ class PageCallsTest(TimedTest):
 
     def test_the_calls_answer_as_each_case_says(self):
         cases = [case for case in run.cases() if is_of_page(case)]
-        self.assertGreater(len(cases), 150)
+        self.assertGreater(len(cases), 230)
         for case in cases:
             with self.subTest(case.name):
                 self.assertEqual(case.expected, run.answer(self.command(), case))
 
     def test_a_limit_above_the_largest_has_a_status_of_its_own(self):
-        for words in [["check", "--two-c=1000001"], ["list", "--two-i=1000001"], ["check", "--residual=2001"]]:
+        gsi, sheet, table = map(str, EXAMPLES)
+        for words in [
+            ["check", "--two-c=1000001", gsi, sheet],
+            ["check", "--residual=2001", gsi, sheet],
+            ["list", "--two-i=1000001", gsi],
+            ["compare", "--within=1000001", gsi, "P7", table],
+            ["directions", "--two-c=1000001", gsi, "P7"],
+            ["directions", "--decimals=0", gsi, "P7"],
+            ["directions", "--decimals=9", gsi, "P7"],
+        ]:
             with self.subTest(words):
-                answer = answer_to([*self.command(), *words, *map(str, EXAMPLES)])
-                self.assertEqual((2, b"", b""), answer)
+                self.assertEqual((2, b"", b""), answer_to([*self.command(), *words]))
+
+    @unittest.skipUnless(PROGRAM.exists(), "the program is not built")
+    def test_each_refusal_is_explained_as_by_the_program(self):
+        refusals = {case.expected[2].decode().rstrip("\n") for case in run.cases() if case.expected[0] == 1}
+        self.assertGreater(len(refusals), 80)
+        # Names alone, in small letters too, and the list of all.
+        words = [[line] for line in sorted(refusals)] + [["TwoC"], ["twoc"], []]
+        for line in words:
+            with self.subTest(line):
+                answers = [answer_to([*one, "explain", *line]) for one in ([PROGRAM], self.command())]
+                self.assertEqual(*answers)
+                self.assertEqual(0, answers[0][0])
+
+    def test_a_text_without_the_name_of_a_fault_is_refused(self):
+        for line in ["refused: kernel: Elephant 2", " ", "TwoC\n"]:
+            with self.subTest(line):
+                answer = answer_to([*self.command(), "explain", line])
+                self.assertEqual((1, b"", b"refused: no such fault\n"), answer)
+
+    def test_the_picture_is_the_one_that_is_drawn_beside_the_program(self):
+        checks = [case for case in run.cases() if case.args[:1] == ["check"] and len(case.args) == 3]
+        accepted = [case for case in checks if case.expected[0] == 0]
+        self.assertGreater(len(accepted), 15)
+        pairs = [[run.FOLDER / case.name / word for word in case.args[1:]] for case in accepted]
+        for gsi, sheet in [EXAMPLES[:2], *pairs]:
+            line = answer_to([*self.command(), "check", gsi, sheet])[1]
+            drawn = answer_to([sys.executable, DRAWN, sheet], input=line)
+            with self.subTest(sheet):
+                self.assertEqual(drawn, answer_to([*self.command(), "picture", gsi, sheet]))
+
+    @unittest.skipUnless(PROGRAM.exists(), "the program is not built")
+    def test_changed_files_have_the_answers_of_the_program(self):
+        chance = random.Random(7)
+        with tempfile.TemporaryDirectory() as folder:
+            paths = [Path(folder) / path.name for path in EXAMPLES]
+            gsi, sheet, table = map(str, paths)
+            for nth in range(CHANGED):
+                for path, example in zip(paths, EXAMPLES):
+                    path.write_bytes(changed(example.read_bytes(), chance))
+                words = chance.choice(
+                    [
+                        ["check", gsi, sheet],
+                        ["list", gsi],
+                        ["means", gsi, "P7"],
+                        ["directions", gsi, "P7"],
+                        ["compare", gsi, "P7", table],
+                    ]
+                )
+                with self.subTest(nth, words=words):
+                    answers = [answer_to([*one, *words]) for one in ([PROGRAM], self.command())]
+                    self.assertEqual(*answers)
 
     def test_a_refused_allocation_is_answered(self):
         page, kit = build.ROOM / "refused.html", build.kit_of(RT)
-        wasm, usual = build.ROOM / "refused.wasm", answer_to([*self.command(), "check", *EXAMPLES])
+        wasm = build.ROOM / "refused.wasm"
+        commands = [["check", *EXAMPLES[:2]], ["explain", "TwoC"]]
+        usual = [answer_to([*self.command(), *words]) for words in commands]
         refusal = (1, b"", b"refused: out of memory\n")
         for count in range(REFUSED):
             limit = f"-DREFUSED_AFTER={count}"
             build.linked(kit, build.ROOM / "page.o", wasm, build.ROOM, limit)
             page.write_text(build.page(wasm.read_bytes()))
-            with self.subTest(count):
-                answer = answer_to([*self.command(page), "check", *EXAMPLES])
-                self.assertIn(answer, [refusal, usual])
-                self.assertTrue(count > 0 or answer == refusal)
+            for words, whole in zip(commands, usual):
+                with self.subTest(count, words=words):
+                    answer = answer_to([*self.command(page), *words])
+                    self.assertIn(answer, [refusal, whole])
+                    self.assertTrue(count > 0 or answer == refusal)
 
 
 if __name__ == "__main__":

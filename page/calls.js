@@ -1,0 +1,68 @@
+// The proved calls of the module: files in, a status and texts out.
+//
+// Each call copies its inputs into memory, calls, and copies the texts out. Nothing proves this part.
+'use strict';
+
+// Statuses of a call: those of the program's command, and the call's own.
+const ACCEPTED = 0, REFUSED = 1, OUT_OF_RANGE = 2, TOO_LITTLE_ROOM = 3;
+const MEMORY_PAGE = 65536, LENGTH = 8, LEAST_ROOM = 65536, MOST_ROOM = 2 ** 30;
+
+// Adds pages to a memory, and answers where they begin. Node before 24 counts them in numbers.
+function grow(memory, pages) {
+  try {
+    return Number(memory.grow(BigInt(pages))) * MEMORY_PAGE;
+  } catch (error) {
+    if (!(error instanceof TypeError)) throw error;
+    return memory.grow(pages) * MEMORY_PAGE;
+  }
+}
+
+const bytesOfAll = inputs => inputs.reduce((sum, input) => sum + input.length, 0);
+
+// One call of the core, in a new instance: its inputs, and then room for each text and its length,
+// lie in pages of their own, which nothing of the module uses.
+async function callWithin(room, core, name, inputs, numbers, texts) {
+  const { memory, [name]: call } = (await WebAssembly.instantiate(core, {})).exports;
+  const bytes = bytesOfAll(inputs) + texts * (LENGTH + room);
+  let at = grow(memory, Math.ceil(bytes / MEMORY_PAGE));
+  const lengths = Array.from({ length: texts }, (_, nth) => at + nth * LENGTH);
+  at += texts * LENGTH;
+  const slices = [];
+  for (const input of inputs) {
+    new Uint8Array(memory.buffer, at, input.length).set(input);
+    slices.push(BigInt(at), BigInt(input.length));
+    at += input.length;
+  }
+  const outs = lengths.flatMap((length, nth) => [at + nth * room, room, length].map(BigInt));
+  const status = call(...slices, ...numbers, ...outs);
+  const view = new DataView(memory.buffer);
+  const shown = lengths.map((length, nth) =>
+    new Uint8Array(memory.buffer, at + nth * room, Number(view.getBigUint64(length, true))).slice());
+  return { status, shown };
+}
+
+// The status of a call and the bytes of each text that it handed out; asked for again with more room
+// where that was too little. Few texts have more than twice the bytes of the files.
+async function callOf(core, name, inputs, numbers, texts = 1) {
+  for (let room = Math.max(LEAST_ROOM, 2 * bytesOfAll(inputs)); ; room *= 8) {
+    const answer = await callWithin(room, core, name, inputs, numbers, texts);
+    if (answer.status !== TOO_LITTLE_ROOM || room > MOST_ROOM) return answer;
+  }
+}
+
+// A residual limit: whether one is stated, and which.
+const stated = limit => [Number(limit !== null), limit ?? 0];
+
+const calls = {
+  check: (core, gsi, sheet, twoC, twoI, residual) =>
+    callOf(core, 'station_page_check', [gsi, sheet], [twoC, twoI, ...stated(residual)]),
+  list: (core, gsi, twoC, twoI) => callOf(core, 'station_page_list', [gsi], [twoC, twoI]),
+  means: (core, gsi, name, twoC, twoI) =>
+    callOf(core, 'station_page_means', [gsi, name], [twoC, twoI]),
+  words: (core, gsi) => callOf(core, 'station_page_words', [gsi], [], 2),
+  directions: (core, gsi, name, twoC, twoI, decimals) =>
+    callOf(core, 'station_page_directions', [gsi, name], [twoC, twoI, decimals]),
+  compare: (core, gsi, table, name, twoC, twoI, within) =>
+    callOf(core, 'station_page_compare', [gsi, table, name], [twoC, twoI, within]),
+  explain: (core, line) => callOf(core, 'station_page_explain', [line], []),
+};

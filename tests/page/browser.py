@@ -1,0 +1,171 @@
+"""Drives a headless Chromium over its debugging pipe, as a user at the page does."""
+
+import base64
+import fcntl
+import json
+import os
+import shutil
+import subprocess
+import tempfile
+import time
+
+NAMES = ["chromium", "chromium-browser", "google-chrome", "chrome"]
+FLAGS = ["--headless=new", "--no-sandbox", "--disable-gpu", "--disable-dev-shm-usage"]
+
+# How long the browser may take for an answer, in seconds.
+PATIENCE = 60
+
+# The ends of the pipe in the browser: what it reads, and what it writes.
+READS, WRITES = 3, 4
+
+
+def browser():
+    """The command of a browser that is here; none where there is none."""
+    return next(filter(None, map(shutil.which, NAMES)), None)
+
+
+class Page:
+    """A page that is open in a browser of its own."""
+
+    def __init__(self, path, width=1000, height=1400):
+        self.folder = tempfile.TemporaryDirectory(prefix="page-browser-", ignore_cleanup_errors=True)
+        self.downloads = os.path.join(self.folder.name, "downloads")
+        self.count, self.events, self.rest, self.session = 0, [], b"", None
+        self.start()
+        target = self.call("Target.createTarget", url="about:blank")["targetId"]
+        attached = self.call("Target.attachToTarget", targetId=target, flatten=True)
+        self.session = attached["sessionId"]
+        for domain in ("Page", "DOM", "Runtime", "Network"):
+            self.call(f"{domain}.enable")
+        screen = {"width": width, "height": height, "deviceScaleFactor": 1, "mobile": False}
+        self.call("Emulation.setDeviceMetricsOverride", **screen)
+        self.call("Page.navigate", url=path.as_uri())
+        self.wait("document.readyState === 'complete'")
+
+    def start(self):
+        (asked, self.asks), (self.hears, told) = os.pipe(), os.pipe()
+        words = [browser(), *FLAGS, "--remote-debugging-pipe", f"--user-data-dir={self.folder.name}"]
+
+        def place():
+            """Puts the two ends where the browser has them, out of each other's way first."""
+            ends = [fcntl.fcntl(end, fcntl.F_DUPFD, WRITES + 1) for end in (asked, told)]
+            for end, at in zip(ends, (READS, WRITES)):
+                os.dup2(end, at)
+
+        quiet = {"stdout": subprocess.DEVNULL, "stderr": subprocess.DEVNULL}
+        self.run = subprocess.Popen(words, pass_fds=[READS, WRITES], preexec_fn=place, **quiet)
+        os.close(asked)
+        os.close(told)
+
+    def close(self):
+        self.run.terminate()
+        self.run.wait(PATIENCE)
+        os.close(self.asks)
+        os.close(self.hears)
+        self.folder.cleanup()
+
+    def call(self, method, **params):
+        """What the browser answers to a call; events on the way are kept."""
+        self.count += 1
+        said = {"id": self.count, "method": method, "params": params}
+        if self.session:
+            said["sessionId"] = self.session
+        data = json.dumps(said).encode() + b"\0"
+        while data:
+            data = data[os.write(self.asks, data) :]
+        while True:
+            heard = self.hear()
+            if heard.get("id") == self.count:
+                if "error" in heard:
+                    raise RuntimeError(heard["error"])
+                return heard["result"]
+            self.events.append(heard)
+
+    def hear(self):
+        while b"\0" not in self.rest:
+            data = os.read(self.hears, 1 << 20)
+            if not data:
+                raise RuntimeError("the browser has ended")
+            self.rest += data
+        one, _, self.rest = self.rest.partition(b"\0")
+        return json.loads(one)
+
+    def js(self, code):
+        """The value of an expression in the page."""
+        found = self.call("Runtime.evaluate", expression=code, awaitPromise=True, returnByValue=True)
+        if "exceptionDetails" in found:
+            raise RuntimeError(found["exceptionDetails"])
+        return found["result"].get("value")
+
+    def wait(self, code):
+        """Waits until an expression is true, and answers it."""
+        end = time.monotonic() + PATIENCE
+        while not (found := self.js(code)):
+            if time.monotonic() > end:
+                raise TimeoutError(f"never true: {code}")
+            time.sleep(0.02)
+        return found
+
+    def give(self, kind, *paths):
+        """Hands files to a field; the page has answered when this returns."""
+        self.js(f"$('file-{kind}').onclick()")
+        root = self.call("DOM.getDocument")["root"]["nodeId"]
+        field = self.call("DOM.querySelector", nodeId=root, selector=f"#file-{kind}")["nodeId"]
+        self.call("DOM.setFileInputFiles", nodeId=field, files=[str(path) for path in paths])
+        self.settle()
+
+    def drop(self, selector, *paths):
+        """Drops files onto an element."""
+        where = self.js(
+            f"(({{ x, y, width, height }}) => [x + width / 2, y + height / 2])"
+            f"(document.querySelector({json.dumps(selector)}).getBoundingClientRect())"
+        )
+        data = {"items": [], "files": [str(path) for path in paths], "dragOperationsMask": 1}
+        for kind in ("dragEnter", "dragOver", "drop"):
+            self.call("Input.dispatchDragEvent", type=kind, x=where[0], y=where[1], data=data)
+        self.settle()
+
+    def fill(self, name, value):
+        """Types a number into a field."""
+        self.js(f"$('{name}').value = {json.dumps(str(value))}; $('{name}').onchange()")
+        self.settle()
+
+    def settle(self):
+        """Waits until the page has done all that was asked of it."""
+        self.js("last.then(() => true)")
+
+    def text(self, selector):
+        return self.js(f"document.querySelector({json.dumps(selector)})?.textContent")
+
+    def texts(self, selector):
+        return self.js(f"[...document.querySelectorAll({json.dumps(selector)})].map(e => e.textContent)")
+
+    def press(self, text):
+        """Presses the button with this text."""
+        self.js(f"[...document.querySelectorAll('button')].find(b => b.textContent === {json.dumps(text)}).click()")
+        self.settle()
+
+    def saved(self, text, name):
+        """The bytes of the file of this name that the button with this text saves."""
+        os.makedirs(self.downloads, exist_ok=True)
+        self.call("Page.setDownloadBehavior", behavior="allow", downloadPath=self.downloads)
+        self.press(text)
+        path, end = os.path.join(self.downloads, name), time.monotonic() + PATIENCE
+        while not os.path.exists(path):
+            if time.monotonic() > end:
+                raise TimeoutError(f"not saved: {name}")
+            time.sleep(0.02)
+        with open(path, "rb") as file:
+            return file.read()
+
+    def requests(self):
+        """The addresses that were asked for."""
+        self.js("0")
+        sent = [one for one in self.events if one.get("method") == "Network.requestWillBeSent"]
+        return [one["params"]["request"]["url"] for one in sent]
+
+    def picture(self, path):
+        """Puts a picture of the whole page at a path."""
+        data = self.call("Page.captureScreenshot", captureBeyondViewport=True)["data"]
+        with open(path, "wb") as file:
+            file.write(base64.b64decode(data))
