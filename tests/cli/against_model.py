@@ -6,14 +6,16 @@ With SWEEP in the environment whole sweeps are run, not samples of them.
 from typing import NamedTuple, Optional
 
 import model
-from program import EXAMPLE, SWEEP, ProgramTest, answer_of, side_by_side
+from program import EXAMPLE, EXAMPLE_TABLE, SWEEP, ProgramTest, answer_of, side_by_side
 
 FIELD = EXAMPLE.read_bytes()
 SHEET = model.means(FIELD, b"S1")[1]
+TABLE = EXAMPLE_TABLE.read_bytes()
 
 
 class Case(NamedTuple):
-    """One run: a command, the bytes of its files, and its options."""
+    """One run: a command, the bytes of its files, and its options. `sheet` is the sheet or the
+    table of directions."""
 
     name: str
     command: str
@@ -22,16 +24,27 @@ class Case(NamedTuple):
     station: str = "S1"
     limits: model.Limits = model.Limits()
     residual: Optional[int] = None
+    decimals: int = model.USUAL_DECIMALS
+    within: int = model.USUAL_WITHIN
+
+    def answers(self):
+        """What the model answers: one answer, or a few that are all right."""
+        name = self.station.encode()
+        if self.command == "words":
+            return [model.words(self.gsi)]
+        if self.command == "list":
+            return [model.listed(self.gsi, self.limits)]
+        if self.command == "means":
+            return [model.means(self.gsi, name, self.limits)]
+        if self.command == "directions":
+            return model.directions(self.gsi, name, self.limits, self.decimals)
+        if self.command == "compare":
+            return model.compared(self.gsi, name, self.sheet, self.limits, self.within)
+        return [model.check(self.gsi, self.sheet, self.limits, self.residual)]
 
     def expected(self):
-        """What the model answers."""
-        if self.command == "words":
-            return model.words(self.gsi)
-        if self.command == "list":
-            return model.listed(self.gsi, self.limits)
-        if self.command == "means":
-            return model.means(self.gsi, self.station.encode(), self.limits)
-        return model.check(self.gsi, self.sheet, self.limits, self.residual)
+        """The first of these."""
+        return self.answers()[0]
 
     def args(self, gsi, sheet):
         """The words of its command line, over these paths."""
@@ -42,6 +55,12 @@ class Case(NamedTuple):
             "words": ["words", gsi],
             "list": ["list", *options, gsi],
             "means": ["means", *options, "--", gsi, self.station],
+            "directions": [
+                *["directions", *options, f"--decimals={self.decimals}", "--", gsi, self.station]
+            ],
+            "compare": [
+                *["compare", *options, f"--within={self.within}", "--", gsi, self.station, sheet]
+            ],
             "check": ["check", *options, gsi, sheet],
         }[self.command]
 
@@ -64,12 +83,12 @@ class AgainstModel(ProgramTest):
         return answer
 
     def compare(self, cases):
-        """Runs all cases and gives the model's answers; fails where the program's differ."""
-        cases, wanted = list(cases), []
+        """Runs all cases and gives the program's answers; fails where the model has others."""
+        cases, found = list(cases), []
         self.assertTrue(cases)
         for case, answer in zip(cases, side_by_side(self.answer, range(len(cases)), cases)):
-            wanted.append(case.expected())
-            if answer != wanted[-1]:
+            found.append(answer)
+            if answer not in (right := case.answers()):
                 with self.subTest(case.name, gsi=case.gsi[:2000], sheet=case.sheet[:2000]):
-                    self.assertEqual(wanted[-1], answer)
-        return wanted
+                    self.assertEqual(right[0], answer)
+        return found

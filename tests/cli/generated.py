@@ -1,4 +1,5 @@
-"""Field files and sheets of a fixed seed: right ones, and ones with every kind of fault.
+"""Field files, sheets and tables of directions of a fixed seed: right ones, and ones with every
+kind of fault.
 
 `python3 tests/cli/generated.py [COUNT]` prints how often the model answers what over so many files.
 """
@@ -11,6 +12,7 @@ from fractions import Fraction
 from random import Random
 
 import model
+import worked
 from against_model import Case
 from kinds import kind_of
 from model import CIRCLE, HALF_CIRCLE, TURN, Limits
@@ -121,7 +123,9 @@ class FieldFile:
         if self.goes_wrong(3):
             targets = []
         turned = self.random.randrange(CIRCLE)
-        near = lambda direction: direction + turned + self.random.randint(-9, 9)
+        gross = 9_000 if self.goes_wrong(3) else 0
+        error = lambda: self.random.choice([gross, 0]) + self.random.randint(-9, 9)
+        near = lambda direction: direction + turned + error()
         pairs = [self.pair(target, near(direction)) for target, direction in targets]
         readings = [first for first, _ in pairs] + [second for _, second in reversed(pairs)]
         if self.random.random() < 0.3:
@@ -179,43 +183,10 @@ def field_file(random):
 # ---------------------------------------------------------------- sheets
 
 
-def eliminated(equations):
-    """The solution of equations, each a list of factors and its sum; what they leave open is 0."""
-    solved = {}
-    for unknown in range(len(equations[0]) - 1):
-        unused = (row for row in equations if row[unknown] and id(row) not in solved.values())
-        pivot = next(unused, None)
-        if pivot is None:
-            continue
-        pivot[:] = [x / pivot[unknown] for x in pivot]
-        for row in equations:
-            if row is not pivot and row[unknown]:
-                row[:] = [x - row[unknown] * y for x, y in zip(row, pivot)]
-        solved[unknown] = id(pivot)
-    rows = {id(row): row for row in equations}
-    value = lambda unknown: rows[solved[unknown]][-1] if unknown in solved else Fraction(0)
-    return list(map(value, range(len(equations[0]) - 1)))
-
-
-def adjusted(station, turns):
-    """The least-squares directions and orientations in half units; the first direction is 0."""
-    targets, sets = len(station.targets), len(station.sets)
-    equations = [[Fraction(0)] * (targets + sets + 1) for _ in range(targets + sets)]
-    for seen, turn in zip(station.observations, turns):
-        value, unknowns = seen.p + TURN * turn, {seen.target: 1, targets + seen.set: -1}
-        for row, sign in unknowns.items():
-            for column, other in unknowns.items():
-                equations[row][column] += sign * other
-            equations[row][-1] += sign * value
-    equations[0] = [Fraction(1)] + [Fraction(0)] * (targets + sets)
-    solution = eliminated(equations)
-    return solution[:targets], solution[targets:]
-
-
 def least_sheet(random, station):
     """The sheet of a station under some full turns."""
     turns = [random.choice([0, 0, 0, 0, 0, 1, -1, 9]) for _ in station.observations]
-    directions, orientations = adjusted(station, turns)
+    directions, orientations = model.adjusted(station, turns)
     denominator = math.lcm(*[x.denominator for x in directions + orientations])
     denominator *= random.choice([1, 1, 2, 10**6])
     rows = [
@@ -301,6 +272,96 @@ def sheet_text(random, stations):
     return text
 
 
+# ---------------------------------------------------------------- stations to adjust
+
+
+def seen_in(random, kind, targets, place):
+    """The targets that are observed in a set: all of them, some, or two neighbours in a chain."""
+    if kind == "chain":
+        return targets[place : place + 2]
+    return random.sample(targets, random.randint(2, len(targets))) if kind == "gaps" else targets
+
+
+def station_to_adjust(random, most_sets=7, most_targets=9):
+    """The field file of the station S1, in sets that are complete, have gaps or are a chain; of
+    some targets the readings lie on both sides of zero."""
+    kind = random.choice(["complete", "gaps", "gaps", "chain"])
+    places = [random.randrange(CIRCLE), *(random.randrange(-20, 20) for _ in range(2))]
+    directions = [random.choice([*places, random.randrange(CIRCLE)]) for _ in range(most_targets)]
+    most = min(most_targets, most_sets + 1) if kind == "chain" else most_targets
+    targets = [(f"T{n}", hz) for n, hz in enumerate(directions[: random.randint(2, most)])]
+    sets = len(targets) - 1 if kind == "chain" else random.randint(1, most_sets)
+    readings = {}
+    for place in range(sets):
+        begin = random.choice([0, random.randrange(CIRCLE)])
+        seen = seen_in(random, kind, targets, place)
+        hz_of = lambda hz: (hz + begin + random.randint(-30, 30)) % CIRCLE
+        readings[place + 1] = [(name, hz_of(hz), hz_of(hz + HALF_CIRCLE)) for name, hz in seen]
+    return worked.field_file(readings)
+
+
+# ---------------------------------------------------------------- tables of directions
+
+
+def direction_text(direction, decimals):
+    """A direction in gon as a table states it, cut to so many decimals."""
+    whole, rest = divmod(int(abs(direction) * 10**decimals), 10**decimals)
+    sign = b"-" if direction < 0 else b""
+    return sign + (b"%d.%0*d" % (whole, decimals, rest) if decimals else b"%d" % whole)
+
+
+def stated_of(random, station):
+    """Directions that a program could state of a station, all turned by some angle."""
+    try:
+        directions = model.least_of(station).directions
+    except model.Refusal:
+        directions = [Fraction(random.randrange(CIRCLE), 10**5) for _ in station.targets]
+    turned = random.choice([0, 0, Fraction(random.randrange(CIRCLE), 10**5)])
+    turn_of = lambda direction: (direction + turned) % model.CIRCLE_IN_GON
+    return [turn_of(direction) - random.choice([0, 0, 0, 400]) for direction in directions]
+
+
+def change_table_row(random, rows):
+    """A row dropped or repeated, or a field changed."""
+    row = random.choice(rows)
+    change = random.randrange(6)
+    if change == 0:
+        rows.remove(row)
+    elif change == 1:
+        rows.append(list(row))
+    elif change == 2:
+        row[0] = random.choice([b"", b"Z", b"x" * 17, row[0] + b" ", row[0].lower()])
+    elif change == 3:
+        row[:] = random.choice([row[:1], [*row, b""]])
+    else:
+        others = [b"1e2", b"+5", b"400", b"-400", b"401", b"399.999999999", b"-0", b"7.", b".7", b""]
+        row[-1] = random.choice([*others, b"000", b"0.0000000000", row[-1] + b"0", row[-1] + b" "])
+
+
+def table_rows(random, station):
+    """The rows of a table of a station's directions, in any order."""
+    decimals = random.choice([0, 1, 3, 4, 5, 5, 6, 6, 7, 8, 9])
+    directions = stated_of(random, station)
+    texts = [direction_text(direction, decimals) for direction in directions]
+    rows = [list(row) for row in zip(station.targets, texts)]
+    random.shuffle(rows)
+    return rows
+
+
+def table_of_station(random, station):
+    """A table of a station's directions."""
+    return written(random, table_rows(random, station))
+
+
+def changed_table(random, station):
+    """Such a table, or what is left of one after some changes."""
+    rows = table_rows(random, station)
+    for _ in range(random.choice([0, 0, 0, 0, 1, 1, 2])):
+        if rows:
+            change_table_row(random, rows)
+    return written(random, rows)
+
+
 # ---------------------------------------------------------------- cases
 
 
@@ -320,6 +381,15 @@ def cases_of(place):
     station = random.choice(stations).name.decode()
     asked = random.choice([station, station, station, "?"])
     yield Case(f"{place}: means", "means", field, station=asked, limits=limits)
+    of_station = {"station": asked, "limits": limits}
+    decimals = random.randint(1, 8)
+    yield Case(f"{place}: directions", "directions", field, decimals=decimals, **of_station)
+    for nth in range(2):
+        compared = random.choice(stations)
+        within = random.choice([10, 10, 10, 0, 1, 100, 1_000_000])
+        of_table = {"station": compared.name.decode(), "limits": limits, "within": within}
+        table = changed_table(random, compared)
+        yield Case(f"{place}: table {nth}", "compare", field, table, **of_table)
     for nth in range(3):
         residual = random.choice([None, None, 0, 1, 20, 2_000])
         sheet = sheet_text(random, stations)

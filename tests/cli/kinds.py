@@ -20,7 +20,9 @@ KERNEL_FAULTS = [
     *["TargetSum n", "SetSum n", "NotConnected", "Residual n"],
 ]
 
-WRITTEN = ["accepted", "written", "nothing to write"]
+TABLE_ROW_FAULTS = ["Fields", "Name", "Number", "Range", "Unknown", "Twice"]
+
+WRITTEN = ["accepted", "agrees", "written", "nothing to write"]
 
 # The refusals that files of any size can have.
 REFUSALS = [
@@ -28,23 +30,29 @@ REFUSALS = [
     *[f"sheet row n: {fault}" for fault in ROW_FAULTS],
     *[f"kernel: {fault}" for fault in KERNEL_FAULTS],
     *["no station", "means: Incomplete"],
+    *[f"table row n: {fault}" for fault in TABLE_ROW_FAULTS],
+    *["table: Missing n", "adjust: NotConnected", "adjust: Residual n", "compare: Apart n"],
 ]
 
-# Those of files and sheets with too much of something, and of reads that fail.
+# Those of files, sheets and tables with too much of something, and of reads that fail.
 OF_COUNTS = [
     *["block n: TooManyTargets", "block n: TooManySets", "block n: TooManyStations"],
     "sheet row n: TooMany",
 ]
-OF_BYTES = ["block n: FileTooLong", "sheet: TooLong"]
-OF_READS = ["block n: Read", "sheet: Read"]
+OF_BYTES = ["block n: FileTooLong", "sheet: TooLong", "table: TooLong"]
+OF_READS = ["block n: Read", "sheet: Read", "table: Read"]
+
+# Those that no run is known to have.
+NEVER_MET = ["adjust: Unclear"]
 
 
 def kind_of(answer):
     """What was printed, or the reason of a refusal, with `n` for each number but those of words."""
     status, stdout, stderr = answer
     if status == 0:
+        verdict = stdout.split(b" ")[0].decode()
         printed = "written" if stdout else "nothing to write"
-        return "accepted" if stdout.startswith(b"accepted") else printed
+        return verdict if verdict in ("accepted", "agrees") else printed
     reason = stderr.decode().removeprefix("refused: ").rstrip("\n")
-    reason = re.sub(r"^(block|sheet row) \d+", r"\1 n", reason)
+    reason = re.sub(r"^(block|sheet row|table row) \d+", r"\1 n", reason)
     return reason if "WordTwice" in reason else re.sub(r" \d+$", " n", reason)

@@ -14,6 +14,7 @@ ROOT = Path(__file__).resolve().parents[2]
 PROGRAM = Path(os.environ.get("STATION_CHECK", ROOT / "build" / "station_check"))
 EXAMPLE = ROOT / "examples" / "station_s1.gsi"
 EXAMPLE_SHEET = ROOT / "examples" / "station_s1.csv"
+EXAMPLE_TABLE = ROOT / "examples" / "station_s1_directions.csv"
 
 # Whether whole sweeps are run, and not samples of them.
 SWEEP = "SWEEP" in os.environ
@@ -27,7 +28,8 @@ TIME_OF_A_TEST = 7_200 if SWEEP else 600
 class Run:
     """One run: what it is given, and what it must answer.
 
-    `{file}` and `{sheet}` in the arguments are the paths of `file` and `sheet`."""
+    `{file}` and `{sheet}` in the arguments are the paths of `file` and `sheet`, which may be a table
+    of directions."""
 
     name: str
     args: list = field(default_factory=list)

@@ -10,28 +10,36 @@ import model
 from program import (
     EXAMPLE,
     EXAMPLE_SHEET,
+    EXAMPLE_TABLE,
     PROGRAM,
     ProgramTest,
     answer_in_shell,
     answer_of,
     answer_to,
 )
-from worked import ACCEPTED, LIST, SHEET, STATION, refused
+from worked import ACCEPTED, AGREES, LIST, SHEET, STATION, TABLE, refused
 
 # The words of each command for the field file `{gsi}`, and what it answers to the example.
 COMMANDS = {
     "check": ["check", "{gsi}", str(EXAMPLE_SHEET)],
+    "compare": ["compare", "{gsi}", "S1", str(EXAMPLE_TABLE)],
     "means": ["means", "{gsi}", "S1"],
+    "directions": ["directions", "{gsi}", "S1"],
     "list": ["list", "{gsi}"],
     "words": ["words", "{gsi}"],
 }
 
 OF_EXAMPLE = {
     "check": ACCEPTED,
+    "compare": AGREES,
     "means": SHEET,
+    "directions": TABLE,
     "list": LIST,
     "words": model.words(STATION)[1],
 }
+
+# The commands that have limits of 2c and 2i.
+LIMITED = ["check", "compare", "means", "directions", "list"]
 
 NO_MEMORY = (1, b"", b"refused: out of memory\n")
 
@@ -43,7 +51,8 @@ MORE = b"\nFor more information, try '--help'.\n"
 # What stands after a limit that is no whole number, or out of its range.
 LIMITS_ARE_WHOLE = b"""
 Limits are whole numbers: of 2c and 2i in units of 0.01 mgon, of residuals in half units of
-0.005 mgon. So 0.3 mgon is --two-c 30, --two-i 30 and --residual 60.
+0.005 mgon, of --within in units of 0.001 mgon. So 0.3 mgon is --two-c 30, --two-i 30,
+--residual 60 and --within 300.
 """
 
 # What 2c and 2i are, in the help of each command that has their limits.
@@ -97,8 +106,10 @@ class CommandLineTest(ProgramTest):
                 self.assert_answer(cannot_open(path), of_file(command, path))
         for gsi in [EXAMPLE, unsound, self.folder]:
             self.assert_answer(cannot_open(missing), ["check", str(gsi), str(missing)])
+            self.assert_answer(cannot_open(missing), ["compare", str(gsi), "S9", str(missing)])
         other = self.folder / "other"
         self.assert_answer(cannot_open(missing), ["check", str(missing), str(other)])
+        self.assert_answer(cannot_open(missing), ["compare", str(missing), "S1", str(other)])
 
     def test_a_path_is_shown_on_one_line(self):
         for path, shown in [("a\nb", "a?b"), ("\x1b[31m", "?[31m"), ("\x7f\x85\u00e9", "??\u00e9")]:
@@ -117,6 +128,9 @@ class CommandLineTest(ProgramTest):
         for command in COMMANDS:
             self.assert_answer((1, b"", refused("block 1: Read")), of_file(command, self.folder))
         self.assert_answer((1, b"", refused("sheet: Read")), ["check", EXAMPLE, self.folder])
+        for station, reason in [("S1", "table: Read"), ("S9", "no station")]:
+            args = ["compare", EXAMPLE, station, self.folder]
+            self.assert_answer((1, b"", refused(reason)), args)
 
     def test_a_named_pipe_is_a_file(self):
         pipe = self.folder / "pipe"
@@ -128,16 +142,20 @@ class CommandLineTest(ProgramTest):
     def test_an_empty_file_has_no_station(self):
         for command, expected in [
             ("check", (1, b"", refused("no station"))),
+            ("compare", (1, b"", refused("no station"))),
             ("means", (1, b"", refused("no station"))),
+            ("directions", (1, b"", refused("no station"))),
             ("list", (0, b"", b"")),
             ("words", (0, b"", b"")),
         ]:
             self.assert_answer(expected, of_file(command, "/dev/null"))
         unfinished = 1, b"", refused("sheet row 1: Unfinished")
         self.assert_answer(unfinished, ["check", EXAMPLE, "/dev/null"])
+        missing = 1, b"", refused("table: Missing 1")
+        self.assert_answer(missing, ["compare", EXAMPLE, "S1", "/dev/null"])
 
     def test_limits_are_those_of_the_command_line(self):
-        for command in ["check", "means", "list"]:
+        for command in LIMITED:
             args, stdout = of_file(command, EXAMPLE), OF_EXAMPLE[command]
             for options, fault in [
                 (["--two-c", "10", "--two-i", "2"], None),
@@ -159,15 +177,26 @@ class CommandLineTest(ProgramTest):
             (["list"], missing + b"  <GSI>\n"),
             (["means", "a"], missing + b"  <STATION>\n"),
             (["check", "a"], missing + b"  <SHEET>\n"),
+            (["directions", "a"], missing + b"  <STATION>\n"),
+            (["compare", "a"], missing + b"  <STATION>\n  <TABLE>\n"),
+            (["compare", "a", "b"], missing + b"  <TABLE>\n"),
             (["nonsense"], b"error: unrecognized subcommand 'nonsense'\n"),
             (["--nonsense"], b"error: unexpected argument '--nonsense' found\n"),
             (["words", "a", "b"], b"error: unexpected argument 'b' found\n"),
             (["check", "a", "b", "c"], b"error: unexpected argument 'c' found\n"),
+            (["directions", "a", "b", "c"], b"error: unexpected argument 'c' found\n"),
+            (["compare", "a", "b", "c", "d"], b"error: unexpected argument 'd' found\n"),
             (["words", "--two-c", "1", "a"], b"error: unexpected argument '--two-c' found\n"),
             (["list", "--residual", "1", "a"], b"error: unexpected argument '--residual' found\n"),
-            (
-                ["means", "--residual", "1", "a", "b"],
-                b"error: unexpected argument '--residual' found\n",
+            *(
+                ([*args, "1", "a", "b"], f"error: unexpected argument '{args[1]}' found\n".encode())
+                for args in [
+                    ["means", "--residual"],
+                    ["compare", "--residual"],
+                    ["compare", "--decimals"],
+                    ["directions", "--within"],
+                    ["check", "--within"],
+                ]
             ),
             (["list", "--two-c", "-5", "a"], b"error: unexpected argument '-5' found\n"),
             (
@@ -183,7 +212,7 @@ class CommandLineTest(ProgramTest):
                 b"error: invalid value '0.3' for '--residual <N>': ",
             ),
         ]
-        for command in ["check", "means", "list"]:
+        for command in LIMITED:
             for option in ["two-c", "two-i"]:
                 args = [*of_file(command, "a"), f"--{option}"]
                 for value in ["1000001", "4294967296", "1e3", "2.5", " 1", "9" * 40]:
@@ -205,6 +234,8 @@ class CommandLineTest(ProgramTest):
             [b"words", b"\xff.gsi"],
             [b"check", EXAMPLE, b"\xff.csv"],
             [b"means", EXAMPLE, b"S\xff"],
+            [b"compare", EXAMPLE, b"S1", b"\xff.csv"],
+            [b"directions", EXAMPLE, b"S\xff"],
             [b"list", EXAMPLE, b"--two-c", b"\xff"],
             [b"\xff"],
         ]:
@@ -224,7 +255,9 @@ class CommandLineTest(ProgramTest):
             (["means", "--help"], [b"<STATION>", b"--two-c <N>", b"[default: 2000]"]),
             (["means", "--help"], [b"where no residual\nlimit is stated"]),
             (["list", "--help"], [b"0.01 mgon", b"--two-i <N>", b"[default: 2000]"]),
-            *(([command, "--help"], FACE_DIFFERENCES) for command in ["check", "means", "list"]),
+            (["compare", "--help"], [b"--within <N>", b"0.001 mgon", b"[default: 10]", b"<TABLE>"]),
+            (["directions", "--help"], [b"--decimals <K>", b"[default: 6]", b"<STATION>"]),
+            *(([command, "--help"], FACE_DIFFERENCES) for command in LIMITED),
             (["words", "--help"], [b"GSI-8, GSI-16 or both"]),
             (["help", "words"], [b"GSI-8, GSI-16 or both"]),
             (["check", "-h"], [b"Usage: station_check check [OPTIONS] <GSI> <SHEET>\n"]),

@@ -13,9 +13,12 @@ BASH = SHARE / "bash-completion" / "completions" / "station_check"
 ZSH = SHARE / "zsh" / "site-functions"
 FISH = SHARE / "fish" / "vendor_completions.d" / "station_check.fish"
 
-COMMANDS = ["check", "means", "list", "words", "explain", "help"]
+COMMANDS = ["compare", "directions", "check", "means", "list", "words", "explain", "help"]
 
 FACE_LIMITS = ["--two-c", "--two-i"]
+
+# The option that a command has for itself.
+OWN_OPTIONS = {"compare": "--within", "directions": "--decimals", "check": "--residual"}
 
 # Asks the completion of bash for a line, whose last word may be empty.
 ASK_BASH = """
@@ -56,13 +59,16 @@ class CompletionsTest(ProgramTest):
 
     def test_bash_completes_commands(self):
         self.assertEqual(["check"], self.of_bash("ch"))
+        self.assertEqual(["compare", "check"], self.of_bash("c"))
         self.assertEqual(COMMANDS, self.of_bash(""))
         self.assertEqual(COMMANDS, self.of_bash("help", ""))
         self.assertEqual([""], self.of_bash("nonsense", ""))
 
     def test_bash_completes_options(self):
         self.assertEqual(["--help", "--version"], self.of_bash("-"))
-        self.assertEqual([*FACE_LIMITS, "--residual", "--help"], self.of_bash("check", "-"))
+        for command, option in OWN_OPTIONS.items():
+            self.assertEqual([*FACE_LIMITS, option, "--help"], self.of_bash(command, "-"))
+            self.assertEqual([""], self.of_bash(command, option, ""))
         self.assertEqual(FACE_LIMITS, self.of_bash("check", "field.gsi", "--two"))
         for command in ["means", "list"]:
             self.assertEqual([*FACE_LIMITS, "--help"], self.of_bash(command, "-"))
@@ -72,12 +78,13 @@ class CompletionsTest(ProgramTest):
             self.assertEqual([""], self.of_bash("check", *words))
 
     def test_bash_completes_files(self):
-        for command in ["check", "means", "list", "words"]:
+        for command in ["compare", "directions", "check", "means", "list", "words"]:
             self.assertEqual(["field.gsi", "sheet.csv"], sorted(self.of_bash(command, "")))
         self.assertEqual(["sheet.csv"], self.of_bash("check", "--two-c", "1", "field.gsi", "s"))
         self.assertEqual(["sheet.csv"], self.of_bash("check", "--two-c", "=", "1", "field.gsi", "s"))
-        for words in [["check", "a", "b", ""], ["means", "a", ""], ["list", "a", ""]]:
-            self.assertEqual([""], self.of_bash(*words))
+        self.assertEqual(["sheet.csv"], self.of_bash("compare", "field.gsi", "S1", "s"))
+        for words in ["check a b", "means a", "directions a", "compare a", "compare a b c", "list a"]:
+            self.assertEqual([""], self.of_bash(*words.split(), ""))
 
     def test_bash_completes_faults(self):
         self.assertEqual(sorted(names()), sorted(self.of_bash("explain", "")))
@@ -103,6 +110,8 @@ class CompletionsTest(ProgramTest):
             ("station_check ch", ["check"]),
             ("station_check ", sorted(COMMANDS)),
             ("station_check check --", ["--help", "--residual", *FACE_LIMITS]),
+            ("station_check compare --", ["--help", *FACE_LIMITS, "--within"]),
+            ("station_check directions --", ["--decimals", "--help", *FACE_LIMITS]),
             ("station_check list --two", FACE_LIMITS),
             ("station_check list f", ["field.gsi"]),
             ("station_check explain Two", ["TwoC", "TwoI"]),

@@ -1,8 +1,9 @@
-"""Cut and changed input: every first part of the example and of its sheet, every byte replaced."""
+"""Cut and changed input: every first part of the example, of its sheet and of its table of
+directions, every byte replaced."""
 
 import unittest
 
-from against_model import FIELD, SHEET, AgainstModel, Case, sample
+from against_model import FIELD, SHEET, TABLE, AgainstModel, Case, sample
 from program import answer_of
 
 # A blank, a tab, both line ends, and bytes that a field file or a sheet has elsewhere, or nowhere.
@@ -73,15 +74,24 @@ class CutsTest(AgainstModel):
                 self.assertEqual(expected, answer_of(["check", field, sheet]))
 
     def test_every_first_part_of_the_example(self):
-        for command in ["words", "list", "means", "check"]:
-            self.compare(sample(cuts(command, b"", FIELD, sheet=SHEET), 3))
+        for command, step in [("words", 3), ("list", 3), ("means", 3), ("check", 3), ("directions", 5)]:
+            self.compare(sample(cuts(command, b"", FIELD, sheet=SHEET), step))
 
     def test_every_first_part_of_the_sheet(self):
         lengths = range(len(SHEET) + 1)
         self.compare(Case(f"{left} bytes", "check", FIELD, SHEET[:left]) for left in lengths)
 
+    def test_every_first_part_of_the_table(self):
+        lengths = range(len(TABLE) + 1)
+        self.compare(Case(f"{left} bytes", "compare", FIELD, TABLE[:left]) for left in lengths)
+
+    def test_every_byte_of_the_table_replaced(self):
+        tables = sample(replaced(TABLE), 3)
+        self.compare(Case(name, "compare", FIELD, table) for name, table in tables)
+
     def test_every_byte_of_the_example_replaced(self):
-        for command, step in [("list", 5), ("check", 23), ("words", 29), ("means", 31)]:
+        steps = [("list", 5), ("check", 23), ("words", 29), ("means", 31), ("directions", 37)]
+        for command, step in steps:
             fields = sample(replaced(FIELD), step)
             self.compare(Case(f"{command}, {name}", command, *pair) for name, *pair in fields)
 

@@ -11,20 +11,27 @@ sys.path.insert(0, str(ROOT / "docs"))
 import definitions
 
 
+def promised():
+    """The files that the promises rest on."""
+    firsts = [definitions.ACCEPTANCE, definitions.AGREEMENT]
+    closures = [definitions.closure(definitions.Spec(*first)) for first in firsts]
+    return dict.fromkeys(spec for closure in closures for spec in closure)
+
+
 class DefinitionsTest(unittest.TestCase):
     def test_the_page_is_up_to_date(self):
         """Where this fails, `python3 docs/definitions.py` makes it anew."""
         self.assertEqual(definitions.page(), definitions.PAGE.read_text())
 
     def test_each_definition_of_the_promise_has_a_comment(self):
-        for spec in definitions.closure(definitions.Spec(*definitions.PROMISE)):
+        for spec in promised():
             for name, comment in spec.definitions():
                 with self.subTest(file=spec.path.name, definition=name):
                     self.assertTrue(comment)
 
     def test_no_definition_of_the_promise_is_left_out(self):
         """What the promise cites is in files that the list of its crate's definitions names."""
-        for spec in definitions.closure(definitions.Spec(*definitions.PROMISE)):
+        for spec in promised():
             for crate, module in re.findall(r"Rattle\.(\w+)\.specs\.(\w+)", spec.text()):
                 if crate in definitions.crates() and module != "declared":
                     with self.subTest(file=spec.path.name, cites=f"{crate} {module}"):

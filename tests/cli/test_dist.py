@@ -1,4 +1,5 @@
-"""`make dist`: the archive runs in a container root that holds nothing else but the C library."""
+"""`make dist`: the archive runs in a container root that holds nothing else but the C library; a page that
+was made lies beside it."""
 
 import os
 import re
@@ -14,16 +15,8 @@ EXAMPLES = "share/doc/station_check/examples"
 
 TIME = 120
 
-# The libraries that no command uses, and the page's.
-NOT_OF_THE_PROGRAM = {
-    "sheet_nearness",
-    "sheet_near",
-    "sheet_apart",
-    "stated_directions",
-    "direction_table",
-    "station_compare",
-    "station_page",
-}
+# The page's library, which no command uses.
+NOT_OF_THE_PROGRAM = {"station_page"}
 
 
 def output_of(*command, **more):
@@ -40,7 +33,8 @@ class DistTest(ProgramTest):
     def dist(self, name):
         """What is made, by names, in a folder of this name."""
         folder = self.folder / name
-        command = ["make", "-s", "-o", PROGRAM, f"PROGRAM={PROGRAM}", f"DIST={folder}", "dist"]
+        names = [f"PROGRAM={PROGRAM}", f"DIST={folder}", f"PAGE={self.folder / 'page.html'}"]
+        command = ["make", "-s", "-o", PROGRAM, *names, "dist"]
         output_of(*command, cwd=ROOT)
         output_of("sha256sum", "--check", "SHA256SUMS", cwd=folder)
         return {path.name: path for path in folder.iterdir()}
@@ -84,6 +78,14 @@ class DistTest(ProgramTest):
         self.assertEqual(list(sorted(first)), list(sorted(second)))
         for name, path in first.items():
             self.assertEqual(path.read_bytes(), second[name].read_bytes(), name)
+
+    def test_a_page_that_was_made_lies_beside_the_archive(self):
+        self.assertNotIn(".html", "".join(self.dist("without")))
+        (self.folder / "page.html").write_text("the page")
+        made = self.dist("with")
+        name = self.archive(made).name.replace("-linux-x86_64.tar.gz", ".html")
+        self.assertEqual("the page", made[name].read_text())
+        self.assertIn(name, made["SHA256SUMS"].read_text())
 
     def test_the_note_says_what_the_program_was_proved_with(self):
         with tarfile.open(self.archive(self.dist("made"))) as archive:

@@ -14,7 +14,7 @@ import unittest
 
 import model
 import test_generated
-from against_model import FIELD, SHEET
+from against_model import FIELD, SHEET, TABLE
 from processes import state_of, wants_more
 from program import PROGRAM, TIME, ProgramTest, answer_in_shell, answer_of, until
 
@@ -32,11 +32,14 @@ class EndsTest(ProgramTest):
         super().setUp()
         self.field = self.file("field.gsi", FIELD)
         self.sheet = self.file("sheet.csv", SHEET)
+        self.table = self.file("table.csv", TABLE)
         self.runs = [
             ["words", self.field],
             ["list", self.field],
             ["means", self.field, "S1"],
             ["check", self.field, self.sheet],
+            ["directions", self.field, "S1"],
+            ["compare", self.field, "S1", self.table],
         ]
 
     def file(self, name, content):
@@ -68,7 +71,8 @@ class StreamsTest(EndsTest):
     def test_a_failing_standard_error_changes_no_status(self):
         folder = str(self.folder)
         read = [["words", folder], ["list", folder], ["means", folder, "S1"]]
-        for args in [*read, ["check", self.field, folder]]:
+        of_two = [["check", self.field, folder], ["compare", self.field, "S1", folder]]
+        for args in [*read, *of_two, ["directions", self.field, "S2"]]:
             for err in ["2> /dev/full", "2>&-"]:
                 with self.subTest(args[0], err=err):
                     self.assertEqual((1, b"", b""), answer_in_shell(f'"$@" {err}', *args))
@@ -103,6 +107,10 @@ class FilesTest(EndsTest):
             (["check", folder, self.sheet], "block 1: Read"),
             (["check", self.field, folder], "sheet: Read"),
             (["check", folder, folder], "block 1: Read"),
+            (["directions", folder, "S1"], "block 1: Read"),
+            (["compare", folder, "S1", self.table], "block 1: Read"),
+            (["compare", self.field, "S1", folder], "table: Read"),
+            (["compare", self.field, "S2", folder], "no station"),
         ]:
             with self.subTest(args):
                 self.assertEqual(refused(reason), answer_of(args))
@@ -116,6 +124,8 @@ class FilesTest(EndsTest):
             (["check", faulty, missing], missing),
             (["check", missing, self.folder / "too"], missing),
             (["check", missing, self.sheet], missing),
+            (["compare", faulty, "S1", missing], missing),
+            (["compare", missing, "S1", self.folder / "too"], missing),
             (["list", missing], missing),
             (["means", missing, "S1"], missing),
             (["list", self.folder / "socket"], self.folder / "socket"),
@@ -138,6 +148,10 @@ class FilesTest(EndsTest):
             (["check", "/dev/zero", self.sheet], refused("block 1: LineTooLong")),
             (["check", self.field, "/dev/zero"], refused("sheet: TooLong")),
             (["check", "/dev/zero", "/dev/zero"], refused("block 1: LineTooLong")),
+            (["directions", "/dev/null", "S1"], refused("no station")),
+            (["compare", "/dev/null", "S1", "/dev/zero"], refused("no station")),
+            (["compare", self.field, "S1", "/dev/null"], refused("table: Missing 1")),
+            (["compare", self.field, "S1", "/dev/zero"], refused("table: TooLong")),
         ]:
             with self.subTest(args):
                 self.assertEqual(answer, answer_of(args))
@@ -148,8 +162,11 @@ class FilesTest(EndsTest):
         self.assertEqual(ACCEPTED, answer_of(["check", "/dev/stdin", self.sheet], FIELD))
 
     def test_one_path_for_both_files(self):
-        check = answer_of(["check", self.field, self.field])
-        self.assertEqual(refused("sheet row 1: Fields"), check)
+        for args, reason in [
+            (["check", self.field, self.field], "sheet row 1: Fields"),
+            (["compare", self.field, "S1", self.field], "table row 1: Fields"),
+        ]:
+            self.assertEqual(refused(reason), answer_of(args))
 
     def test_pipes_with_names(self):
         """Both files come in small pieces, the sheet's only after the field file was read."""

@@ -11,7 +11,7 @@ from functools import lru_cache
 import model
 import preload
 import test_generated
-from against_model import FIELD, SHEET, sample
+from against_model import FIELD, SHEET, TABLE, sample
 from program import PROGRAM, SWEEP, ProgramTest, answer_to, side_by_side
 
 # The words of each command; without words the field file is standard input.
@@ -21,6 +21,8 @@ COMMANDS = {
     "list": ["list", "{field}"],
     "means": ["means", "{field}", "S1"],
     "check": ["check", "{field}", "{sheet}"],
+    "directions": ["directions", "{field}", "S1"],
+    "compare": ["compare", "{field}", "S1", "{table}"],
 }
 
 WHOLE = {
@@ -29,6 +31,8 @@ WHOLE = {
     "list": model.listed(FIELD),
     "means": model.means(FIELD, b"S1"),
     "check": model.check(FIELD, SHEET),
+    "directions": model.directions(FIELD, b"S1")[0],
+    "compare": model.compared(FIELD, b"S1", TABLE)[0],
 }
 
 REFUSED_WRITE = b"refused: write failed\n"
@@ -44,6 +48,8 @@ def expected_of_field(command, room, field=FIELD, fails=True):
         "list": lambda: model.listed(given, fails=fails),
         "means": lambda: model.means(given, b"S1", fails=fails),
         "check": lambda: model.check(given, SHEET, fails=(fails, False)),
+        "directions": lambda: model.directions(given, b"S1", fails=fails)[0],
+        "compare": lambda: model.compared(given, b"S1", TABLE, fails=(fails, False))[0],
     }[command]()
 
 
@@ -70,11 +76,14 @@ class FailingEndsTest(ProgramTest):
         super().setUp()
         self.library = preload.built("failing_ends")
         self.field, self.sheet = self.folder / "field.gsi", self.folder / "sheet.csv"
+        self.table = self.folder / "table.csv"
         self.field.write_bytes(FIELD)
         self.sheet.write_bytes(SHEET)
+        self.table.write_bytes(TABLE)
 
     def answer(self, command, **limits):
-        args = [word.format(field=self.field, sheet=self.sheet) for word in COMMANDS[command]]
+        paths = {"field": self.field, "sheet": self.sheet, "table": self.table}
+        args = [word.format(**paths) for word in COMMANDS[command]]
         env = {name: str(value) for name, value in limits.items()}
         with open(self.field, "rb") as field:
             env["LD_PRELOAD"] = str(self.library)
@@ -99,7 +108,7 @@ class FailingEndsTest(ProgramTest):
             for room in range(len(FIELD) + 1)
             for command in COMMANDS
         )
-        self.check_all(sample(runs, 3))
+        self.check_all(sample(runs, 4))
 
     def test_a_sheet_that_fails_after_each_byte(self):
         refused = (1, b"", b"refused: sheet: Read\n")
@@ -107,6 +116,24 @@ class FailingEndsTest(ProgramTest):
             ("check", {"READ_PATH": self.sheet, "READ_ROOM": room}, refused)
             for room in range(len(SHEET) + 1)
         )
+
+    def test_a_table_that_fails_after_each_byte(self):
+        refused = (1, b"", b"refused: table: Read\n")
+        self.check_all(
+            ("compare", {"READ_PATH": self.table, "READ_ROOM": room}, refused)
+            for room in range(len(TABLE) + 1)
+        )
+
+    def test_a_table_that_fails_is_looked_at_after_its_station_was_found(self):
+        for field, expected in [
+            (FIELD.replace(b"410012", b"4100 2"), b"refused: block 12: Word 1\n"),
+            (FIELD.replace(b"S1", b"S2"), b"refused: no station\n"),
+            (FIELD.replace(b"0B", b"0C"), b"refused: table: Read\n"),
+        ]:
+            with self.subTest(expected):
+                self.field.write_bytes(field)
+                compare = self.answer("compare", READ_PATH=self.table, READ_ROOM=0)
+                self.assertEqual((1, b"", expected), compare)
 
     def test_a_sheet_that_fails_is_looked_at_after_the_field_file(self):
         for field, expected in [
@@ -142,7 +169,7 @@ class FailingEndsTest(ProgramTest):
             for command in COMMANDS
             for run in self.stopping_once(command, room, most)
         )
-        self.check_all(sample(runs, 7))
+        self.check_all(sample(runs, 10))
 
     def test_a_long_field_file_of_which_one_read_fails_or_ends(self):
         for field in LONG_FIELDS:
@@ -155,7 +182,7 @@ class FailingEndsTest(ProgramTest):
                 for command in COMMANDS
                 for run in self.stopping_once(command, room, most, field)
             )
-            self.check_all(sample(runs, 3))
+            self.check_all(sample(runs, 4))
 
     def sheet_stopping_once(self, sheet, room, most):
         """Two runs over a sheet of which one read fails, or one ends."""
@@ -163,6 +190,13 @@ class FailingEndsTest(ProgramTest):
         for error in [errno.EIO, 0]:
             expected = model.check(FIELD, sheet[:room], fails=(False, error != 0))
             yield "check", {"READ_ERROR": error, **limits}, expected
+
+    def table_stopping_once(self, table, room, most):
+        """Two runs over a table of directions of which one read fails, or one ends."""
+        limits = {"READ_PATH": self.table, "READ_ROOM": room, "READ_MOST": most, "READ_STOPS": 1}
+        for error in [errno.EIO, 0]:
+            expected = model.compared(FIELD, b"S1", table[:room], fails=(False, error != 0))[0]
+            yield "compare", {"READ_ERROR": error, **limits}, expected
 
     def test_a_sheet_of_which_one_read_fails_or_ends(self):
         runs = (
@@ -172,6 +206,17 @@ class FailingEndsTest(ProgramTest):
             for run in self.sheet_stopping_once(SHEET, room, most)
         )
         self.check_all(sample(runs, 3))
+
+    def test_a_table_of_which_one_read_fails_or_ends(self):
+        """The example's, and one of several times what the program asks for at once."""
+        for table, step in [(TABLE, 1), (b"\n" * 9_000 + TABLE, 611)]:
+            self.table.write_bytes(table)
+            self.check_all(
+                run
+                for most in [1_000_000, 16]
+                for room in [*range(0, len(table), step), len(table)]
+                for run in self.table_stopping_once(table, room, most)
+            )
 
     def test_a_long_sheet_of_which_one_read_fails_or_ends(self):
         for sheet in LONG_SHEETS:
@@ -229,15 +274,17 @@ class FailingEndsTest(ProgramTest):
         unfinished = (1, b"", b"refused: sheet row 1: Unfinished\n")
         self.assertEqual(unfinished, self.answer("check", READ_MOST=1))
 
-    def test_a_sheet_that_fails_past_its_limit_is_too_long(self):
-        self.sheet.write_bytes(b" " * (model.LONGEST_SHEET + 2))
-        for room, expected in [
-            (model.LONGEST_SHEET + 1, b"refused: sheet: TooLong\n"),
-            (model.LONGEST_SHEET, b"refused: sheet: Read\n"),
+    def test_a_sheet_or_table_that_fails_past_its_limit_is_too_long(self):
+        for command, path, room, expected in [
+            ("check", self.sheet, model.LONGEST_SHEET + 1, b"refused: sheet: TooLong\n"),
+            ("check", self.sheet, model.LONGEST_SHEET, b"refused: sheet: Read\n"),
+            ("compare", self.table, model.LONGEST_TABLE + 1, b"refused: table: TooLong\n"),
+            ("compare", self.table, model.LONGEST_TABLE, b"refused: table: Read\n"),
         ]:
-            with self.subTest(room):
-                check = self.answer("check", READ_PATH=self.sheet, READ_ROOM=room)
-                self.assertEqual((1, b"", expected), check)
+            with self.subTest(expected):
+                path.write_bytes(b" " * (model.LONGEST_SHEET + 2))
+                answer = self.answer(command, READ_PATH=path, READ_ROOM=room)
+                self.assertEqual((1, b"", expected), answer)
 
 
 if __name__ == "__main__":

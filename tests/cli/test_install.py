@@ -84,7 +84,7 @@ class ManPageTest(ProgramTest):
         page = (ROOT / MAN_PAGE).read_text().replace("\\-", "-")
         version = answer_of(["--version"])[1].decode().strip()
         self.assertIn(f'"{version}"', page)
-        for command in ["check", "means", "list", "words", "explain"]:
+        for command in ["compare", "directions", "check", "means", "list", "words", "explain"]:
             text = answer_of([command, "--help"])[1].decode()
             self.assertIn(f"station_check {command}\n", page)
             for option in OPTIONS.findall(text):

@@ -42,7 +42,7 @@ class PagesTest(TimedTest):
 
     def test_the_guide_runs_each_command_of_the_program(self):
         commands = " ".join(step.command for step in page_steps(GUIDE.read_text()))
-        for command in ["words", "list", "means", "check", "check --residual"]:
+        for command in ["words", "list", "means", "check", "check --residual", "directions", "compare"]:
             self.assertIn(f"station_check {command} ", commands)
 
     def test_links_lead_to_files_and_headings_that_are_there(self):

@@ -12,7 +12,7 @@ import unittest
 
 import preload
 import test_generated
-from against_model import FIELD, SHEET
+from against_model import FIELD, SHEET, TABLE
 from program import SWEEP, ProgramTest, answer_of, side_by_side
 
 NO_MEMORY = (1, b"", b"refused: out of memory\n")
@@ -35,6 +35,10 @@ FILES = {
     "unlike": SHEET.replace(b"obs,1,A,6", b"obs,1,A,7"),
     "no_number": SHEET.replace(b"-20", b"-0"),
     "version_2": SHEET.replace(b"sheet,1,", b"sheet,2,"),
+    "table": TABLE,
+    "apart": TABLE.replace(b"50.", b"51."),
+    "no_direction": TABLE.replace(b"50.", b"+50."),
+    "quoted_table": TABLE.replace(b"A", b'"A"'),
     "quoted": SHEET.replace(b"S1", b'"S1"').replace(b"A", b'"A"'),
     "large": test_generated.lines(test_generated.station("S1", 40, 100)),
 }
@@ -54,6 +58,15 @@ RUNS = [
     "means {field} S1",
     "means {field} S2",
     "means --two-c 1000000 {face_twice} S1",
+    "directions {field} S1",
+    "directions --decimals 1 {field} S2",
+    "directions {face_twice} S1",
+    "compare {field} S1 {table}",
+    "compare {field} S1 {apart}",
+    "compare --within=0 {field} S1 {quoted_table}",
+    "compare {field} S1 {no_direction}",
+    "compare {field} S1 {empty}",
+    "compare {field} S2 {table}",
     "check {field} {sheet}",
     "check --residual 0 {field} {sheet}",
     "check --two-c 2000 --two-i 2000 --residual 2000 {field} {version_2}",
@@ -70,12 +83,20 @@ RUNS = [
     "explain TwoC",
     "explain nonsense",
     "check --two-c 1000001 {field} {sheet}",
+    "compare --within 1000001 {field} S1 {table}",
     "list {folder}/missing",
     "list {folder}",
 ]
 
-# Runs over the largest station, and over its sheet of some four thousand rows.
-LARGE_RUNS = ["words {large}", "list {large}", "means {large} S1", "check {large} {large_sheet}"]
+# Runs over the largest station, its sheet of some four thousand rows, and its table of a hundred.
+LARGE_RUNS = [
+    "words {large}",
+    "list {large}",
+    "means {large} S1",
+    "check {large} {large_sheet}",
+    "directions {large} S1",
+    "compare {large} S1 {large_table}",
+]
 
 
 class RefusedMemoryTest(ProgramTest):
@@ -85,8 +106,9 @@ class RefusedMemoryTest(ProgramTest):
         for name, content in FILES.items():
             self.paths[name] = self.folder / name
             self.paths[name].write_bytes(content)
-        self.paths["large_sheet"] = self.folder / "large_sheet"
-        self.paths["large_sheet"].write_bytes(answer_of(["means", self.paths["large"], "S1"])[1])
+        for name, command in [("large_sheet", "means"), ("large_table", "directions")]:
+            self.paths[name] = self.folder / name
+            self.paths[name].write_bytes(answer_of([command, self.paths["large"], "S1"])[1])
 
     def words_of(self, run):
         return run.format(**self.paths).split()

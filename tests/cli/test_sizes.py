@@ -1,8 +1,8 @@
 """Out of memory has no size: with ample memory, input of every size gets its answer.
 
 Each number of stations, of sets and of targets, each number that a set may have, and names of each
-length have the answer that they give; files and sheets of many lengths, with blanks and empty lines
-in them, have the answer of those without. What is kept does not grow with blocks that open no set.
+length have the answer that they give; files, sheets and tables of many lengths, with blanks and
+empty lines in them, have the answer of those without. What is kept does not grow with blocks that open no set.
 """
 
 import resource
@@ -10,12 +10,12 @@ import subprocess
 import unittest
 
 import model
-from against_model import FIELD, SHEET, Case, sample
+from against_model import FIELD, SHEET, TABLE, Case, sample
 from processes import peak, wants_more
 from program import PROGRAM, TIME, ProgramTest, answer_of, side_by_side, until
 from test_generated import lines, station
 
-# The lengths of files and sheets, in bytes.
+# The lengths of files, sheets and tables, in bytes.
 LENGTHS = [*range(0, 5_000), *(1 << power for power in range(13, 21))]
 
 
@@ -38,6 +38,15 @@ def sheet_of(sets, targets):
         [(s, -targets * sets * 2_000) for s in range(1, sets + 1)],
         [(s, b"%d" % t, 2_000 * t, 0) for s in range(1, sets + 1) for t in range(1, targets + 1)],
     ))
+
+
+def table_of(targets):
+    """Its table of directions."""
+    return b"".join(b"%d,%d.%02d0000\n" % (t, *divmod(t - 1, 100)) for t in range(1, targets + 1))
+
+
+def agrees(targets):
+    return b"agrees S1: %d targets, within 0\n" % targets
 
 
 def accepted(sets, targets, name=b"S1"):
@@ -123,6 +132,10 @@ class SizesTest(ProgramTest):
         self.assertEqual((0, sheet_of(sets, targets), b""), answer_of(["means", field, "S1"]), size)
         check = answer_of(["check", field, sheet])
         self.assertEqual((0, accepted(sets, targets), b""), check, size)
+        directions = answer_of(["directions", field, "S1"])
+        self.assertEqual((0, table_of(targets), b""), directions, size)
+        compare = answer_of(["compare", field, "S1", "/dev/stdin"], table_of(targets))
+        self.assertEqual((0, agrees(targets), b""), compare, size)
 
     def test_each_number_of_sets_and_of_targets(self):
         self.each(self.check_station, [(sets, 3) for sets in range(1, 41)])
@@ -162,6 +175,8 @@ class SizesTest(ProgramTest):
             self.assertEqual((0, means_of(b"S1", group), b""), answer_of(["means", field, "S1"]))
             expected = 0, accepted(len(group), 1), b""
             self.assertEqual(expected, answer_of(["check", field, sheet]), group)
+            directions = answer_of(["directions", field, "S1"])
+            self.assertEqual((0, b"A,0.000000\n", b""), directions, group)
 
         self.each(check, groups)
 
@@ -172,10 +187,12 @@ class SizesTest(ProgramTest):
             for asked, targets in others:
                 field = lines(named_station(asked, targets)) + b"\n"
                 sheet = model.means(field, asked.encode())[1]
-                paths = self.file("field.gsi", field), self.file("sheet.csv", sheet)
-                for command in ["words", "list", "means", "check"]:
+                table = model.directions(field, asked.encode())[0][1]
+                for command in ["words", "list", "means", "check", "directions", "compare"]:
+                    second = table if command == "compare" else sheet
+                    paths = self.file("field.gsi", field), self.file("second.csv", second)
                     with self.subTest(command, name=name, asked=asked):
-                        case = Case(name, command, field, sheet, asked)
+                        case = Case(name, command, field, second, asked)
                         expected = case.expected()
                         self.assertEqual((0, b""), (expected[0], expected[2]))
                         self.assertEqual(expected, answer_of(case.args(*paths)))
@@ -210,6 +227,7 @@ class SizesTest(ProgramTest):
             few = block % 1 + block % 2
             yield lambda path: ["list", path], full, few, (0, b"", b"")
             yield lambda path: ["means", path, "S1"], full, few, no_station
+            yield lambda path: ["directions", path, "S1"], full, few, no_station
             yield lambda path: ["check", path, sheet], full, few, no_station
 
     def test_blocks_that_open_no_set_need_no_memory(self):
@@ -263,6 +281,18 @@ class SizesTest(ProgramTest):
     def test_sheets_of_many_lengths(self):
         self.field = self.file("field.gsi", FIELD)
         self.each(self.check_sheet, sample(LENGTHS, 19))
+
+    def check_table(self, length):
+        """A table with empty lines has the answer of the one without."""
+        more = (b"\r\n\n" * length)[: min(length, model.LONGEST_TABLE - len(TABLE))]
+        path = self.file(f"{length}.csv", more + TABLE)
+        compare = answer_of(["compare", self.field, "S1", path])
+        self.assertEqual((0, agrees(2), b""), compare, length)
+        path.unlink()
+
+    def test_tables_of_many_lengths(self):
+        self.field = self.file("field.gsi", FIELD)
+        self.each(self.check_table, sample(LENGTHS, 37))
 
 
 if __name__ == "__main__":

@@ -1,10 +1,12 @@
-"""Field files and sheets worked out by hand."""
+"""Field files, sheets and tables of directions worked out by hand."""
 
-from program import EXAMPLE, EXAMPLE_SHEET
+from program import EXAMPLE, EXAMPLE_SHEET, EXAMPLE_TABLE
 
 STATION = EXAMPLE.read_bytes()
 
 SHEET = EXAMPLE_SHEET.read_bytes()
+
+TABLE = EXAMPLE_TABLE.read_bytes()
 
 LIST = b"""\
 station S1: 2 sets, 2 targets, 4 directions
@@ -15,6 +17,8 @@ set 2, target B: p 30000012, 2c 4, 2i 0
 """
 
 ACCEPTED = b"accepted S1: 2 sets, 2 targets, 4 directions, greatest residual 4/4\n"
+
+AGREES = b"agrees S1: 2 targets, within 0\n"
 
 # The zenith angles of a reading in face I and in face II where nothing else is said.
 ZENITHS = (10_000_000, 30_000_000)
