@@ -46,6 +46,7 @@ COPY = "rt-edit-"
 PROVED = re.compile(r"^rt: (\w+) proved$")
 TESTED = re.compile(r"^rt: (\w+): its tests are proved$")
 NOTE = re.compile(r"^rt: note: ")
+FAILED = re.compile(r"^rt: (FAILED: |\w+ NOT PROVED|.*(NOT REFUSED|BAD EDIT): )")
 
 # How often it is looked, and how often it is said, how far the gate is, in seconds.
 LOOK, SAY = 1, 60
@@ -111,7 +112,7 @@ class Progress:
         # The minutes at which each crate was proved, its tests were, and the first and the last of
         # its wrong bodies were begun.
         self.proved, self.tested, self.first, self.last = {}, {}, {}, {}
-        self.notes = []
+        self.notes, self.failed = [], []
 
     def hear(self, line):
         """Takes note of a line of `rt ci`."""
@@ -121,6 +122,8 @@ class Progress:
             self.tested[found[1]] = self.minutes()
         if NOTE.match(line):
             self.notes.append(line.rstrip("\n"))
+        if FAILED.match(line):
+            self.failed.append(line.rstrip("\n"))
 
     def look(self):
         """Counts the wrong bodies that are tried and were not yet seen."""
@@ -208,17 +211,19 @@ def take_program():
     shutil.copy(LINKED, PROGRAM)
 
 
-def show_left_out(left_out):
-    """Says loudly what was not tested."""
-    if left_out:
-        print(f"\n{'!' * 70}")
-        for what in left_out:
-            print(f"SKIPPED: {what}")
-        print(f"{'!' * 70}\n", flush=True)
+def show_loudly(lines):
+    """Says at the end what was not tested, and what failed."""
+    if lines:
+        print(f"\n{'!' * 70}", *lines, f"{'!' * 70}\n", sep="\n", flush=True)
+
+
+def loudly(skipped):
+    """A line for each thing that was skipped."""
+    return [f"SKIPPED: {what}" for what in skipped]
 
 
 def run_all():
-    """Runs it all; answers how many passed and failed, and what was left out."""
+    """Runs it all; answers how many passed and failed, and what is to be said loudly of it."""
     with tempfile.TemporaryDirectory(prefix="station_check-gate-") as room:
         # The program and the tests are run below it by a user who owns nothing.
         os.chmod(room, 0o711)
@@ -227,18 +232,18 @@ def run_all():
         passed, failed = proofs_passed_and_failed(progress)
         print(f"gate: rt ci took {progress.minutes():.0f} min", *progress.times(), sep="\n")
     if failed:
-        why = "all tests of the command line, since rt ci failed"
-        return passed, failed, [*progress.notes, why]
+        skipped = [*progress.notes, "all tests of the command line, since rt ci failed"]
+        return passed, failed, [*loudly(skipped), *progress.failed]
     take_program()
     counts = command_line.run()
-    return passed + counts.passed, counts.failed, progress.notes + counts.skipped
+    return passed + counts.passed, counts.failed, loudly(progress.notes + counts.skipped)
 
 
 def main():
     if sys.version_info < (3, 10):
         sys.exit("the gate needs Python 3.10 or later: name it as PYTHON=/path/to/python3")
-    passed, failed, left_out = run_all()
-    show_left_out(left_out)
+    passed, failed, said = run_all()
+    show_loudly(said)
     print(f"{passed} passed, {failed} failed", flush=True)
     return 0 if failed == 0 and passed > 0 else 1
 
