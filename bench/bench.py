@@ -9,6 +9,9 @@ and measures each command on each file:
   instructions   a byte of the field file, less those of the same command on empty files, counted by valgrind
 
 Instructions are the figure to keep: times depend on the machine and on what else it does.
+
+`directions` and `compare`, which the plain program has not, are then timed beside `means` of the same
+file, or alone where sets have gaps; it is said whether they keep their marks.
 """
 
 import argparse
@@ -37,6 +40,16 @@ FILES = (
     ("16 MB", 41, 40, 100),
 )
 
+# The files of `directions` and `compare`: each has such numbers, the share of readings that are left
+# out, and its mark: at most so many times the time of `means`, or so many milliseconds.
+TIMES_MEANS, MILLISECONDS = "times means", "ms"
+STATED = (
+    ("400 KB", 10, 40, 10, 0, (1.1, TIMES_MEANS)),
+    ("16 MB", 400, 40, 10, 0, (1.1, TIMES_MEANS)),
+    ("400 KB", 1, 40, 100, 0, (50, MILLISECONDS)),
+    ("280 KB with gaps", 1, 40, 100, 0.3, (50, MILLISECONDS)),
+)
+
 # Files that are larger than this many bytes are counted only where it is asked for.
 COUNTED = 1_000_000
 
@@ -50,8 +63,9 @@ def code(number, value, info=None):
     return f"41{number % 10000:04}+{value:08}{word}\r\n"
 
 
-def field_file(stations, sets, targets):
-    """The text of stations whose sets are complete, with small errors in every reading."""
+def field_file(stations, sets, targets, gaps=0):
+    """The text of stations with small errors in every reading; of the readings of all sets but the
+    first so many are left out."""
     draw = random.Random(1)
     lines = []
     for station in range(1, stations + 1):
@@ -61,10 +75,11 @@ def field_file(stations, sets, targets):
         for number in range(1, sets + 1):
             lines.append(code(len(lines) + 1, 20, number))
             begin = draw.randrange(CIRCLE)
-            for name, hz, v in sights:
+            seen = sights if number == 1 or gaps == 0 else [one for one in sights if draw.random() >= gaps]
+            for name, hz, v in seen:
                 error = draw.randrange(-50, 51)
                 lines.append(reading(len(lines) + 1, name, hz - begin + error, v))
-            for name, hz, v in reversed(sights):
+            for name, hz, v in reversed(seen):
                 error = draw.randrange(-50, 51)
                 lines.append(reading(len(lines) + 1, name, hz - begin + HALF + error, CIRCLE - v + error))
     lines.append(code(len(lines) + 1, 30))
@@ -195,6 +210,25 @@ def measure(bench):
                 show(bench.row(name, words))
 
 
+def measure_stated(folder, runs):
+    """The times of `directions` and `compare`, beside `means` where sets are complete."""
+    show(["file", "means, ms", "directions, ms", "compare, ms", "mark", "kept"])
+    show(["---"] * 6)
+    for title, stations, sets, targets, gaps, (most, of) in STATED:
+        gsi, table = folder / "stated.gsi", folder / "stated.csv"
+        gsi.write_text(field_file(stations, sets, targets, gaps), newline="")
+        station = f"S{stations}"
+        directions = [PROGRAM, "directions", gsi, station]
+        table.write_bytes(printed(directions))
+        commands = [directions, [PROGRAM, "compare", gsi, station, table]]
+        means = [] if gaps else [[PROGRAM, "means", gsi, station]]
+        *of_means, stated, compared = least_times([*means, *commands], runs)
+        limit = most * of_means[0] if of == TIMES_MEANS else most
+        kept = "yes" if max(stated, compared) <= limit else "no"
+        times = [f"{of_means[0]:.2f}" if means else "", f"{stated:.2f}", f"{compared:.2f}"]
+        show([f"{title}, {targets} targets", *times, f"{most} {of}", kept])
+
+
 def named_program(text):
     name, sign, path = text.partition("=")
     if not sign:
@@ -207,7 +241,8 @@ def main():
     parser.add_argument("others", nargs="*", type=named_program, metavar="NAME=PROGRAM", help="measure these too")
     parser.add_argument("--runs", type=int, default=9, help="how often each command is timed (9)")
     parser.add_argument("--instructions", action="store_true", help="count those of the largest files too: minutes")
-    parser.add_argument("--commands", nargs="+", default=["words", "list", "means", "check"], metavar="COMMAND")
+    commands = ["words", "list", "means", "check", "directions", "compare"]
+    parser.add_argument("--commands", nargs="+", default=commands, metavar="COMMAND")
     options = parser.parse_args()
     if not os.access(PROGRAM, os.X_OK):
         sys.exit(f"no program at {PROGRAM}: 'make run' builds it")
@@ -222,7 +257,10 @@ def main():
         bench = Bench(programs, folder, options)
         if not bench.can_count:
             print("valgrind isn't found: no instructions are counted")
-        measure(bench)
+        if set(options.commands) & {"words", "list", "means", "check"}:
+            measure(bench)
+        if set(options.commands) & {"directions", "compare"}:
+            measure_stated(folder, options.runs)
 
 
 if __name__ == "__main__":

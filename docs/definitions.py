@@ -1,7 +1,8 @@
 """Makes docs/DEFINITIONS.md from the comments in specs/: `python3 docs/definitions.py`.
 
-The page begins with what the promise of an acceptance rests on: the file of the promise and all that
-it cites, however far. The other files come after it, by crate, a line each.
+The page begins with what the promise of an acceptance rests on, and then that of an agreement: the
+file of each promise and all that it cites, however far. The other files come after, by crate, a line
+each.
 """
 
 import re
@@ -10,7 +11,8 @@ from typing import NamedTuple
 
 ROOT = Path(__file__).resolve().parents[1]
 PAGE = ROOT / "docs" / "DEFINITIONS.md"
-PROMISE = ("station_check", "Accepted")
+ACCEPTANCE = ("station_check", "Accepted")
+AGREEMENT = ("station_compare", "Agreeing")
 
 USE = re.compile(r"^use Rattle\.(\w+)\.specs\.(\w+)(?:\.|$| as)", re.MULTILINE)
 DEFINITION = re.compile(r"^(?:abbrev|unfoldable) pub ([^\s:]+)|^pub (?:record|data) ([^\s:]+)")
@@ -23,6 +25,21 @@ INTRODUCTION = """\
 What the contracts speak of, in plain words. This page is made by `docs/definitions.py` from the comments of the definitions; a link leads to the definition itself. *GSI manual* means Leica's description of the format, *textbook* the usual least-squares station adjustment, *profile* that this project decides.
 
 A contract is as good as its definitions, so they are short and are not the program written again: a relation on a whole line, lines cut at all line ends at once, a sum over rows, 'there is no division into two parts'. Where one does go line by line, a law says the same in another way.
+"""
+
+HOW_NEAR = """\
+### How the program knows it
+
+The least-squares choices themselves are not computed. The program makes a sheet of the station, in whole numbers over the denominator D = 10^12, and measures the table beside that sheet. Four quantities lead from there to what an agreement says; to believe it, none of them need be known:
+
+| | Where | What it is |
+|---|---|---|
+| S | `size_of_sums` in [`Nearness`](../crates/sheet_nearness/specs/Nearness.antt) | what the sheet's sums of residuals leave: the sizes of the sums of all targets and of all sets, added up. It is 0 exactly where the sheet is least with its full turns |
+| h | `AreWithin` in [`Levels`](../crates/sheet_nearness/specs/Levels.antt) | how many observations in a row lead from the first target to the target or set that is furthest from it, each by the fewest: 2 where the first target was observed in every set |
+| near | `most_apart` in [`Nearness`](../crates/sheet_nearness/specs/Nearness.antt) | 2 h S: where no residual of the sheet is above 2,000 half units, every choice of directions, orientations and full turns with no larger sum of squares, so every least one, is within so many half units, divided by D, of the sheet, but for whole turns and one rotation. Where that is not below an eighth of 0.000001 gon the answer is `Unclear` |
+| apart | `IsApart` in [`Apart`](../crates/sheet_apart/specs/Apart.antt) | half the spread on the circle of what is stated less what the sheet has, and near, rounded up to whole units of 0.000001 gon: the W of an agreement |
+
+So the bound is told each time, of the very sheet that was made. That this sheet comes out near is tested, and nothing rests on it. That there is a least choice is textbook, and not proved here: what is proved holds of each that is least.
 """
 
 EVERY_READER = """\
@@ -123,16 +140,36 @@ def sentence(text):
     return text[:1].upper() + text[1:]
 
 
+def size_of(specs):
+    return f"{len(specs)} files below, {sum(spec.lines() for spec in specs):,} lines with their comments"
+
+
 def belief(specs):
-    lines = sum(spec.lines() for spec in specs)
     yield "## What you have to believe\n"
     yield (
-        f"An acceptance says what {Spec(*PROMISE).link} says: one page, in the order of the promise. "
-        f"It rests on the {len(specs)} files below, {lines:,} lines with their comments, "
+        f"An acceptance says what {Spec(*ACCEPTANCE).link} says: one page, in the order of the promise. "
+        f"It rests on the {size_of(specs)}, "
         "and on no others; each rests on those before it. That the program keeps the promise is proved, "
         "and needs no reading. So whoever believes these definitions, and what "
         "[the first page](../README.md#what-is-trusted) says is trusted, may believe an acceptance.\n"
     )
+    yield from in_words(specs)
+
+
+def belief_of_agreement(specs, known):
+    shared = sum(1 for spec in specs if spec in known)
+    more = [spec for spec in specs if spec not in known]
+    yield "## What you have to believe of an agreement\n"
+    yield (
+        f"That a table of directions agrees says what {Spec(*AGREEMENT).link} says. "
+        f"It rests on {shared} of the files above and on the {size_of(more)}, and on no others.\n"
+    )
+    yield from in_words(more)
+    yield HOW_NEAR
+
+
+def in_words(specs):
+    """The definitions of files, by crate, in plain words."""
     crate = None
     for spec in specs:
         if spec.crate != crate:
@@ -150,7 +187,7 @@ def others(specs):
     yield "## The other definitions\n"
     yield (
         "What refusals, lists and texts are, and how the code keeps things. "
-        "An acceptance rests on none of them.\n"
+        "Neither an acceptance nor an agreement rests on any of them.\n"
     )
     for crate in crates():
         left = [spec for spec in specs_of(crate) if spec not in specs]
@@ -165,8 +202,9 @@ def others(specs):
 
 
 def page():
-    specs = closure(Spec(*PROMISE))
-    return "\n".join([INTRODUCTION, *belief(specs), EVERY_READER, *others(specs)])
+    accepted, agreed = closure(Spec(*ACCEPTANCE)), closure(Spec(*AGREEMENT))
+    believed = [*belief(accepted), *belief_of_agreement(agreed, accepted)]
+    return "\n".join([INTRODUCTION, *believed, EVERY_READER, *others([*accepted, *agreed])])
 
 
 if __name__ == "__main__":

@@ -30,6 +30,9 @@ HEADINGS = [
     ("no station", "Of the station"),
     ("means", "Of the station"),
     ("kernel", "Of the comparison"),
+    ("table", "Of a table of directions"),
+    ("adjust", "Of a table of directions"),
+    ("compare", "Of a table of directions"),
     ("", "Of the run"),
 ]
 
