@@ -1,11 +1,14 @@
-"""Makes the page: `python3 page/build.py OUT.html`.
+"""Makes the page: `python3 page/build.py [--proved] OUT.html`.
 
 rattle proves the crate station_page and compiles it for x86-64. On the way the module that it hands
 to clang is kept; it is retargeted to wasm64, compiled by the kit's clang with the
 marks that rattle gives for wasm64, and linked with the heap by the kit's linker. README.md says what
 is trusted of that, and why it isn't done by `rt lib` alone.
+
+`--proved` takes the libraries below as `rt ci` left them, which has proved them: the gate calls it so.
 """
 
+import argparse
 import base64
 import hashlib
 import os
@@ -98,11 +101,15 @@ def keeping_toolchain(kit, kept, tools):
     clang.chmod(0o755)
 
 
-def proved_module(kit, room):
-    """The module that rattle makes of the proved crate for x86-64."""
-    crate = ROOT / "crates" / CRATE
+def prove_libraries():
+    """Proves the libraries that the crate stands on, as far as they aren't."""
     for library in LIBRARIES:
         run(RT, "lib", cwd=ROOT / "crates" / library, stdin=subprocess.DEVNULL)
+
+
+def proved_module(kit, room):
+    """The module that rattle makes of the proved crate for x86-64, over its proved libraries."""
+    crate = ROOT / "crates" / CRATE
     kept = room / "module.bc"
     # (rt takes no links inside the repository)
     with tempfile.TemporaryDirectory(prefix="page-toolchain-") as tools:
@@ -165,16 +172,24 @@ def kit_of(rt):
     return Path(run(rt, "doc").strip()).parent
 
 
+def asked_for():
+    """What the words of the command line ask for."""
+    words = argparse.ArgumentParser(description="Makes the page that checks in a browser.")
+    words.add_argument("out", metavar="OUT.html", type=Path)
+    words.add_argument("--proved", action="store_true", help="the libraries lie there as rt ci proved them")
+    return words.parse_args()
+
+
 def main():
-    if len(sys.argv) != 2:
-        sys.exit("usage: build.py OUT.html")
-    out, kit = Path(sys.argv[1]), kit_of(RT)
+    asked, kit = asked_for(), kit_of(RT)
+    if not asked.proved:
+        prove_libraries()
     shutil.rmtree(ROOM, ignore_errors=True)
     ROOM.mkdir(parents=True)
     wasm = ROOM / "page.wasm"
     linked(kit, compiled(kit, proved_module(kit, ROOM), ROOM), wasm, ROOM)
-    out.write_text(page(wasm.read_bytes()))
-    print(f"{out}: {out.stat().st_size} bytes")
+    asked.out.write_text(page(wasm.read_bytes()))
+    print(f"{asked.out}: {asked.out.stat().st_size} bytes")
 
 
 if __name__ == "__main__":

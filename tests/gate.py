@@ -21,6 +21,10 @@ ROOT = Path(__file__).resolve().parent.parent
 # The program as `rt ci` leaves it, and where it is run from.
 LINKED = ROOT / "crates" / "station_program" / "out" / "station_program"
 PROGRAM = ROOT / "build" / "station_check"
+
+# The page, and what makes it.
+PAGE = ROOT / "build" / "station_check.html"
+PAGE_BUILD = ROOT / "page" / "build.py"
 COUNTS = re.compile(r"^(\d+) passed, (\d+) failed$")
 
 # How many minutes the gate takes on so many processors, with nothing beside it.
@@ -142,13 +146,17 @@ class Progress:
     def minutes(self):
         return (time.monotonic() - self.start) / 60
 
+    def lacking(self):
+        """The crates that are not yet proved."""
+        return [crate for crate in self.sources if crate not in self.proved]
+
     def line(self):
         tried = {crate: min(self.tried[crate], count) for crate, count in self.wrong.items()}
         begun = [f"{crate} {n} of {self.wrong[crate]}" for crate, n in tried.items() if n]
         wrong = f"wrong bodies tried: {sum(tried.values())} of {sum(self.wrong.values())}"
         if begun:
             wrong += f" ({', '.join(begun)})"
-        lacking = [crate for crate in self.sources if crate not in self.proved]
+        lacking = self.lacking()
         proved = f"not yet proved: {', '.join(lacking)}" if lacking else "all crates proved"
         return f"gate: {self.minutes():.0f} min: {proved}; tests of {len(self.tested)}; {wrong}"
 
@@ -173,9 +181,34 @@ class Progress:
                 print(self.line(), flush=True)
 
 
-def proofs_passed_and_failed(progress):
+class Page:
+    """The page, made beside the wrong bodies once `rt ci` has proved every crate.
+
+    By then the libraries lie there as they were proved; after its end `rt ci` gives the crates back
+    what they had before, and then they would be proved once more.
+    """
+
+    def __init__(self, room):
+        self.log, self.build = Path(room) / "page.log", None
+
+    def begin(self):
+        """Begins to make it, where that was not yet begun."""
+        if not self.build:
+            PAGE.parent.mkdir(exist_ok=True)
+            with open(self.log, "w", encoding="utf-8") as log:
+                words = [sys.executable, PAGE_BUILD, "--proved", PAGE]
+                self.build = subprocess.Popen(words, stdout=log, stderr=subprocess.STDOUT)
+
+    def failure(self):
+        """What it said where it could not be made."""
+        if not self.build or self.build.wait() == 0:
+            return []
+        return ["FAILED: the page could not be made", *self.log.read_text().splitlines()[-20:]]
+
+
+def proofs_passed_and_failed(progress, page):
     """Runs `rt ci`, shows what it prints, and answers its counts; a run with no counts is one
-    failure."""
+    failure. The page is begun where all is proved."""
     command = [os.environ.get("RT", "rt"), "ci"]
     counts, has_ended = None, threading.Event()
     options = {"cwd": ROOT, "env": environment(str(progress.room))}
@@ -186,6 +219,8 @@ def proofs_passed_and_failed(progress):
         for line in gate.stdout:
             print(line, end="", flush=True)
             progress.hear(line)
+            if not progress.lacking():
+                page.begin()
             if found := COUNTS.match(line):
                 counts = int(found[1]), int(found[2])
     has_ended.set()
@@ -227,13 +262,14 @@ def run_all():
     with tempfile.TemporaryDirectory(prefix="station_check-gate-") as room:
         # The program and the tests are run below it by a user who owns nothing.
         os.chmod(room, 0o711)
-        progress = Progress(room)
+        progress, page = Progress(room), Page(room)
         begin(progress)
-        passed, failed = proofs_passed_and_failed(progress)
+        passed, failed = proofs_passed_and_failed(progress, page)
         print(f"gate: rt ci took {progress.minutes():.0f} min", *progress.times(), sep="\n")
-    if failed:
-        skipped = [*progress.notes, "all tests of the command line, since rt ci failed"]
-        return passed, failed, [*loudly(skipped), *progress.failed]
+        failures = [*progress.failed, *page.failure()]
+    if failures or failed:
+        skipped = [*progress.notes, "all tests of the command line, since what they run failed"]
+        return passed, max(failed, 1), [*loudly(skipped), *failures]
     take_program()
     counts = command_line.run()
     return passed + counts.passed, counts.failed, loudly(progress.notes + counts.skipped)

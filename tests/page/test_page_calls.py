@@ -4,6 +4,7 @@ import fcntl
 import os
 import random
 import shutil
+import signal
 import subprocess
 import sys
 import tempfile
@@ -66,7 +67,15 @@ def make_page():
     with open(PAGE.with_suffix(".lock"), "w", encoding="utf-8") as lock:
         fcntl.flock(lock, fcntl.LOCK_EX)
         make = ["make", "-s", f"RT={RT}", "page"]
-        subprocess.run(make, cwd=ROOT, check=True, capture_output=True, timeout=TIME_OF_BUILD)
+        how = {"cwd": ROOT, "stdout": subprocess.PIPE, "stderr": subprocess.STDOUT, "start_new_session": True}
+        with subprocess.Popen(make, text=True, **how) as making:
+            try:
+                said, _ = making.communicate(timeout=TIME_OF_BUILD)
+            except subprocess.TimeoutExpired:
+                os.killpg(making.pid, signal.SIGKILL)
+                raise
+    if making.returncode:
+        raise RuntimeError(f"the page can't be made: {said}")
 
 
 class PageCallsTest(TimedTest):
