@@ -10,14 +10,12 @@ import textwrap
 from pathlib import Path
 from typing import NamedTuple
 
+from parts import with_part
+
 ROOT = Path(__file__).resolve().parents[1]
 PROGRAM = ROOT / "build" / "station_check"
 GUIDE_PAGE = ROOT / "docs" / "FAULTS.md"
 MAN_PAGE = ROOT / "share" / "man" / "man1" / "station_check.1"
-
-# The comments of the man page that stand round the faults.
-BEGIN = '.\\" The faults, made by docs/faults.py.\n'
-END = '.\\" The end of the faults.\n'
 
 # The width of a line in the man page, and how lines are broken.
 MAN_WIDTH = 80
@@ -140,9 +138,7 @@ def man_part(program):
 
 
 def man_page(program):
-    before, rest = MAN_PAGE.read_text().split(BEGIN)
-    after = rest.split(END)[1]
-    return before + BEGIN + man_part(program) + END + after
+    return with_part(MAN_PAGE.read_text(), '.\\"', "faults", "faults.py", man_part(program))
 
 
 def pages(program):

@@ -1,12 +1,17 @@
-"""The completions of bash, zsh and fish; those of a shell that isn't found are skipped."""
+"""The completions of bash, zsh and fish; those of a shell that isn't found are skipped. What they and
+the manual page say of commands is what the program's help says."""
 
 import os
 import shutil
 import subprocess
+import sys
 import unittest
 
 from program import PROGRAM, ROOT, ProgramTest
 from test_explain import names
+
+sys.path.insert(0, str(ROOT / "docs"))
+import commands  # noqa: E402
 
 SHARE = ROOT / "share"
 BASH = SHARE / "bash-completion" / "completions" / "station_check"
@@ -56,6 +61,12 @@ class CompletionsTest(ProgramTest):
         """What bash proposes in place of the last of these words."""
         command = ["bash", "-c", ASK_BASH, "bash", BASH, PROGRAM, *words]
         return printed(command, cwd=self.folder).split("\n")[:-1]
+
+    def test_what_is_made_of_the_help_is_up_to_date(self):
+        """Where this fails, `python3 docs/commands.py` makes it anew."""
+        for path, text in commands.pages(PROGRAM):
+            with self.subTest(path.name):
+                self.assertEqual(text, path.read_text())
 
     def test_bash_completes_commands(self):
         self.assertEqual(["check"], self.of_bash("ch"))
