@@ -52,6 +52,7 @@ fn carry(marks: &mut [bool; MOST_NODES], sets: usize, targets: usize, obs: &Obs)
 }
 
 /// Carries marks along all observations, once each; whether any was carried.
+// Apart from its caller, so that the loop's values stay in registers.
 #[inline(never)]
 fn sweep(marks: &mut [bool; MOST_NODES], sets: usize, targets: usize, obs: &[Obs]) -> bool
     requires sets { sets ≤ MOST_SETS }

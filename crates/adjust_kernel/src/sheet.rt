@@ -202,6 +202,7 @@ fn are_orientations(orientations: &[Orientation]) -> bool
 }
 
 /// Whether these are the rows of a sheet.
+// Apart from its caller, so that the loop's values stay in registers.
 #[inline(never)]
 fn are_rows(rows: &[Row]) -> bool
     ensures { IsTrue result ↔ AreRows rows.now }

@@ -17,6 +17,7 @@ use crate::tally::Tally;
 
 /// Adds the scaled residuals of all rows to a tally to which nothing was added. The tally comes
 /// back with the greatest size of a residual.
+// Apart from its caller, so that the loop's values stay in registers.
 #[inline(never)]
 pub fn add_residuals<T: Tally>(mut tally: T, sheet: &Sheet, obs: &[Obs]) -> (T, i128)
     requires paired { ArePaired sheet.now obs.now }

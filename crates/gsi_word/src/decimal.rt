@@ -25,6 +25,7 @@ pub fn decimal_number(bytes: &[u8]) -> Option<u64>
 }
 
 /// The same, one byte after another.
+// Apart from its caller, so that the way of eight bytes, which most contents take, stays small.
 #[inline(never)]
 fn number_one_by_one(bytes: &[u8]) -> Option<u64>
     requires { length bytes.now ≤ 16 }

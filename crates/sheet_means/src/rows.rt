@@ -31,6 +31,7 @@ fn row_of(station: &Station, obs: &Obs) -> Row
 }
 
 /// The rows of a complete station.
+// Apart from its caller, so that the loop's values stay in registers.
 #[inline(never)]
 pub fn rows_of(alloc: Global, station: &Station) -> Result<Vec<Row>, AllocError>
     requires complete { IsComplete station.now }

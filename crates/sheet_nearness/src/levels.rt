@@ -14,6 +14,7 @@ use adjust_kernel::{MOST_NODES, MOST_SETS, MOST_TARGETS, Obs, are_marked};
 
 /// The marks one step on: what was marked, and the other end of every observation with one end
 /// marked.
+// Apart from its caller, so that the loop's values stay in registers.
 #[inline(never)]
 fn marks_next(
     marks: &[bool; MOST_NODES],
