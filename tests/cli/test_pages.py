@@ -7,6 +7,7 @@ from pages import checked, page_steps
 from program import ROOT, TimedTest
 
 GUIDE = ROOT / "docs" / "GUIDE.md"
+ARCHITECTURE = ROOT / "docs" / "ARCHITECTURE.md"
 PAGES = [ROOT / "README.md", GUIDE]
 
 # All pages whose links a reader follows.
@@ -55,6 +56,15 @@ class PagesTest(TimedTest):
                     self.assertTrue(target.exists())
                     if heading:
                         self.assertIn(heading, anchors(target.read_text()))
+
+    def test_the_house_stands_as_it_is_drawn(self):
+        lines = re.findall(r"^(\w+)[^:]*:(.*)$", (ROOT / "crates.txt").read_text(), re.MULTILINE)
+        rows = re.findall(r"^\| `(\w+)` \| [^|]* \| ([^|]*) \|", ARCHITECTURE.read_text(), re.MULTILINE)
+        drawn = {crate: re.findall(r"`(\w+)`", libraries) for crate, libraries in rows}
+        self.assertGreater(len(lines), 10)
+        for crate, libraries in lines:
+            with self.subTest(crate):
+                self.assertEqual(libraries.split(), drawn[crate])
 
 
 if __name__ == "__main__":
