@@ -151,7 +151,8 @@ class Page:
         self.call("Page.setDownloadBehavior", behavior="allow", downloadPath=self.downloads)
         self.press(text)
         path, end = os.path.join(self.downloads, name), time.monotonic() + PATIENCE
-        while not os.path.exists(path):
+        # (an empty file holds the place of one that is not yet whole)
+        while not os.path.exists(path) or os.path.getsize(path) == 0:
             if time.monotonic() > end:
                 raise TimeoutError(f"not saved: {name}")
             time.sleep(0.02)
