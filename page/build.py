@@ -23,7 +23,7 @@ import retarget
 
 HERE = Path(__file__).resolve().parent
 ROOT = HERE.parent
-CRATE = "station_page"
+CRATE = ROOT / "crates" / "station_page"
 # The libraries that stand on all others of the crate's.
 LIBRARIES = ["station_compare", "station_explain"]
 RT = os.environ.get("RT", "rt")
@@ -61,31 +61,32 @@ def run(*command, **how):
     return ran.stdout
 
 
-def libraries():
-    """The libraries that each crate of the repository names."""
-    lines = (ROOT / "crates.txt").read_text().splitlines()
+def libraries(root):
+    """The libraries that each crate of a repository names."""
+    lines = (root / "crates.txt").read_text().splitlines()
     rows = [re.match(r"(\w+)[^:]*:(.*)", line) for line in lines if not line.startswith("#")]
     return {row[1]: row[2].split() for row in rows if row}
 
 
 def below(crate, named):
-    """The crates of the repository that a crate stands on, however far."""
+    """The crates of its repository that a crate stands on, however far."""
     found = {name for name in named[crate] if name in named}
     return found.union(*(below(name, named) for name in found))
 
 
-def words_of_build(kit):
-    """What rattle is told of the crate, as `rt lib` tells it."""
-    named = libraries()
-    built = {name: ROOT / "crates" / name / "out" / "rlib" for name in sorted(below(CRATE, named))}
-    yield from ["--crate-name", CRATE, "src/lib.rt", "--extern", f"std={kit}/rlibs/std.rlib"]
-    for name in named[CRATE]:
+def words_of_build(kit, crate):
+    """What rattle is told of a crate, as `rt lib` tells it."""
+    named = libraries(crate.parent.parent)
+    stands_on = sorted(below(crate.name, named))
+    built = {name: crate.parent / name / "out" / "rlib" for name in stands_on}
+    yield from ["--crate-name", crate.name, "src/lib.rt", "--extern", f"std={kit}/rlibs/std.rlib"]
+    for name in named[crate.name]:
         folder = built.get(name, kit / "rlibs")
         yield from ["--extern", f"{name}={folder}/{name}.rlib"]
     for folder in [kit / "rlibs", *built.values()]:
         yield from ["-L", f"dependency={folder}"]
     yield from ["--antt-project", f"{kit}/rattle/logic/antt-project.json"]
-    yield from ["--logic-built", f"{kit}/logic_built", "--links", f"{CRATE}=", "--jobs", "1"]
+    yield from ["--logic-built", f"{kit}/logic_built", "--links", f"{crate.name}=", "--jobs", "1"]
     yield from ["--crate-type", "staticlib", "--incremental", "out/incremental"]
 
 
@@ -107,14 +108,13 @@ def prove_libraries():
         run(RT, "lib", cwd=ROOT / "crates" / library, stdin=subprocess.DEVNULL)
 
 
-def proved_module(kit, room):
-    """The module that rattle makes of the proved crate for x86-64, over its proved libraries."""
-    crate = ROOT / "crates" / CRATE
+def proved_module(kit, crate, room):
+    """The module that rattle makes of a crate that it proves for x86-64, over its proved libraries."""
     kept = room / "module.bc"
     # (rt takes no links inside the repository)
     with tempfile.TemporaryDirectory(prefix="page-toolchain-") as tools:
         keeping_toolchain(kit, kept, Path(tools))
-        words = [*words_of_build(kit), "--toolchain", tools, "-o", room / "lib.a"]
+        words = [*words_of_build(kit, crate), "--toolchain", tools, "-o", room / "lib.a"]
         run(kit / "bin" / "rattle", "build", *words, cwd=crate)
     return kept
 
@@ -187,7 +187,7 @@ def main():
     shutil.rmtree(ROOM, ignore_errors=True)
     ROOM.mkdir(parents=True)
     wasm = ROOM / "page.wasm"
-    linked(kit, compiled(kit, proved_module(kit, ROOM), ROOM), wasm, ROOM)
+    linked(kit, compiled(kit, proved_module(kit, CRATE, ROOM), ROOM), wasm, ROOM)
     asked.out.write_text(page(wasm.read_bytes()))
     print(f"{asked.out}: {asked.out.stat().st_size} bytes")
 

@@ -23,6 +23,10 @@ OF_WRAPPERS, OF_RUNTIME, OF_BODIES = 900, 998, 999
 
 EXPORT = re.compile(r"define (?!internal)(.*?)@(\w+)\((.*)\) #\d+ \{$")
 
+# What an export answers, in the one module and in the other, where a byte fills the whole word. (The
+# module doesn't tell whether a byte has a sign; no export answers one that has.)
+ANSWERS = {"zeroext i1": "zeroext i1", "i8": "zeroext i8", "i32": "i32", "i64": "i64"}
+
 # At a call after one that was cut off by a trap, memory may be half written: rattle lets none begin.
 WRAPPER = """\
 define noundef {kind} @{name}({params}) #{group} {{
@@ -38,6 +42,18 @@ run:
   ret {bare} %r1
 }}
 """
+
+# A parameter put into its slot, which stands right before: one of two words, as a slice is, or lanes.
+FILLED = re.compile(
+    r"""  call void @llvm\.memset\.p0\.i64\(ptr (%r\d+), .*
+(?:(?:  %r\d+ = zext i\d+ %a\d+ to i64
+)?  store .* ptr \1, align \d+
+  (%r\d+) = getelementptr i8, ptr \1, i64 \d+
+  store .* %a\d+, ptr \2, align \d+
+|  (%r\d+) = load <.*>, ptr %a\d+, .*
+  store <.*> \3, ptr \1, align \d+
+)"""
+)
 
 # A frame that would reach below address 16 is trapped.
 CHECK = """\
@@ -90,6 +106,9 @@ def export_of(head, nth):
         return None
     kind, name, params = found.groups()
     kind, group = kind.replace("noundef", "").strip(), OF_WRAPPERS + nth
+    if kind not in ANSWERS:
+        stop(f"{name} answers {kind}")
+    kind = ANSWERS[kind]
     bare, args = kind.replace("zeroext", "").strip(), params.replace("noundef ", "")
     words = {"kind": kind, "name": name, "params": params, "bare": bare, "args": args, "group": group}
     body = f'define internal noundef {kind} @"rattle::export {name}"({params}) #{OF_BODIES} {{'
@@ -98,13 +117,18 @@ def export_of(head, nth):
 
 
 def guarded(function):
-    """A function's lines, with the check of the stack's end after the slots of its frame, if any."""
+    """A function's lines, with the check of the stack's end after the slots of its frame, if any.
+
+    Where the last slot is a parameter's, it is filled before.
+    """
     first = next(at for at, line in enumerate(function) if line.startswith("  "))
     end = next(at for at in range(first, len(function)) if not function[at].startswith("  "))
     slots = [at for at in range(first, end) if " = alloca " in function[at]]
     if not slots:
         return function
     after = slots[-1] + 1
+    if filled := FILLED.match("\n".join(function[after:])):
+        after += filled[0].count("\n")
     return [*function[:after], CHECK, *function[after:-1], TRAP, function[-1]]
 
 
@@ -120,10 +144,12 @@ def retargeted(text):
         function = lines[at:end]
         if export := export_of(function[0], len(wrappers)):
             first = len(out) if first is None else first
-            function[0] = export[0]
+            # It calls the function of that name, which has the check.
+            out += [export[0], *function[1:]]
             wrappers.append(export[1])
             marks.append(export[2])
-        out += guarded(function)
+        else:
+            out += guarded(function)
         at = end
     if first is None:
         stop("the module exports nothing")

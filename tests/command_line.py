@@ -20,6 +20,7 @@ FOLDERS = [str(Path(__file__).resolve().parent / name) for name in ("cli", "page
 # Words of the tests that take longest: they begin first.
 LONGEST = [
     "test_page_calls",
+    "test_retarget",
     "test_want_of_memory_is_a_refusal",
     "test_generated",
     "test_the_model_answers",

@@ -1,0 +1,98 @@
+"""The module that is retargeted is the one that the kit makes itself, where it can: of a crate without a heap."""
+
+import shutil
+import subprocess
+import sys
+import tempfile
+import unittest
+from pathlib import Path
+
+from program import ROOT, TimedTest
+from test_page_calls import RT, make_page
+
+sys.path[:0] = [str(ROOT / "page")]
+import build  # noqa: E402
+
+# The crate, over libraries of the page that need no heap, with parameters and answers such as the page's
+# exports have. Of the kit's own libraries one has lanes, and one products of 128 bits.
+NAME = "without_heap"
+OF_THE_REPOSITORY, OF_THE_KIT = ["gsi_word"], ["memchr", "itoa"]
+SOURCE = """\
+#![tactic(auto)]
+
+use gsi_word::read_block;
+use itoa::Buffer;
+use memchr::memchr;
+
+#[unsafe(no_mangle)]
+pub extern "C" fn count_words(line: &[u8], is_limited: bool, limit: u32, count: &mut usize) -> u8 {
+    match read_block(line) {
+        Ok(block) => {
+            *count = block.len();
+            if is_limited && limit < 8 { 1 } else { block.width() }
+        }
+        Err(_) => 0,
+    }
+}
+
+#[unsafe(no_mangle)]
+pub extern "C" fn has_byte(byte: u8, text: &[u8]) -> bool {
+    memchr(byte, text).is_some()
+}
+
+#[unsafe(no_mangle)]
+pub extern "C" fn count_digits(number: i64) -> usize {
+    let mut buffer = Buffer::new();
+    buffer.format(number).len()
+}
+"""
+
+# What a crate is made of, and what `rt lib` kept of it.
+PARTS = ["src", "specs", "proofs", "out/rlib"]
+
+
+def make_repository(root):
+    """Puts the crate into a repository of its own, with the libraries of ours that it names, as they are
+    proved; answers its folder."""
+    named = build.libraries(ROOT)
+    lines = [f"{name}: {' '.join(named[name])}" for name in OF_THE_REPOSITORY]
+    lines.append(f"{NAME} wasm64: {' '.join(OF_THE_REPOSITORY + OF_THE_KIT)}")
+    (root / "crates.txt").write_text("\n".join(lines) + "\n")
+    shutil.copy(ROOT / "HANDLES", root)
+    for name in OF_THE_REPOSITORY:
+        for part in PARTS:
+            shutil.copytree(ROOT / "crates" / name / part, root / "crates" / name / part)
+    crate = root / "crates" / NAME
+    (crate / "src").mkdir(parents=True)
+    (crate / "src" / "lib.rt").write_text(SOURCE)
+    return crate
+
+
+class RetargetTest(TimedTest):
+    @classmethod
+    def setUpClass(cls):
+        super().setUpClass()
+        if not shutil.which(RT):
+            raise unittest.SkipTest("the toolchain that makes the page is missing")
+        make_page()
+
+    def setUp(self):
+        folder = tempfile.TemporaryDirectory(prefix="retarget-")
+        self.addCleanup(folder.cleanup)
+        self.folder = Path(folder.name)
+
+    def test_the_module_of_a_crate_without_a_heap_is_the_one_that_the_kit_makes(self):
+        root, room = self.folder / "repository", self.folder / "room"
+        root.mkdir()
+        room.mkdir()
+        crate, kit, ours = make_repository(root), build.kit_of(RT), room / "module.wasm"
+        build.run(RT, "lib", cwd=crate, stdin=subprocess.DEVNULL)
+        module = build.compiled(kit, build.proved_module(kit, crate, room), room)
+        build.linked(kit, module, ours, room)
+        kits = (crate / "out" / f"{NAME}.wasm").read_bytes()
+        self.assertGreater(len(kits), 10_000)
+        self.assertEqual(kits, ours.read_bytes())
+
+
+if __name__ == "__main__":
+    unittest.main()
