@@ -1,13 +1,14 @@
 // The program's command line over the calls of the page: node program.mjs PAGE WORD..
 //
 // Scripts and module are taken out of the page as it is. Beside the program's commands, `picture GSI
-// SHEET` gives the picture of an accepted sheet, and `time COMMAND WORD..` the milliseconds that the
-// fastest of some runs takes.
+// SHEET` gives the picture of an accepted sheet, `explain-bytes FILE` explains the bytes of a file, and
+// `time COMMAND WORD..` gives the milliseconds that the fastest of some runs takes. With `--room=N`
+// each text has room for so many bytes, and a call is not made again with more.
 import fs from 'node:fs';
 import vm from 'node:vm';
 
 const DEFAULTS = {
-  '--two-c': 2000, '--two-i': 2000, '--residual': null, '--within': 10, '--decimals': 6,
+  '--two-c': 2000, '--two-i': 2000, '--residual': null, '--within': 10, '--decimals': 6, '--room': null,
 };
 const RUNS = 5;
 
@@ -26,6 +27,11 @@ while (words.length > 0) {
   else operands.push(word);
 }
 
+if (options['--room'] !== null) {
+  globalThis.callOf = (core, name, inputs, numbers, texts = 1) =>
+    callWithin(options['--room'], core, name, inputs, numbers, texts);
+}
+
 const bytesOf = file => new Uint8Array(fs.readFileSync(file));
 const nameOf = word => new TextEncoder().encode(word);
 const faces = [options['--two-c'], options['--two-i']];
@@ -40,6 +46,7 @@ const answers = {
   compare: (gsi, name, table) =>
     calls.compare(core, bytesOf(gsi), bytesOf(table), nameOf(name), ...faces, options['--within']),
   explain: (line = '') => calls.explain(core, nameOf(line)),
+  'explain-bytes': file => calls.explain(core, bytesOf(file)),
   picture: async (gsi, sheet) => {
     const { status, shown: [line] } = await answers.check(gsi, sheet);
     const picture = pictureOf(fs.readFileSync(sheet, 'utf8'), new TextDecoder().decode(line).trimEnd());

@@ -11,7 +11,7 @@ import tempfile
 import unittest
 from pathlib import Path
 
-from program import PROGRAM, ROOT, SWEEP, TimedTest, answer_to
+from program import EXAMPLE, PROGRAM, ROOT, SWEEP, TimedTest, answer_to
 
 sys.path[:0] = [str(ROOT / "conformance"), str(ROOT / "page")]
 import build  # noqa: E402
@@ -27,6 +27,24 @@ RT = os.environ.get("RT", "rt")
 # The smallest module whose memory has addresses of 64 bits.
 PROBE = "new WebAssembly.Module(new Uint8Array([0,97,115,109,1,0,0,0,5,3,1,4,1]))"
 FLAGS = [[], ["--experimental-wasm-memory64"]]
+
+# What a call answers that has too little room, and hands out nothing.
+NO_ROOM = (3, b"", b"")
+
+# Bytes in the place of a refusal, and what is said of them: a byte that begins no letter, a letter that
+# is cut, one in more bytes than it needs, half of a pair, one above the last, and a name before such
+# bytes; then texts, which name no fault.
+NO_TEXTS = [
+    (b"\xff", "not UTF-8"),
+    (b"\xc3", "not UTF-8"),
+    (b"\xc0\x80", "not UTF-8"),
+    (b"\xed\xa0\x80", "not UTF-8"),
+    (b"\xf4\x90\x80\x80", "not UTF-8"),
+    (b"refused: kernel: TwoC 2\xfe", "not UTF-8"),
+    ("Zwölf".encode(), "no such fault"),
+    ("\U0010ffff".encode(), "no such fault"),
+    (b"\0", "no such fault"),
+]
 
 # How long the page's build may take, where it proves the crate: in seconds.
 TIME_OF_BUILD = 1_200
@@ -132,6 +150,42 @@ class PageCallsTest(TimedTest):
             with self.subTest(line):
                 answer = answer_to([*self.command(), "explain", line])
                 self.assertEqual((1, b"", b"refused: no such fault\n"), answer)
+
+    def test_bytes_that_are_no_text_are_refused(self):
+        with tempfile.TemporaryDirectory() as folder:
+            path = Path(folder) / "line"
+            for line, refusal in NO_TEXTS:
+                path.write_bytes(line)
+                with self.subTest(line):
+                    answer = answer_to([*self.command(), "explain-bytes", path])
+                    self.assertEqual((1, b"", f"refused: {refusal}\n".encode()), answer)
+
+    def test_a_text_is_handed_out_whole_or_its_lack_of_room_is_the_status(self):
+        gsi, sheet, table = map(str, EXAMPLES)
+        for words in [
+            ["check", gsi, sheet],
+            ["list", gsi],
+            ["means", EXAMPLE, "S1"],
+            ["words", gsi],
+            ["directions", gsi, "P7"],
+            ["compare", gsi, "P7", table],
+            ["explain", "TwoC"],
+            # The same of a refusal; of words it stands beside the words, of which there are none here.
+            ["check", gsi, table],
+            ["list", sheet],
+            ["means", gsi, "P7"],
+            ["words", sheet],
+            ["directions", gsi, "P8"],
+            ["compare", gsi, "P7", sheet],
+            ["explain", "Elephant"],
+        ]:
+            usual = answer_to([*self.command(), *words])
+            length = sum(map(len, usual[1:]))
+            self.assertGreater(length, 0)
+            for room, expected in [(length, usual), (length - 1, NO_ROOM), (0, NO_ROOM)]:
+                with self.subTest(words, room=room):
+                    answer = answer_to([*self.command(), f"--room={room}", *words])
+                    self.assertEqual(expected, answer)
 
     def test_the_picture_is_the_one_that_is_drawn_beside_the_program(self):
         checks = [case for case in run.cases() if case.args[:1] == ["check"] and len(case.args) == 3]
