@@ -1,0 +1,121 @@
+"""Drives a headless Firefox by its own protocol, Marionette, as a user at the page does."""
+
+import json
+import os
+import shutil
+import socket
+import subprocess
+import tempfile
+import time
+from pathlib import Path
+
+NAMES = ["firefox-esr", "firefox"]
+
+# The first version that runs the page.
+FIRST = 134
+
+# How long the browser may take for its start and for an answer, in seconds.
+PATIENCE = 60
+
+# It picks a port that is free, and writes it into its profile.
+SETTINGS = 'user_pref("marionette.port", 0);\n'
+PORT = "MarionetteActivePort"
+
+# What is sent for the key that leaves a field.
+TAB_KEY = "\ue004"
+
+
+def firefox():
+    """The command of a Firefox that is here; none where there is none."""
+    return next(filter(None, map(shutil.which, NAMES)), None)
+
+
+def until(found):
+    """Waits until something is found, and answers it."""
+    end = time.monotonic() + PATIENCE
+    while not (value := found()):
+        if time.monotonic() > end:
+            raise TimeoutError(f"not found in {PATIENCE} s")
+        time.sleep(0.05)
+    return value
+
+
+class Page:
+    """A page that is open in a browser of its own."""
+
+    def __init__(self, path):
+        self.folder = tempfile.TemporaryDirectory(prefix="page-firefox-", ignore_cleanup_errors=True)
+        self.count, self.rest = 0, b""
+        profile = Path(self.folder.name)
+        (profile / "user.js").write_text(SETTINGS)
+        words = [firefox(), "--headless", "--no-remote", "--marionette", "--profile", str(profile)]
+        quiet = {"stdout": subprocess.DEVNULL, "stderr": subprocess.DEVNULL}
+        self.run = subprocess.Popen(words, env={**os.environ, "HOME": str(profile)}, **quiet)
+        port = profile / PORT
+        until(lambda: port.exists() and port.read_text())
+        self.socket = socket.create_connection(("127.0.0.1", int(port.read_text())), PATIENCE)
+        self.hear()
+        self.version = self.call("WebDriver:NewSession")["capabilities"]["browserVersion"]
+        self.call("WebDriver:Navigate", url=path.as_uri())
+
+    def close(self):
+        self.socket.close()
+        self.run.terminate()
+        self.run.wait(PATIENCE)
+        self.folder.cleanup()
+
+    def hear(self):
+        """A message: its length in digits, a colon, and so many bytes."""
+        while b":" not in self.rest:
+            self.take()
+        length, _, self.rest = self.rest.partition(b":")
+        while len(self.rest) < int(length):
+            self.take()
+        said, self.rest = self.rest[: int(length)], self.rest[int(length) :]
+        return json.loads(said)
+
+    def take(self):
+        data = self.socket.recv(1 << 16)
+        if not data:
+            raise RuntimeError("the browser has ended")
+        self.rest += data
+
+    def call(self, name, **params):
+        """What the browser answers to a call."""
+        self.count += 1
+        data = json.dumps([0, self.count, name, params]).encode()
+        self.socket.sendall(f"{len(data)}:".encode() + data)
+        _, _, error, value = self.hear()
+        if error:
+            raise RuntimeError(error["message"])
+        return value
+
+    def element(self, selector):
+        found = self.call("WebDriver:FindElement", using="css selector", value=selector)["value"]
+        return next(iter(found.values()))
+
+    def give(self, kind, path):
+        """Hands a file to a field, in the place of those that it has."""
+        self.js(f"document.querySelector('#file-{kind}').value = ''")
+        self.call("WebDriver:ElementSendKeys", id=self.element(f"#file-{kind}"), text=str(path))
+
+    def fill(self, name, value):
+        """Types a number into a field, and leaves it."""
+        field = self.element(f"#{name}")
+        self.call("WebDriver:ElementClear", id=field)
+        self.call("WebDriver:ElementSendKeys", id=field, text=f"{value}{TAB_KEY}")
+
+    def text(self, selector):
+        return self.js(f"return document.querySelector({json.dumps(selector)})?.textContent")
+
+    def wait_text(self, selector, expected):
+        """Waits until this stands in an element; answers what stands there at the end."""
+        try:
+            until(lambda: self.text(selector) == expected)
+        except TimeoutError:
+            pass
+        return self.text(selector)
+
+    def js(self, code):
+        """What a script answers."""
+        return self.call("WebDriver:ExecuteScript", script=code, args=[])["value"]
