@@ -113,7 +113,8 @@ function showDifferences(rows, name, parent) {
     const text = byPlace.get(`${set} ${target}`);
     return { text: text ?? '', mark: Math.abs(text) === greatest ? 'greatest' : '' };
   })]);
-  tableOf(`${name} in 0.01 mgon, the greatest is marked`, ['set', ...targets], lines, parent);
+  const caption = `${name} in 0.01 mgon, the greatest, ${greatest}, is marked`;
+  tableOf(caption, ['set', ...targets], lines, parent);
 }
 
 function showStation(station) {
@@ -296,7 +297,9 @@ async function showDetails(answer, parent) {
     const drawn = new DOMParser().parseFromString(picture, 'image/svg+xml').documentElement;
     drawn.setAttribute('role', 'img');
     drawn.setAttribute('aria-label', `Residuals: ${text}`);
-    element('figure', '', parent, { className: 'wide', tabIndex: 0 }).append(drawn);
+    const figure = element('figure', '', parent, { className: 'wide', tabIndex: 0 });
+    figure.setAttribute('aria-label', 'Picture of the residuals');
+    figure.append(drawn);
     button('Save the picture', parent, () =>
       save(`${stemOf(other)}.svg`, picture, 'image/svg+xml'));
   }

@@ -8,6 +8,7 @@ import shutil
 import subprocess
 import tempfile
 import time
+from typing import NamedTuple
 
 NAMES = ["chromium", "chromium-browser", "google-chrome", "chrome"]
 FLAGS = ["--headless=new", "--no-sandbox", "--disable-gpu", "--disable-dev-shm-usage"]
@@ -24,6 +25,15 @@ def browser():
     return next(filter(None, map(shutil.which, NAMES)), None)
 
 
+class Part(NamedTuple):
+    """What a screen reader is told of a part of a page."""
+
+    role: str
+    name: str
+    text: str  # what stands right in it
+    states: dict
+
+
 class Page:
     """A page that is open in a browser of its own."""
 
@@ -35,7 +45,7 @@ class Page:
         target = self.call("Target.createTarget", url="about:blank")["targetId"]
         attached = self.call("Target.attachToTarget", targetId=target, flatten=True)
         self.session = attached["sessionId"]
-        for domain in ("Page", "DOM", "Runtime", "Network"):
+        for domain in ("Page", "DOM", "Runtime", "Network", "Accessibility"):
             self.call(f"{domain}.enable")
         screen = {"width": width, "height": height, "deviceScaleFactor": 1, "mobile": False}
         self.call("Emulation.setDeviceMetricsOverride", **screen)
@@ -139,6 +149,16 @@ class Page:
 
     def texts(self, selector):
         return self.js(f"[...document.querySelectorAll({json.dumps(selector)})].map(e => e.textContent)")
+
+    def parts(self):
+        """The parts of the page of which a screen reader is told."""
+        nodes = self.call("Accessibility.getFullAXTree")["nodes"]
+        name_of = {node["nodeId"]: node.get("name", {}).get("value", "") for node in nodes}
+        for node in nodes:
+            if not node["ignored"]:
+                text = "".join(name_of[child] for child in node["childIds"])
+                states = {one["name"]: one["value"].get("value") for one in node["properties"]}
+                yield Part(node["role"]["value"], name_of[node["nodeId"]], text, states)
 
     def press(self, text):
         """Presses the button with this text."""

@@ -5,6 +5,7 @@ import hashlib
 import shutil
 import tempfile
 import unittest
+from collections import Counter
 from pathlib import Path
 
 import browser
@@ -101,9 +102,12 @@ class PageInBrowserTest(TimedTest):
         self.addCleanup(folder.cleanup)
         self.folder = Path(folder.name)
 
-    def page(self, size=SCREEN):
+    def page(self, size=SCREEN, **files):
+        """The page in a browser of its own, that was handed these files, by their kinds."""
         page = browser.Page(PAGE, *size)
         self.addCleanup(page.close)
+        for kind, path in files.items():
+            page.give(kind, path)
         return page
 
     def file(self, name, data):
@@ -112,8 +116,7 @@ class PageInBrowserTest(TimedTest):
         return path
 
     def test_an_accepted_sheet_is_shown_with_its_picture_and_nothing_is_sent(self):
-        page = self.page()
-        page.give("gsi", EXAMPLES / "station_p7.gsi")
+        page = self.page(gsi=EXAMPLES / "station_p7.gsi")
         self.assertEqual("The field file has 1 station and no fault.", page.text("#verdict"))
         page.give("sheet", EXAMPLES / "station_p7.csv")
         picture = (EXAMPLES / "station_p7.svg").read_bytes()
@@ -139,9 +142,7 @@ class PageInBrowserTest(TimedTest):
         self.assertEqual("refused: table row 1: Unknown", page.text("#verdict"))
 
     def test_a_number_is_handed_on_and_one_out_of_its_range_is_told(self):
-        page = self.page()
-        page.give("gsi", FIELD)
-        page.give("sheet", SHEET)
+        page = self.page(gsi=FIELD, sheet=SHEET)
         page.fill("residual", 0)
         self.assertEqual("refused: kernel: Residual 1", page.text("#verdict"))
         command = f"station_check check --residual 0 {FIELD.name} {SHEET.name}"
@@ -185,8 +186,7 @@ class PageInBrowserTest(TimedTest):
         page.wait("document.querySelector('#answers svg') !== null")
 
     def test_what_is_saved_is_what_the_program_prints(self):
-        page = self.page()
-        page.give("gsi", FIELD)
+        page = self.page(gsi=FIELD)
         for button, name, case in [
             ("Save the sheet of means of S1", "S1.csv", "means_of_the_example"),
             ("Save the directions of S1", "S1_directions.csv", "directions_of_the_example"),
@@ -204,16 +204,30 @@ class PageInBrowserTest(TimedTest):
         self.assertEqual(ACCEPTED, page.text("#verdict"))
 
     def test_nothing_is_wider_than_a_phone(self):
-        page = self.page(PHONE)
-        page.give("gsi", EXAMPLES / "station_p7.gsi")
-        page.give("sheet", EXAMPLES / "station_p7.csv")
+        page = self.page(PHONE, gsi=EXAMPLES / "station_p7.gsi", sheet=EXAMPLES / "station_p7.csv")
         self.assertLessEqual(page.js("document.documentElement.scrollWidth"), PHONE[0])
 
     def test_each_field_has_a_label_and_is_reached_by_keyboard(self):
-        page = self.page()
-        page.give("gsi", FIELD)
+        page = self.page(gsi=FIELD)
         fields = "[...document.querySelectorAll('input, select')]"
         self.assertTrue(page.js(f"{fields}.every(field => field.labels.length === 1 && field.tabIndex === 0)"))
+
+    def test_a_screen_reader_is_told_of_all_that_is_reached_and_of_each_verdict(self):
+        page = self.page(gsi=FIELD, sheet=SHEET)
+        page.fill("residual", 0)
+        reached = [part for part in page.parts() if part.states.get("focusable")]
+        kinds = Counter(part.role for part in reached if part.name)
+        self.assertEqual(len(reached), kinds.total(), reached)
+        # Of the numbers, the choice of a station, fields of files and buttons none is passed over.
+        self.assertEqual((5, 1), (kinds["spinbutton"], kinds["combobox"]))
+        self.assertEqual(page.js("document.querySelectorAll('button, input[type=file]').length"), kinds["button"])
+        told = [part for part in page.parts() if part.states.get("live") == "polite"]
+        self.assertIn(("status", "refused: kernel: Residual 1", True), [
+            (part.role, part.text, part.states["atomic"]) for part in told
+        ])
+        page.fill("two-c", -1)
+        numbers = [part for part in page.parts() if part.role == "spinbutton"]
+        self.assertEqual(["true"] + 4 * ["false"], [part.states["invalid"] for part in numbers])
 
     def test_the_page_names_the_module_that_is_in_it(self):
         page = self.page()
