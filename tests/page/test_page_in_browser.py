@@ -3,6 +3,7 @@
 import base64
 import hashlib
 import shutil
+import sys
 import tempfile
 import unittest
 from collections import Counter
@@ -12,6 +13,9 @@ import browser
 from program import ROOT, TimedTest
 from test_page_calls import PAGE, RT, make_page
 
+sys.path[:0] = [str(ROOT / "bench")]
+import bench  # noqa: E402
+
 EXAMPLES = ROOT / "examples"
 FIELD, SHEET, TABLE = (EXAMPLES / f"station_s1{end}" for end in (".gsi", ".csv", "_directions.csv"))
 CASES = ROOT / "conformance"
@@ -20,6 +24,10 @@ ACCEPTED = "accepted S1: 2 sets, 2 targets, 4 directions, greatest residual 4/4"
 
 # A width and a height in pixels: a screen's, and a phone's.
 SCREEN, PHONE = (1000, 1400), (360, 640)
+
+# Stations, sets and targets of a large field file, and the time of an answer to it, in milliseconds, on
+# a machine that is slow and busy: page/README.md has the time on an idle one.
+LARGE, SOON = (400, 40, 10), 5_000
 
 FILES = {"gsi": FIELD, "sheet": SHEET, "table": TABLE}
 LAST_LINE = "410012+00000030\r\n"
@@ -228,6 +236,18 @@ class PageInBrowserTest(TimedTest):
         page.fill("two-c", -1)
         numbers = [part for part in page.parts() if part.role == "spinbutton"]
         self.assertEqual(["true"] + 4 * ["false"], [part.states["invalid"] for part in numbers])
+
+    def test_a_field_file_of_16_megabytes_is_answered_soon(self):
+        data = bench.field_file(*LARGE).encode()
+        self.assertGreater(len(data), 16_000_000)
+        page = self.page(gsi=self.file("large.gsi", data))
+        means = "core.then(core => calls.means(core, files.gsi[0].bytes, bytesOf('S1'), 2000, 2000))"
+        sheet = page.js(f"{means}.then(answer => textOf(answer.shown[0]))")
+        page.give("sheet", self.file("large.csv", sheet.encode()))
+        self.assertTrue(page.text("#verdict").startswith("accepted S1: 40 sets, 10 targets, 400 directions"))
+        page.js("start = performance.now()")
+        took = page.js("answerAnew().then(() => performance.now() - start)")
+        self.assertLess(took, SOON)
 
     def test_the_page_names_the_module_that_is_in_it(self):
         page = self.page()
