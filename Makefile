@@ -20,7 +20,7 @@ SHARED := $(sort $(shell find share -type f))
 
 # The documents and the examples, as they lie in the repository, so that their links hold; those to crates/ and
 # conformance/ lead to the sources, which are not installed.
-DOCUMENTS := README.md CHANGELOG.md $(sort $(wildcard docs/*.md)) \
+DOCUMENTS := README.md CHANGELOG.md $(sort $(wildcard docs/*.md docs/*.png)) \
   $(sort $(wildcard examples/*.md examples/*.gsi examples/*.csv examples/*.txt examples/*.svg examples/*.py))
 DOCUMENT_FOLDER := share/doc/station_check
 

@@ -13,7 +13,7 @@ DOCUMENT_FOLDER = "share/doc/station_check"
 
 DOCUMENTS = [
     *["README.md", "CHANGELOG.md"],
-    *[f"docs/{path.name}" for path in (ROOT / "docs").glob("*.md")],
+    *[f"docs/{path.name}" for kind in ("md", "png") for path in (ROOT / "docs").glob(f"*.{kind}")],
     *[f"examples/{path.name}" for path in (ROOT / "examples").glob("*.*")],
 ]
 

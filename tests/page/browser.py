@@ -185,8 +185,10 @@ class Page:
         sent = [one for one in self.events if one.get("method") == "Network.requestWillBeSent"]
         return [one["params"]["request"]["url"] for one in sent]
 
-    def picture(self, path):
-        """Puts a picture of the whole page at a path."""
-        data = self.call("Page.captureScreenshot", captureBeyondViewport=True)["data"]
-        with open(path, "wb") as file:
-            file.write(base64.b64decode(data))
+    def picture(self, path, above):
+        """Puts a picture of the page as far as the top of an element at a path."""
+        find = f"document.querySelector({json.dumps(above)})"
+        clip = {"x": 0, "y": 0, "scale": 1, "width": self.js("innerWidth")}
+        clip["height"] = self.js(f"{find}.getBoundingClientRect().top")
+        data = self.call("Page.captureScreenshot", captureBeyondViewport=True, clip=clip)["data"]
+        path.write_bytes(base64.b64decode(data))

@@ -1,0 +1,31 @@
+"""Makes the picture of the page in the guide anew: `python3 tests/page/guide_picture.py`.
+
+The page has to be made before, and a Chromium has to be there. Look at the picture before you keep it.
+"""
+
+from pathlib import Path
+
+import browser
+
+ROOT = Path(__file__).resolve().parents[2]
+PAGE = ROOT / "build" / "station_check.html"
+EXAMPLE = ROOT / "examples" / "station_p7"
+PICTURE = ROOT / "docs" / "page.png"
+
+# What is below the first table is left out.
+BELOW = "#tables .wide + .wide"
+
+WIDTH, HEIGHT = 960, 1400
+
+
+def main():
+    page = browser.Page(PAGE, WIDTH, HEIGHT)
+    page.give("gsi", EXAMPLE.with_suffix(".gsi"))
+    page.give("sheet", EXAMPLE.with_suffix(".csv"))
+    page.picture(PICTURE, BELOW)
+    page.close()
+    print(f"{PICTURE}: {PICTURE.stat().st_size} bytes")
+
+
+if __name__ == "__main__":
+    main()
