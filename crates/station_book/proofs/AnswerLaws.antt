@@ -68,15 +68,13 @@ module _ (limits : FaceLimits) where
   set_observed : (s n : ℕ) (targets : List (List ℕ)) (rs : List Place) → AllWithin limits rs
       → AllZip (IsObserved limits)
       (filter_map (λ t. joined s t.0 (reading_in false t.1 rs) (reading_in true t.1 rs))
-      (enumerate_from n targets))
-      (filter_map (obs_at s) (enumerate_from n (slots_of targets rs)))
+      (enumerate_from n targets)) (filter_map (obs_at s) (enumerate_from n (slots_of targets rs)))
   set_observed s n [] rs w = tt
   set_observed s n (t ∷ ts) rs w = one_observed s n (reading_in false t rs)
       (reading_in true t rs) _ _ (w t) (set_observed s (n + 1) ts rs w)
 
   one_compared : (s n : ℕ) (o p : Option Place) (cs : List Couple) (fs : List Faces) → Beside o p
-      → AllZip (HasFaces limits) cs fs
-      → AllZip (HasFaces limits) (cons_option (joined s n o p) cs)
+      → AllZip (HasFaces limits) cs fs → AllZip (HasFaces limits) (cons_option (joined s n o p) cs)
       (cons_option (slots.compared (sighted o) (sighted p)) fs)
   one_compared s n (Some a) (Some b) cs fs w h =
       let within = w a b refl refl in (
@@ -218,8 +216,7 @@ pub end_stations : {E : Type 0} (k : Kept) (r : Result (List SurveyedStation) E)
     → IfOk r (λ s. s ≡ surveys_of k.shelf)
     → IfOk r (λ s. (limits : FaceLimits) (h : History) → StandsFor limits k h
     → AreStations limits h s)
-end_stations k (Ok s) same = λ limits h stands.
-    are_stations limits h s stands.clean
+end_stations k (Ok s) same = λ limits h stands. are_stations limits h s stands.clean
     (subst (λ (ss : List SurveyedStation). AreComputed h (stations_in h) (reverse ss)) (sym same)
     (same_stations k h (at_own limits k h stands)))
 end_stations k (Err e) same = same

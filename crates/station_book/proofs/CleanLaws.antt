@@ -60,14 +60,12 @@ none_mapped k None e = refl
 none_mapped k (Some f) e = cc
 
 pub clean_reading : (limits : FaceLimits) (past : History) (b : GsiBlock)
-    → is_reading (b ∷ past) ≡ true
-    → fault_after limits past b ≡ None → IsCleanReading limits past b
+    → is_reading (b ∷ past) ≡ true → fault_after limits past b ≡ None → IsCleanReading limits past b
 unfolding fault_after
 clean_reading limits past b e clean =
     let whole : faults limits past b ≡ reading_faults limits past b =
     fourth (opens_station b) (opens_set b) (closes_set b) (is_sight b && is_open past)
-    (faults limits past b)
-    _ _ _ (reading_faults limits past b) [] refl
+    (faults limits past b) _ _ _ (reading_faults limits past b) [] refl
     (sight_opens_nothing b (and_parts (is_sight b) (is_open past) e).0) e in
     let none = none_stands (reading_faults limits past b) (sym (ap first_of whole) ∙ clean) in
     record {

@@ -52,8 +52,7 @@ not_among (n ∷ names) later name pairs = split (bytes_eq name n) refl
       differ e = pairs zero (suc (length names)) [] (omega arith) (omega (arith, inside))
           (e ∙ sym (get_or-append_seam names name later []))
 
-      split : (v : Bool) → bytes_eq name n ≡ v
-          → list_any (λ m. bytes_eq name m) names ≡ false
+      split : (v : Bool) → bytes_eq name n ≡ v → list_any (λ m. bytes_eq name m) names ≡ false
           → (bytes_eq name n || list_any (λ m. bytes_eq name m) names) ≡ false
       split true e rest = absurd (differ (sym ((bytes_eq-Decides name n).0 e)))
       split false e rest = ap (λ v. v || list_any (λ m. bytes_eq name m) names) e ∙ rest
@@ -68,8 +67,7 @@ module _ (es : List (List ℕ × EntryValue)) (closed : List (List ℕ × Survey
     (h : IsClosing es closed rest) where
   -- the next one may end
   pub next_may : MayEnd x.1
-  next_may = subst (All (λ e. MayEnd e.1)) is h.may 0 x
-      (omega (arith, ap length is))
+  next_may = subst (All (λ e. MayEnd e.1)) is h.may 0 x (omega (arith, ap length is))
 
   -- and its name is new
   pub next_new : list_any (λ e. bytes_eq x.0 e.0) closed ≡ false
@@ -100,8 +98,7 @@ module _ (es : List (List ℕ × EntryValue)) (closed : List (List ℕ × Survey
             (All-nil (λ c. IsName c.0 × (c.0 ≡ c.1.station.name))));
       })
 
-values_surveyed : (es : List (List ℕ × EntryValue))
-    → values_of (map surveyed es) ≡ map survey_of es
+values_surveyed : (es : List (List ℕ × EntryValue)) → values_of (map surveyed es) ≡ map survey_of es
 values_surveyed [] = refl
 values_surveyed (e ∷ es) = ap (λ ss. survey_of e ∷ ss) (values_surveyed es)
 

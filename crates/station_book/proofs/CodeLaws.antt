@@ -14,8 +14,7 @@ code_alone : (code other : List ℕ) → bytes_eq code other ≡ false → (ws :
     → begins (λ w. w.index == 41 && bytes_eq (name_of w.content) other) ws ≡ false
 code_alone code other different [] e = refl
 code_alone code other different (w ∷ ws) e =
-    let same : name_of w.content ≡ code =
-    (bytes_eq-Decides (name_of w.content) code).0
+    let same : name_of w.content ≡ code = (bytes_eq-Decides (name_of w.content) code).0
     (and_parts (w.index == 41) (bytes_eq (name_of w.content) code) e).1 in
     and_right (w.index == 41) (bytes_eq (name_of w.content) other)
     (ap (λ (name : List ℕ). bytes_eq name other) same ∙ different)

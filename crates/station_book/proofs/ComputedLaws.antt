@@ -17,8 +17,7 @@ within_c limit f s hf hs e = split
       split : (ltb limit (((s + 60_000_000) - f) % 40_000_000) ≡ false)
           ⊎ (ltb (((s + 60_000_000) - f) % 40_000_000) (40_000_000 - limit) ≡ false)
           → IsAtMost limit (pos (((s + 40_000_000) - f) % 40_000_000) -ℤ pos 20_000_000)
-      split (inl g) = let le = ltb-false limit
-          (((s + 60_000_000) - f) % 40_000_000) g in
+      split (inl g) = let le = ltb-false limit (((s + 60_000_000) - f) % 40_000_000) g in
           record { low = omega (arith, ints); high = omega (arith, ints) }
       split (inr g) = let le = ltb-false (((s + 60_000_000) - f) % 40_000_000)
           (40_000_000 - limit) g in record { low = omega (arith, ints); high = omega (arith, ints) }
@@ -26,21 +25,17 @@ within_c limit f s hf hs e = split
 congruent_c : (f s : ℕ) → f < 40_000_000 → s < 40_000_000
     → AreCongruent (pos 40_000_000) (pos (((s + 40_000_000) - f) % 40_000_000) -ℤ pos 20_000_000)
     (pos s -ℤ pos f -ℤ pos 20_000_000)
-congruent_c f s hf hs =
-    record {
+congruent_c f s hf hs = record {
       turns = pos 1 -ℤ pos (((s + 40_000_000) - f) / 40_000_000);
-      equal = omega
-          (arith, ints);
+      equal = omega (arith, ints);
     }
 
 pub computed_two_c : (limit : ℕ) (a b : Sight) → AreOnCircle a → AreOnCircle b
     → has_no_two_c limit a b ≡ false → IsTwoC limit a b (two_c a b)
 unfolding has_no_two_c
-computed_two_c limit a b ha hb e =
-    record {
+computed_two_c limit a b ha hb e = record {
       congruent = congruent_c a.hz b.hz ha.hz hb.hz;
-      within = within_c limit a.hz b.hz ha.hz
-          hb.hz e;
+      within = within_c limit a.hz b.hz ha.hz hb.hz e;
     }
 
 within_i : (limit a b : ℕ)
@@ -71,8 +66,7 @@ turned : (f s h : ℕ) (k : ℤ)
     → AreCongruent (pos 40_000_000) (pos (((2 * f + h) + 60_000_000) % 80_000_000))
     (pos f +ℤ pos s -ℤ pos 20_000_000)
 turned f s h k e = record {
-  turns = (k +ℤ pos 2) -ℤ pos
-      (2 * (((2 * f + h) + 60_000_000) / 80_000_000));
+  turns = (k +ℤ pos 2) -ℤ pos (2 * (((2 * f + h) + 60_000_000) / 80_000_000));
   equal = omega (arith, ints);
 }
 
@@ -81,10 +75,8 @@ beside : (limit f h : ℕ) → IsAtMost limit (pos h -ℤ pos 20_000_000)
 beside limit f h w =
     let l = w.low in let u = w.high in
     record {
-      turns = pos 1 -ℤ pos
-          (((2 * f + h) + 60_000_000) / 80_000_000);
-      within =
-          record { low = omega (arith, ints); high = omega (arith, ints) };
+      turns = pos 1 -ℤ pos (((2 * f + h) + 60_000_000) / 80_000_000);
+      within = record { low = omega (arith, ints); high = omega (arith, ints) };
     }
 
 pub computed_direction : (limit : ℕ) (a b : Sight) → AreOnCircle a → AreOnCircle b

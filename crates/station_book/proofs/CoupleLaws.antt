@@ -71,8 +71,7 @@ open_in_set (b ∷ past) = split (cases_Bool (is_opening b)) (cases_Bool (is_rea
           ∙ sym (readings-opening b past o)
       split (inr o) (inl r) ih =
           ap (λ v. in_set (cond v (b ∷ past) (last is_opening past))
-          (station_readings (station (b ∷ past)) (b ∷ past))) o
-          ∙ ap (in_set (opening past))
+          (station_readings (station (b ∷ past)) (b ∷ past))) o ∙ ap (in_set (opening past))
           (belonging-more opens_station is_reading b past (sight_opens_no_station b o) r)
           ∙ keep (λ r. is_same (opening (before r)) (opening past)) (b ∷ past)
           (station_readings (station past) past)
@@ -80,7 +79,6 @@ open_in_set (b ∷ past) = split (cases_Bool (is_opening b)) (cases_Bool (is_rea
           ∙ ap (λ rs. (b ∷ past) ∷ rs) ih ∙ sym (readings-more b past o r)
       split (inr o) (inr r) ih =
           ap (λ v. in_set (cond v (b ∷ past) (last is_opening past))
-          (station_readings (station (b ∷ past)) (b ∷ past))) o
-          ∙ ap (in_set (opening past))
+          (station_readings (station (b ∷ past)) (b ∷ past))) o ∙ ap (in_set (opening past))
           (belonging-same opens_station is_reading b past (sight_opens_no_station b o) r)
           ∙ ih ∙ sym (readings-other b past o r)

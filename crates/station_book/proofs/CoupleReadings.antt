@@ -62,8 +62,7 @@ of_station_readings h st set name f r read =
 
 -- and in a file without fault each such reading is found
 pub reading_listed : (limits : FaceLimits) (h : History) (st set : Place) (name : List ℕ) (f : Bool)
-    (r : Place) → IsWithoutFault limits h
-    → OfFile h st → OfFile h set → IsRead h st set name f r
+    (r : Place) → IsWithoutFault limits h → OfFile h st → OfFile h set → IsRead h st set name f r
     → reading_in f name (readings_in h st set) ≡ Some r
 reading_listed limits h st set name f r clean st_placed set_placed read = split
     (reading_in f name (readings_in h st set)) refl where
@@ -129,8 +128,7 @@ pub record IsPairOf (h : History) (st : Place) (c : Couple) : Type 0 where
 pair_at : (h : History) (st : Place) (c : Couple) (e : ℕ × Place) (t : ℕ × List ℕ) → OfFile h st
     → In e (enumerate_from 0 (reverse (sets_of st h))) → In t (enumerate_from 0 (targets_of st h))
     → IsJoined e.0 t.0 (reading_in false t.1 (readings_in h st e.1))
-    (reading_in true t.1 (readings_in h st e.1)) c
-    → IsPairOf h st c
+    (reading_in true t.1 (readings_in h st e.1)) c → IsPairOf h st c
 pair_at h st c e t st_placed e_in t_in j =
     at (of_places (reverse (sets_of st h)) e e_in) (of_places (targets_of st h) t t_in)
   where
@@ -169,8 +167,7 @@ pair_of_couple h st c st_placed listed =
     of_target : (e : ℕ × Place) → In e (enumerate_from 0 (reverse (sets_of st h)))
         → (t : ℕ × List ℕ) × In t (enumerate_from 0 (targets_of st h))
         × (joined e.0 t.0 (reading_in false t.1 (readings_in h st e.1))
-        (reading_in true t.1 (readings_in h st e.1)) ≡ Some c)
-        → IsPairOf h st c
+        (reading_in true t.1 (readings_in h st e.1)) ≡ Some c) → IsPairOf h st c
     of_target e e_in (t, t_in, is) =
         pair_at h st c e t st_placed e_in t_in
         (join_parts e.0 t.0 (reading_in false t.1 (readings_in h st e.1))
@@ -181,8 +178,7 @@ pair_of_couple h st c st_placed listed =
     of_set (e, e_in, own) =
         of_target e e_in (of_filter_map
         (λ t. joined e.0 t.0 (reading_in false t.1 (readings_in h st e.1))
-        (reading_in true t.1 (readings_in h st e.1))) c
-        (enumerate_from 0 (targets_of st h)) own)
+        (reading_in true t.1 (readings_in h st e.1))) c (enumerate_from 0 (targets_of st h)) own)
 
 -- In a file without fault two such readings are a couple.
 pub couple_of_pair : (limits : FaceLimits) (h : History) (st set : Place) (name : List ℕ) (i j : ℕ)
@@ -194,12 +190,10 @@ pub couple_of_pair : (limits : FaceLimits) (h : History) (st set : Place) (name 
     (couples_of st h)
 couple_of_pair limits h st set name i j first second clean st_placed set_placed iat jat one two =
     in_flat_map (λ s. couples_in s.0 (targets_of st h) (readings_in h st s.1)) (i, set) couple
-    (enumerate_from 0 (reverse (sets_of st h)))
-    (in_places (reverse (sets_of st h)) i set iat)
+    (enumerate_from 0 (reverse (sets_of st h))) (in_places (reverse (sets_of st h)) i set iat)
     (in_filter_map (λ t. joined i t.0 (reading_in false t.1 (readings_in h st set))
     (reading_in true t.1 (readings_in h st set))) (j, name) couple
-    (enumerate_from 0 (targets_of st h))
-    (in_places (targets_of st h) j name jat)
+    (enumerate_from 0 (targets_of st h)) (in_places (targets_of st h) j name jat)
     (λ x. joined i j (reading_listed limits h st set name false first clean st_placed set_placed one
     x) (reading_listed limits h st set name true second clean st_placed set_placed two x)))
   where

@@ -111,8 +111,7 @@ module _ {X : Type 0} where
         0,
         zeroth,
         record { inside = omega arith; value = λ d. sym (ap (λ (p : ℕ × X). p.1) q) },
-        inl
-            (ap (λ (p : ℕ × X). p.1) q),
+        inl (ap (λ (p : ℕ × X). p.1) q),
       )
   of_enumerate n (y ∷ ys) e (inr h) =
       let r = of_enumerate (n + 1) ys e h in
@@ -120,8 +119,7 @@ module _ {X : Type 0} where
         suc r.0,
         moved,
         record {
-          inside =
-              (let lt = r.2.inside in omega arith);
+          inside = (let lt = r.2.inside in omega arith);
           value = λ d. r.2.value d;
         },
         inr r.3,

@@ -163,6 +163,5 @@ pub same_stations : (k : Kept) (past : History) → StandsFor k.limits k past
     → AreComputed past (stations_in past) (reverse (surveys_of k.shelf))
 same_stations k past h =
     subst (λ (ss : List SurveyedStation). AreComputed past (stations_in past) ss)
-    (ap (map survey_of) (sym (reverse-reverse k.shelf))
-    ∙ map-reverse survey_of (reverse k.shelf))
+    (ap (map survey_of) (sym (reverse-reverse k.shelf)) ∙ map-reverse survey_of (reverse k.shelf))
     (answers past (stations_in past) k.shelf h.stations)

@@ -78,8 +78,7 @@ is_station name e named h may = record {
     some = h.some_set;
     few = h.few_sets;
     numbers = h.numbers;
-    different =
-        h.different_sets;
+    different = h.different_sets;
   };
   obs = closed_obs e h may;
 }
@@ -223,10 +222,8 @@ target_is_entry s e h new few named low = record {
         (IsObs (length e.sets - 1) (length (e.slots ++ slot ∷ [])))
         (λ o k. record {
           set = k.set;
-          target =
-              (let t = k.target in let l = length_one e.slots slot in omega (arith, t, l));
-          value =
-              k.value;
+          target = (let t = k.target in let l = length_one e.slots slot in omega (arith, t, l));
+          value = k.value;
         }) e.obs h.sound.within;
     ordered = h.sound.ordered;
     each_set = h.sound.each_set;
@@ -261,14 +258,12 @@ pub target_kept : (s : Sighting) (e : EntryValue) (targets : List (List ℕ)) (s
     → targets ≡ e.targets ++ s.target ∷ []
     → slots ≡ e.slots ++ with_side s.is_second s.sight empty_slot ∷ []
     → IsEntry e → list_any (λ t. bytes_eq t s.target) e.targets ≡ false → length e.targets < 100
-    → IsName s.target → AreOnCircle s.sight
-    → IsEntry (record {
+    → IsName s.target → AreOnCircle s.sight → IsEntry (record {
       targets = targets;
       slots = slots;
       sets = e.sets;
       obs = e.obs;
-      faces =
-          e.faces;
+      faces = e.faces;
     })
 target_kept s e targets slots et es h new few named low = subst IsEntry
     (λ i. record { targets = sym et i; slots = sym es i; sets = e.sets; obs = e.obs; faces = e.faces })
@@ -295,13 +290,11 @@ set_kept n e targets slots sets obs faces et el es eo ef h may new few number = 
       sets = sym es i;
       obs = sym eo i;
       faces = sym ef i;
-    })
-    (set_is_entry n e h may new few number)
+    }) (set_is_entry n e h may new few number)
 
 -- the fault of a new target, as that of a reading
 pub fault_moved : {X : Type 0} (limits : FaceLimits) (e now : EntryValue) (s : Sighting)
-    (r : Result X Refusal) → e ≡ now → None ≡ place_of s.target e.targets
-    → IfErr r (ExplainsRefusal
+    (r : Result X Refusal) → e ≡ now → None ≡ place_of s.target e.targets → IfErr r (ExplainsRefusal
     (first_of (when (leb 100 (length now.targets)) kinds.TooManyTargets ∷ [])))
     → IfErr r (ExplainsRefusal (first_of (entry_faults limits now s)))
 fault_moved limits e now s (Ok x) v p h = h

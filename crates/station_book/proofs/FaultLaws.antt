@@ -52,5 +52,4 @@ same_other_fault k b past r =
     λ i. first_of (cond (sym (station_as b roles.Other r) i) (end_faults past ++ station_faults b)
     (cond (sym (set_as b roles.Other r) i) (end_faults past ++ set_faults past b)
     (cond (sym (close_as b roles.Other r) i) (end_faults past)
-    (cond (sym (sight_as b roles.Other r) i && is_open past)
-    (reading_faults k.limits past b) []))))
+    (cond (sym (sight_as b roles.Other r) i && is_open past) (reading_faults k.limits past b) []))))

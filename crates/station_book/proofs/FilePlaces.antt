@@ -165,19 +165,16 @@ station_placed h st listed =
 
 -- of stations that are apart, one has a name
 pub one_named : (name : List ℕ) (sts : List Place) (a b : Place) → Pairwise AreApart sts → In a sts
-    → In b sts
-    → name_at a ≡ Some name → name_at b ≡ Some name → a ≡ b
+    → In b sts → name_at a ≡ Some name → name_at b ≡ Some name → a ≡ b
 one_named name [] a b pairs ia ib na nb = absurd ia
 one_named name (x ∷ xs) a b pairs (inl ea) (inl eb) na nb = ea ∙ sym eb
 one_named name (x ∷ xs) a b pairs (inl ea) (inr ib) na nb =
     absurd (false≢true (sym (all_in (AreApart x) b xs pairs.0 ib)
     ∙ ap (λ (y : Place). same_name (name_at y) (name_at b)) (sym ea)
-    ∙ (λ i. same_name (na i) (nb i))
-    ∙ (bytes_eq-Decides name name).1 refl))
+    ∙ (λ i. same_name (na i) (nb i)) ∙ (bytes_eq-Decides name name).1 refl))
 one_named name (x ∷ xs) a b pairs (inr ia) (inl eb) na nb =
     absurd (false≢true (sym (all_in (AreApart x) a xs pairs.0 ia)
     ∙ ap (λ (y : Place). same_name (name_at y) (name_at a)) (sym eb)
-    ∙ (λ i. same_name (nb i) (na i))
-    ∙ (bytes_eq-Decides name name).1 refl))
+    ∙ (λ i. same_name (nb i) (na i)) ∙ (bytes_eq-Decides name name).1 refl))
 one_named name (x ∷ xs) a b pairs (inr ia)
     (inr ib) na nb = one_named name xs a b pairs.1 ia ib na nb

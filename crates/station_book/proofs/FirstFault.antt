@@ -35,8 +35,7 @@ fault_or_none limits (b ∷ past) = split (fault_or_none limits past)
     (fault_after limits past b) refl where
       split : IsWithoutFault limits past
           ⊎ ((r : Place) × (kind : BookKind) × IsFirstFault limits past r kind)
-          → (o : Option BookKind) → fault_after limits past b ≡ o
-          → IsWithoutFault limits (b ∷ past)
+          → (o : Option BookKind) → fault_after limits past b ≡ o → IsWithoutFault limits (b ∷ past)
           ⊎ ((r : Place) × (kind : BookKind) × IsFirstFault limits (b ∷ past) r kind)
       split (inl clean) None e = inl (e, clean)
       split (inl clean) (Some kind) e =
@@ -44,8 +43,7 @@ fault_or_none limits (b ∷ past) = split (fault_or_none limits past)
             b ∷ past,
             kind,
             record {
-              placed = contains_in (b ∷ past) (places (b ∷ past))
-                  (inl refl);
+              placed = contains_in (b ∷ past) (places (b ∷ past)) (inl refl);
               clean = clean;
               block = b;
               stands = refl;
@@ -81,8 +79,7 @@ no_first_fault limits h r kind clean f = not_clean limits h h r kind f clean
     (in_contains r (places h) f.placed)
 
 pub one_first_fault : (limits : FaceLimits) (h : History) (r s : Place) (kind other : BookKind)
-    → IsFirstFault limits h r kind → IsFirstFault limits h s other
-    → (r ≡ s) × (kind ≡ other)
+    → IsFirstFault limits h r kind → IsFirstFault limits h s other → (r ≡ s) × (kind ≡ other)
 one_first_fault limits h r s kind other f g = split
     (in_order h r s (in_contains r (places h) f.placed) (in_contains s (places h) g.placed)) where
       split : (r ≡ s) ⊎ (In r (places (before s)) ⊎ In s (places (before r)))

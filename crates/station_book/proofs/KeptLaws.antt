@@ -117,11 +117,9 @@ open_kept limits (b ∷ past) h = split (cases_Bool (is_opening b))
           (subst Q (sym (targets-more b past (sight_opens_no_station b o) r)) (
             record {
               in_targets = among_new (open_targets past) (target b);
-              has_face = face_is b
-                  (a_face limits past b n);
+              has_face = face_is b (a_face limits past b n);
             },
-            kept_more (open_targets past) (target b)
-                (open_readings past) ih,
+            kept_more (open_targets past) (target b) (open_readings past) ih,
           ))
       split (inr o) (inr r) ih =
           let P : List Place → Type 0 = λ rs. AllByRecursion

@@ -50,11 +50,9 @@ Before a b = (a.set < b.set) ⊎ ((a.set ≡ b.set) × (a.target < b.target))
 abbrev InSet : ℕ → ℕ → Couple → Type 0
 InSet i n c = (c.set ≡ i) × (n ≤ c.target)
 
-by_target : (i n : ℕ) (targets : List (List ℕ)) (rs : List Place) →
-    Pairwise Before (filter_map
+by_target : (i n : ℕ) (targets : List (List ℕ)) (rs : List Place) → Pairwise Before (filter_map
     (λ t. joined i t.0 (reading_in false t.1 rs) (reading_in true t.1 rs))
-    (enumerate_from n targets))
-    × AllByRecursion (InSet i n)
+    (enumerate_from n targets)) × AllByRecursion (InSet i n)
     (filter_map (λ t. joined i t.0 (reading_in false t.1 rs) (reading_in true t.1 rs))
     (enumerate_from n targets))
 by_target i n [] rs = (tt, tt)
@@ -84,8 +82,7 @@ by_target i n (t ∷ ts) rs = split (reading_in false t rs) (reading_in true t r
 
 by_set : (h : History) (st : Place) (n : ℕ) (sets : List Place) →
     Pairwise Before (flat_map (λ s. couples_in s.0 (targets_of st h) (readings_in h st s.1))
-    (enumerate_from n sets))
-    × AllByRecursion (λ c. n ≤ c.set)
+    (enumerate_from n sets)) × AllByRecursion (λ c. n ≤ c.set)
     (flat_map (λ s. couples_in s.0 (targets_of st h) (readings_in h st s.1))
     (enumerate_from n sets))
 by_set h st n [] = (tt, tt)
@@ -206,8 +203,7 @@ two_from limits sets targets c o [] (p ∷ os) lists before inside own zip = abs
 two_from limits sets targets c o (d ∷ cs) [] lists before inside own zip = absurd zip
 two_from limits sets targets c o (d ∷ cs) (p ∷ os) lists before inside own zip = (
   are_two limits sets targets c d o p lists before.0 inside.0 own zip.0,
-  two_from limits sets
-      targets c o cs os lists before.1 inside.1 own zip.1,
+  two_from limits sets targets c o cs os lists before.1 inside.1 own zip.1,
 )
 
 all_two : (limits : FaceLimits) (sets : List ℕ) (targets : List (List ℕ)) (cs : List Couple)
@@ -219,8 +215,7 @@ all_two limits sets targets [] (o ∷ os) lists pairs inside zip = absurd zip
 all_two limits sets targets (c ∷ cs) [] lists pairs inside zip = absurd zip
 all_two limits sets targets (c ∷ cs) (o ∷ os) lists pairs inside zip = (
   two_from limits sets targets c o cs os lists pairs.0 inside.1 zip.0 zip.1,
-  all_two limits sets
-      targets cs os lists pairs.1 inside.1 zip.1,
+  all_two limits sets targets cs os lists pairs.1 inside.1 zip.1,
 )
 
 all_of : {X : Type 0} (P : X → Type 0) (xs : List X) → ((x : X) → In x xs → P x)
@@ -253,15 +248,13 @@ once limits h st s clean placed surveyed =
     inside = all_of (Inside s.station.sets s.station.targets) (couples_of st h) (λ c k.
         let p = pair_of_couple h st c placed k in (
           (let l = p.set_place.inside in omega (arith, sets_long)),
-          subst
-              (λ (ts : List (List ℕ)). c.target < length ts)
+          subst (λ (ts : List (List ℕ)). c.target < length ts)
               (sym surveyed.targets) p.name_place.inside,
         ))
 
 pub listed_once : (limits : FaceLimits) (h : History) (stations : List SurveyedStation)
     (s : SurveyedStation) → IsWithoutFault limits h → AreStations limits h stations
-    → Contains stations s
-    → AllPairs AreTwo (observed s.station)
+    → Contains stations s → AllPairs AreTwo (observed s.station)
 unfolding AreStations
 listed_once limits h stations s clean are listed =
     let own = zip_left (IsSurveyed limits h) (stations_of h) stations are s

@@ -110,8 +110,7 @@ HaveTwoNames a b = a.station.name ≢ b.station.name
 apart_from : (limits : FaceLimits) (h : History) (st : Place) (s : SurveyedStation)
     (sts : List Place) (ss : List SurveyedStation)
     → IsSurveyed limits h st s → AllByRecursion (AreApart st) sts
-    → AllZip (IsSurveyed limits h) sts ss
-    → AllByRecursion (HaveTwoNames s) ss
+    → AllZip (IsSurveyed limits h) sts ss → AllByRecursion (HaveTwoNames s) ss
 apart_from limits h st s [] [] own all zip = tt
 apart_from limits h st s [] (y ∷ ys) own all zip = absurd zip
 apart_from limits h st s (x ∷ xs) [] own all zip = absurd zip
@@ -149,8 +148,7 @@ different_names limits h stations clean are =
 
 -- Of stations with different names, the one that is found by its name is the one that has it.
 named_only : (name : List ℕ) (s : SurveyedStation) (ss : List SurveyedStation)
-    → Pairwise HaveTwoNames ss
-    → In s ss → s.station.name ≡ name → station_named name ss ≡ Some s
+    → Pairwise HaveTwoNames ss → In s ss → s.station.name ≡ name → station_named name ss ≡ Some s
 named_only name s [] pairs listed e = absurd listed
 named_only name s (x ∷ xs) pairs listed e =
     split (named_only name s xs pairs.1) listed (cases_Bool (bytes_eq x.station.name name))
@@ -171,8 +169,7 @@ named_only name s (x ∷ xs) pairs listed e =
         ap (λ v. cond v (Some x) (station_named name xs)) f ∙ rest later e
 
 pub its_station : (limits : FaceLimits) (h : History) (stations : List SurveyedStation)
-    (name : List ℕ) (s : SurveyedStation)
-    → IsWithoutFault limits h → AreStations limits h stations
+    (name : List ℕ) (s : SurveyedStation) → IsWithoutFault limits h → AreStations limits h stations
     → (station_named name stations ≡ Some s) ↔ (Contains stations s × (s.station.name ≡ name))
 its_station limits h stations name s clean are = (there, back) where
   there : station_named name stations ≡ Some s → Contains stations s × (s.station.name ≡ name)

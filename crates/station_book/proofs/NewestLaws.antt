@@ -55,8 +55,7 @@ module _ {V : Type 0} where
       → reverse es ≡ x ∷ older → reverse (set_value_at es (length es - 1) w) ≡ (x.0, w) ∷ older
   changed_newest es older x w is =
       (λ i. reverse (set_value_at (stands_last es older x is i) (last_place es older x is i) w))
-      ∙ ap reverse (set_last (reverse older) x w)
-      ∙ reverse-append (reverse older) ((x.0, w) ∷ [])
+      ∙ ap reverse (set_last (reverse older) x w) ∙ reverse-append (reverse older) ((x.0, w) ∷ [])
       ∙ ap (λ r. (x.0, w) ∷ r) (reverse-reverse older)
 
   -- what the map has in its last place is the newest

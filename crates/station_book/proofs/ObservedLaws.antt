@@ -50,12 +50,7 @@ open_has_reading past set e s clean =
     (none_stands (end_faults past) clean).0) in
     let r = some_in (open_readings past) some in
     let own = open_reading past r.0 r.1 in
-    record {
-      read = r.0;
-      placed = own.placed;
-      reading = own.reading;
-      of_set = own.of_set ∙ e;
-    }
+    record { read = r.0; placed = own.placed; reading = own.reading; of_set = own.of_set ∙ e }
 
 opening_here : (b : GsiBlock) (past : History) (v : Bool) → is_opening b ≡ v
     → opening (b ∷ past) ≡ cond v (b ∷ past) (opening past)

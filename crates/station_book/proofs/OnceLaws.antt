@@ -36,8 +36,7 @@ set_is_clean limits past b n e h =
 had_step : (b : GsiBlock) (past : History) → opens_station b ≡ false → had_sets past ≡ false
     → had_sets (b ∷ past) ≡ false
 had_step b past n h =
-    let test : Place → Place
-    → Bool = λ o p. not (is_same (station (before p)) o) && same_name
+    let test : Place → Place → Bool = λ o p. not (is_same (station (before p)) o) && same_name
     (name_at (station (before p))) (name_at o) in
     ap (λ o. list_any (λ p. is_set p && test o p) (places (b ∷ past))) (same_station b past n)
     ∙ ap (λ v. (opens_set b &&

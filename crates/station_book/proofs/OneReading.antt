@@ -58,8 +58,7 @@ first_time limits past b set name f q clean new placed old =
     (none_there (reading_in (face b) (target b) (open_readings past)) free)
 
 pub one_place : (limits : FaceLimits) (h : History) (set : Place) (name : List ℕ) (f : Bool)
-    (a b : Place)
-    → IsWithoutFault limits h → In a (places h) → In b (places h) → IsOf set name f a
+    (a b : Place) → IsWithoutFault limits h → In a (places h) → In b (places h) → IsOf set name f a
     → IsOf set name f b → a ≡ b
 one_place limits [] set name f a b clean pa pb ia ib = absurd pa
 one_place limits (c ∷ past) set name f a b clean (inl ea) (inl eb) ia ib = ea ∙ sym eb
@@ -72,13 +71,11 @@ one_place limits (c ∷ past) set name f a b clean (inr pa) (inr pb) ia ib =
 
 pub is_of : (h : History) (station : List ℕ) (set : Place) (name : List ℕ) (f : Bool) (r : Place)
     → IsReadingOf h station set name f r → IsOf set name f r
-is_of h station set name f r is =
-    record {
+is_of h station set name f r is = record {
       reading = is.reading;
       of_set = is.of_set;
       of_target = is.of_target;
-      of_face =
-          is.of_face;
+      of_face = is.of_face;
     }
 
 pub one_reading : (limits : FaceLimits) (h : History) (station : List ℕ) (set : Place)

@@ -33,8 +33,7 @@ some_two_c limit first second small ha hb e = split
       split (inl f) = let le = ltb-false limit (((second + 60_000_000) - first) % 40_000_000) f in (
         pos (((second + 60_000_000) - first) % 40_000_000),
         record {
-          turns = pos 2 -ℤ pos
-              (((second + 60_000_000) - first) / 40_000_000);
+          turns = pos 2 -ℤ pos (((second + 60_000_000) - first) / 40_000_000);
           equal = omega (arith, ints);
         },
         record { low = omega (arith, ints); high = omega (arith, ints) },
@@ -43,8 +42,7 @@ some_two_c limit first second small ha hb e = split
           (40_000_000 - limit) f in (
             pos (((second + 60_000_000) - first) % 40_000_000) -ℤ pos 40_000_000,
             record {
-              turns = pos 1 -ℤ pos
-                  (((second + 60_000_000) - first) / 40_000_000);
+              turns = pos 1 -ℤ pos (((second + 60_000_000) - first) / 40_000_000);
               equal = omega (arith, ints);
             },
             record { low = omega (arith, ints); high = omega (arith, ints) },
@@ -101,8 +99,7 @@ pub two_c_missing : (limits : FaceLimits) (a b : Sight) → AreLimits limits →
     → (has_no_two_c limits.two_c a b ≡ true) ↔ ((d : ℤ) → ¬ IsTwoC limits.two_c a b d)
 two_c_missing limits a b small ha hb = (
   no_two_c limits.two_c a b small.two_c ha hb,
-  back
-      (cases_Bool (has_no_two_c limits.two_c a b)),
+  back (cases_Bool (has_no_two_c limits.two_c a b)),
 ) where
   back : (has_no_two_c limits.two_c a b ≡ true) ⊎ (has_no_two_c limits.two_c a b ≡ false)
       → ((d : ℤ) → ¬ IsTwoC limits.two_c a b d) → has_no_two_c limits.two_c a b ≡ true
@@ -128,15 +125,12 @@ a_two_face limit small a b (pos n) t =
       record {
         below = omega arith;
         congruent = record {
-          turns = t.congruent.turns -ℤ pos
-              (2 * ((2 * a.hz + n) / 80_000_000));
+          turns = t.congruent.turns -ℤ pos (2 * ((2 * a.hz + n) / 80_000_000));
           equal = omega (arith, ints);
         };
         near = record {
-          turns = pos 0 -ℤ pos
-              ((2 * a.hz + n) / 80_000_000);
-          within =
-              record { low = omega (arith, ints); high = omega (arith, ints) };
+          turns = pos 0 -ℤ pos ((2 * a.hz + n) / 80_000_000);
+          within = record { low = omega (arith, ints); high = omega (arith, ints) };
         };
       },
     )
@@ -151,10 +145,8 @@ a_two_face limit small a b (negsuc n) t =
           equal = omega (arith, ints);
         };
         near = record {
-          turns = pos 1 -ℤ pos
-              (((2 * a.hz + 79_999_999) - n) / 80_000_000);
-          within =
-              record { low = omega (arith, ints); high = omega (arith, ints) };
+          turns = pos 1 -ℤ pos (((2 * a.hz + 79_999_999) - n) / 80_000_000);
+          within = record { low = omega (arith, ints); high = omega (arith, ints) };
         };
       },
     )

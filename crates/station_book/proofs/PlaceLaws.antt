@@ -71,8 +71,7 @@ pub belonging-same : (p : GsiBlock → Bool) (kind : Place → Bool) (b : GsiBlo
 belonging-same p kind b past e k =
     ap (λ v. belonging p kind (cond v (b ∷ past) (last p past)) (b ∷ past)) e
     ∙ skip (λ place. kind place && is_same (last p (before place)) (last p past)) (b ∷ past)
-    (places past) (belonging p kind (last p past) past)
-    (and_false_left (kind (b ∷ past)) _ k) refl
+    (places past) (belonging p kind (last p past) past) (and_false_left (kind (b ∷ past)) _ k) refl
 
 -- what belongs to another owner stays
 pub belonging-other : (p : GsiBlock → Bool) (kind : Place → Bool) (owner : Place) (b : GsiBlock)

@@ -19,8 +19,7 @@ other_name a b name same differ = split (bytes_eq a name) refl where
 abbrev IsThere : List (List ℕ) → ℕ → Type 0
 IsThere targets i =
     ((x : List ℕ) × (i < length targets) × (slice_get targets i ≡ Some x)
-    × (get_or targets i x ≡ x))
-    ⊎ ((length targets ≤ i) × (slice_get targets i ≡ None))
+    × (get_or targets i x ≡ x)) ⊎ ((length targets ≤ i) × (slice_get targets i ≡ None))
 
 pub placed : (name : List ℕ) (targets : List (List ℕ)) (i : ℕ) → AllPairs (λ a b. a ≢ b) targets
     → is_named name (slice_get targets i) ≡ true → Some i ≡ place_of name targets

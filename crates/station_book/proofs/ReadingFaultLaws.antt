@@ -80,8 +80,7 @@ unclear_as b =
     (ltb 20_000_000 ((sight b).zenith) && ltb ((sight b).zenith) 40_000_000)
 
 own_same : (b : GsiBlock) → own_faults b ≡ said.sighting_faults b
-own_same b = λ i.
-    when (has_two 21 b) (kinds.WordTwice 21)
+own_same b = λ i. when (has_two 21 b) (kinds.WordTwice 21)
     ∷ when (has_two 22 b) (kinds.WordTwice 22)
     ∷ when (lacks 22 b) kinds.NoZenith
     ∷ option_map kinds.Hz (angle_fault 21 b)
@@ -100,8 +99,7 @@ face_as : (b : GsiBlock) → said.is_second (said.face_of ((sight b).zenith)) �
 face_as b =
     second_of (ltb 0 ((sight b).zenith) && ltb ((sight b).zenith) 20_000_000)
     (ltb 20_000_000 ((sight b).zenith) && ltb ((sight b).zenith) 40_000_000)
-    (λ e. sym (second_face b) ∙ one_face b (first_face b ∙ e))
-    ∙ sym (second_face b)
+    (λ e. sym (second_face b) ∙ one_face b (first_face b ∙ e)) ∙ sym (second_face b)
 
 -- a reading as the definitions say it
 abbrev reading_of : GsiBlock → Sighting
@@ -180,8 +178,7 @@ same_later limits targets rs b e kept ts ss = split (place_of (target b) e.targe
       ap (is_apart (has_no_two_i limits.two_i) (reading_of b)) other
       ∙ apart_same (has_no_two_i limits.two_i) b (reading_in (not (face b)) (target b) rs) in
       (λ i. first_of (when (taken i) kinds.FaceTwice ∷ when (c i) kinds.TwoC ∷ when
-      (d i) kinds.TwoI ∷ []))
-      ∙ old_target_tests (is_some (reading_in (face b) (target b) rs))
+      (d i) kinds.TwoI ∷ [])) ∙ old_target_tests (is_some (reading_in (face b) (target b) rs))
       (by_faces (has_no_two_c limits.two_c) b (reading_in (not (face b)) (target b) rs))
       (by_faces (has_no_two_i limits.two_i) b (reading_in (not (face b)) (target b) rs))
       ∙ sym (λ i. first_of (tests (is_some (reading_in (face b) (target b) rs))

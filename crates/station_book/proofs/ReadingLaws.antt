@@ -33,29 +33,22 @@ pub record Says (s : Sighting) (r : Place) : Type 0 where
 -- the slots of other targets stay
 slot_other : (r : Place) (name : List ℕ) (rs : List Place) → bytes_eq (target_at r) name ≡ false
     → slot_of (r ∷ rs) name ≡ slot_of rs name
-slot_other r name rs e = λ i.
-    record {
+slot_other r name rs e = λ i. record {
       first = sighted (found_other false r name rs e i);
-      second = sighted
-          (found_other true r name rs e i);
+      second = sighted (found_other true r name rs e i);
     }
 
 -- its own takes the face's side
 slot_own : (f : Bool) (v : Sight) (r : Place) (name : List ℕ) (rs : List Place) → v ≡ sight_at r
     → stands (is_of_face f) r ≡ true → stands (is_of_face (not f)) r ≡ false
-    → bytes_eq (target_at r) name ≡ true
-    → slot_of (r ∷ rs) name ≡ with_side f v (slot_of rs name)
-slot_own false v r name rs s f g e = λ i.
-    record {
+    → bytes_eq (target_at r) name ≡ true → slot_of (r ∷ rs) name ≡ with_side f v (slot_of rs name)
+slot_own false v r name rs s f g e = λ i. record {
       first = (ap sighted (found_here false r name rs e f) ∙ ap Some (sym s)) i;
-      second =
-          sighted (found_not true r name rs g i);
+      second = sighted (found_not true r name rs g i);
     }
-slot_own true v r name rs s f g e = λ i.
-    record {
+slot_own true v r name rs s f g e = λ i. record {
       first = sighted (found_not false r name rs g i);
-      second =
-          (ap sighted (found_here true r name rs e f) ∙ ap Some (sym s)) i;
+      second = (ap sighted (found_here true r name rs e f) ∙ ap Some (sym s)) i;
     }
 
 -- targets are all different
@@ -125,11 +118,9 @@ none_read f name (r ∷ rs) all = found_other f r name rs all.0 ∙ none_read f 
 
 empty_of : (name : List ℕ) (rs : List Place)
     → AllByRecursion (λ r. bytes_eq (target_at r) name ≡ false) rs → slot_of rs name ≡ empty_slot
-empty_of name rs all = λ i.
-    record {
+empty_of name rs all = λ i. record {
       first = sighted (none_read false name rs all i);
-      second = sighted
-          (none_read true name rs all i);
+      second = sighted (none_read true name rs all i);
     }
 
 -- an empty slot at the end gives nothing
@@ -291,8 +282,7 @@ reading_stands st newest older readings r name e s says mine none h = split
                 ∙ existing (targets_in readings) i s.is_second s.sight r
                 (in_set newest readings) at.0 here
                 (distinct_different (map (λ q. target_at q) readings)) says.sight_is says.face_is
-                says.face_not
-                ∙ (λ j. slots_of (sym same j) (sym mine j));
+                says.face_not ∙ (λ j. slots_of (sym same j) (sym mine j));
             obs = h.obs ∙ sym (ap (λ ts. obs_in ts (r ∷ readings) older) same
                 ∙ obs_same (targets_in readings) r readings older none);
             faces = h.faces ∙ sym
@@ -306,8 +296,7 @@ reading_stands st newest older readings r name e s says mine none h = split
           (λ v. cond v (targets_in readings) (targets_in readings ++ target_at r ∷ [])) out in
           let unread = no_reading_of (target_at r) readings out in
           let own : slot_of (r ∷ in_set newest readings) (target_at r)
-          ≡ with_side s.is_second s.sight empty_slot =
-          slot_own s.is_second s.sight r (target_at r)
+          ≡ with_side s.is_second s.sight empty_slot = slot_own s.is_second s.sight r (target_at r)
           (in_set newest readings) says.sight_is says.face_is says.face_not
           ((bytes_eq-Decides (target_at r) (target_at r)).1 refl)
           ∙ ap (with_side s.is_second s.sight)

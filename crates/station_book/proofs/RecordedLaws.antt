@@ -40,8 +40,7 @@ record IsRecordedBy (limits : FaceLimits) (h : History) (name : List ℕ) (k : K
   pub second_is : recorded.second ≡ b
 
 recorded_couple : (limits : FaceLimits) (h : History) (st : Place) (s : SurveyedStation)
-    (c : Couple) (o : Obs) (p : IsPairOf h st c) → IsSurveyed limits h st s
-    → IsObserved limits c o
+    (c : Couple) (o : Obs) (p : IsPairOf h st c) → IsSurveyed limits h st s → IsObserved limits c o
     → IsRecordedBy limits h s.station.name
     (key_of_obs s.station.sets s.station.targets o) p.first p.second
 recorded_couple limits h st s c o p surveyed is = record {
@@ -137,8 +136,7 @@ pair_observed limits h st s set target first second clean listed surveyed set_pl
       o : (o : Obs) × In o s.station.obs × IsObserved limits couple o
       o = zip_right (IsObserved limits) (couples_of st h) s.station.obs surveyed.directions couple
           (couple_of_pair limits h st set target i.0 j.0 first second clean
-          (station_placed h st listed)
-          (inr set_placed) i.1 j.1 one two)
+          (station_placed h st listed) (inr set_placed) i.1 j.1 one two)
 
 -- what was recorded at a station was observed
 observed_key : (limits : FaceLimits) (h : History) (st : Place) (s : SurveyedStation) (k : Key)
@@ -176,8 +174,7 @@ observed_key limits h st s k small clean listed surveyed r =
 
     set_station_is : station (before r.set) ≡ st
     set_station_is = one_named s.station.name (stations_of h) (station (before r.set)) st
-        (apart limits h clean)
-        (set_station h r.set set_placed set_is) listed
+        (apart limits h clean) (set_station h r.set set_placed set_is) listed
         (ap name_at (sym first_station) ∙ r.face_one.of_station) surveyed.name
 
     one : IsRead h st r.set k.target false r.first
@@ -189,8 +186,7 @@ observed_key limits h st s k small clean listed surveyed r =
 
     two : IsRead h st r.set k.target true r.second
     two = record {
-      placed = in_contains r.second
-          (places h) r.face_two.placed;
+      placed = in_contains r.second (places h) r.face_two.placed;
       of_station = second_station ∙ set_station_is;
       is = is_of h s.station.name r.set k.target true r.second r.face_two;
     }
@@ -209,8 +205,7 @@ observed_key limits h st s k small clean listed surveyed r =
 pub recorded : (limits : FaceLimits) (h : History) (stations : List SurveyedStation)
     (s : SurveyedStation) (k : Key)
     → AreLimits limits → IsWithoutFault limits h → AreStations limits h stations
-    → Contains stations s
-    → Contains (observed s.station) k ↔ IsRecorded limits h s.station.name k
+    → Contains stations s → Contains (observed s.station) k ↔ IsRecorded limits h s.station.name k
 unfolding AreStations
 recorded limits h stations s k small clean are listed = (there, back) where
   own : (st : Place) × In st (stations_of h) × IsSurveyed limits h st s
@@ -258,11 +253,9 @@ stations_with_sets limits h stations name are = (there, back) where
       same_text a b e = cc
 
 with_faces : (limits : FaceLimits) (h : History) (st : Place) (s : SurveyedStation) → OfFile h st
-    → IsSurveyed limits h st s
-    → (cs : List Couple) (os : List Obs) (fs : List Faces)
+    → IsSurveyed limits h st s → (cs : List Couple) (os : List Obs) (fs : List Faces)
     → ((c : Couple) → In c cs → In c (couples_of st h)) → AllZip (IsObserved limits) cs os
-    → AllZip (HasFaces limits) cs fs
-    → AllZip (IsRecordedWith limits h s.station.name)
+    → AllZip (HasFaces limits) cs fs → AllZip (IsRecordedWith limits h s.station.name)
     (map (key_of_obs s.station.sets s.station.targets) os) fs
 with_faces limits h st s placed surveyed [] [] [] inside one two = tt
 with_faces limits h st s placed surveyed [] [] (f ∷ fs) inside one two = absurd two
@@ -271,8 +264,7 @@ with_faces limits h st s placed surveyed (c ∷ cs) [] fs inside one two = absur
 with_faces limits h st s placed surveyed (c ∷ cs) (o ∷ os) [] inside one two = absurd two
 with_faces limits h st s placed surveyed (c ∷ cs) (o ∷ os) (f ∷ fs) inside one two = (
   head (pair_of_couple h st c placed (inside c (inl refl))),
-  with_faces limits h st s placed
-      surveyed cs os fs (λ d k. inside d (inr k)) one.1 two.1,
+  with_faces limits h st s placed surveyed cs os fs (λ d k. inside d (inr k)) one.1 two.1,
 )
   where
     head : IsPairOf h st c

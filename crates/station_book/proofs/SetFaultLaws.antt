@@ -154,8 +154,7 @@ known_station shelf past name none is h =
     had_sets_by_names past none
     ∙ (λ i. list_any (λ s. same_name (name_at (station (before s))) (is i)) (first_sets past))
     ∙ sym (any_map (λ st. same_name (name_at st) (Some name)) (λ s. station (before s))
-    (first_sets past))
-    ∙ known_names past name (stations_in past) shelf h
+    (first_sets past)) ∙ known_names past name (stations_in past) shelf h
 
 -- the numbers of a station's sets
 any_numbers : (n : ℕ) (sets : List Place)

@@ -30,34 +30,25 @@ cons_of : (set m top : ℕ) (a b : Option Sight) (rest : List Obs) → m + 1 ≤
     → All (IsOf set m top) (cons_option (observation_of set m a b) rest)
 cons_of set m top (Some a) (Some b) rest le all =
     All-cons (IsOf set m top) (record { set = set; target = m; value = direction a b }) rest
-    (record {
-      of_set = refl;
-      from = omega arith;
-      below = omega arith;
-      value = direction_below a
-          b;
-    })
+    (record { of_set = refl; from = omega arith; below = omega arith; value = direction_below a b })
     (All-weaker (IsOf set (m + 1) top) (IsOf set m top)
     (λ o h. record {
       of_set = h.of_set;
-      from = omega
-          (arith, h.from);
+      from = omega (arith, h.from);
       below = h.below;
       value = h.value;
     }) rest all)
 cons_of set m top (Some a) None rest le all = All-weaker (IsOf set (m + 1) top) (IsOf set m top)
     (λ o h. record {
       of_set = h.of_set;
-      from = omega
-          (arith, h.from);
+      from = omega (arith, h.from);
       below = h.below;
       value = h.value;
     }) rest all
 cons_of set m top None b rest le all = All-weaker (IsOf set (m + 1) top) (IsOf set m top)
     (λ o h. record {
       of_set = h.of_set;
-      from = omega
-          (arith, h.from);
+      from = omega (arith, h.from);
       below = h.below;
       value = h.value;
     }) rest all
@@ -146,19 +137,16 @@ closes n slots obs h some faces = record {
   within = All-append (IsObs (n + 1) (length slots)) obs (obs_of n slots)
       (All-weaker (IsObs n (length slots)) (IsObs (n + 1) (length slots))
       (λ o k. record {
-        set =
-            (let s = k.set in omega (arith, s));
+        set = (let s = k.set in omega (arith, s));
         target = k.target;
         value = k.value;
       }) obs h.within)
       (All-weaker (IsOf n 0 (length slots)) (IsObs (n + 1) (length slots))
       (λ o k. record {
-        set =
-            (let s = k.of_set in omega (arith, s));
+        set = (let s = k.of_set in omega (arith, s));
         target = k.below;
         value = k.value;
-      })
-      (obs_of n slots) news);
+      }) (obs_of n slots) news);
   ordered = pairs_append IsBefore obs (obs_of n slots) h.ordered
       (in_order n 0 (length slots) slots (omega arith))
       (λ i d lt. All-weaker (IsOf n 0 (length slots)) (IsBefore (get_or obs i d))

@@ -111,8 +111,7 @@ older_stay (st ∷ sts) [] b past all h = h
 older_stay (st ∷ sts) (e ∷ es) b past all h = (
   stays st e b past (belonging-older opens_station is_set st b past all.0)
       (belonging-older opens_station is_reading st b past all.0) h.0,
-  older_stay sts es b past
-      all.1 h.1,
+  older_stay sts es b past all.1 h.1,
 )
 
 -- Where a set is open, the open station has a set.
@@ -149,8 +148,7 @@ no_set_no_reading (b ∷ past) e = split (cases_Bool (opens_station b)) (cases_B
           → station_readings (station (b ∷ past)) (b ∷ past) ≡ []
       split (inl s) n r ih = belonging-fresh opens_station is_reading b past s
       split (inr s) (inl n) r ih = let bad : is_empty ((b ∷ past) ∷ open_sets past)
-          ≡ true = ap is_empty
-          (sym (sets-more b past s n) ∙ e) in absurd (false≢true bad)
+          ≡ true = ap is_empty (sym (sets-more b past s n) ∙ e) in absurd (false≢true bad)
       split (inr s) (inr n) (inr r) ih = belonging-same opens_station is_reading b past s r
           ∙ ih (sym (sets-other b past s n) ∙ e)
       split (inr s) (inr n) (inl r) ih =
@@ -192,8 +190,7 @@ pub stand_idle : (s : ShelfValue) (b : GsiBlock) (past : History) → opens_set 
     → is_reading (b ∷ past) ≡ false → Stand past (stations_in past) s
     → Stand (b ∷ past) (stations_in (b ∷ past)) s
 stand_idle s b past n r h = subst (λ (sts : List Place). Stand (b ∷ past) sts s)
-    (sym (same_stations b past n))
-    (all_idle (stations_in past) s b past n r h)
+    (sym (same_stations b past n)) (all_idle (stations_in past) s b past n r h)
 
 -- the stations with sets: those before the open one, and the open one where it has a set
 pub record HasOpenLast (past : History) : Type 0 where
@@ -244,8 +241,7 @@ parted (b ∷ past) = split (cases_Bool (opens_station b)) (cases_Bool (opens_se
                 (λ st. length st < length (station (b ∷ past))) sts)
                 (sym (same_stations b past (no_set_at_station b s)))
                 (subst (λ (o : Place). AllByRecursion (λ st. length st < length o)
-                (stations_in past))
-                (sym here) all),
+                (stations_in past)) (sym here) all),
           )
       split (inr s) (inl n) (inl h) =
           let first : stations_in (b ∷ past) ≡ station past ∷ stations_in past = ap
@@ -254,12 +250,10 @@ parted (b ∷ past) = split (cases_Bool (opens_station b)) (cases_Bool (opens_se
           ((λ i. n i && is_empty (h.0 i))) in
           inr (record {
             rest = stations_in past;
-            some_set = ap is_empty
-                (sets-more b past s n);
+            some_set = ap is_empty (sets-more b past s n);
             stations = first
                 ∙ ap (λ (o : Place). o ∷ stations_in past) (sym (same_station b past s));
-            older = moved
-                (stations_in past) s h.1;
+            older = moved (stations_in past) s h.1;
           })
       split (inr s) (inl n) (inr h) =
           let some = h.some_set in
@@ -304,8 +298,7 @@ set_is_no_reading b past n = split (cases_Bool (is_sight b)) where
 -- all stations after the first set of the open one
 pub stand_first : (shelf : ShelfValue) (b : GsiBlock) (past : History) (name : List ℕ) (n : ℕ)
     → opens_station b ≡ false → opens_set b ≡ true → open_sets past ≡ []
-    → name_at (station past) ≡ Some name → number b ≡ Some n
-    → Stand past (stations_in past) shelf
+    → name_at (station past) ≡ Some name → number b ≡ Some n → Stand past (stations_in past) shelf
     → Stand (b ∷ past) (stations_in (b ∷ past)) (with_station name n shelf)
 stand_first shelf b past name n s set none named_so numbered h =
     subst (λ (sts : List Place). Stand (b ∷ past) sts (with_station name n shelf)) (sym stations) (
@@ -349,8 +342,7 @@ none_to_come b past st = none_in_later
 -- all stations after a further set of the open one
 pub stand_further : (x : List ℕ × EntryValue) (es : ShelfValue) (b : GsiBlock) (past : History) (n : ℕ)
     → opens_station b ≡ false → opens_set b ≡ true → is_empty (open_sets past) ≡ false
-    → number b ≡ Some n
-    → Stand past (stations_in past) (x ∷ es)
+    → number b ≡ Some n → Stand past (stations_in past) (x ∷ es)
     → Stand (b ∷ past) (stations_in (b ∷ past)) ((x.0, with_set n x.1) ∷ es)
 stand_further x es b past n s set some numbered h = by (parted past) where
   further : (sets : List Place)
@@ -468,8 +460,7 @@ in_none b past readings (s ∷ older) all = (
 -- all stations after a reading
 pub stand_reading : (x : List ℕ × EntryValue) (es : ShelfValue) (b : GsiBlock) (past : History)
     (s : Sighting) → is_opening b ≡ false → is_reading (b ∷ past) ≡ true → is_open past ≡ true
-    → Says s (b ∷ past)
-    → Stand past (stations_in past) (x ∷ es)
+    → Says s (b ∷ past) → Stand past (stations_in past) (x ∷ es)
     → Stand (b ∷ past) (stations_in (b ∷ past)) ((x.0, with_reading s x.1) ∷ es)
 stand_reading x es b past s o reading now says h = by (parted past) where
   no_station : opens_station b ≡ false

@@ -104,8 +104,7 @@ is_set_block b e = (station_as b roles.Set e, set_as b roles.Set e)
 
 -- a further set of the last station
 further_taken : (shelf : ShelfValue) (b : GsiBlock) (past : History) (n : ℕ) → role_of b ≡ roles.Set
-    → number b ≡ Some n → is_empty (open_sets past) ≡ false
-    → Stand past (stations_in past) shelf
+    → number b ≡ Some n → is_empty (open_sets past) ≡ false → Stand past (stations_in past) shelf
     → Stand (b ∷ past) (stations_in (b ∷ past)) (change_last (with_set n) shelf)
 further_taken shelf b past n r e some h =
     let k = is_set_block b r in
@@ -118,8 +117,7 @@ further_taken shelf b past n r e some h =
 -- a block of code 20
 pub set_taken : (shelf : ShelfValue) (b : GsiBlock) (past : History) (stage : Stage) (n : Option ℕ)
     → role_of b ≡ roles.Set → number b ≡ n → kept.opening_fault stage shelf n ≡ None
-    → IsStage stage past
-    → Stand past (stations_in past) shelf
+    → IsStage stage past → Stand past (stations_in past) shelf
     → Stand (b ∷ past) (stations_in (b ∷ past)) (kept.opened stage n shelf)
 set_taken shelf b past Outside n r e f g h = absurd cc
 set_taken shelf b past (Station name) None r e f g h = absurd cc
@@ -197,8 +195,7 @@ measures_nothing : (b : GsiBlock) → role_of b ≡ roles.Measurement
 measures_nothing b r = (
   station_as b roles.Measurement r,
   set_as b roles.Measurement r,
-  opening_as b roles.Measurement
-      r,
+  opening_as b roles.Measurement r,
 )
 
 -- a measurement in an open set, by what it says
@@ -221,8 +218,7 @@ in_set_taken shelf b past (Ok (Some s)) r e now kind h =
     subst (λ (o : ShelfValue). Stand (b ∷ past) (stations_in (b ∷ past))
     (change_last (with_reading s) o)) (sym x.is)
     (stand_reading x.newest x.older b past s (opening_as b roles.Measurement r) reading now
-    (says b past s w)
-    (subst (λ (o : ShelfValue). Stand past (stations_in past) o) x.is h))
+    (says b past s w) (subst (λ (o : ShelfValue). Stand past (stations_in past) o) x.is h))
 
 no_err : (limits : FaceLimits) (shelf : ShelfValue) (o : Result (Option Sighting) BookKind)
     → kept.measured limits shelf o ≡ None → (k : BookKind) → o ≡ Err k → ⊥
@@ -240,8 +236,7 @@ closed_no_reading b past e = by (is_sight b) where
 pub measurement_taken : (limits : FaceLimits) (shelf : ShelfValue) (stage : Stage) (b : GsiBlock)
     (past : History) → role_of b ≡ roles.Measurement
     → cond (kept.has_open_set stage) (kept.measured limits shelf (said.read b)) None ≡ None
-    → IsStage stage past
-    → Stand past (stations_in past) shelf
+    → IsStage stage past → Stand past (stations_in past) shelf
     → Stand (b ∷ past) (stations_in (b ∷ past))
     (cond (kept.has_open_set stage) (kept.with_measured (said.read b) shelf) shelf)
 measurement_taken limits shelf Outside b past r f g h = stand_idle shelf b past
@@ -264,8 +259,7 @@ pub taken_stands : (limits : FaceLimits) (taken : ℕ) (stage : Stage) (shelf : 
       limits = limits;
       taken = taken + 1;
       stage = stage;
-      shelf =
-          shelf;
+      shelf = shelf;
     })) (b ∷ past)
 taken_stands limits taken stage shelf b past roles.Station r f clean h =
     let (name, is) = name_of_station b

@@ -82,8 +82,7 @@ other_in_open past r listed clean = split
           (none_stands (end_faults past) clean).1.0)
 
       split : (o : Option Place)
-          → reading_in (not (face_at r)) (target_at r) (open_readings past) ≡ o
-          → HasOther past r
+          → reading_in (not (face_at r)) (target_at r) (open_readings past) ≡ o → HasOther past r
       split None e =
           absurd (false≢true (sym paired
           ∙ any_from (λ q. is_none

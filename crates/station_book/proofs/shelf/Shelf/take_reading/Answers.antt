@@ -34,8 +34,7 @@ returns-clause-fault c =
     c.self.view_is c.requires.some (sym c.in-Some.ensures.value) in
     if_err c.take_reading.result
     (λ f h. subst (λ (e : EntryValue). ExplainsRefusal
-    (first_of (entry_faults c.args.limits e c.args.reading)) f) last h)
-    c.take_reading.ensures.fault
+    (first_of (entry_faults c.args.limits e c.args.reading)) f) last h) c.take_reading.ensures.fault
 
 pub returns-clause-memory : goal.returns-clause-memory
 returns-clause-memory c =

@@ -11,5 +11,4 @@ returns-in-Some c = c.get.ensures.value
 pub returns-in-None : goal.returns-in-None
 returns-in-None c =
     sym (none_named c.args.name.now c.self.inside.surveyed.entries c.self.invariant
-    c.in-None.ensures.none)
-    ∙ ap (station_named c.args.name.now) c.self.view_is
+    c.in-None.ensures.none) ∙ ap (station_named c.args.name.now) c.self.view_is

@@ -19,5 +19,4 @@ returns-clause-ok c =
     ∙ (λ i. record {
       names = map-append (λ e. e.0) es one i;
       slots = map-append (λ e. e.1) es one i;
-    })
-    ∙ ap (with_target c.args.name c.args.slot) c.self.view_is
+    }) ∙ ap (with_target c.args.name c.args.slot) c.self.view_is
