@@ -27,10 +27,10 @@ use Rattle.station_book.specs.Keeps.{IsStage, Stand, stations_in}
 use Rattle.station_book.specs.Standing.{StandsFor, ExplainsBlock}
 use Rattle.station_book.proofs.ListLaws.{absent}
 use Rattle.station_book.proofs.StepLaws.{open_targets}
-use Rattle.station_book.proofs.StandLaws.{open_has_set}
+use Rattle.station_book.proofs.StandLaws.{open_has_set, open_entry}
 use Rattle.station_book.proofs.TakeLaws.{set_as, sight_as, was_read, at_own, taken_stands}
 use Rattle.station_book.proofs.FaultLaws.{same_station_fault, same_close_fault, same_other_fault}
-use Rattle.station_book.proofs.SetFaultLaws.{open_entry, same_set_fault}
+use Rattle.station_book.proofs.SetFaultLaws.{same_set_fault}
 use Rattle.station_book.proofs.ReadingFaultLaws.{same_measurement_fault}
 
 -- THE LAW of faults: a block's fault by what is kept is its fault by the blocks before

@@ -26,17 +26,17 @@ congruent_c : (f s : ℕ) → f < 40_000_000 → s < 40_000_000
     → AreCongruent (pos 40_000_000) (pos (((s + 40_000_000) - f) % 40_000_000) -ℤ pos 20_000_000)
     (pos s -ℤ pos f -ℤ pos 20_000_000)
 congruent_c f s hf hs = record {
-      turns = pos 1 -ℤ pos (((s + 40_000_000) - f) / 40_000_000);
-      equal = omega (arith, ints);
-    }
+  turns = pos 1 -ℤ pos (((s + 40_000_000) - f) / 40_000_000);
+  equal = omega (arith, ints);
+}
 
 pub computed_two_c : (limit : ℕ) (a b : Sight) → AreOnCircle a → AreOnCircle b
     → has_no_two_c limit a b ≡ false → IsTwoC limit a b (two_c a b)
 unfolding has_no_two_c
 computed_two_c limit a b ha hb e = record {
-      congruent = congruent_c a.hz b.hz ha.hz hb.hz;
-      within = within_c limit a.hz b.hz ha.hz hb.hz e;
-    }
+  congruent = congruent_c a.hz b.hz ha.hz hb.hz;
+  within = within_c limit a.hz b.hz ha.hz hb.hz e;
+}
 
 within_i : (limit a b : ℕ)
     → (ltb (40_000_000 + limit) (a + b) || ltb ((a + b) + limit) 40_000_000) ≡ false

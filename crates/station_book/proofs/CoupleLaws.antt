@@ -1,7 +1,7 @@
 -- Which reading of a target is found among those of a set, and which readings are of the open set.
 use Rattle.std.proofs.Common.{◌≡◌, ℕ, ◌≤◌, Bool, true, false, cond, ◌&&◌, List, [], ◌∷◌, length, filter, Some, refl, sym, ap, ◌∙◌, inl, inr, ◌⊎◌, arith}
 use Rattle.std.specs.Str.{bytes_eq}
-use Rattle.std.proofs.lemmas.Bool.{cases_Bool, and_from, eq-eqb, ne_eqb}
+use Rattle.std.proofs.lemmas.Bool.{cases_Bool, and_from, eq-eqb, ne_eqb, and_right}
 use Rattle.station_book.specs.Blocks.{is_of_face, opens_station, is_opening}
 use Rattle.station_book.specs.Places.{History, Place, places, last, before, reading_in, is_same, is_reading, opening, station, station_readings, target_at, stands}
 use Rattle.station_book.specs.Faults.{open_readings}
@@ -12,73 +12,52 @@ use Rattle.station_book.proofs.StepLaws.{readings-opening, readings-more, readin
 -- what a reading does to the slots: nothing at other targets
 pub found_other : (f : Bool) (r : Place) (name : List ℕ) (rs : List Place)
     → bytes_eq (target_at r) name ≡ false → reading_in f name (r ∷ rs) ≡ reading_in f name rs
-found_other f r name rs e = ap
-    (λ v. cond (v && stands (is_of_face f) r) (Some r) (reading_in f name rs)) e
+found_other f r name rs e = rw e
 
 -- and at its own target it is found
 pub found_here : (f : Bool) (r : Place) (name : List ℕ) (rs : List Place)
     → bytes_eq (target_at r) name ≡ true → stands (is_of_face f) r ≡ true
     → reading_in f name (r ∷ rs) ≡ Some r
-found_here f r name rs e g = ap (λ v. cond v (Some r) (reading_in f name rs)) (and_from _ _ e g)
+found_here f r name rs e g = rw (e, g)
 
 pub found_not : (f : Bool) (r : Place) (name : List ℕ) (rs : List Place)
     → stands (is_of_face f) r ≡ false → reading_in f name (r ∷ rs) ≡ reading_in f name rs
-found_not f r name rs g = ap (λ v. cond v (Some r) (reading_in f name rs))
-    (right (bytes_eq (target_at r) name) (stands (is_of_face f) r) g) where
-      right : (a b : Bool) → b ≡ false → (a && b) ≡ false
-      right true b h = h
-      right false b h = refl
-
-keep : {X : Type 0} (test : X → Bool) (x : X) (xs : List X) → test x ≡ true
-    → filter test (x ∷ xs) ≡ x ∷ filter test xs
-keep test x xs e = ap (λ v. cond v (x ∷ filter test xs) (filter test xs)) e
-
-skip : {X : Type 0} (test : X → Bool) (x : X) (xs : List X) → test x ≡ false
-    → filter test (x ∷ xs) ≡ filter test xs
-skip test x xs e = ap (λ v. cond v (x ∷ filter test xs) (filter test xs)) e
+found_not f r name rs g = rw (and_right (bytes_eq (target_at r) name) _ g)
 
 -- of these readings none is of a set that is still to come
 pub none_in_later : (test : Place → Bool) (owner : Place) (past : History)
     → length past ≤ length owner → in_set owner (filter test (places past)) ≡ []
 none_in_later test owner [] le = refl
-none_in_later test owner (b ∷ past) le = split (cases_Bool (test (b ∷ past)))
-    (none_in_later test owner past (omega arith)) where
-      split : (test (b ∷ past) ≡ true) ⊎ (test (b ∷ past) ≡ false)
-          → in_set owner (filter test (places past)) ≡ []
-          → in_set owner (filter test (places (b ∷ past))) ≡ []
-      split (inl t) ih = ap (in_set owner) (keep test (b ∷ past) (places past) t)
-          ∙ skip (λ r. is_same (opening (before r)) owner) (b ∷ past) (filter test (places past))
-          (ne_eqb (length (opening past)) (length owner)
-          (λ e. let l = length-last is_opening past in absurd (omega arith))) ∙ ih
-      split (inr t) ih = ap (in_set owner) (skip test (b ∷ past) (places past) t) ∙ ih
+none_in_later test owner (b ∷ past) le = elim (cases_Bool (test (b ∷ past))) [
+  | inl t ↦ rw (
+    t,
+    ne_eqb (length (opening past)) (length owner)
+        (λ e. let l = length-last is_opening past in absurd (omega arith)),
+  )
+      (none_in_later test owner past (omega arith))
+  | inr t ↦ rw t (none_in_later test owner past (omega arith))
+]
 
 -- The readings of the open set are those of the open station that are of this set.
 pub open_in_set : (past : History)
     → in_set (opening past) (station_readings (station past) past) ≡ open_readings past
 open_in_set [] = refl
-open_in_set (b ∷ past) = split (cases_Bool (is_opening b)) (cases_Bool (is_reading (b ∷ past)))
-    (open_in_set past) where
-      split : (is_opening b ≡ true) ⊎ (is_opening b ≡ false)
-          → (is_reading (b ∷ past) ≡ true) ⊎ (is_reading (b ∷ past) ≡ false)
-          → in_set (opening past) (station_readings (station past) past) ≡ open_readings past
-          → in_set (opening (b ∷ past)) (station_readings (station (b ∷ past)) (b ∷ past))
-          ≡ open_readings (b ∷ past)
-      split (inl o) r ih =
-          ap (λ v. in_set (cond v (b ∷ past) (last is_opening past))
-          (station_readings (station (b ∷ past)) (b ∷ past))) o
-          ∙ none_in_later (λ place. is_reading place && is_same (station (before place))
-          (station (b ∷ past))) (b ∷ past) (b ∷ past) (omega arith)
-          ∙ sym (readings-opening b past o)
-      split (inr o) (inl r) ih =
-          ap (λ v. in_set (cond v (b ∷ past) (last is_opening past))
-          (station_readings (station (b ∷ past)) (b ∷ past))) o ∙ ap (in_set (opening past))
-          (belonging-more opens_station is_reading b past (sight_opens_no_station b o) r)
-          ∙ keep (λ r. is_same (opening (before r)) (opening past)) (b ∷ past)
-          (station_readings (station past) past)
-          (eq-eqb (length (opening past)) (length (opening past)) refl)
-          ∙ ap (λ rs. (b ∷ past) ∷ rs) ih ∙ sym (readings-more b past o r)
-      split (inr o) (inr r) ih =
-          ap (λ v. in_set (cond v (b ∷ past) (last is_opening past))
-          (station_readings (station (b ∷ past)) (b ∷ past))) o ∙ ap (in_set (opening past))
-          (belonging-same opens_station is_reading b past (sight_opens_no_station b o) r)
-          ∙ ih ∙ sym (readings-other b past o r)
+open_in_set (b ∷ past) = elim (cases_Bool (is_opening b)) [
+  | inl o ↦ rw (readings-opening b past o, o) (none_in_later
+      (λ place. is_reading place && is_same (station (before place)) (station (b ∷ past)))
+      (b ∷ past) (b ∷ past) (omega arith))
+  | inr o ↦
+      let s = sight_opens_no_station b o in
+      ap (λ v. in_set (cond v (b ∷ past) (last is_opening past))
+      (station_readings (station (b ∷ past)) (b ∷ past))) o
+      ∙ elim (cases_Bool (is_reading (b ∷ past))) [
+        | inl r ↦ rw (
+          belonging-more opens_station is_reading b past s r,
+          eq-eqb (length (opening past)) (length (opening past)) refl,
+          open_in_set past,
+        )
+            (sym (readings-more b past o r))
+        | inr r ↦ rw (belonging-same opens_station is_reading b past s r)
+            (open_in_set past ∙ sym (readings-other b past o r))
+      ]
+]

@@ -2,7 +2,7 @@
 use Rattle.std.proofs.Common.{◌≡◌, ℕ, zero, suc, ◌+◌, ◌<◌, arith, Bool, true, false, cond, List, [], ◌∷◌, ◌++◌, length, map, filter, reverse, get_or, Option, Some, None, refl, sym, ap, ◌∙◌, inl, inr, ◌⊎◌, subst}
 use Rattle.std.specs.List.{AllZip, Contains, enumerate_from, filter_map, flat_map, cons_option}
 use Rattle.std.proofs.lemmas.Bool.{cases_Bool}
-use Rattle.std.proofs.lemmas.List.{reverse-append}
+use Rattle.std.proofs.lemmas.List.{reverse-reverse, reverse-append}
 use Rattle.station_book.proofs.Membership.{In}
 
 pub in_contains : {X : Type 0} (x : X) (xs : List X) → Contains xs x → In x xs
@@ -29,54 +29,38 @@ module _ {X : Type 0} where
   pub of_append : (x : X) (xs ys : List X) → In x (xs ++ ys) → In x xs ⊎ In x ys
   of_append x [] ys h = inr h
   of_append x (y ∷ xs) ys (inl h) = inl (inl h)
-  of_append x (y ∷ xs) ys (inr h) = split (of_append x xs ys h) where
-    split : In x xs ⊎ In x ys → In x (y ∷ xs) ⊎ In x ys
-    split (inl k) = inl (inr k)
-    split (inr k) = inr k
+  of_append x (y ∷ xs) ys (inr h) = elim (of_append x xs ys h) [
+    | inl k ↦ inl (inr k)
+    | inr k ↦ inr k
+  ]
 
   pub in_reverse : (x : X) (xs : List X) → In x xs → In x (reverse xs)
   in_reverse x [] h = absurd h
-  in_reverse x (y ∷ ys) h = subst (In x) (sym (reverse-append (y ∷ []) ys))
-      (split h (in_reverse x ys)) where
-        split : (x ≡ y) ⊎ In x ys → (In x ys → In x (reverse ys)) → In x (reverse ys ++ y ∷ [])
-        split (inl e) rest = in_right x (reverse ys) (y ∷ []) (inl e)
-        split (inr k) rest = in_left x (reverse ys) (y ∷ []) (rest k)
+  in_reverse x (y ∷ ys) (inl e) = rw (reverse-append (y ∷ []) ys)
+      (in_right x (reverse ys) (y ∷ []) (inl e))
+  in_reverse x (y ∷ ys) (inr k) = rw (reverse-append (y ∷ []) ys)
+      (in_left x (reverse ys) (y ∷ []) (in_reverse x ys k))
 
   pub of_reverse : (x : X) (xs : List X) → In x (reverse xs) → In x xs
-  of_reverse x [] h = absurd h
-  of_reverse x (y ∷ ys) h = split
-      (of_append x (reverse ys) (y ∷ []) (subst (In x) (reverse-append (y ∷ []) ys) h))
-      (of_reverse x ys) where
-        split : In x (reverse ys) ⊎ In x (y ∷ []) → (In x (reverse ys) → In x ys) → In x (y ∷ ys)
-        split (inl k) rest = inr (rest k)
-        split (inr (inl e)) rest = inl e
-        split (inr (inr k)) rest = absurd k
+  of_reverse x xs h = subst (In x) (reverse-reverse xs) (in_reverse x (reverse xs) h)
 
   pub in_filter : (p : X → Bool) (x : X) (xs : List X) → In x xs → p x ≡ true → In x (filter p xs)
   in_filter p x [] h e = absurd h
-  in_filter p x (y ∷ ys) h e = split h (cases_Bool (p y)) (in_filter p x ys) where
-    split : (x ≡ y) ⊎ In x ys → (p y ≡ true) ⊎ (p y ≡ false)
-        → (In x ys → p x ≡ true → In x (filter p ys)) → In x (filter p (y ∷ ys))
-    split (inl k) (inl t) rest = subst (In x)
-        (sym (ap (λ v. cond v (y ∷ filter p ys) (filter p ys)) t)) (inl k)
-    split (inl k) (inr f) rest = let bad : true ≡ false = sym e ∙ ap p k ∙ f in cc
-    split (inr k) (inl t) rest = subst (In x)
-        (sym (ap (λ v. cond v (y ∷ filter p ys) (filter p ys)) t)) (inr (rest k e))
-    split (inr k) (inr f) rest = subst (In x)
-        (sym (ap (λ v. cond v (y ∷ filter p ys) (filter p ys)) f)) (rest k e)
+  in_filter p x (y ∷ ys) (inl k) e = rw (sym (ap p k) ∙ e) (inl k)
+  in_filter p x (y ∷ ys) (inr k) e = elim (cases_Bool (p y)) [
+    | inl t ↦ rw t (inr (in_filter p x ys k e))
+    | inr f ↦ rw f (in_filter p x ys k e)
+  ]
 
   pub of_filter : (p : X → Bool) (x : X) (xs : List X) → In x (filter p xs) → In x xs × (p x ≡ true)
   of_filter p x [] h = absurd h
-  of_filter p x (y ∷ ys) h = split (cases_Bool (p y)) (of_filter p x ys) where
-    split : (p y ≡ true) ⊎ (p y ≡ false) → (In x (filter p ys) → In x ys × (p x ≡ true))
-        → In x (y ∷ ys) × (p x ≡ true)
-    split (inl t) rest = by
-        (subst (In x) (ap (λ v. cond v (y ∷ filter p ys) (filter p ys)) t) h) where
-          by : (x ≡ y) ⊎ In x (filter p ys) → In x (y ∷ ys) × (p x ≡ true)
-          by (inl k) = (inl k, ap p k ∙ t)
-          by (inr k) = let r = rest k in (inr r.0, r.1)
-    split (inr f) rest = let r = rest
-        (subst (In x) (ap (λ v. cond v (y ∷ filter p ys) (filter p ys)) f) h) in (inr r.0, r.1)
+  of_filter p x (y ∷ ys) h = elim (cases_Bool (p y)) [
+    | inl t ↦ elim (rw t at h) as (λ _. In x (y ∷ ys) × (p x ≡ true)) [
+      | inl k ↦ (inl k, ap p k ∙ t)
+      | inr k ↦ let r = of_filter p x ys k in (inr r.0, r.1)
+    ]
+    | inr f ↦ let r = of_filter p x ys (rw f at h) in (inr r.0, r.1)
+  ]
 
   -- this element stands at this place of the list
   pub record IsAt (xs : List X) (k : ℕ) (x : X) : Type 0 where
@@ -139,8 +123,7 @@ module _ {X Y : Type 0} where
   pub in_filter_map : (f : X → Option Y) (x : X) (y : Y) (xs : List X) → In x xs → f x ≡ Some y
       → In y (filter_map f xs)
   in_filter_map f x y [] h e = absurd h
-  in_filter_map f x y (z ∷ zs) (inl q) e =
-      subst (In y) (sym (ap (λ o. cons_option o (filter_map f zs)) (sym (ap f q) ∙ e))) (inl refl)
+  in_filter_map f x y (z ∷ zs) (inl q) e = rw (sym (ap f q) ∙ e) (inl refl)
   in_filter_map f x y (z ∷ zs) (inr h) e = more (f z) (in_filter_map f x y zs h e) where
     more : (o : Option Y) → In y (filter_map f zs) → In y (cons_option o (filter_map f zs))
     more None k = k
@@ -167,13 +150,10 @@ module _ {X Y : Type 0} where
   pub of_flat_map : (f : X → List Y) (y : Y) (xs : List X) → In y (flat_map f xs)
       → (x : X) × In x xs × In y (f x)
   of_flat_map f y [] h = absurd h
-  of_flat_map f y (z ∷ zs) h = split (of_append y (f z) (flat_map f zs) h)
-      (of_flat_map f y zs) where
-        split : In y (f z) ⊎ In y (flat_map f zs)
-            → (In y (flat_map f zs) → (x : X) × In x zs × In y (f x))
-            → (x : X) × In x (z ∷ zs) × In y (f x)
-        split (inl k) rest = (z, inl refl, k)
-        split (inr k) rest = let r = rest k in (r.0, inr r.1, r.2)
+  of_flat_map f y (z ∷ zs) h = elim (of_append y (f z) (flat_map f zs) h) [
+    | inl k ↦ (z, inl refl, k)
+    | inr k ↦ let r = of_flat_map f y zs k in (r.0, inr r.1, r.2)
+  ]
 
   pub zip_right : (R : X → Y → Type 0) (xs : List X) (ys : List Y) → AllZip R xs ys → (x : X)
       → In x xs → (y : Y) × In y ys × R x y

@@ -13,7 +13,7 @@ use Rattle.station_book.specs.Faults.{when, first_of, open_sets, open_readings, 
 use Rattle.station_book.specs.Slots.{is_unread, is_single}
 use Rattle.station_book.specs.Entries.{EntryValue}
 use Rattle.station_book.specs.Shelves.{ShelfValue, last_of, survey_of, surveys_of}
-use Rattle.station_book.specs.Stations.{SurveyedStation}
+use Rattle.station_book.specs.Stations.{SurveyedStation, in_set}
 use Rattle.station_book.specs.Kept.{Kept, ending}
 use Rattle.station_book.specs.Places.{History, Place, station, opening, is_empty, is_open, reading_in, sets_of, station_readings, target_at}
 use Rattle.station_book.specs.Keeps.{sighted, slot_of, slots_of, IsEntryWith, StandsAt, IsComputed, Stand, stations_in, IsStage}
@@ -24,7 +24,7 @@ use Rattle.station_book.proofs.FaceLaws as faces
 use Rattle.station_book.proofs.FaceLaws.{IsKept, some_there}
 use Rattle.station_book.proofs.KeptLaws.{open_kept}
 use Rattle.station_book.proofs.CoupleLaws.{open_in_set}
-use Rattle.station_book.proofs.StandLaws.{Parted, parted, HasOpenSet, open_set, open_has_set, survey_is}
+use Rattle.station_book.proofs.StandLaws.{Parted, parted, HasOpenSet, open_set, open_has_set, survey_is, open_entry}
 use Rattle.indexmap.proofs.ReorderLemmas.{map-reverse}
 
 pub some_sighted : (o : Option Place) → is_some (sighted o) ≡ is_some o
@@ -92,29 +92,15 @@ empty_by_slots targets (r ∷ rs) kept =
 pub slots_kept : (shelf : ShelfValue) (past : History) → is_open past ≡ true
     → Stand past (stations_in past) shelf
     → (last_of shelf).slots ≡ slots_of (open_targets past) (open_readings past)
-slots_kept shelf past now h = by (parted past) where
-  set : HasOpenSet past
-  set = open_set past now
-
-  head : (x : List ℕ × EntryValue) → StandsAt past (station past) x
-      → x.1.slots ≡ slots_of (open_targets past) (open_readings past)
-  head x k =
-      let e : IsEntryWith (station past) (opening past ∷ set.older)
-      (station_readings (station past) past) x = subst
-      (λ (ss : List Place). IsEntryWith (station past) ss
-      (station_readings (station past) past) x) set.sets k in
-      e.slots ∙ ap (slots_of (open_targets past)) (open_in_set past)
-
-  of_newest : (sts : List Place) (es : ShelfValue) → Stand past (station past ∷ sts) es
-      → (last_of es).slots ≡ slots_of (open_targets past) (open_readings past)
-  of_newest sts [] k = absurd k
-  of_newest sts (y ∷ es) k = head y k.0
-
-  by : Parted past → (last_of shelf).slots ≡ slots_of (open_targets past) (open_readings past)
-  by (inl p) = let bad : is_empty (open_sets past) ≡ true = ap is_empty p.0 in absurd
-      (false≢true (sym (open_has_set past now) ∙ bad))
-  by (inr p) = of_newest p.rest shelf
-      (subst (λ (sts : List Place). Stand past sts shelf) p.stations h)
+slots_kept shelf past now h =
+    let e = open_entry shelf past (open_has_set past now) h in
+    let heads : opening past ∷ (open_set past now).older ≡ e.newest ∷ e.older =
+    sym (open_set past now).sets ∙ e.sets in
+    let newest : opening past ≡ e.newest = cc in
+    e.is.slots
+    ∙ (λ i. slots_of (open_targets past)
+    (in_set (sym newest i) (station_readings (station past) past)))
+    ∙ ap (slots_of (open_targets past)) (open_in_set past)
 
 closed_end : (past : History) → is_open past ≡ false → fault_at_end past ≡ None
 unfolding fault_at_end

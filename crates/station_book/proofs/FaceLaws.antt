@@ -32,9 +32,6 @@ pub record IsKept (targets : List (List ℕ)) (r : Place) : Type 0 where
   pub in_targets : is_among targets (target_at r) ≡ true
   pub has_face : stands (is_of_face (face_at r)) r ≡ true
 
-same_bytes : (xs : List ℕ) → bytes_eq xs xs ≡ true
-same_bytes xs = (bytes_eq-Decides xs xs).1 refl
-
 below_half : (z : ℕ) → (ltb 0 z && ltb z 20_000_000) ≡ true
     → (ltb 20_000_000 z && ltb z 40_000_000) ≡ false
 below_half z e = split (cases_Bool (ltb 20_000_000 z))

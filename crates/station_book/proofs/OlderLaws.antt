@@ -1,20 +1,18 @@
 -- Owners stand in order, and what belongs to an owner before the last one stays.
-use Rattle.std.proofs.Common.{◌≡◌, ℕ, ◌<◌, ◌≤◌, Bool, true, false, cond, List, [], ◌∷◌, length, arith}
+use Rattle.std.proofs.Common.{◌≡◌, ℕ, ◌<◌, ◌≤◌, Bool, true, false, cond, List, [], ◌∷◌, length, inl, inr, arith}
 use Rattle.std.specs.List.{AllByRecursion}
-use Rattle.std.proofs.lemmas.Bool.{ne_eqb}
+use Rattle.std.proofs.lemmas.Bool.{ne_eqb, cases_Bool}
 use Rattle.gsi_word.specs.Blocks.{GsiBlock}
 use Rattle.station_book.specs.Places.{History, Place, places, last, before, belonging}
 use Rattle.station_book.proofs.PlaceLaws.{length-last, belonging-other}
 
-grown : (v : Bool) (b : GsiBlock) (past owner : Place) → length owner ≤ length past
-    → length owner ≤ length (cond v (b ∷ past) owner)
-grown true b past owner le = omega (arith, le)
-grown false b past owner le = omega arith
-
 -- the last owner only moves on
 pub last_grows : (p : GsiBlock → Bool) (b : GsiBlock) (past : History)
     → length (last p past) ≤ length (last p (b ∷ past))
-last_grows p b past = grown (p b) b past (last p past) (length-last p past)
+last_grows p b past = elim (cases_Bool (p b)) [
+  | inl t ↦ rw t (let h = length-last p past in omega (arith, h))
+  | inr f ↦ rw f (omega arith)
+]
 
 all_below : (p : GsiBlock → Bool) (n m : ℕ) (xs : List Place) → n ≤ m
     → AllByRecursion (λ s. length (last p (before s)) ≤ n) xs

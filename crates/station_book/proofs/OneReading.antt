@@ -72,11 +72,11 @@ one_place limits (c ∷ past) set name f a b clean (inr pa) (inr pb) ia ib =
 pub is_of : (h : History) (station : List ℕ) (set : Place) (name : List ℕ) (f : Bool) (r : Place)
     → IsReadingOf h station set name f r → IsOf set name f r
 is_of h station set name f r is = record {
-      reading = is.reading;
-      of_set = is.of_set;
-      of_target = is.of_target;
-      of_face = is.of_face;
-    }
+  reading = is.reading;
+  of_set = is.of_set;
+  of_target = is.of_target;
+  of_face = is.of_face;
+}
 
 pub one_reading : (limits : FaceLimits) (h : History) (station : List ℕ) (set : Place)
     (name : List ℕ) (f : Bool) (a b : Place)

@@ -37,7 +37,7 @@ use Rattle.station_book.proofs.StandLaws.{open_has_set}
 use Rattle.station_book.proofs.TakeLaws.{station_as, set_as, close_as, sight_as, first_face, second_face}
 use Rattle.station_book.proofs.EndLaws.{slots_kept, some_sighted}
 use Rattle.station_book.proofs.FaultLaws.{first_append}
-use Rattle.station_book.proofs.SetFaultLaws.{open_entry}
+use Rattle.station_book.proofs.StandLaws.{open_entry}
 
 -- the faults of a reading in itself
 abbrev own_faults : GsiBlock → List (Option BookKind)

@@ -34,22 +34,22 @@ pub record Says (s : Sighting) (r : Place) : Type 0 where
 slot_other : (r : Place) (name : List ℕ) (rs : List Place) → bytes_eq (target_at r) name ≡ false
     → slot_of (r ∷ rs) name ≡ slot_of rs name
 slot_other r name rs e = λ i. record {
-      first = sighted (found_other false r name rs e i);
-      second = sighted (found_other true r name rs e i);
-    }
+  first = sighted (found_other false r name rs e i);
+  second = sighted (found_other true r name rs e i);
+}
 
 -- its own takes the face's side
 slot_own : (f : Bool) (v : Sight) (r : Place) (name : List ℕ) (rs : List Place) → v ≡ sight_at r
     → stands (is_of_face f) r ≡ true → stands (is_of_face (not f)) r ≡ false
     → bytes_eq (target_at r) name ≡ true → slot_of (r ∷ rs) name ≡ with_side f v (slot_of rs name)
 slot_own false v r name rs s f g e = λ i. record {
-      first = (ap sighted (found_here false r name rs e f) ∙ ap Some (sym s)) i;
-      second = sighted (found_not true r name rs g i);
-    }
+  first = (ap sighted (found_here false r name rs e f) ∙ ap Some (sym s)) i;
+  second = sighted (found_not true r name rs g i);
+}
 slot_own true v r name rs s f g e = λ i. record {
-      first = sighted (found_not false r name rs g i);
-      second = (ap sighted (found_here true r name rs e f) ∙ ap Some (sym s)) i;
-    }
+  first = sighted (found_not false r name rs g i);
+  second = (ap sighted (found_here true r name rs e f) ∙ ap Some (sym s)) i;
+}
 
 -- targets are all different
 pub distinct_different : (names : List (List ℕ)) → AllPairs (λ a b. a ≢ b) (distinct names)
@@ -119,9 +119,9 @@ none_read f name (r ∷ rs) all = found_other f r name rs all.0 ∙ none_read f 
 empty_of : (name : List ℕ) (rs : List Place)
     → AllByRecursion (λ r. bytes_eq (target_at r) name ≡ false) rs → slot_of rs name ≡ empty_slot
 empty_of name rs all = λ i. record {
-      first = sighted (none_read false name rs all i);
-      second = sighted (none_read true name rs all i);
-    }
+  first = sighted (none_read false name rs all i);
+  second = sighted (none_read true name rs all i);
+}
 
 -- an empty slot at the end gives nothing
 obs_empty : (n : ℕ) (slots : List Slot) → obs_of n (slots ++ empty_slot ∷ []) ≡ obs_of n slots

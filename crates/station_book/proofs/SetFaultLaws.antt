@@ -26,51 +26,12 @@ use Rattle.station_book.proofs.Membership.{same_bytes}
 use Rattle.station_book.proofs.StepLaws.{sets-other}
 use Rattle.station_book.proofs.KeptLaws.{none_stands, none_when}
 use Rattle.station_book.proofs.StationLaws.{had_sets_by_names}
-use Rattle.station_book.proofs.StandLaws.{Parted, parted, open_has_set, length_numbers}
+use Rattle.station_book.proofs.StandLaws.{Parted, parted, open_has_set, length_numbers, HasOpenEntry, open_entry}
 use Rattle.station_book.proofs.TakeLaws.{station_as, set_as, then_second}
 use Rattle.station_book.proofs.OnceLaws.{no_had_sets}
 use Rattle.station_book.proofs.EndLaws.{same_end}
 use Rattle.station_book.proofs.FaultLaws.{first_append}
 use Rattle.station_book.proofs.NewestLaws.{or_turned}
-
--- what is kept of the open station, where it has a set
-pub record HasOpenEntry (past : History) (shelf : ShelfValue) : Type 0 where
-  pub newest : Place
-  pub older : List Place
-  pub sets : open_sets past ≡ newest ∷ older
-  pub name : List ℕ
-  pub is : IsEntryOf (station past) newest older (station_readings (station past) past) name
-      (last_of shelf)
-
--- Where the open station has a set, the last entry is its own.
-pub open_entry : (shelf : ShelfValue) (past : History) → is_empty (open_sets past) ≡ false
-    → Stand past (stations_in past) shelf → HasOpenEntry past shelf
-open_entry shelf past some h = by (parted past) where
-  of_sets : (x : List ℕ × EntryValue) (sets : List Place) → open_sets past ≡ sets
-      → last_of shelf ≡ x.1
-      → IsEntryWith (station past) sets (station_readings (station past) past) x
-      → HasOpenEntry past shelf
-  of_sets x [] s l k = absurd k
-  of_sets x (set ∷ rest) s l k = record {
-    newest = set;
-    older = rest;
-    sets = s;
-    name = x.0;
-    is = subst (λ (e : EntryValue). IsEntryOf (station past) set rest
-        (station_readings (station past) past) x.0 e) (sym l) k;
-  }
-
-  of_newest : (sts : List Place) (es : ShelfValue) → Stand past (station past ∷ sts) es
-      → shelf ≡ es → HasOpenEntry past shelf
-  of_newest sts [] k e = absurd k
-  of_newest sts (y ∷ es) k e = of_sets y (open_sets past) refl
-      (ap (λ (o : ShelfValue). last_of o) e) k.0
-
-  by : Parted past → HasOpenEntry past shelf
-  by (inl p) = let bad : is_empty (open_sets past) ≡ true = ap is_empty p.0 in absurd
-      (false≢true (sym some ∙ bad))
-  by (inr p) = of_newest p.rest shelf
-      (subst (λ (sts : List Place). Stand past sts shelf) p.stations h) refl
 
 -- the faults of a block of code 20, in two parts
 pub set_fault_parts : (limits : FaceLimits) (past : History) (b : GsiBlock)

@@ -2,13 +2,13 @@
 -- another station is open, after any block.
 use Rattle.std.proofs.Common.{◌≡◌, ℕ, suc, ◌-◌, ◌<◌, ◌≤◌, Bool, true, false, cond, ◌&&◌, ◌||◌, List, [], ◌∷◌, ◌++◌, length, map, filter, replicate, Some, refl, sym, ap, ◌∙◌, inl, inr, ◌⊎◌, subst, arith}
 use Rattle.std.specs.List.{AllByRecursion}
-use Rattle.std.proofs.lemmas.Bool.{cases_Bool, false≢true, and_parts, ne_eqb, eq-eqb}
+use Rattle.std.proofs.lemmas.Bool.{cases_Bool, false≢true, and_parts, ne_eqb, eq-eqb, and_left, false_from_ne_true, or_parts}
 use Rattle.std.proofs.lemmas.List.{length-append, map-append, length-map}
 use Rattle.station_book.specs.Slots.{empty_slot, obs_of, faces_of}
 use Rattle.station_book.specs.Entries.{EntryValue, first_entry, with_set, with_reading}
 use Rattle.station_book.specs.declared.sight.Sighting.{Sighting}
 use Rattle.station_book.proofs.ReadingLaws.{Says, IsInNone, reading_stands, all_filter}
-use Rattle.station_book.specs.Shelves.{ShelfValue, survey_of, with_station}
+use Rattle.station_book.specs.Shelves.{ShelfValue, survey_of, with_station, last_of}
 use Rattle.station_book.proofs.CoupleLaws.{none_in_later}
 use Rattle.station_book.proofs.NewestLaws.{HasNewest}
 use Rattle.gsi_word.specs.Blocks.{GsiBlock}
@@ -19,8 +19,8 @@ use Rattle.station_book.specs.Faults.{open_sets, name_at}
 use Rattle.station_book.specs.Keeps.{slots_of, targets_in, obs_in, faces_in, numbers_in, IsEntryOf, IsEntryWith, StandsAt, IsComputed, stations_in, Stand, number_at}
 use Rattle.station_book.proofs.PlaceLaws.{length-last, belonging-more, belonging-same, belonging-fresh}
 use Rattle.station_book.proofs.OlderLaws.{belonging-older, owners_in_order}
-use Rattle.station_book.proofs.CodeLaws.{no_set_at_station}
-use Rattle.station_book.proofs.StepLaws.{sight_opens_nothing, sight_opens_no_station, is_open-opening, is_open-other, sets-station, sets-more, sets-other, same_station}
+use Rattle.station_book.proofs.CodeLaws.{no_set_at_station, no_station_at_set}
+use Rattle.station_book.proofs.StepLaws.{sight_opens_nothing, sight_opens_no_station, is_open-opening, is_open-other, sets-station, sets-more, sets-other, same_station, sight_opens_no_set}
 
 -- no reading: all slots are empty
 pub no_readings : (targets : List (List ℕ))
@@ -114,58 +114,72 @@ older_stay (st ∷ sts) (e ∷ es) b past all h = (
   older_stay sts es b past all.1 h.1,
 )
 
+-- The sets of the open station, where a set is open: the open one and those before it.
+pub record HasOpenSet (past : History) : Type 0 where
+  pub older : List Place
+  pub sets : open_sets past ≡ opening past ∷ older
+  pub before_it : AllByRecursion (λ s. length s < length (opening past)) older
+
+places_below : (past : History) (n : ℕ) → length past ≤ n
+    → AllByRecursion (λ s. length s < suc n) (places past)
+places_below [] n le = tt
+places_below (b ∷ past) n le = (omega arith, places_below past n (omega arith))
+
+pub open_set : (past : History) → is_open past ≡ true → HasOpenSet past
+open_set [] e = cc
+open_set (b ∷ past) e = elim (cases_Bool (is_opening b)) [
+  | inl o ↦
+      let n : opens_set b ≡ true = sym (is_open-opening b past o) ∙ e in
+      let here : opening (b ∷ past) ≡ b ∷ past = rw o in
+      record {
+        older = open_sets past;
+        sets = sets-more b past (no_station_at_set b n) n
+            ∙ ap (λ (p : Place). p ∷ open_sets past) (sym here);
+        before_it = subst (λ (p : Place). AllByRecursion (λ s. length s < length p)
+            (open_sets past)) (sym here)
+            (all_filter _ (λ place. is_set place && is_same (last opens_station (before place))
+            (station past)) (places past) (places_below past (length past) (omega arith)));
+      }
+  | inr o ↦
+      let k = open_set past (sym (is_open-other b past o) ∙ e) in
+      let same : opening (b ∷ past) ≡ opening past = rw o in
+      record {
+        older = k.older;
+        sets = sets-other b past (sight_opens_no_station b o) (sight_opens_no_set b o) ∙ k.sets
+            ∙ ap (λ (p : Place). p ∷ k.older) (sym same);
+        before_it = subst (λ (p : Place). AllByRecursion (λ s. length s < length p) k.older)
+            (sym same) k.before_it;
+      }
+]
+
 -- Where a set is open, the open station has a set.
 pub open_has_set : (past : History) → is_open past ≡ true → is_empty (open_sets past) ≡ false
-open_has_set [] e = cc
-open_has_set (b ∷ past) e = split (cases_Bool (opens_station b)) (cases_Bool (opens_set b))
-    (cases_Bool (is_opening b)) (open_has_set past) where
-      split : (opens_station b ≡ true) ⊎ (opens_station b ≡ false)
-          → (opens_set b ≡ true) ⊎ (opens_set b ≡ false)
-          → (is_opening b ≡ true) ⊎ (is_opening b ≡ false)
-          → (is_open past ≡ true → is_empty (open_sets past) ≡ false)
-          → is_empty (open_sets (b ∷ past)) ≡ false
-      split (inr s) (inl n) o ih = ap is_empty (sets-more b past s n)
-      split (inr s) (inr n) (inr o) ih = ap is_empty (sets-other b past s n)
-          ∙ ih (sym (is_open-other b past o) ∙ e)
-      split s (inr n) (inl o) ih = absurd (false≢true (sym n ∙ sym (is_open-opening b past o) ∙ e))
-      split (inl s) (inl n) o ih = absurd (false≢true (sym (no_set_at_station b s) ∙ n))
-      split (inl s) (inr n) (inr o) ih = absurd
-          (false≢true (sym (or_left (opens_station b) _ o) ∙ s)) where
-            or_left : (x y : Bool) → (x || y) ≡ false → x ≡ false
-            or_left true y h = cc
-            or_left false y h = refl
+open_has_set past e = ap is_empty (open_set past e).sets
 
 -- A station without a set has no reading.
 pub no_set_no_reading : (past : History) → open_sets past ≡ []
     → station_readings (station past) past ≡ []
 no_set_no_reading [] e = refl
-no_set_no_reading (b ∷ past) e = split (cases_Bool (opens_station b)) (cases_Bool (opens_set b))
-    (cases_Bool (is_reading (b ∷ past))) (no_set_no_reading past) where
-      split : (opens_station b ≡ true) ⊎ (opens_station b ≡ false)
-          → (opens_set b ≡ true) ⊎ (opens_set b ≡ false)
-          → (is_reading (b ∷ past) ≡ true) ⊎ (is_reading (b ∷ past) ≡ false)
-          → (open_sets past ≡ [] → station_readings (station past) past ≡ [])
-          → station_readings (station (b ∷ past)) (b ∷ past) ≡ []
-      split (inl s) n r ih = belonging-fresh opens_station is_reading b past s
-      split (inr s) (inl n) r ih = let bad : is_empty ((b ∷ past) ∷ open_sets past)
-          ≡ true = ap is_empty (sym (sets-more b past s n) ∙ e) in absurd (false≢true bad)
-      split (inr s) (inr n) (inr r) ih = belonging-same opens_station is_reading b past s r
-          ∙ ih (sym (sets-other b past s n) ∙ e)
-      split (inr s) (inr n) (inl r) ih =
-          let now : is_open past ≡ true = (and_parts (is_sight b) (is_open past) r).1 in
-          let some : is_empty (open_sets past) ≡ true = ap is_empty
-          (sym (sets-other b past s n) ∙ e) in
-          absurd (false≢true (sym (open_has_set past now) ∙ some))
+no_set_no_reading (b ∷ past) e = elim (cases_Bool (opens_station b)) [
+  | inl s ↦ belonging-fresh opens_station is_reading b past s
+  | inr s ↦ elim (cases_Bool (opens_set b)) [
+    | inl n ↦ let bad : (b ∷ past) ∷ open_sets past ≡ [] = sym (sets-more b past s n) ∙ e in cc
+    | inr n ↦
+        let none = sym (sets-other b past s n) ∙ e in elim (cases_Bool (is_reading (b ∷ past))) [
+          | inl r ↦ absurd (false≢true (sym (open_has_set past
+              (and_parts (is_sight b) (is_open past) r).1) ∙ ap is_empty none))
+          | inr r ↦ belonging-same opens_station is_reading b past s r
+              ∙ no_set_no_reading past none
+        ]
+  ]
+]
 
 -- A block that opens no set and is no reading changes nothing of any station.
 idle : (p : GsiBlock → Bool) (kind : Place → Bool) (owner : Place) (b : GsiBlock) (past : History)
     → kind (b ∷ past) ≡ false
     → filter (λ place. kind place && is_same (last p (before place)) owner) (places (b ∷ past))
     ≡ filter (λ place. kind place && is_same (last p (before place)) owner) (places past)
-idle p kind owner b past e = ap
-    (λ v. cond (v && is_same (last p past) owner) ((b ∷ past) ∷ rest) rest) e where
-      rest : List Place
-      rest = filter (λ place. kind place && is_same (last p (before place)) owner) (places past)
+idle p kind owner b past e = rw e
 
 all_idle : (sts : List Place) (es : ShelfValue) (b : GsiBlock) (past : History)
     → opens_set b ≡ false → is_reading (b ∷ past) ≡ false → Stand past sts es
@@ -210,10 +224,6 @@ abbrev pub Parted : History → Type 0
 Parted past = ((open_sets past ≡ [])
     × AllByRecursion (λ st. length st < length (station past)) (stations_in past))
     ⊎ HasOpenLast past
-
-none_or_some : (xs : List Place) → (xs ≡ []) ⊎ (is_empty xs ≡ false)
-none_or_some [] = inl refl
-none_or_some (x ∷ xs) = inr refl
 
 -- The stations stand in order.
 pub parted : (past : History) → Parted past
@@ -284,16 +294,16 @@ parted (b ∷ past) = split (cases_Bool (opens_station b)) (cases_Bool (opens_se
 
 pub set_is_no_reading : (b : GsiBlock) (past : History) → opens_set b ≡ true
     → is_reading (b ∷ past) ≡ false
-set_is_no_reading b past n = split (cases_Bool (is_sight b)) where
-  split : (is_sight b ≡ true) ⊎ (is_sight b ≡ false) → (is_sight b && is_open past) ≡ false
-  split (inr s) = ap (λ v. v && is_open past) s
-  split (inl s) = absurd
-      (false≢true (sym (sight_opens_nothing b s)
-      ∙ or_second (opens_station b) (opens_set b) (closes_set b) n)) where
-        or_second : (a x c : Bool) → x ≡ true → (a || (x || c)) ≡ true
-        or_second true x c e = refl
-        or_second false true c e = refl
-        or_second false false c e = cc
+set_is_no_reading b past n = and_left (is_sight b) (is_open past)
+    (false_from_ne_true (is_sight b) (λ s. false≢true
+    (sym (or_parts _ _ (or_parts _ _ (sight_opens_nothing b s)).1).0 ∙ n)))
+
+-- Where the open station has a set, it is the last one that has.
+pub open_last : (past : History) → is_empty (open_sets past) ≡ false → HasOpenLast past
+open_last past some = elim (parted past) [
+  | inl p ↦ absurd (false≢true (sym some ∙ ap is_empty p.0))
+  | inr p ↦ p
+]
 
 -- all stations after the first set of the open one
 pub stand_first : (shelf : ShelfValue) (b : GsiBlock) (past : History) (name : List ℕ) (n : ℕ)
@@ -311,11 +321,10 @@ stand_first shelf b past name n s set none named_so numbered h =
         (cond v ((b ∷ past) ∷ first_sets past) (first_sets past))) (λ i. set i && is_empty (none i))
 
     older : AllByRecursion (λ st. length st < length (station past)) (stations_in past)
-    older = by (parted past) where
-      by : Parted past → AllByRecursion (λ st. length st < length (station past)) (stations_in past)
-      by (inl p) = p.1
-      by (inr p) = let bad : is_empty (open_sets past) ≡ true = ap is_empty none in absurd
-          (false≢true (sym p.some_set ∙ bad))
+    older = elim (parted past) [
+      | inl p ↦ p.1
+      | inr p ↦ absurd (false≢true (sym p.some_set ∙ ap is_empty none))
+    ]
 
     sets : sets_of (station past) (b ∷ past) ≡ (b ∷ past) ∷ []
     sets = ap (λ (st : Place). sets_of st (b ∷ past)) (sym (same_station b past s))
@@ -344,107 +353,47 @@ pub stand_further : (x : List ℕ × EntryValue) (es : ShelfValue) (b : GsiBlock
     → opens_station b ≡ false → opens_set b ≡ true → is_empty (open_sets past) ≡ false
     → number b ≡ Some n → Stand past (stations_in past) (x ∷ es)
     → Stand (b ∷ past) (stations_in (b ∷ past)) ((x.0, with_set n x.1) ∷ es)
-stand_further x es b past n s set some numbered h = by (parted past) where
-  further : (sets : List Place)
-      → IsEntryWith (station past) sets (station_readings (station past) past) x
-      → IsEntryWith (station past) ((b ∷ past) ∷ sets) (station_readings (station past) past)
-      (x.0, with_set n x.1)
-  further [] k = absurd k
-  further (newest ∷ older) k = set_stands (station past) (b ∷ past) newest older
-      (station_readings (station past) past) x.0 n x.1 numbered
-      (none_to_come b past (station past)) k
+stand_further x es b past n s set some numbered h =
+    let p = open_last past some in
+    let same : stations_in (b ∷ past) ≡ stations_in past = ap
+    (λ v. map (λ t. station (before t))
+    (cond v ((b ∷ past) ∷ first_sets past) (first_sets past))) (λ i. set i && some i) in
+    let k = subst (λ (sts : List Place). Stand past sts (x ∷ es)) p.stations h in
+    subst (λ (sts : List Place). Stand (b ∷ past) sts ((x.0, with_set n x.1) ∷ es))
+    (sym (same ∙ p.stations)) (head k.0, older_stay p.rest es b past p.older k.1)
+  where
+    further : (sets : List Place)
+        → IsEntryWith (station past) sets (station_readings (station past) past) x
+        → IsEntryWith (station past) ((b ∷ past) ∷ sets) (station_readings (station past) past)
+        (x.0, with_set n x.1)
+    further [] k = absurd k
+    further (newest ∷ older) k = set_stands (station past) (b ∷ past) newest older
+        (station_readings (station past) past) x.0 n x.1 numbered
+        (none_to_come b past (station past)) k
 
-  head : StandsAt past (station past) x → StandsAt (b ∷ past) (station past) (x.0, with_set n x.1)
-  head k =
-      let sets : sets_of (station past) (b ∷ past) ≡ (b ∷ past) ∷ open_sets past = ap
-      (λ (st : Place). sets_of st (b ∷ past)) (sym (same_station b past s))
-      ∙ sets-more b past s set in
-      let readings = idle opens_station is_reading (station past) b past
-      (set_is_no_reading b past set) in
-      subst (λ (ss : List Place). IsEntryWith (station past) ss
-      (station_readings (station past) (b ∷ past)) (x.0, with_set n x.1)) (sym sets)
-      (subst (λ (rs : List Place). IsEntryWith (station past) ((b ∷ past) ∷ open_sets past) rs
-      (x.0, with_set n x.1)) (sym readings) (further (open_sets past) k))
-
-  by : Parted past → Stand (b ∷ past) (stations_in (b ∷ past)) ((x.0, with_set n x.1) ∷ es)
-  by (inl p) = let bad : is_empty (open_sets past) ≡ true = ap is_empty p.0 in absurd
-      (false≢true (sym some ∙ bad))
-  by (inr p) =
-      let same : stations_in (b ∷ past) ≡ stations_in past = ap
-      (λ v. map (λ t. station (before t))
-      (cond v ((b ∷ past) ∷ first_sets past) (first_sets past))) (λ i. set i && some i) in
-      let k = subst (λ (sts : List Place). Stand past sts (x ∷ es)) p.stations h in
-      subst (λ (sts : List Place). Stand (b ∷ past) sts ((x.0, with_set n x.1) ∷ es))
-      (sym (same ∙ p.stations)) (head k.0, older_stay p.rest es b past p.older k.1)
+    head : StandsAt past (station past) x → StandsAt (b ∷ past) (station past) (x.0, with_set n x.1)
+    head k =
+        let sets : sets_of (station past) (b ∷ past) ≡ (b ∷ past) ∷ open_sets past = ap
+        (λ (st : Place). sets_of st (b ∷ past)) (sym (same_station b past s))
+        ∙ sets-more b past s set in
+        let readings = idle opens_station is_reading (station past) b past
+        (set_is_no_reading b past set) in
+        subst (λ (ss : List Place). IsEntryWith (station past) ss
+        (station_readings (station past) (b ∷ past)) (x.0, with_set n x.1)) (sym sets)
+        (subst (λ (rs : List Place). IsEntryWith (station past) ((b ∷ past) ∷ open_sets past) rs
+        (x.0, with_set n x.1)) (sym readings) (further (open_sets past) k))
 
 -- Where the open station has a set, a station is kept.
 pub newest_there : (s : ShelfValue) (past : History) → is_empty (open_sets past) ≡ false
     → Stand past (stations_in past) s → HasNewest s
-newest_there s past some h = by (parted past) where
-  of_first : (st : Place) (sts : List Place) (es : ShelfValue) → Stand past (st ∷ sts) es
-      → HasNewest es
-  of_first st sts [] k = absurd k
-  of_first st sts (x ∷ es) k = record { newest = x; older = es; is = refl }
-
-  by : Parted past → HasNewest s
-  by (inl p) = let bad : is_empty (open_sets past) ≡ true = ap is_empty p.0 in absurd
-      (false≢true (sym some ∙ bad))
-  by (inr p) = of_first (station past) p.rest s
-      (subst (λ (sts : List Place). Stand past sts s) p.stations h)
-
--- The sets of the open station, where a set is open: the open one and those before it.
-pub record HasOpenSet (past : History) : Type 0 where
-  pub older : List Place
-  pub sets : open_sets past ≡ opening past ∷ older
-  pub before_it : AllByRecursion (λ s. length s < length (opening past)) older
-
-places_below : (past : History) (n : ℕ) → length past ≤ n
-    → AllByRecursion (λ s. length s < suc n) (places past)
-places_below [] n le = tt
-places_below (b ∷ past) n le = (omega arith, places_below past n (omega arith))
-
-pub open_set : (past : History) → is_open past ≡ true → HasOpenSet past
-open_set [] e = cc
-open_set (b ∷ past) e = split (cases_Bool (opens_station b)) (cases_Bool (opens_set b))
-    (cases_Bool (is_opening b)) (open_set past) where
-      split : (opens_station b ≡ true) ⊎ (opens_station b ≡ false)
-          → (opens_set b ≡ true) ⊎ (opens_set b ≡ false)
-          → (is_opening b ≡ true) ⊎ (is_opening b ≡ false) → (is_open past ≡ true → HasOpenSet past)
-          → HasOpenSet (b ∷ past)
-      split (inr s) (inl n) (inl o) ih =
-          let here : opening (b ∷ past) ≡ b ∷ past = ap
-          (λ v. cond v (b ∷ past) (last is_opening past)) o in
-          record {
-            older = open_sets past;
-            sets = sets-more b past s n ∙ ap (λ (p : Place). p ∷ open_sets past) (sym here);
-            before_it = subst (λ (p : Place). AllByRecursion (λ s. length s < length p)
-                (open_sets past)) (sym here)
-                (all_filter _ (λ place. is_set place && is_same (last opens_station (before place))
-                (station past)) (places past) (places_below past (length past) (omega arith)));
-          }
-      split (inr s) (inl n) (inr o) ih = absurd
-          (false≢true (sym o ∙ or_second (opens_station b) (opens_set b) (closes_set b) n)) where
-            or_second : (a x c : Bool) → x ≡ true → (a || (x || c)) ≡ true
-            or_second true x c e = refl
-            or_second false true c e = refl
-            or_second false false c e = cc
-      split (inr s) (inr n) (inr o) ih =
-          let k = ih (sym (is_open-other b past o) ∙ e) in
-          let same : opening (b ∷ past) ≡ opening past = ap
-          (λ v. cond v (b ∷ past) (last is_opening past)) o in
-          record {
-            older = k.older;
-            sets = sets-other b past s n ∙ k.sets ∙ ap (λ (p : Place). p ∷ k.older) (sym same);
-            before_it = subst (λ (p : Place). AllByRecursion (λ s. length s < length p) k.older)
-                (sym same) k.before_it;
-          }
-      split s (inr n) (inl o) ih = absurd (false≢true (sym n ∙ sym (is_open-opening b past o) ∙ e))
-      split (inl s) (inl n) o ih = absurd (false≢true (sym (no_set_at_station b s) ∙ n))
-      split (inl s) (inr n) (inr o) ih = absurd
-          (false≢true (sym (or_left (opens_station b) (opens_set b || closes_set b) o) ∙ s)) where
-            or_left : (x y : Bool) → (x || y) ≡ false → x ≡ false
-            or_left true y h = cc
-            or_left false y h = refl
+newest_there s past some h =
+    let p = open_last past some in
+    of_first p.rest s (subst (λ (sts : List Place). Stand past sts s) p.stations h)
+  where
+    of_first : (sts : List Place) (es : ShelfValue) → Stand past (station past ∷ sts) es
+        → HasNewest es
+    of_first sts [] k = absurd k
+    of_first sts (x ∷ es) k = record { newest = x; older = es; is = refl }
 
 in_none : (b : GsiBlock) (past : History) (readings older : List Place)
     → AllByRecursion (λ s. length s < length (opening past)) older
@@ -462,53 +411,75 @@ pub stand_reading : (x : List ℕ × EntryValue) (es : ShelfValue) (b : GsiBlock
     (s : Sighting) → is_opening b ≡ false → is_reading (b ∷ past) ≡ true → is_open past ≡ true
     → Says s (b ∷ past) → Stand past (stations_in past) (x ∷ es)
     → Stand (b ∷ past) (stations_in (b ∷ past)) ((x.0, with_reading s x.1) ∷ es)
-stand_reading x es b past s o reading now says h = by (parted past) where
-  no_station : opens_station b ≡ false
-  no_station = sight_opens_no_station b o
+stand_reading x es b past s o reading now says h =
+    let p = open_last past (open_has_set past now) in
+    let k = subst (λ (sts : List Place). Stand past sts (x ∷ es)) p.stations h in
+    subst (λ (sts : List Place). Stand (b ∷ past) sts ((x.0, with_reading s x.1) ∷ es))
+    (sym (same_stations b past no_set ∙ p.stations))
+    (head k.0, older_stay p.rest es b past p.older k.1)
+  where
+    no_station : opens_station b ≡ false
+    no_station = sight_opens_no_station b o
 
-  no_set : opens_set b ≡ false
-  no_set = second (opens_station b) (opens_set b) (closes_set b) o where
-    second : (a y c : Bool) → (a || (y || c)) ≡ false → y ≡ false
-    second true y c e = cc
-    second false true c e = cc
-    second false false c e = refl
+    no_set : opens_set b ≡ false
+    no_set = sight_opens_no_set b o
 
-  set : HasOpenSet past
-  set = open_set past now
+    set : HasOpenSet past
+    set = open_set past now
 
-  mine : (readings : List Place)
-      → in_set (opening past) ((b ∷ past) ∷ readings) ≡ (b ∷ past) ∷ in_set (opening past) readings
-  mine readings = ap (λ v. cond v ((b ∷ past) ∷ in_set (opening past) readings)
-      (in_set (opening past) readings))
-      (eq-eqb (length (opening past)) (length (opening past)) refl)
+    mine : (readings : List Place)
+        → in_set (opening past) ((b ∷ past) ∷ readings) ≡ (b ∷ past) ∷ in_set (opening past) readings
+    mine readings = ap (λ v. cond v ((b ∷ past) ∷ in_set (opening past) readings)
+        (in_set (opening past) readings))
+        (eq-eqb (length (opening past)) (length (opening past)) refl)
 
-  head : StandsAt past (station past) x
-      → StandsAt (b ∷ past) (station past) (x.0, with_reading s x.1)
-  head k =
-      let sets : sets_of (station past) (b ∷ past) ≡ opening past ∷ set.older = ap
-      (λ (st : Place). sets_of st (b ∷ past)) (sym (same_station b past no_station))
-      ∙ sets-other b past no_station no_set ∙ set.sets in
-      let readings : station_readings (station past) (b ∷ past) ≡ (b ∷ past) ∷ station_readings
-      (station past) past = ap (λ (st : Place). station_readings st (b ∷ past))
-      (sym (same_station b past no_station))
-      ∙ belonging-more opens_station is_reading b past no_station reading in
-      let old : IsEntryWith (station past) (opening past ∷ set.older)
-      (station_readings (station past) past) x = subst
-      (λ (ss : List Place). IsEntryWith (station past) ss
-      (station_readings (station past) past) x) set.sets k in
-      subst (λ (ss : List Place). IsEntryWith (station past) ss
-      (station_readings (station past) (b ∷ past)) (x.0, with_reading s x.1)) (sym sets)
-      (subst (λ (rs : List Place). IsEntryWith (station past) (opening past ∷ set.older) rs
-      (x.0, with_reading s x.1)) (sym readings)
-      (reading_stands (station past) (opening past) set.older (station_readings (station past) past)
-      (b ∷ past) x.0 x.1 s says (mine (station_readings (station past) past))
-      (in_none b past (station_readings (station past) past) set.older set.before_it) old))
+    head : StandsAt past (station past) x
+        → StandsAt (b ∷ past) (station past) (x.0, with_reading s x.1)
+    head k =
+        let sets : sets_of (station past) (b ∷ past) ≡ opening past ∷ set.older = ap
+        (λ (st : Place). sets_of st (b ∷ past)) (sym (same_station b past no_station))
+        ∙ sets-other b past no_station no_set ∙ set.sets in
+        let readings : station_readings (station past) (b ∷ past) ≡ (b ∷ past) ∷ station_readings
+        (station past) past = ap (λ (st : Place). station_readings st (b ∷ past))
+        (sym (same_station b past no_station))
+        ∙ belonging-more opens_station is_reading b past no_station reading in
+        let old : IsEntryWith (station past) (opening past ∷ set.older)
+        (station_readings (station past) past) x = subst
+        (λ (ss : List Place). IsEntryWith (station past) ss
+        (station_readings (station past) past) x) set.sets k in
+        subst (λ (ss : List Place). IsEntryWith (station past) ss
+        (station_readings (station past) (b ∷ past)) (x.0, with_reading s x.1)) (sym sets)
+        (subst (λ (rs : List Place). IsEntryWith (station past) (opening past ∷ set.older) rs
+        (x.0, with_reading s x.1)) (sym readings)
+        (reading_stands (station past) (opening past) set.older (station_readings (station past) past)
+        (b ∷ past) x.0 x.1 s says (mine (station_readings (station past) past))
+        (in_none b past (station_readings (station past) past) set.older set.before_it) old))
 
-  by : Parted past → Stand (b ∷ past) (stations_in (b ∷ past)) ((x.0, with_reading s x.1) ∷ es)
-  by (inl p) = let bad : is_empty (open_sets past) ≡ true = ap is_empty p.0 in absurd
-      (false≢true (sym (open_has_set past now) ∙ bad))
-  by (inr p) =
-      let k = subst (λ (sts : List Place). Stand past sts (x ∷ es)) p.stations h in
-      subst (λ (sts : List Place). Stand (b ∷ past) sts ((x.0, with_reading s x.1) ∷ es))
-      (sym (same_stations b past no_set ∙ p.stations))
-      (head k.0, older_stay p.rest es b past p.older k.1)
+-- what is kept of the open station, where it has a set
+pub record HasOpenEntry (past : History) (shelf : ShelfValue) : Type 0 where
+  pub newest : Place
+  pub older : List Place
+  pub sets : open_sets past ≡ newest ∷ older
+  pub name : List ℕ
+  pub is : IsEntryOf (station past) newest older (station_readings (station past) past) name
+      (last_of shelf)
+
+-- Where the open station has a set, the last entry is its own.
+pub open_entry : (shelf : ShelfValue) (past : History) → is_empty (open_sets past) ≡ false
+    → Stand past (stations_in past) shelf → HasOpenEntry past shelf
+open_entry shelf past some h =
+    let p = open_last past some in
+    of_newest p.rest shelf (subst (λ (sts : List Place). Stand past sts shelf) p.stations h)
+  where
+    of_sets : (x : List ℕ × EntryValue) (es : ShelfValue) (sets : List Place)
+        → open_sets past ≡ sets
+        → IsEntryWith (station past) sets (station_readings (station past) past) x
+        → HasOpenEntry past (x ∷ es)
+    of_sets x es [] s k = absurd k
+    of_sets x es (set ∷ rest) s k =
+        record { newest = set; older = rest; sets = s; name = x.0; is = k }
+
+    of_newest : (sts : List Place) (es : ShelfValue) → Stand past (station past ∷ sts) es
+        → HasOpenEntry past es
+    of_newest sts [] k = absurd k
+    of_newest sts (y ∷ es) k = of_sets y es (open_sets past) refl k.0

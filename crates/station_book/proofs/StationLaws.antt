@@ -8,6 +8,7 @@ use Rattle.station_book.specs.Places.{History, Place, places, last, before, belo
 use Rattle.station_book.specs.Faults.{open_sets, had_sets, same_name, name_at}
 use Rattle.station_book.proofs.PlaceLaws.{belonging-fresh, belonging-same}
 use Rattle.station_book.proofs.Membership.{In, any_from, any_to, same_test}
+use Rattle.station_book.proofs.Elements.{of_filter}
 
 pub right_false : (a b : Bool) → a ≡ true → (a && b) ≡ false → b ≡ false
 right_false true b e f = f
@@ -82,20 +83,6 @@ left_out p x (y ∷ ys) e h = split (cases_Bool (p y)) h (left_out p x ys) where
       (ap (λ v. cond v (y ∷ filter p ys) (filter p ys)) t) ∙ e in cc
   split (inr t) (inl k) rest = ap p k ∙ t
   split (inr t) (inr k) rest = rest (sym (ap (λ v. cond v (y ∷ filter p ys) (filter p ys)) t) ∙ e) k
-
-of_filter : {X : Type 0} (p : X → Bool) (x : X) (xs : List X) → In x (filter p xs)
-    → In x xs × (p x ≡ true)
-of_filter p x [] h = absurd h
-of_filter p x (y ∷ ys) h = split (cases_Bool (p y)) (of_filter p x ys) where
-  split : (p y ≡ true) ⊎ (p y ≡ false) → (In x (filter p ys) → In x ys × (p x ≡ true))
-      → In x (y ∷ ys) × (p x ≡ true)
-  split (inl t) rest = by
-      (subst (In x) (ap (λ v. cond v (y ∷ filter p ys) (filter p ys)) t) h) where
-        by : (x ≡ y) ⊎ In x (filter p ys) → In x (y ∷ ys) × (p x ≡ true)
-        by (inl k) = (inl k, ap p k ∙ t)
-        by (inr k) = let r = rest k in (inr r.0, r.1)
-  split (inr t) rest = let r = rest
-      (subst (In x) (ap (λ v. cond v (y ∷ filter p ys) (filter p ys)) t) h) in (inr r.0, r.1)
 
 -- Before its first set, a station's name had sets exactly where a station with sets has it.
 pub had_sets_by_names : (past : History) → open_sets past ≡ [] → had_sets past ≡ list_any

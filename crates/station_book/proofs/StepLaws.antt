@@ -1,7 +1,7 @@
 -- What a block does to the open set, its readings, the station, its sets and targets.
 use Rattle.std.proofs.Common.{◌≡◌, ℕ, Bool, true, false, cond, eqb, ◌&&◌, ◌||◌, not, List, [], ◌∷◌, map, refl, ap}
 use Rattle.std.specs.Prelude.{◌==◌}
-use Rattle.std.proofs.lemmas.Bool.{and_parts, or_from, eqb-true}
+use Rattle.std.proofs.lemmas.Bool.{and_parts, or_from, eqb-true, or_parts}
 use Rattle.std.specs.Str.{bytes_eq}
 use Rattle.std.specs.Prelude.{codes}
 use Rattle.gsi_word.specs.Blocks.{GsiBlock}
@@ -82,9 +82,8 @@ sight_opens_nothing b e =
     or_from _ _ (measures_alone b.words (codes "10") m)
     (or_from _ _ (measures_alone b.words (codes "20") m) (measures_alone b.words (codes "30") m))
 
-or_false_left : (a b : Bool) → (a || b) ≡ false → a ≡ false
-or_false_left true b e = cc
-or_false_left false b e = refl
-
 pub sight_opens_no_station : (b : GsiBlock) → is_opening b ≡ false → opens_station b ≡ false
-sight_opens_no_station b e = or_false_left (opens_station b) _ e
+sight_opens_no_station b e = (or_parts (opens_station b) _ e).0
+
+pub sight_opens_no_set : (b : GsiBlock) → is_opening b ≡ false → opens_set b ≡ false
+sight_opens_no_set b e = (or_parts (opens_set b) _ (or_parts (opens_station b) _ e).1).0
