@@ -1,7 +1,7 @@
 -- Which reading of a target is found among those of a set, and which readings are of the open set.
-use Rattle.std.proofs.Common.{◌≡◌, ℕ, ◌≤◌, Bool, true, false, cond, ◌&&◌, List, [], ◌∷◌, length, filter, Some, refl, sym, ap, ◌∙◌, inl, inr, ◌⊎◌, arith}
+use Rattle.std.proofs.Common.{◌≡◌, ℕ, ◌≤◌, Bool, true, false, cond, ◌&&◌, List, [], ◌∷◌, length, filter, Some, refl, sym, ap, ◌∙◌, inl, inr, arith}
 use Rattle.std.specs.Str.{bytes_eq}
-use Rattle.std.proofs.lemmas.Bool.{cases_Bool, and_from, eq-eqb, ne_eqb, and_right}
+use Rattle.std.proofs.lemmas.Bool.{cases_Bool, eq-eqb, ne_eqb, and_right}
 use Rattle.station_book.specs.Blocks.{is_of_face, opens_station, is_opening}
 use Rattle.station_book.specs.Places.{History, Place, places, last, before, reading_in, is_same, is_reading, opening, station, station_readings, target_at, stands}
 use Rattle.station_book.specs.Faults.{open_readings}

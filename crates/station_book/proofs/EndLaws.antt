@@ -3,20 +3,18 @@
 use Rattle.std.proofs.Common.{◌≡◌, ℕ, Bool, true, false, ◌&&◌, ◌||◌, List, [], ◌∷◌, map, reverse, Option, Some, None, is_some, is_none, refl, sym, ap, ◌∙◌, inl, inr, subst}
 use Rattle.std.specs.List.{list_any, list_all, AllByRecursion}
 use Rattle.std.specs.Str.{bytes_eq}
-use Rattle.std.proofs.lemmas.Bool.{false≢true}
 use Rattle.std.proofs.lemmas.List.{reverse-reverse}
 use Rattle.std.proofs.lemmas.Slice.Eq.{bytes_eq-Decides}
 use Rattle.station_book.specs.declared.fault.BookKind.TheVariants as kinds
 use Rattle.station_book.specs.declared.stage.Stage.{Stage}
 use Rattle.station_book.specs.declared.stage.Stage.TheVariants.{Outside, Station, BetweenSets, InSet}
-use Rattle.station_book.specs.Faults.{when, first_of, open_sets, open_readings, has_one_face, fault_at_end, face_at}
+use Rattle.station_book.specs.Faults.{when, first_of, open_readings, has_one_face, fault_at_end, face_at}
 use Rattle.station_book.specs.Slots.{is_unread, is_single}
-use Rattle.station_book.specs.Entries.{EntryValue}
 use Rattle.station_book.specs.Shelves.{ShelfValue, last_of, survey_of, surveys_of}
 use Rattle.station_book.specs.Stations.{SurveyedStation, in_set}
 use Rattle.station_book.specs.Kept.{Kept, ending}
 use Rattle.station_book.specs.Places.{History, Place, station, opening, is_empty, is_open, reading_in, sets_of, station_readings, target_at}
-use Rattle.station_book.specs.Keeps.{sighted, slot_of, slots_of, IsEntryWith, StandsAt, IsComputed, Stand, stations_in, IsStage}
+use Rattle.station_book.specs.Keeps.{sighted, slot_of, slots_of, IsComputed, Stand, stations_in, IsStage}
 use Rattle.station_book.specs.Standing.{StandsFor}
 use Rattle.station_book.proofs.Membership.{In, any_to}
 use Rattle.station_book.proofs.StepLaws.{open_targets}
@@ -24,7 +22,7 @@ use Rattle.station_book.proofs.FaceLaws as faces
 use Rattle.station_book.proofs.FaceLaws.{IsKept, some_there}
 use Rattle.station_book.proofs.KeptLaws.{open_kept}
 use Rattle.station_book.proofs.CoupleLaws.{open_in_set}
-use Rattle.station_book.proofs.StandLaws.{Parted, parted, HasOpenSet, open_set, open_has_set, survey_is, open_entry}
+use Rattle.station_book.proofs.StandLaws.{open_set, open_has_set, survey_is, open_entry}
 use Rattle.indexmap.proofs.ReorderLemmas.{map-reverse}
 
 pub some_sighted : (o : Option Place) → is_some (sighted o) ≡ is_some o

@@ -1,21 +1,22 @@
--- In a history without fault, each reading of the open set is kept: it has a face, and its target
--- is listed.
-use Rattle.std.proofs.Common.{◌≡◌, ℕ, Bool, true, false, cond, ◌&&◌, ◌||◌, not, List, [], ◌∷◌, ◌++◌, Option, Some, None, refl, sym, ap, ◌∙◌, inl, inr, ◌⊎◌, subst}
+-- What is true of a block that has no fault; and in a history without fault, each reading of the
+-- open set is kept: it has a face, and its target is listed.
+use Rattle.std.proofs.Common.{◌≡◌, ℕ, Bool, true, false, ◌||◌, not, List, [], ◌∷◌, ◌++◌, Option, Some, None, refl, sym, ap, ◌∙◌, inl, inr}
 use Rattle.std.specs.List.{AllByRecursion}
 use Rattle.std.specs.Str.{bytes_eq}
-use Rattle.std.proofs.lemmas.Bool.{cases_Bool}
+use Rattle.std.proofs.lemmas.Bool.{cases_Bool, or_cases, false≢true, or_parts, and_parts, true_from_ne_false}
 use Rattle.std.proofs.lemmas.Slice.Eq.{bytes_eq-Decides}
 use Rattle.station_book.specs.declared.fault.BookKind.{BookKind}
 use Rattle.station_book.specs.declared.fault.BookKind.TheVariants as kinds
 use Rattle.gsi_word.specs.Blocks.{GsiBlock}
-use Rattle.station_book.specs.Blocks.{target, is_of_face, opens_station, opens_set, closes_set, is_opening, is_sight}
-use Rattle.station_book.specs.Places.{History, Place, is_among, with_new, is_open}
-use Rattle.station_book.specs.Faults.{face, faults, reading_faults, fault_after, IsWithoutFault, open_readings, when, first_of}
+use Rattle.station_book.specs.Blocks.{number, target, is_of_face, opens_station, opens_set, closes_set, is_opening, is_sight}
+use Rattle.station_book.specs.Places.{History, Place, is_among, with_new, is_open, is_empty, is_reading, station}
+use Rattle.station_book.specs.Faults.{face, reading_faults, fault_after, IsWithoutFault, open_readings, when, first_of, end_faults, is_face_taken, set_faults, is_beyond, had_sets, has_no_two_c, has_set_number, has_no_two_i}
 use Rattle.station_book.specs.Limits.{FaceLimits}
 use Rattle.station_book.proofs.Membership.{any_from, any_to}
 use Rattle.station_book.proofs.FaceLaws.{IsKept}
-use Rattle.station_book.proofs.StepLaws.{open_targets, readings-opening, readings-more, readings-other, targets-more, targets-other, sight_opens_no_station}
+use Rattle.station_book.proofs.StepLaws.{open_targets, readings-opening, readings-more, readings-other, targets-more, targets-other, sight_opens_no_station, sight_opens_nothing}
 use Rattle.station_book.proofs.Elements.{in_left, in_right}
+use Rattle.station_book.proofs.CodeLaws.{no_station_at_set}
 
 -- where none is the first, none stands
 pub none_stands : {X : Type 0} (os : List (Option X)) → first_of os ≡ None
@@ -31,19 +32,18 @@ none_when false k e = refl
 -- a listed name stays listed, and a new one is
 pub among_more : (names : List (List ℕ)) (name other : List ℕ) → is_among names other ≡ true
     → is_among (with_new names name) other ≡ true
-among_more names name other e = split (is_among names name) where
-  split : (v : Bool) → is_among (cond v names (names ++ name ∷ [])) other ≡ true
-  split true = e
-  split false = let (n, h, t) = any_to (λ m. bytes_eq m other) names e in any_from
-      (λ m. bytes_eq m other) n (names ++ name ∷ []) (in_left n names (name ∷ []) h) t
+among_more names name other e = elim (cases_Bool (is_among names name)) [
+  | inl v ↦ rw v e
+  | inr v ↦ rw v (let (n, h, t) = any_to (λ m. bytes_eq m other) names e in
+      any_from (λ m. bytes_eq m other) n (names ++ name ∷ []) (in_left n names (name ∷ []) h) t)
+]
 
 pub among_new : (names : List (List ℕ)) (name : List ℕ) → is_among (with_new names name) name ≡ true
-among_new names name = split (is_among names name) refl where
-  split : (v : Bool) → is_among names name ≡ v
-      → is_among (cond v names (names ++ name ∷ [])) name ≡ true
-  split true e = e
-  split false e = any_from (λ m. bytes_eq m name) name (names ++ name ∷ []) (in_right name names (name ∷ []) (inl refl))
-      ((bytes_eq-Decides name name).1 refl)
+among_new names name = elim (cases_Bool (is_among names name)) [
+  | inl v ↦ rw v v
+  | inr v ↦ rw v (any_from (λ m. bytes_eq m name) name (names ++ name ∷ [])
+      (in_right name names (name ∷ []) (inl refl)) ((bytes_eq-Decides name name).1 refl))
+]
 
 kept_more : (names : List (List ℕ)) (name : List ℕ) (rs : List Place)
     → AllByRecursion (IsKept names) rs → AllByRecursion (IsKept (with_new names name)) rs
@@ -53,78 +53,75 @@ kept_more names name (r ∷ rs) k = (
   kept_more names name rs k.1,
 )
 
--- where the tests of a reading find nothing it has a face
-pub not_false : (a : Bool) → not a ≡ false → a ≡ true
-not_false true e = refl
-not_false false e = cc
-
 pub face_is : (b : GsiBlock) → (is_of_face false b || is_of_face true b) ≡ true
     → is_of_face (face b) b ≡ true
-face_is b e = split (is_of_face true b) refl where
-  split : (v : Bool) → is_of_face true b ≡ v → is_of_face v b ≡ true
-  split true h = h
-  split false h = left (is_of_face false b) (is_of_face true b) e h where
-    left : (x y : Bool) → (x || y) ≡ true → y ≡ false → x ≡ true
-    left true y e h = refl
-    left false y e h = cc
+face_is b e = elim (cases_Bool (is_of_face true b)) [
+  | inl h ↦ rw h h
+  | inr h ↦ rw h (elim (or_cases (is_of_face false b) (is_of_face true b) e) [
+    | inl f ↦ f
+    | inr t ↦ absurd (false≢true (sym h ∙ t))
+  ])
+]
 
-pub a_face : (limits : FaceLimits) (past : History) (b : GsiBlock)
-    → first_of (reading_faults limits past b) ≡ None
-    → (is_of_face false b || is_of_face true b) ≡ true
-a_face limits past b e =
-    not_false (is_of_face false b || is_of_face true b)
-    (none_when (not (is_of_face false b || is_of_face true b)) kinds.FaceUnclear
-    (none_stands (reading_faults limits past b) e).1.1.1.1.1.0)
+-- a block with code 20 that has no fault
+pub record IsCleanSet (past : History) (b : GsiBlock) : Type 0 where
+  pub of_station : is_empty (station past) ≡ false
+  pub first_time : had_sets past ≡ false
+  pub new_number : has_set_number (number b) past ≡ false
 
-pub fourth : {X : Type 0} (x y z r : Bool) (whole a b c d e : X)
-    → whole ≡ cond x a (cond y b (cond z c (cond r d e))) → (x || (y || z)) ≡ false → r ≡ true
-    → whole ≡ d
-fourth true y z r whole a b c d e w f g = cc
-fourth false true z r whole a b c d e w f g = cc
-fourth false false true r whole a b c d e w f g = cc
-fourth false false false true whole a b c d e w f g = w
-fourth false false false false whole a b c d e w f g = cc
+pub clean_set : (limits : FaceLimits) (past : History) (b : GsiBlock) → opens_set b ≡ true
+    → fault_after limits past b ≡ None → IsCleanSet past b
+unfolding fault_after
+clean_set limits past b e clean =
+    let none = (none_stands (end_faults past ++ set_faults past b)
+    (rw (no_station_at_set b e, e) at clean)).1.1.1 in
+    record {
+      of_station = none_when (is_empty (station past)) kinds.SetOutside none.0;
+      first_time = none_when (had_sets past) kinds.StationTwice none.1.1.0;
+      new_number = none_when (has_set_number (number b) past) kinds.SetTwice none.1.1.1.0;
+    }
 
--- a reading's faults are the block's
-pub faults_of_reading : (limits : FaceLimits) (past : History) (b : GsiBlock) → is_opening b ≡ false
-    → (is_sight b && is_open past) ≡ true → faults limits past b ≡ reading_faults limits past b
-faults_of_reading limits past b o r = fourth (opens_station b) (opens_set b) (closes_set b)
-    (is_sight b && is_open past) (faults limits past b) _ _ _
-    (reading_faults limits past b) [] refl o r
+-- a reading that has no fault
+pub record IsCleanReading (limits : FaceLimits) (past : History) (b : GsiBlock) : Type 0 where
+  pub faced : is_of_face (face b) b ≡ true
+  pub free : is_face_taken b past ≡ false
+  pub two_c : is_beyond (has_no_two_c limits.two_c) b past ≡ false
+  pub two_i : is_beyond (has_no_two_i limits.two_i) b past ≡ false
+
+pub clean_reading : (limits : FaceLimits) (past : History) (b : GsiBlock)
+    → is_reading (b ∷ past) ≡ true → fault_after limits past b ≡ None → IsCleanReading limits past b
+unfolding fault_after
+clean_reading limits past b e clean =
+    let o = sight_opens_nothing b (and_parts (is_sight b) (is_open past) e).0 in
+    let other = or_parts (opens_set b) (closes_set b) (or_parts (opens_station b) _ o).1 in
+    let none = (none_stands (reading_faults limits past b)
+    (rw (sight_opens_no_station b o, other.0, other.1, e) at clean)).1.1.1.1.1 in
+    let faced = is_of_face false b || is_of_face true b in
+    record {
+      faced = face_is b (true_from_ne_false faced (λ f. false≢true
+          (sym (none_when (not faced) kinds.FaceUnclear none.0) ∙ ap not f)));
+      free = none_when (is_face_taken b past) kinds.FaceTwice none.1.0;
+      two_c = none_when (is_beyond (has_no_two_c limits.two_c) b past) kinds.TwoC none.1.1.1.0;
+      two_i = none_when (is_beyond (has_no_two_i limits.two_i) b past) kinds.TwoI none.1.1.1.1.0;
+    }
 
 -- each reading of the open set is kept
 pub open_kept : (limits : FaceLimits) (past : History) → IsWithoutFault limits past
     → AllByRecursion (IsKept (open_targets past)) (open_readings past)
-unfolding fault_after
 open_kept limits [] h = tt
-open_kept limits (b ∷ past) h = split (cases_Bool (is_opening b))
-    (cases_Bool (is_sight b && is_open past)) (open_kept limits past h.1) where
-      split : (is_opening b ≡ true) ⊎ (is_opening b ≡ false)
-          → ((is_sight b && is_open past) ≡ true) ⊎ ((is_sight b && is_open past) ≡ false)
-          → AllByRecursion (IsKept (open_targets past)) (open_readings past)
-          → AllByRecursion (IsKept (open_targets (b ∷ past))) (open_readings (b ∷ past))
-      split (inl o) r ih = let P : List Place
-          → Type 0 = λ rs. AllByRecursion (IsKept (open_targets (b ∷ past))) rs in subst P
-          (sym (readings-opening b past o)) tt
-      split (inr o) (inl r) ih =
-          let P : List Place → Type 0 = λ rs. AllByRecursion
-          (IsKept (open_targets (b ∷ past))) rs in
-          let Q : List (List ℕ)
-          → Type 0 = λ names. AllByRecursion (IsKept names) ((b ∷ past) ∷ open_readings past) in
-          let n : first_of (reading_faults limits past b) ≡ None = sym
-          (ap first_of (faults_of_reading limits past b o r)) ∙ h.0 in
-          subst P (sym (readings-more b past o r))
-          (subst Q (sym (targets-more b past (sight_opens_no_station b o) r)) (
-            record {
-              in_targets = among_new (open_targets past) (target b);
-              has_face = face_is b (a_face limits past b n);
-            },
-            kept_more (open_targets past) (target b) (open_readings past) ih,
-          ))
-      split (inr o) (inr r) ih =
-          let P : List Place → Type 0 = λ rs. AllByRecursion
-          (IsKept (open_targets (b ∷ past))) rs in
-          let Q : List (List ℕ)
-          → Type 0 = λ names. AllByRecursion (IsKept names) (open_readings past) in
-          subst P (sym (readings-other b past o r))
-          (subst Q (sym (targets-other b past (sight_opens_no_station b o) r)) ih)
+open_kept limits (b ∷ past) h = elim (cases_Bool (is_opening b)) [
+  | inl o ↦ rw (readings-opening b past o) tt
+  | inr o ↦
+      let s = sight_opens_no_station b o in elim (cases_Bool (is_reading (b ∷ past))) [
+        | inl r ↦ rw (targets-more b past s r, readings-more b past o r) (
+          record {
+            in_targets = among_new (open_targets past) (target b);
+            has_face = (clean_reading limits past b r h.0).faced;
+          },
+          kept_more (open_targets past) (target b) (open_readings past)
+              (open_kept limits past h.1),
+        )
+        | inr r ↦ rw (targets-other b past s r, readings-other b past o r)
+            (open_kept limits past h.1)
+      ]
+]

@@ -12,7 +12,7 @@ use Rattle.station_book.specs.Faults.{same_number, sight_at, open_sets, IsWithou
 use Rattle.station_book.specs.Stations.{Couple, SurveyedStation, joined, couples_in, IsObserved, IsSurveyed, AreStations, stations_of, couples_of}
 use Rattle.station_book.proofs.Membership.{In}
 use Rattle.station_book.proofs.Elements.{in_contains, zip_left}
-use Rattle.station_book.proofs.CleanLaws.{clean_set}
+use Rattle.station_book.proofs.KeptLaws.{clean_set}
 use Rattle.station_book.proofs.NameLaws.{Pairwise, all_reverse, pairwise_snoc, each_false, pairs_of}
 use Rattle.station_book.proofs.FilePlaces.{OfFile, station_placed}
 use Rattle.station_book.proofs.CoupleReadings.{readings_in, pair_of_couple}

@@ -15,7 +15,7 @@ use Rattle.station_book.specs.Faults.{open_sets, same_name, name_at, IsWithoutFa
 use Rattle.station_book.specs.Stations.{SurveyedStation, IsSurveyed, AreStations, stations_of, station_named}
 use Rattle.station_book.proofs.Membership.{In, all_in, find_some}
 use Rattle.station_book.proofs.Elements.{in_contains, contains_in}
-use Rattle.station_book.proofs.CleanLaws.{clean_set}
+use Rattle.station_book.proofs.KeptLaws.{clean_set}
 use Rattle.station_book.proofs.StationLaws.{had_sets_by_names}
 
 module _ {X : Type 0} where

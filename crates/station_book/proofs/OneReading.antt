@@ -9,7 +9,7 @@ use Rattle.station_book.specs.Blocks.{target, is_of_face, is_opening}
 use Rattle.station_book.specs.Places.{History, Place, places, last, before, opening, is_same, is_reading, target_at, stands, reading_in}
 use Rattle.station_book.specs.Faults.{face, open_readings, fault_after, IsWithoutFault}
 use Rattle.station_book.specs.Recorded.{IsReadingOf}
-use Rattle.station_book.proofs.CleanLaws.{clean_reading}
+use Rattle.station_book.proofs.KeptLaws.{clean_reading}
 use Rattle.station_book.proofs.Elements.{in_filter, in_contains}
 use Rattle.station_book.proofs.FaceLaws.{one_face}
 use Rattle.station_book.proofs.Membership.{In, find_found}

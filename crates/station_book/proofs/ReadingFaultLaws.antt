@@ -1,5 +1,5 @@
 -- The fault of a measurement by what is kept is its fault by the blocks before it.
-use Rattle.std.proofs.Common.{◌≡◌, ℕ, Bool, true, false, cond, not, leb, ltb, ◌&&◌, ◌||◌, List, [], ◌∷◌, ◌++◌, length, get_or, Option, Some, None, is_none, is_some, Ok, refl, sym, ap, ◌∙◌}
+use Rattle.std.proofs.Common.{◌≡◌, ℕ, Bool, true, false, cond, not, leb, ltb, ◌&&◌, ◌||◌, List, [], ◌∷◌, length, get_or, Option, Some, None, is_none, is_some, Ok, refl, sym, ap, ◌∙◌}
 use Rattle.std.specs.List.{AllByRecursion}
 use Rattle.std.specs.Option.{option_map}
 use Rattle.std.specs.Str.{bytes_eq}
@@ -14,7 +14,7 @@ use Rattle.station_book.specs.Sights.{Sight}
 use Rattle.station_book.specs.declared.sight.Sighting.{Sighting}
 use Rattle.station_book.specs.declared.stage.Stage.{Stage}
 use Rattle.station_book.specs.declared.stage.Stage.TheVariants.{Outside, Station, BetweenSets, InSet}
-use Rattle.station_book.specs.Faults.{when, first_of, has_no_two_c, has_no_two_i, open_readings, face, by_faces, end_faults, station_faults, set_faults, reading_faults, fault_after, IsWithoutFault}
+use Rattle.station_book.specs.Faults.{when, first_of, has_no_two_c, has_no_two_i, open_readings, face, by_faces, reading_faults, fault_after, IsWithoutFault}
 use Rattle.station_book.specs.Kept.{then_fault}
 use Rattle.station_book.specs.Roles.{role_of}
 use Rattle.station_book.specs.Readings as said
@@ -34,9 +34,9 @@ use Rattle.station_book.proofs.FaceLaws.{IsKept, one_face, unseen}
 use Rattle.station_book.proofs.KeptLaws.{open_kept}
 use Rattle.station_book.proofs.ReadingLaws.{slot_get}
 use Rattle.station_book.proofs.StandLaws.{open_has_set}
-use Rattle.station_book.proofs.TakeLaws.{station_as, set_as, close_as, sight_as, first_face, second_face}
+use Rattle.station_book.proofs.TakeLaws.{first_face, second_face}
 use Rattle.station_book.proofs.EndLaws.{slots_kept, some_sighted}
-use Rattle.station_book.proofs.FaultLaws.{first_append}
+use Rattle.station_book.proofs.FaultLaws.{first_append, fault_by_role}
 use Rattle.station_book.proofs.StandLaws.{open_entry}
 
 -- the faults of a reading in itself
@@ -246,12 +246,6 @@ by_stage limits InSet shelf past b w g h = by (lacks 21 b) where
 pub same_measurement_fault : (k : kept.Kept) (b : GsiBlock) (past : History)
     → role_of b ≡ roles.Measurement → StandsFor k.limits k past
     → kept.fault_as roles.Measurement k b ≡ fault_after k.limits past b
-unfolding fault_after
 same_measurement_fault k b past r h =
     by_stage k.limits k.stage k.shelf past b h.clean h.stage h.stations
-    ∙ sym (λ i. first_of (cond (station_as b roles.Measurement r i)
-    (end_faults past ++ station_faults b)
-    (cond (set_as b roles.Measurement r i) (end_faults past ++ set_faults past b)
-    (cond (close_as b roles.Measurement r i) (end_faults past)
-    (cond (sight_as b roles.Measurement r i && is_open past)
-    (reading_faults k.limits past b) [])))))
+    ∙ sym (fault_by_role k.limits b past roles.Measurement r)

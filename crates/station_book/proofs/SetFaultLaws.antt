@@ -1,5 +1,5 @@
 -- The fault of a block of code 20 by what is kept is its fault by the blocks before it.
-use Rattle.std.proofs.Common.{◌≡◌, ℕ, suc, Bool, true, false, cond, leb, eqb, ◌&&◌, ◌||◌, List, [], ◌∷◌, ◌++◌, length, map, Option, Some, None, is_none, refl, sym, ap, ◌∙◌, inl, inr, ◌⊎◌, subst}
+use Rattle.std.proofs.Common.{◌≡◌, ℕ, suc, Bool, true, false, leb, eqb, ◌&&◌, ◌||◌, List, [], ◌∷◌, ◌++◌, length, map, Option, Some, None, is_none, refl, sym, ap, ◌∙◌, inl, inr}
 use Rattle.std.specs.List.{list_any}
 use Rattle.std.specs.Str.{bytes_eq}
 use Rattle.std.proofs.lemmas.Bool.{cases_Bool, false≢true}
@@ -11,61 +11,38 @@ use Rattle.station_book.specs.Limits.{FaceLimits}
 use Rattle.station_book.specs.declared.role.Role.TheVariants as roles
 use Rattle.station_book.specs.declared.stage.Stage.{Stage}
 use Rattle.station_book.specs.declared.stage.Stage.TheVariants.{Outside, Station, BetweenSets, InSet}
-use Rattle.station_book.specs.Faults.{when, first_of, open_sets, had_sets, same_name, same_number, has_set_number, end_faults, station_faults, set_faults, reading_faults, fault_after, fault_at_end, IsWithoutFault, name_at}
+use Rattle.station_book.specs.Faults.{when, first_of, open_sets, had_sets, same_name, same_number, has_set_number, end_faults, set_faults, fault_after, fault_at_end, IsWithoutFault, name_at}
 use Rattle.station_book.specs.Kept.{then_fault}
 use Rattle.station_book.specs.Roles.{role_of}
 use Rattle.station_book.specs.Entries.{EntryValue}
 use Rattle.station_book.specs.Shelves.{ShelfValue, last_of, is_known, first_set_faults, more_set_faults}
 use Rattle.station_book.specs.Kept as kept
 use Rattle.gsi_word.specs.Blocks.{GsiBlock}
-use Rattle.station_book.specs.Blocks.{opens_station, opens_set, closes_set, is_sight, has_two, number}
-use Rattle.station_book.specs.Places.{History, Place, last, before, station, is_empty, is_open, first_sets, sets_of, station_readings}
-use Rattle.station_book.specs.Keeps.{numbers_in, IsEntryOf, IsEntryWith, Stand, IsStage, stations_in, number_at}
+use Rattle.station_book.specs.Blocks.{opens_station, opens_set, has_two, number}
+use Rattle.station_book.specs.Places.{History, Place, before, station, is_empty, first_sets, sets_of, station_readings}
+use Rattle.station_book.specs.Keeps.{numbers_in, IsEntryWith, Stand, IsStage, stations_in, number_at}
 use Rattle.station_book.specs.Standing.{StandsFor}
 use Rattle.station_book.proofs.Membership.{same_bytes}
 use Rattle.station_book.proofs.StepLaws.{sets-other}
-use Rattle.station_book.proofs.KeptLaws.{none_stands, none_when}
+use Rattle.station_book.proofs.KeptLaws.{clean_set}
 use Rattle.station_book.proofs.StationLaws.{had_sets_by_names}
-use Rattle.station_book.proofs.StandLaws.{Parted, parted, open_has_set, length_numbers, HasOpenEntry, open_entry}
-use Rattle.station_book.proofs.TakeLaws.{station_as, set_as, then_second}
+use Rattle.station_book.proofs.StandLaws.{open_has_set, length_numbers, HasOpenEntry, open_entry}
 use Rattle.station_book.proofs.OnceLaws.{no_had_sets}
 use Rattle.station_book.proofs.EndLaws.{same_end}
-use Rattle.station_book.proofs.FaultLaws.{first_append}
+use Rattle.station_book.proofs.FaultLaws.{first_append, fault_by_role}
 use Rattle.station_book.proofs.NewestLaws.{or_turned}
-
--- the faults of a block of code 20, in two parts
-pub set_fault_parts : (limits : FaceLimits) (past : History) (b : GsiBlock)
-    → opens_station b ≡ false → opens_set b ≡ true
-    → fault_after limits past b ≡ then_fault (fault_at_end past) (first_of (set_faults past b))
-unfolding fault_after fault_at_end
-set_fault_parts limits past b s n =
-    (λ i. first_of (cond (s i) (end_faults past ++ station_faults b)
-    (cond (n i) (end_faults past ++ set_faults past b)
-    (cond (closes_set b) (end_faults past)
-    (cond (is_sight b && is_open past) (reading_faults limits past b) [])))))
-    ∙ first_append (end_faults past) (set_faults past b)
 
 -- In a file without fault a set has a station.
 pub set_has_station : (limits : FaceLimits) (past : History) → IsWithoutFault limits past
     → is_empty (open_sets past) ≡ false → is_empty (station past) ≡ false
 set_has_station limits [] w e = absurd (false≢true (sym e))
-set_has_station limits (b ∷ past) w e = split (cases_Bool (opens_station b))
-    (cases_Bool (opens_set b)) (set_has_station limits past w.1) where
-      same : opens_station b ≡ false → is_empty (station (b ∷ past)) ≡ is_empty (station past)
-      same s = ap (λ v. is_empty (cond v (b ∷ past) (last opens_station past))) s
-
-      clean : opens_station b ≡ false → opens_set b ≡ true → first_of (set_faults past b) ≡ None
-      clean s n = then_second (fault_at_end past) (first_of (set_faults past b))
-          (sym (set_fault_parts limits past b s n) ∙ w.0)
-
-      split : (opens_station b ≡ true) ⊎ (opens_station b ≡ false)
-          → (opens_set b ≡ true) ⊎ (opens_set b ≡ false)
-          → (is_empty (open_sets past) ≡ false → is_empty (station past) ≡ false)
-          → is_empty (station (b ∷ past)) ≡ false
-      split (inl s) n ih = ap (λ v. is_empty (cond v (b ∷ past) (last opens_station past))) s
-      split (inr s) (inl n) ih = same s ∙ none_when (is_empty (station past)) kinds.SetOutside
-          (none_stands (set_faults past b) (clean s n)).1.0
-      split (inr s) (inr n) ih = same s ∙ ih (sym (ap is_empty (sets-other b past s n)) ∙ e)
+set_has_station limits (b ∷ past) w e = elim (cases_Bool (opens_station b)) [
+  | inl s ↦ rw s refl
+  | inr s ↦ rw s (elim (cases_Bool (opens_set b)) [
+    | inl n ↦ (clean_set limits past b n w.0).of_station
+    | inr n ↦ set_has_station limits past w.1 (sym (ap is_empty (sets-other b past s n)) ∙ e)
+  ])
+]
 
 any_map : {X Y : Type 0} (p : Y → Bool) (f : X → Y) (xs : List X)
     → list_any p (map f xs) ≡ list_any (λ x. p (f x)) xs
@@ -245,12 +222,11 @@ set_tests past b = first_append (when (has_two 42 b) (kinds.WordTwice 42) ∷ []
 -- THE LAW of code 20: the fault by what is kept is the fault by the blocks before
 pub same_set_fault : (k : kept.Kept) (b : GsiBlock) (past : History) → role_of b ≡ roles.Set
     → StandsFor k.limits k past → kept.fault_as roles.Set k b ≡ fault_after k.limits past b
+unfolding fault_at_end
 same_set_fault k b past r h =
     let opens = same_opening k.limits k.stage k.shelf past (number b) h.clean h.stage h.stations in
-    (λ i. then_fault (same_end k past h i)
-    (then_fault (when (has_two 42 b) (kinds.WordTwice 42))
-    (kept.opening_fault k.stage k.shelf (number b))))
-    ∙ (λ i. then_fault (fault_at_end past)
-    (then_fault (when (has_two 42 b) (kinds.WordTwice 42)) (opens i)))
+    (λ i. then_fault (same_end k past h i) (then_fault
+    (when (has_two 42 b) (kinds.WordTwice 42)) (opens i)))
     ∙ (λ i. then_fault (fault_at_end past) (sym (set_tests past b) i))
-    ∙ sym (set_fault_parts k.limits past b (station_as b roles.Set r) (set_as b roles.Set r))
+    ∙ sym (fault_by_role k.limits b past roles.Set r
+    ∙ first_append (end_faults past) (set_faults past b))

@@ -1,6 +1,6 @@
 -- What is kept of a station stands for it: after its first set, after a further set, and, where
 -- another station is open, after any block.
-use Rattle.std.proofs.Common.{◌≡◌, ℕ, suc, ◌-◌, ◌<◌, ◌≤◌, Bool, true, false, cond, ◌&&◌, ◌||◌, List, [], ◌∷◌, ◌++◌, length, map, filter, replicate, Some, refl, sym, ap, ◌∙◌, inl, inr, ◌⊎◌, subst, arith}
+use Rattle.std.proofs.Common.{◌≡◌, ℕ, suc, ◌-◌, ◌<◌, ◌≤◌, Bool, true, false, cond, ◌&&◌, List, [], ◌∷◌, ◌++◌, length, map, filter, replicate, Some, refl, sym, ap, ◌∙◌, inl, inr, ◌⊎◌, subst, arith}
 use Rattle.std.specs.List.{AllByRecursion}
 use Rattle.std.proofs.lemmas.Bool.{cases_Bool, false≢true, and_parts, ne_eqb, eq-eqb, and_left, false_from_ne_true, or_parts}
 use Rattle.std.proofs.lemmas.List.{length-append, map-append, length-map}
@@ -12,7 +12,7 @@ use Rattle.station_book.specs.Shelves.{ShelfValue, survey_of, with_station, last
 use Rattle.station_book.proofs.CoupleLaws.{none_in_later}
 use Rattle.station_book.proofs.NewestLaws.{HasNewest}
 use Rattle.gsi_word.specs.Blocks.{GsiBlock}
-use Rattle.station_book.specs.Blocks.{number, opens_station, opens_set, closes_set, is_opening, is_sight}
+use Rattle.station_book.specs.Blocks.{number, opens_station, opens_set, is_opening, is_sight}
 use Rattle.station_book.specs.Places.{History, Place, places, last, before, station, opening, is_empty, is_open, is_set, is_reading, is_same, sets_of, station_readings, first_sets}
 use Rattle.station_book.specs.Stations.{in_set}
 use Rattle.station_book.specs.Faults.{open_sets, name_at}

@@ -1,5 +1,5 @@
 -- What a block does to the open set, its readings, the station, its sets and targets.
-use Rattle.std.proofs.Common.{◌≡◌, ℕ, Bool, true, false, cond, eqb, ◌&&◌, ◌||◌, not, List, [], ◌∷◌, map, refl, ap}
+use Rattle.std.proofs.Common.{◌≡◌, ℕ, true, false, cond, eqb, ◌&&◌, not, List, [], ◌∷◌, map, refl, ap}
 use Rattle.std.specs.Prelude.{◌==◌}
 use Rattle.std.proofs.lemmas.Bool.{and_parts, or_from, eqb-true, or_parts}
 use Rattle.std.specs.Str.{bytes_eq}

@@ -1,6 +1,6 @@
 -- In a whole file no reading is lost: each has one of the other face beside it, and the two are
 -- listed.
-use Rattle.std.proofs.Common.{◌≡◌, ℕ, ◌+◌, Bool, true, false, cond, not, ◌&&◌, ◌||◌, List, [], ◌∷◌, ◌++◌, length, get_or, Option, Some, None, is_none, refl, sym, ap, ◌∙◌, inl, inr, ◌⊎◌, subst}
+use Rattle.std.proofs.Common.{◌≡◌, ℕ, ◌+◌, Bool, true, false, not, ◌&&◌, List, [], ◌∷◌, ◌++◌, length, get_or, Option, Some, None, is_none, refl, sym, ap, ◌∙◌, inl, inr, ◌⊎◌, subst}
 use Rattle.std.specs.List.{Contains}
 use Rattle.std.specs.Str.{bytes_eq}
 use Rattle.std.proofs.lemmas.Bool.{cases_Bool, and_parts, eqb-true, false≢true}
@@ -12,14 +12,14 @@ use Rattle.station_book.specs.declared.fault.BookKind.TheVariants as kinds
 use Rattle.station_book.specs.Limits.{FaceLimits}
 use Rattle.station_book.specs.Blocks.{opens_station, opens_set, closes_set, is_opening, is_sight, is_of_face}
 use Rattle.station_book.specs.Places.{History, Place, places, last, before, opening, station, is_open, is_same, is_reading, target_at, stands, reading_in}
-use Rattle.station_book.specs.Faults.{first_of, end_faults, station_faults, set_faults, reading_faults, faults, fault_after, fault_at_end, IsWithoutFault, IsFirstFault, IsWholeFile, IsFileFault, open_readings, face_at, has_one_face, name_at}
+use Rattle.station_book.specs.Faults.{first_of, end_faults, station_faults, set_faults, fault_after, fault_at_end, IsWithoutFault, IsFirstFault, IsWholeFile, IsFileFault, open_readings, face_at, has_one_face, name_at}
 use Rattle.station_book.specs.Stations.{SurveyedStation, IsSurveyed, AreStations, stations_of}
 use Rattle.station_book.specs.Recorded.{IsReadingOf, IsListed}
 use Rattle.station_book.proofs.Membership.{In, any_from, find_some}
 use Rattle.station_book.proofs.Elements.{in_contains, contains_in, in_map, of_filter, zip_right}
 use Rattle.station_book.proofs.StepLaws.{readings-more, readings-other, sight_opens_nothing}
-use Rattle.station_book.proofs.KeptLaws.{none_stands, none_when, face_is, not_false}
-use Rattle.station_book.proofs.CleanLaws.{clean_reading}
+use Rattle.station_book.proofs.KeptLaws.{none_stands, none_when}
+use Rattle.station_book.proofs.KeptLaws.{clean_reading}
 use Rattle.station_book.proofs.FirstFault.{fault_or_none, no_first_fault, one_first_fault}
 use Rattle.station_book.proofs.FilePlaces.{HasItsSet, last_placed, owner_placed, same_of_file, set_of_reading, set_station}
 use Rattle.station_book.proofs.CoupleReadings.{IsRead}
@@ -110,22 +110,17 @@ first_left [] ys e = refl
 first_left (None ∷ xs) ys e = first_left xs ys e
 first_left (Some x ∷ xs) ys e = cc
 
-by_code : (x y z : Bool) (whole e s t d : List (Option BookKind))
-    → whole ≡ cond x (e ++ s) (cond y (e ++ t) (cond z e d)) → (x || (y || z)) ≡ true
-    → first_of whole ≡ None → first_of e ≡ None
-by_code true y z whole e s t d w f n = first_left e s (sym (ap first_of w) ∙ n)
-by_code false true z whole e s t d w f n = first_left e t (sym (ap first_of w) ∙ n)
-by_code false false true whole e s t d w f n = sym (ap first_of w) ∙ n
-by_code false false false whole e s t d w f n = cc
-
 -- where a block of code 10, 20 or 30 has no fault the set that was open may end
 pub may_end : (limits : FaceLimits) (past : History) (b : GsiBlock) → is_opening b ≡ true
     → fault_after limits past b ≡ None → first_of (end_faults past) ≡ None
 unfolding fault_after
-may_end limits past b o clean =
-    by_code (opens_station b) (opens_set b) (closes_set b) (faults limits past b) (end_faults past)
-    (station_faults b) (set_faults past b)
-    (cond (is_sight b && is_open past) (reading_faults limits past b) []) refl o clean
+may_end limits past b o clean = elim (cases_Bool (opens_station b)) [
+  | inl s ↦ first_left (end_faults past) (station_faults b) (rw s at clean)
+  | inr s ↦ elim (cases_Bool (opens_set b)) [
+    | inl n ↦ first_left (end_faults past) (set_faults past b) (rw (s, n) at clean)
+    | inr n ↦ let z : closes_set b ≡ true = rw (s, n) at o in rw (s, n, z) at clean
+  ]
+]
 
 -- a reading is of the open set, or has one of the other face
 open_or_paired : (limits : FaceLimits) (h : History) (r : Place) → IsWithoutFault limits h
@@ -166,8 +161,7 @@ has_face limits [] r clean placed reading = absurd placed
 has_face limits (b ∷ past) r clean (inl e) reading =
     let here : is_reading (b ∷ past) ≡ true = sym (ap is_reading e) ∙ reading in
     subst (λ (q : Place). stands (is_of_face (face_at q)) q ≡ true) (sym e)
-    (face_is b (not_false (is_of_face false b || is_of_face true b)
-    (clean_reading limits past b here clean.0).faced))
+    (clean_reading limits past b here clean.0).faced
 has_face limits (b ∷ past) r clean
     (inr placed) reading = has_face limits past r clean.1 placed reading
 

@@ -1,7 +1,7 @@
 -- In a file without fault the two readings of a target in a set are within the limits.
-use Rattle.std.proofs.Common.{◌≡◌, ℕ, ◌<◌, Bool, true, false, cond, eqb, leb, ◌&&◌, not, List, [], ◌∷◌, length, filter, Option, Some, None, Ok, Err, refl, sym, ap, subst, ◌∙◌, arith}
+use Rattle.std.proofs.Common.{◌≡◌, ℕ, ◌<◌, Bool, true, false, cond, eqb, leb, ◌&&◌, not, List, [], ◌∷◌, length, filter, Option, Some, None, Ok, Err, refl, sym, ap, subst, ◌∙◌, arith, inr, inl}
 use Rattle.std.specs.Str.{bytes_eq}
-use Rattle.std.proofs.lemmas.Bool.{and_parts, eqb-true, leb-true, false≢true}
+use Rattle.std.proofs.lemmas.Bool.{eqb-true, leb-true, cases_Bool}
 use Rattle.std.proofs.lemmas.Slice.Eq.{bytes_eq-Decides}
 use Rattle.gsi_word.specs.Blocks.{GsiBlock}
 use Rattle.gsi_word.specs.Angles.{is_gon, is_input_mode, decimal_number, angle_within_turn, last_unit}
@@ -9,16 +9,14 @@ use Rattle.gsi_word.specs.declared.angle.AngleFault.TheVariants as angle_faults
 use Rattle.gsi_word.specs.declared.found.Found.{Found}
 use Rattle.gsi_word.specs.declared.found.Found.TheVariants.{Absent, One, Twice}
 use Rattle.std.specs.Prelude.{slice_index}
-use Rattle.station_book.specs.declared.fault.BookKind.TheVariants as kinds
 use Rattle.station_book.specs.Limits.{FaceLimits}
 use Rattle.station_book.specs.Sights.{Sight, AreOnCircle}
-use Rattle.station_book.specs.Blocks.{found, angle_found, angle_or_zero, sight, target, is_of_face, is_sight}
-use Rattle.station_book.specs.Places.{History, Place, places, before, station, opening, is_same, is_open, is_reading, reading_in, station_readings, target_at, stands}
-use Rattle.station_book.specs.Faults.{face, by_faces, is_beyond, has_no_two_c, has_no_two_i, reading_faults, open_readings, first_of, sight_at, fault_after, IsWithoutFault}
+use Rattle.station_book.specs.Blocks.{found, angle_found, angle_or_zero, sight, target, is_of_face}
+use Rattle.station_book.specs.Places.{History, Place, places, before, station, opening, is_same, is_reading, reading_in, station_readings}
+use Rattle.station_book.specs.Faults.{face, has_no_two_c, has_no_two_i, open_readings, sight_at, IsWithoutFault}
 use Rattle.station_book.specs.Stations.{in_set}
 use Rattle.station_book.proofs.FaceLaws.{one_face}
-use Rattle.station_book.proofs.KeptLaws.{none_stands, none_when, faults_of_reading}
-use Rattle.station_book.proofs.StepLaws.{sight_opens_nothing}
+use Rattle.station_book.proofs.KeptLaws.{IsCleanReading, clean_reading}
 use Rattle.station_book.proofs.CoupleLaws.{open_in_set}
 
 -- the angle of a word is below a circle
@@ -61,46 +59,18 @@ pub record AreWithin (limits : FaceLimits) (first second : Sight) : Type 0 where
 
 -- a reading without fault, and the reading of the other face
 beside_first : (limits : FaceLimits) (past : History) (b : GsiBlock) (m : Place)
-    → first_of (reading_faults limits past b) ≡ None → face b ≡ false
+    → IsCleanReading limits past b → face b ≡ false
     → reading_in true (target b) (open_readings past) ≡ Some m
     → AreWithin limits (sight b) (sight_at m)
-beside_first limits past b m e f g =
-    let all = none_stands (reading_faults limits past b) e in
-    let c = none_when (is_beyond (has_no_two_c limits.two_c) b past) kinds.TwoC
-    all.1.1.1.1.1.1.1.1.0 in
-    let i = none_when (is_beyond (has_no_two_i limits.two_i) b past) kinds.TwoI
-    all.1.1.1.1.1.1.1.1.1.0 in
-    record {
-      two_c = sym (beside (has_no_two_c limits.two_c)) ∙ c;
-      two_i = sym (beside (has_no_two_i limits.two_i)) ∙ i;
-    }
-  where
-    beside : (test : Sight → Sight → Bool) → is_beyond test b past ≡ test (sight b) (sight_at m)
-    beside test =
-        ap (λ v. by_faces test b (reading_in (not v) (target b) (open_readings past))) f
-        ∙ ap (by_faces test b) g
-        ∙ ap (λ v. cond v (test (sight_at m) (sight b)) (test (sight b) (sight_at m))) f
+beside_first limits past b m clean f g =
+    record { two_c = rw (f, g, f) at clean.two_c; two_i = rw (f, g, f) at clean.two_i }
 
 beside_second : (limits : FaceLimits) (past : History) (b : GsiBlock) (m : Place)
-    → first_of (reading_faults limits past b) ≡ None → face b ≡ true
+    → IsCleanReading limits past b → face b ≡ true
     → reading_in false (target b) (open_readings past) ≡ Some m
     → AreWithin limits (sight_at m) (sight b)
-beside_second limits past b m e f g =
-    let all = none_stands (reading_faults limits past b) e in
-    let c = none_when (is_beyond (has_no_two_c limits.two_c) b past) kinds.TwoC
-    all.1.1.1.1.1.1.1.1.0 in
-    let i = none_when (is_beyond (has_no_two_i limits.two_i) b past) kinds.TwoI
-    all.1.1.1.1.1.1.1.1.1.0 in
-    record {
-      two_c = sym (beside (has_no_two_c limits.two_c)) ∙ c;
-      two_i = sym (beside (has_no_two_i limits.two_i)) ∙ i;
-    }
-  where
-    beside : (test : Sight → Sight → Bool) → is_beyond test b past ≡ test (sight_at m) (sight b)
-    beside test =
-        ap (λ v. by_faces test b (reading_in (not v) (target b) (open_readings past))) f
-        ∙ ap (by_faces test b) g
-        ∙ ap (λ v. cond v (test (sight_at m) (sight b)) (test (sight b) (sight_at m))) f
+beside_second limits past b m clean f g =
+    record { two_c = rw (f, g, f) at clean.two_c; two_i = rw (f, g, f) at clean.two_i }
 
 -- the readings of a set by the lengths of its place and of its station's
 abbrev of_places : ℕ → ℕ → History → List Place
@@ -114,91 +84,52 @@ open_of_places past st set s o =
     let m : length (opening past) ≡ length set = eqb-true (length (opening past)) (length set) o in
     (λ i. of_places (sym m i) (sym n i) past) ∙ open_in_set past
 
--- what is found when a reading joins others
-joined_found : (f : Bool) (name : List ℕ) (place : Place) (rs : List Place) (t g : Bool)
-    → bytes_eq (target_at place) name ≡ t → stands (is_of_face f) place ≡ g
-    → reading_in f name (place ∷ rs) ≡ cond (t && g) (Some place) (reading_in f name rs)
-joined_found f name place rs t g e h = λ i. cond (e i && h i) (Some place) (reading_in f name rs)
-
-some_is : {X : Type 0} (x y : X) → Some x ≡ Some y → x ≡ y
-some_is x y e = cc
-
 -- Two readings of a target in a set are within the limits.
 abbrev pub AllWithin : FaceLimits → List Place → Type 0
 AllWithin limits rs = (name : List ℕ) (a b : Place) → reading_in false name rs ≡ Some a
     → reading_in true name rs ≡ Some b → AreWithin limits (sight_at a) (sight_at b)
 
 -- one reading more, in the open set
-one_more : (limits : FaceLimits) (past : History) (b : GsiBlock)
-    → first_of (reading_faults limits past b) ≡ None → AllWithin limits (open_readings past)
-    → AllWithin limits ((b ∷ past) ∷ open_readings past)
-one_more limits past b clean ih name x y ex ey = by (bytes_eq (target b) name) (is_of_face false b)
-    (is_of_face true b) refl refl refl where
-      place : Place
-      place = b ∷ past
-
-      rs : List Place
-      rs = open_readings past
-
-      by : (t one two : Bool) → bytes_eq (target b) name ≡ t → is_of_face false b ≡ one
-          → is_of_face true b ≡ two → AreWithin limits (sight_at x) (sight_at y)
-      by false one two t f g = ih name x y
-          (sym (joined_found false name place rs false one t f) ∙ ex)
-          (sym (joined_found true name place rs false two t g) ∙ ey)
-      by true false false t f g = ih name x y
-          (sym (joined_found false name place rs true false t f) ∙ ex)
-          (sym (joined_found true name place rs true false t g) ∙ ey)
-      by true true true t f g = absurd (false≢true (sym (one_face b f) ∙ g))
-      by true true false t f g =
-          let own : target b ≡ name = (bytes_eq-Decides (target b) name).0 t in
-          let here : place ≡ x = some_is place x
-          (sym (joined_found false name place rs true true t f) ∙ ex) in
-          let other : reading_in true (target b) rs ≡ Some y = ap
-          (λ (n : List ℕ). reading_in true n rs) own
-          ∙ sym (joined_found true name place rs true false t g) ∙ ey in
-          subst (λ (p : Place). AreWithin limits (sight_at p) (sight_at y)) here
-          (beside_first limits past b y clean g other)
-      by true false true t f g =
-          let own : target b ≡ name = (bytes_eq-Decides (target b) name).0 t in
-          let here : place ≡ y = some_is place y
-          (sym (joined_found true name place rs true true t g) ∙ ey) in
-          let other : reading_in false (target b) rs ≡ Some x = ap
-          (λ (n : List ℕ). reading_in false n rs) own
-          ∙ sym (joined_found false name place rs true false t f) ∙ ex in
-          subst (λ (p : Place). AreWithin limits (sight_at x) (sight_at p)) here
-          (beside_second limits past b x clean g other)
+one_more : (limits : FaceLimits) (past : History) (b : GsiBlock) → IsCleanReading limits past b
+    → AllWithin limits (open_readings past) → AllWithin limits ((b ∷ past) ∷ open_readings past)
+one_more limits past b clean ih name x y ex ey = elim (cases_Bool (bytes_eq (target b) name)) [
+  | inr t ↦ ih name x y (rw t at ex) (rw t at ey)
+  | inl t ↦
+      let own : target b ≡ name = (bytes_eq-Decides (target b) name).0 t in
+      elim (cases_Bool (is_of_face false b)) [
+        | inl f ↦
+            let g : is_of_face true b ≡ false = one_face b f in
+            let found : Some (b ∷ past) ≡ Some x = rw (t, f) at ex in
+            let here : b ∷ past ≡ x = cc in
+            subst (λ (p : Place). AreWithin limits (sight_at p) (sight_at y)) here
+            (beside_first limits past b y clean g (ap (λ (n : List ℕ). reading_in true n
+            (open_readings past)) own ∙ (rw (t, g) at ey)))
+        | inr f ↦ elim (cases_Bool (is_of_face true b)) [
+          | inl g ↦
+              let found : Some (b ∷ past) ≡ Some y = rw (t, g) at ey in
+              let here : b ∷ past ≡ y = cc in
+              subst (λ (p : Place). AreWithin limits (sight_at x) (sight_at p)) here
+              (beside_second limits past b x clean g (ap (λ (n : List ℕ). reading_in false n
+              (open_readings past)) own ∙ (rw (t, f) at ex)))
+          | inr g ↦ ih name x y (rw (t, f) at ex) (rw (t, g) at ey)
+        ]
+      ]
+]
 
 pub within_limits : (limits : FaceLimits) (h : History) (st set : Place) → IsWithoutFault limits h
     → AllWithin limits (in_set set (station_readings st h))
-unfolding fault_after
 within_limits limits [] st set w = λ name a b e f. absurd cc
-within_limits limits (b ∷ past) st set w = by (is_reading (b ∷ past)) (is_same (station past) st)
-    (is_same (opening past) set) refl refl refl (within_limits limits past st set w.1) where
-      rest : List Place
-      rest = station_readings st past
-
-      whole : (r s : Bool) → is_reading (b ∷ past) ≡ r → is_same (station past) st ≡ s
-          → station_readings st (b ∷ past) ≡ cond (r && s) ((b ∷ past) ∷ rest) rest
-      whole r s e f = λ i. cond (e i && f i) ((b ∷ past) ∷ rest) rest
-
-      by : (r s o : Bool) → is_reading (b ∷ past) ≡ r → is_same (station past) st ≡ s
-          → is_same (opening past) set ≡ o → AllWithin limits (in_set set rest)
-          → AllWithin limits (in_set set (station_readings st (b ∷ past)))
-      by false s o e f g ih = subst (λ (rs : List Place). AllWithin limits (in_set set rs))
-          (sym (whole false s e f)) ih
-      by true false o e f g ih = subst (λ (rs : List Place). AllWithin limits (in_set set rs))
-          (sym (whole true false e f)) ih
-      by true true false e f g ih =
-          subst (λ (rs : List Place). AllWithin limits (in_set set rs)) (sym (whole true true e f))
-          (subst (AllWithin limits)
-          (sym (ap (λ v. cond v ((b ∷ past) ∷ in_set set rest) (in_set set rest)) g)) ih)
-      by true true true e f g ih =
-          let same = open_of_places past st set f g in
-          let parts = and_parts (is_sight b) (is_open past) e in
-          let clean : first_of (reading_faults limits past b) ≡ None = sym
-          (ap first_of (faults_of_reading limits past b (sight_opens_nothing b parts.0) e)) ∙ w.0 in
-          subst (λ (rs : List Place). AllWithin limits (in_set set rs)) (sym (whole true true e f))
-          (subst (AllWithin limits)
-          (sym (ap (λ v. cond v ((b ∷ past) ∷ in_set set rest) (in_set set rest)) g
-          ∙ ap (λ rs. (b ∷ past) ∷ rs) same))
-          (one_more limits past b clean (subst (AllWithin limits) same ih)))
+within_limits limits (b ∷ past) st set w =
+    let ih = within_limits limits past st set w.1 in elim (cases_Bool (is_reading (b ∷ past))) [
+      | inr e ↦ rw e ih
+      | inl e ↦ elim (cases_Bool (is_same (station past) st)) [
+        | inr f ↦ rw (e, f) ih
+        | inl f ↦ elim (cases_Bool (is_same (opening past) set)) [
+          | inr g ↦ rw (e, f, g) ih
+          | inl g ↦
+              let same = open_of_places past st set f g in
+              rw (e, f, g, same) (one_more limits past b (clean_reading limits past b e w.0)
+              (subst (AllWithin limits) same ih))
+        ]
+      ]
+    ]
