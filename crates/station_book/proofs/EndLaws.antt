@@ -24,6 +24,7 @@ use Rattle.station_book.proofs.KeptLaws.{open_kept}
 use Rattle.station_book.proofs.CoupleLaws.{open_in_set}
 use Rattle.station_book.proofs.StandLaws.{open_set, open_has_set, survey_is, open_entry}
 use Rattle.indexmap.proofs.ReorderLemmas.{map-reverse}
+use Rattle.std.proofs.lemmas.Bool.{and_left, and_right}
 
 pub some_sighted : (o : Option Place) → is_some (sighted o) ≡ is_some o
 some_sighted None = refl
@@ -48,31 +49,23 @@ all_unread : (targets : List (List ℕ)) → list_all is_unread (slots_of target
 all_unread [] = refl
 all_unread (t ∷ ts) = all_unread ts
 
-and_no : (a : Bool) → (a && false) ≡ false
-and_no true = refl
-and_no false = refl
-
 not_all : (rs : List Place) (name : List ℕ) (targets : List (List ℕ)) → In name targets
     → is_unread (slot_of rs name) ≡ false → list_all is_unread (slots_of targets rs) ≡ false
 not_all rs name [] h e = absurd h
-not_all rs name (t ∷ ts) (inl h) e = ap (λ v. v && list_all is_unread (slots_of ts rs))
+not_all rs name (t ∷ ts) (inl h) e = and_left (is_unread (slot_of rs t)) _
     (ap (λ (n : List ℕ). is_unread (slot_of rs n)) (sym h) ∙ e)
-not_all rs name (t ∷ ts) (inr h) e = ap (λ v. is_unread (slot_of rs t) && v)
-    (not_all rs name ts h e) ∙ and_no (is_unread (slot_of rs t))
+not_all rs name (t ∷ ts) (inr h) e = and_right (is_unread (slot_of rs t)) _ (not_all rs name ts h e)
+
+no_none : (o : Option Place) → is_some o ≡ true → is_none (sighted o) ≡ false
+no_none None e = cc
+no_none (Some p) e = refl
 
 seen : (f : Bool) (rs : List Place) (name : List ℕ) → is_some (reading_in f name rs) ≡ true
     → is_unread (slot_of rs name) ≡ false
-seen false rs name e = ap (λ v. v && is_none (sighted (reading_in true name rs)))
-    (no_none (reading_in false name rs) e) where
-      no_none : (o : Option Place) → is_some o ≡ true → is_none (sighted o) ≡ false
-      no_none None e = cc
-      no_none (Some p) e = refl
-seen true rs name e = ap (λ v. is_none (sighted (reading_in false name rs)) && v)
+seen false rs name e = and_left (is_none (sighted (reading_in false name rs))) _
+    (no_none (reading_in false name rs) e)
+seen true rs name e = and_right (is_none (sighted (reading_in false name rs))) _
     (no_none (reading_in true name rs) e)
-    ∙ and_no (is_none (sighted (reading_in false name rs))) where
-      no_none : (o : Option Place) → is_some o ≡ true → is_none (sighted o) ≡ false
-      no_none None e = cc
-      no_none (Some p) e = refl
 
 -- no slot is read exactly where there is no reading
 empty_by_slots : (targets : List (List ℕ)) (rs : List Place) → AllByRecursion (IsKept targets) rs

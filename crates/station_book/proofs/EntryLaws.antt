@@ -3,7 +3,7 @@
 use Rattle.std.proofs.Common.{◌≡◌, ◌≢◌, ℕ, zero, suc, ◌+◌, ◌-◌, ◌<◌, ◌≤◌, Bool, true, false, eqb, leb, Result, Ok, Err, ◌&&◌, ◌||◌, List, [], ◌∷◌, ◌++◌, length, get_or, set, replicate, All, Any, Option, Some, None, is_none, inl, inr, ◌⊎◌, refl, sym, ap, ◌∙◌, subst, arith}
 use Rattle.std.specs.List.{list_any, list_all}
 use Rattle.std.specs.Str.{bytes_eq}
-use Rattle.std.proofs.lemmas.Bool.{cases_lt, cases_eq, false≢true, eq-eqb}
+use Rattle.std.proofs.lemmas.Bool.{cases_lt, cases_eq, false≢true, eq-eqb, and_right}
 use Rattle.std.proofs.lemmas.List.{length-append, length-set, get_or_append_left, get_or-append-add, get_or-set_same, get_or-set_other, length-replicate}
 use Rattle.std.proofs.lemmas.List.Elements.{All-push, All-weaker, All-set, All-replicate}
 use Rattle.std.proofs.lemmas.List.Quantifiers.{all_pairs_push}
@@ -28,6 +28,13 @@ use Rattle.station_book.specs.declared.fault.Refusal.TheVariants as refusals
 use Rattle.station_book.specs.Refusals.{ExplainsRefusal, WantsOnly}
 use Rattle.station_book.proofs.SoundLaws.{closes}
 use Rattle.station_book.proofs.SlotLaws.{pairs_match}
+use Rattle.std.proofs.lemmas.List.Folds.{list_any_at}
+use Rattle.station_book.specs.Targets.{TargetsValue}
+
+-- what is kept of a station, by the parts in which the code keeps it
+abbrev pub entry_of : TargetsValue → List ℕ → List Obs → List Faces → EntryValue
+entry_of t sets obs faces =
+    record { targets = t.names; slots = t.slots; sets = sets; obs = obs; faces = faces }
 
 none_when : (a b : Bool) → first_of (when a kinds.EmptySet ∷ when b kinds.OneFace ∷ []) ≡ None
     → (a ≡ false) × (b ≡ false)
@@ -85,14 +92,8 @@ is_station name e named h may = record {
 
 absent_number : (n : ℕ) (sets : List ℕ) → list_any (λ m. eqb m n) sets ≡ false → (k : ℕ) (d : ℕ)
     → k < length sets → get_or sets k d ≢ n
-absent_number n [] e k d lt = absurd (omega arith)
-absent_number n (m ∷ sets) e zero d lt = λ same. let t : (eqb m n || list_any (λ m. eqb m n) sets)
-    ≡ true = ap (λ v. v || list_any (λ m. eqb m n) sets) (eq-eqb m n same) in false≢true (sym e ∙ t)
-absent_number n (m ∷ sets) e (suc k) d lt = absent_number n sets
-    (right (eqb m n) (list_any (λ m. eqb m n) sets) e) k d (omega arith) where
-      right : (a b : Bool) → (a || b) ≡ false → b ≡ false
-      right true b e = cc
-      right false b e = e
+absent_number n sets e k d lt = λ same. false≢true (sym e
+    ∙ list_any_at (λ m. eqb m n) sets k d lt (eq-eqb (get_or sets k d) n same))
 
 -- after a set
 pub set_is_entry : (n : ℕ) (e : EntryValue) → IsEntry e → MayEnd e
@@ -133,10 +134,7 @@ set_is_entry n e h may new few number = record {
 
 read_now : (f : Bool) (v : Sight) (s : Slot) → is_unread (with_side f v s) ≡ false
 read_now false v s = refl
-read_now true v s = second (is_none s.first) where
-  second : (b : Bool) → (b && false) ≡ false
-  second true = refl
-  second false = refl
+read_now true v s = and_right (is_none s.first) false refl
 
 kept_side : (f : Bool) (v : Sight) (s : Slot) → AreOnCircle v → IsKeptSlot s
     → IsKeptSlot (with_side f v s)
@@ -188,16 +186,9 @@ reading_is_entry s e i h inside low = record {
 pub absent_name : (name : List ℕ) (targets : List (List ℕ))
     → list_any (λ t. bytes_eq t name) targets ≡ false → (k : ℕ) (d : List ℕ) → k < length targets
     → get_or targets k d ≢ name
-absent_name name [] e k d lt = absurd (omega arith)
-absent_name name (t ∷ targets) e zero d lt = λ same. let u :
-    (bytes_eq t name || list_any (λ t. bytes_eq t name) targets) ≡ true = ap
-    (λ v. v || list_any (λ t. bytes_eq t name) targets)
-    ((bytes_eq-Decides t name).1 same) in false≢true (sym e ∙ u)
-absent_name name (t ∷ targets) e (suc k) d lt = absent_name name targets
-    (right (bytes_eq t name) (list_any (λ t. bytes_eq t name) targets) e) k d (omega arith) where
-      right : (a b : Bool) → (a || b) ≡ false → b ≡ false
-      right true b e = cc
-      right false b e = e
+absent_name name targets e k d lt = λ same. false≢true (sym e
+    ∙ list_any_at (λ t. bytes_eq t name) targets k d lt
+    ((bytes_eq-Decides (get_or targets k d) name).1 same))
 
 -- after the first reading of a target
 pub target_is_entry : (s : Sighting) (e : EntryValue) → IsEntry e
@@ -234,11 +225,7 @@ target_is_entry s e h new few named low = record {
   slot = with_side s.is_second s.sight empty_slot
 
   cases : (t : ℕ) → t < length e.slots + 1 → (t < length e.slots) ⊎ (t ≡ length e.slots + 0)
-  cases t lt = by_order (cases_lt t (length e.slots)) where
-    by_order : (t < length e.slots) ⊎ (length e.slots ≤ t)
-        → (t < length e.slots) ⊎ (t ≡ length e.slots + 0)
-    by_order (inl l) = inl l
-    by_order (inr l) = inr (omega arith)
+  cases t lt = elim (cases_lt t (length e.slots)) [ inl l ↦ inl l | inr l ↦ inr (omega arith) ]
 
   old : (t : ℕ) → t < length e.slots
       → Any (λ o. o.target ≡ t) e.obs ⊎ (is_unread (slot_at e.slots t) ≡ false)

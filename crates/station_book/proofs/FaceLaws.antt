@@ -2,7 +2,7 @@
 use Rattle.std.proofs.Common.{◌≡◌, ℕ, Bool, true, false, ltb, ◌<◌, ◌&&◌, ◌||◌, not, List, [], ◌∷◌, map, Option, Some, None, is_some, is_none, refl, sym, ap, ◌∙◌, inl, inr, ◌⊎◌, arith}
 use Rattle.std.specs.List.{list_any, AllByRecursion}
 use Rattle.std.specs.Str.{bytes_eq}
-use Rattle.std.proofs.lemmas.Bool.{and_parts, and_from, cases_Bool, false≢true, or_cases, ltb-true, or_right}
+use Rattle.std.proofs.lemmas.Bool.{and_parts, and_from, cases_Bool, false≢true, or_cases, ltb-true, or_right, and_left}
 use Rattle.std.proofs.lemmas.Slice.Eq.{bytes_eq-Decides}
 use Rattle.gsi_word.specs.Blocks.{GsiBlock}
 use Rattle.station_book.specs.Blocks.{is_of_face, sight}
@@ -34,36 +34,31 @@ pub record IsKept (targets : List (List ℕ)) (r : Place) : Type 0 where
 
 below_half : (z : ℕ) → (ltb 0 z && ltb z 20_000_000) ≡ true
     → (ltb 20_000_000 z && ltb z 40_000_000) ≡ false
-below_half z e = split (cases_Bool (ltb 20_000_000 z))
-    (ltb-true z 20_000_000 (and_parts (ltb 0 z) (ltb z 20_000_000) e).1) where
-      split : (ltb 20_000_000 z ≡ true) ⊎ (ltb 20_000_000 z ≡ false) → z < 20_000_000
-          → (ltb 20_000_000 z && ltb z 40_000_000) ≡ false
-      split (inl t) lt = let h = ltb-true 20_000_000 z t in absurd (omega arith)
-      split (inr f) lt = ap (λ v. v && ltb z 40_000_000) f
+below_half z e = elim (cases_Bool (ltb 20_000_000 z)) [
+  | inl t ↦
+      let low = ltb-true z 20_000_000 (and_parts (ltb 0 z) (ltb z 20_000_000) e).1 in
+      let high = ltb-true 20_000_000 z t in absurd (omega arith)
+  | inr f ↦ and_left (ltb 20_000_000 z) (ltb z 40_000_000) f
+]
 
 pub one_face : (b : GsiBlock) → is_of_face false b ≡ true → is_of_face true b ≡ false
 unfolding is_of_face sight
 one_face b e = below_half (sight b).zenith e
 
-none_or_some : {X : Type 0} (o : Option X) → (o ≡ None) ⊎ ((x : X) × (o ≡ Some x))
+pub none_or_some : {X : Type 0} (o : Option X) → (o ≡ None) ⊎ ((x : X) × (o ≡ Some x))
 none_or_some None = inl refl
 none_or_some (Some x) = inr (x, refl)
 
 pub some_there : (f : Bool) (name : List ℕ) (r : Place) (rs : List Place) → In r rs
     → target_at r ≡ name → stands (is_of_face f) r ≡ true → is_some (reading_in f name rs) ≡ true
-some_there f name r rs h e g = split (none_or_some (reading_in f name rs)) where
-  test : (bytes_eq (target_at r) name && stands (is_of_face f) r) ≡ true
-  test = and_from _ _ ((bytes_eq-Decides (target_at r) name).1 e) g
-
-  split : (reading_in f name rs ≡ None) ⊎ ((x : Place) × (reading_in f name rs ≡ Some x))
-      → is_some (reading_in f name rs) ≡ true
-  split (inl n) = absurd
-      (find_found (λ r. bytes_eq (target_at r) name && stands (is_of_face f) r) r rs h test n)
-  split (inr s) = ap is_some s.1
+some_there f name r rs h e g = elim (none_or_some (reading_in f name rs)) [
+  | inl n ↦ absurd (find_found (λ r. bytes_eq (target_at r) name && stands (is_of_face f) r) r rs
+      h (and_from _ _ ((bytes_eq-Decides (target_at r) name).1 e) g) n)
+  | inr s ↦ ap is_some s.1
+]
 
 single_first : (s : Slot) → is_some s.first ≡ true → is_none s.second ≡ true → is_single s ≡ true
-single_first s e g = ap (λ v. (v && is_none s.second) || (is_none s.first && is_some s.second)) e
-    ∙ ap (λ v. v || (is_none s.first && is_some s.second)) g
+single_first s e g = rw (e, g)
 
 single_second : (s : Slot) → is_none s.first ≡ true → is_some s.second ≡ true → is_single s ≡ true
 single_second s e g = or_right (is_some s.first && is_none s.second)
@@ -73,14 +68,12 @@ single_second s e g = or_right (is_some s.first && is_none s.second)
 alone : (rs : List Place) (r : Place) → In r rs → stands (is_of_face (face_at r)) r ≡ true
     → is_none (reading_in (not (face_at r)) (target_at r) rs) ≡ true
     → is_single (slot rs (target_at r)) ≡ true
-alone rs r h g n = split (face_at r) refl where
-  split : (f : Bool) → face_at r ≡ f → is_single (slot rs (target_at r)) ≡ true
-  split true e = single_second (slot rs (target_at r))
-      (sym (ap (λ v. is_none (reading_in (not v) (target_at r) rs)) e) ∙ n)
+alone rs r h g n = elim (cases_Bool (face_at r)) [
+  | inl e ↦ single_second (slot rs (target_at r)) (rw e at n)
       (some_there true (target_at r) r rs h refl e)
-  split false e = single_first (slot rs (target_at r))
-      (some_there false (target_at r) r rs h refl (sym (ap (λ v. stands (is_of_face v) r) e) ∙ g))
-      (sym (ap (λ v. is_none (reading_in (not v) (target_at r) rs)) e) ∙ n)
+  | inr e ↦ single_first (slot rs (target_at r))
+      (some_there false (target_at r) r rs h refl (rw e at g)) (rw e at n)
+]
 
 one_face_at : (a : Place) → stands (is_of_face false) a ≡ true → face_at a ≡ false
 one_face_at [] e = refl
@@ -89,38 +82,32 @@ one_face_at (b ∷ past) e = one_face b e
 -- a single slot is that of a reading alone
 lonely : (rs : List Place) (name : List ℕ) → is_single (slot rs name) ≡ true
     → has_one_face rs ≡ true
-lonely rs name e = split
-    (or_cases (is_some (reading_in false name rs) && is_none (reading_in true name rs))
-    (is_none (reading_in false name rs) && is_some (reading_in true name rs)) e) where
-      at : (f : Bool) (a : Place) → reading_in f name rs ≡ Some a
-          → is_none (reading_in (not f) name rs) ≡ true
-          → (stands (is_of_face f) a ≡ true → face_at a ≡ f) → has_one_face rs ≡ true
-      at f a s n faced =
-          let (inside, test) = find_some
-          (λ r. bytes_eq (target_at r) name && stands (is_of_face f) r) a rs s in
-          let parts = and_parts (bytes_eq (target_at a) name) (stands (is_of_face f) a) test in
-          let same : target_at a ≡ name = (bytes_eq-Decides (target_at a) name).0 parts.0 in
-          any_from (λ r. is_none (reading_in (not (face_at r)) (target_at r) rs)) a rs inside
-          (ap (λ v. is_none (reading_in (not v) (target_at a) rs)) (faced parts.1)
-          ∙ ap (λ (t : List ℕ). is_none (reading_in (not f) t rs)) same ∙ n)
+lonely rs name e = elim (or_cases
+    (is_some (reading_in false name rs) && is_none (reading_in true name rs))
+    (is_none (reading_in false name rs) && is_some (reading_in true name rs)) e) [
+      | inl h ↦
+          let p = and_parts (is_some (reading_in false name rs)) (is_none (reading_in true name rs)) h in
+          let s = the_some (reading_in false name rs) p.0 in at false s.0 s.1 p.1 (one_face_at s.0)
+      | inr h ↦
+          let p = and_parts (is_none (reading_in false name rs)) (is_some (reading_in true name rs)) h in
+          let s = the_some (reading_in true name rs) p.1 in at true s.0 s.1 p.0 (λ h. h)
+    ]
+  where
+    the_some : (o : Option Place) → is_some o ≡ true → (a : Place) × (o ≡ Some a)
+    the_some None t = cc
+    the_some (Some a) t = (a, refl)
 
-      first : (o : Option Place) → reading_in false name rs ≡ o → is_some o ≡ true
-          → is_none (reading_in true name rs) ≡ true → has_one_face rs ≡ true
-      first None s t n = cc
-      first (Some a) s t n = at false a s n (one_face_at a)
-
-      second : (o : Option Place) → reading_in true name rs ≡ o → is_some o ≡ true
-          → is_none (reading_in false name rs) ≡ true → has_one_face rs ≡ true
-      second None s t n = cc
-      second (Some a) s t n = at true a s n (λ h. h)
-
-      split : ((is_some (reading_in false name rs) && is_none (reading_in true name rs)) ≡ true)
-          ⊎ ((is_none (reading_in false name rs) && is_some (reading_in true name rs)) ≡ true)
-          → has_one_face rs ≡ true
-      split (inl h) = let p = and_parts (is_some (reading_in false name rs))
-          (is_none (reading_in true name rs)) h in first _ refl p.0 p.1
-      split (inr h) = let p = and_parts (is_none (reading_in false name rs))
-          (is_some (reading_in true name rs)) h in second _ refl p.1 p.0
+    at : (f : Bool) (a : Place) → reading_in f name rs ≡ Some a
+        → is_none (reading_in (not f) name rs) ≡ true
+        → (stands (is_of_face f) a ≡ true → face_at a ≡ f) → has_one_face rs ≡ true
+    at f a s n faced =
+        let (inside, test) = find_some
+        (λ r. bytes_eq (target_at r) name && stands (is_of_face f) r) a rs s in
+        let parts = and_parts (bytes_eq (target_at a) name) (stands (is_of_face f) a) test in
+        let same : target_at a ≡ name = (bytes_eq-Decides (target_at a) name).0 parts.0 in
+        any_from (λ r. is_none (reading_in (not (face_at r)) (target_at r) rs)) a rs inside
+        (ap (λ v. is_none (reading_in (not v) (target_at a) rs)) (faced parts.1)
+        ∙ ap (λ (t : List ℕ). is_none (reading_in (not f) t rs)) same ∙ n)
 
 -- A target has one face exactly where a slot is single.
 pub one_face_by_slots : (targets : List (List ℕ)) (rs : List Place)
@@ -149,14 +136,13 @@ one_face_by_slots targets rs kept = same_test (has_one_face rs)
 pub unseen : (targets : List (List ℕ)) (rs : List Place) (name : List ℕ) (f : Bool)
     → AllByRecursion (IsKept targets) rs → is_among targets name ≡ false
     → reading_in f name rs ≡ None
-unseen targets rs name f kept out = split (none_or_some (reading_in f name rs)) where
-  split : (reading_in f name rs ≡ None) ⊎ ((x : Place) × (reading_in f name rs ≡ Some x))
-      → reading_in f name rs ≡ None
-  split (inl n) = n
-  split (inr s) =
+unseen targets rs name f kept out = elim (none_or_some (reading_in f name rs)) [
+  | inl n ↦ n
+  | inr s ↦
       let (inside, test) = find_some
       (λ r. bytes_eq (target_at r) name && stands (is_of_face f) r) s.0 rs s.1 in
       let same : target_at s.0 ≡ name = (bytes_eq-Decides (target_at s.0) name).0
       (and_parts (bytes_eq (target_at s.0) name) (stands (is_of_face f) s.0) test).0 in
       absurd (false≢true (sym out ∙ ap (is_among targets) (sym same)
       ∙ (all_in (IsKept targets) s.0 rs kept inside).in_targets))
+]

@@ -49,12 +49,13 @@ same_of_file h a b (inr p) (inr q) e = same_place h a b p q e
 
 pub last_placed : (p : GsiBlock → Bool) (past : History) → OfFile past (last p past)
 last_placed p [] = inl refl
-last_placed p (b ∷ past) = split (p b) (last_placed p past) where
-  split : (v : Bool) → OfFile past (last p past)
-      → OfFile (b ∷ past) (cond v (b ∷ past) (last p past))
-  split true ih = inr (inl refl)
-  split false (inl e) = inl e
-  split false (inr k) = inr (inr k)
+last_placed p (b ∷ past) = elim (cases_Bool (p b)) [
+  | inl t ↦ rw t (inr (inl refl))
+  | inr f ↦
+      let same : last p (b ∷ past) ≡ last p past = rw f in
+      subst (OfFile (b ∷ past)) (sym same)
+      (elim (last_placed p past) [ inl e ↦ inl e | inr k ↦ inr (inr k) ])
+]
 
 pub before_placed : (h : History) (r q : Place) → In r (places h) → In q (places (before r))
     → In q (places h)
@@ -65,30 +66,22 @@ before_placed (b ∷ past) r q (inr placed) k = inr (before_placed past r q plac
 -- the last such place before a place
 pub owner_placed : (p : GsiBlock → Bool) (h : History) (r : Place) → In r (places h)
     → OfFile h (last p (before r))
-owner_placed p h r placed = split (last_placed p (before r)) where
-  split : OfFile (before r) (last p (before r)) → OfFile h (last p (before r))
-  split (inl e) = inl e
-  split (inr k) = inr (before_placed h r (last p (before r)) placed k)
+owner_placed p h r placed = elim (last_placed p (before r)) [
+  | inl e ↦ inl e
+  | inr k ↦ inr (before_placed h r (last p (before r)) placed k)
+]
 
 -- the station of an open set is the station
 pub station_of_set : (past : History) → is_open past ≡ true
     → station (before (opening past)) ≡ station past
 station_of_set [] e = cc
-station_of_set (b ∷ past) e = split (cases_Bool (is_opening b)) (station_of_set past) where
-  split : (is_opening b ≡ true) ⊎ (is_opening b ≡ false)
-      → (is_open past ≡ true → station (before (opening past)) ≡ station past)
-      → station (before (opening (b ∷ past))) ≡ station (b ∷ past)
-  split (inl o) ih =
+station_of_set (b ∷ past) e = elim (cases_Bool (is_opening b)) [
+  | inl o ↦
       let set : opens_set b ≡ true = sym (is_open-opening b past o) ∙ e in
-      let own : opening (b ∷ past) ≡ b ∷ past = ap
-      (λ v. cond v (b ∷ past) (last is_opening past)) o in
-      ap (λ (p : Place). station (before p)) own
-      ∙ sym (same_station b past (no_station_at_set b set))
-  split (inr o) ih =
-      let own : opening (b ∷ past) ≡ opening past = ap
-      (λ v. cond v (b ∷ past) (last is_opening past)) o in
-      ap (λ (p : Place). station (before p)) own ∙ ih (sym (is_open-other b past o) ∙ e)
-      ∙ sym (same_station b past (sight_opens_no_station b o))
+      rw o (sym (same_station b past (no_station_at_set b set)))
+  | inr o ↦ rw o (station_of_set past (sym (is_open-other b past o) ∙ e)
+      ∙ sym (same_station b past (sight_opens_no_station b o)))
+]
 
 -- The set of a reading is a set of the file, and of the reading's station.
 pub record HasItsSet (h : History) (r : Place) : Type 0 where

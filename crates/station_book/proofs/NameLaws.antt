@@ -57,18 +57,6 @@ all_map P f (x ∷ xs) all = (all.0, all_map P f xs all.1)
 abbrev pub AreApart : Place → Place → Type 0
 AreApart older newer = same_name (name_at older) (name_at newer) ≡ false
 
-more_stations : (v : Bool) (b : GsiBlock) (past : History)
-    → (opens_set b && is_empty (open_sets past)) ≡ v
-    → stations_of (b ∷ past) ≡ cond v (stations_of past ++ station past ∷ []) (stations_of past)
-more_stations true b past e =
-    ap (λ v. map (λ s. station (before s))
-    (reverse (cond v ((b ∷ past) ∷ first_sets past) (first_sets past)))) e
-    ∙ ap (map (λ s. station (before s))) (reverse-append ((b ∷ past) ∷ []) (first_sets past))
-    ∙ map-append (λ s. station (before s)) (reverse (first_sets past)) ((b ∷ past) ∷ [])
-more_stations false b past e =
-    ap (λ v. map (λ s. station (before s))
-    (reverse (cond v ((b ∷ past) ∷ first_sets past) (first_sets past)))) e
-
 empty_list : {X : Type 0} (xs : List X) → is_empty xs ≡ true → xs ≡ []
 empty_list [] e = refl
 empty_list (x ∷ xs) e = cc
@@ -77,31 +65,29 @@ pub apart : (limits : FaceLimits) (h : History) → IsWithoutFault limits h
     → Pairwise AreApart (stations_of h)
 apart limits [] clean = tt
 apart limits (b ∷ past) clean =
-    split (apart limits past clean.1) (cases_Bool (opens_set b))
-    (cases_Bool (is_empty (open_sets past)))
-  where
-    split : Pairwise AreApart (stations_of past) → (opens_set b ≡ true) ⊎ (opens_set b ≡ false)
-        → (is_empty (open_sets past) ≡ true) ⊎ (is_empty (open_sets past) ≡ false)
-        → Pairwise AreApart (stations_of (b ∷ past))
-    split older (inl s) (inl n) =
-        let c = clean_set limits past b s clean.0 in
-        let others =
-        each_false (λ s. same_name (name_at (station (before s))) (name_at (station past)))
-        (first_sets past)
-        (sym (had_sets_by_names past (empty_list (open_sets past) n)) ∙ c.first_time) in
-        subst (Pairwise AreApart) (sym (more_stations true b past (and_from (opens_set b) _ s n)))
-        (pairwise_snoc AreApart (stations_of past) (station past) older
-        (all_map (λ st. AreApart st (station past)) (λ s. station (before s))
-        (reverse (first_sets past))
-        (all_reverse (λ s. AreApart (station (before s)) (station past)) (first_sets past) others)))
-    split older (inl s) (inr n) =
-        subst (Pairwise AreApart)
-        (sym (more_stations false b past (and_right (opens_set b) (is_empty (open_sets past)) n)))
-        older
-    split older (inr s) n =
-        subst (Pairwise AreApart)
-        (sym (more_stations false b past (and_left (opens_set b) (is_empty (open_sets past)) s)))
-        older
+    let older = apart limits past clean.1 in elim (cases_Bool (opens_set b)) [
+      | inr s ↦ rw s older
+      | inl s ↦ elim (cases_Bool (is_empty (open_sets past))) [
+        | inr n ↦ rw (s, n) older
+        | inl n ↦
+            let others =
+            each_false (λ s. same_name (name_at (station (before s))) (name_at (station past)))
+            (first_sets past) (sym (had_sets_by_names past (empty_list (open_sets past) n))
+            ∙ (clean_set limits past b s clean.0).first_time) in
+            rw (
+              s,
+              n,
+              reverse-append ((b ∷ past) ∷ []) (first_sets past),
+              map-append
+                  (λ s. station (before s)) (reverse (first_sets past)) ((b ∷ past) ∷ []),
+            )
+            (pairwise_snoc AreApart (stations_of past) (station past) older
+            (all_map (λ st. AreApart st (station past)) (λ s. station (before s))
+            (reverse (first_sets past))
+            (all_reverse (λ s. AreApart (station (before s)) (station past)) (first_sets past)
+            others)))
+      ]
+    ]
 
 -- Stations that were surveyed at such places have different names.
 abbrev pub HaveTwoNames : SurveyedStation → SurveyedStation → Type 0
@@ -150,23 +136,15 @@ different_names limits h stations clean are =
 named_only : (name : List ℕ) (s : SurveyedStation) (ss : List SurveyedStation)
     → Pairwise HaveTwoNames ss → In s ss → s.station.name ≡ name → station_named name ss ≡ Some s
 named_only name s [] pairs listed e = absurd listed
-named_only name s (x ∷ xs) pairs listed e =
-    split (named_only name s xs pairs.1) listed (cases_Bool (bytes_eq x.station.name name))
-  where
-    split : (In s xs → s.station.name ≡ name → station_named name xs ≡ Some s) → (s ≡ x) ⊎ In s xs
-        → (bytes_eq x.station.name name ≡ true) ⊎ (bytes_eq x.station.name name ≡ false)
-        → station_named name (x ∷ xs) ≡ Some s
-    split rest (inl here) (inl t) =
-        ap (λ v. cond v (Some x) (station_named name xs)) t
-        ∙ ap (λ (y : SurveyedStation). Some y) (sym here)
-    split rest (inl here) (inr f) =
-        absurd (false≢true (sym f ∙ (bytes_eq-Decides x.station.name name).1
-        (ap (λ (y : SurveyedStation). y.station.name) (sym here) ∙ e)))
-    split rest (inr later) (inl t) =
-        absurd (all_in (HaveTwoNames x) s xs pairs.0 later
-        ((bytes_eq-Decides x.station.name name).0 t ∙ sym e))
-    split rest (inr later) (inr f) =
-        ap (λ v. cond v (Some x) (station_named name xs)) f ∙ rest later e
+named_only name s (x ∷ xs) pairs (inl here) e =
+    let t : bytes_eq x.station.name name ≡ true = (bytes_eq-Decides x.station.name name).1
+    (ap (λ (y : SurveyedStation). y.station.name) (sym here) ∙ e) in
+    rw t (ap (λ (y : SurveyedStation). Some y) (sym here))
+named_only name s (x ∷ xs) pairs (inr later) e = elim (cases_Bool (bytes_eq x.station.name name)) [
+  | inl t ↦ absurd (all_in (HaveTwoNames x) s xs pairs.0 later
+      ((bytes_eq-Decides x.station.name name).0 t ∙ sym e))
+  | inr f ↦ rw f (named_only name s xs pairs.1 later e)
+]
 
 pub its_station : (limits : FaceLimits) (h : History) (stations : List SurveyedStation)
     (name : List ℕ) (s : SurveyedStation) → IsWithoutFault limits h → AreStations limits h stations

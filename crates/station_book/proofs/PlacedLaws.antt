@@ -3,7 +3,7 @@ use Rattle.std.proofs.Common.{◌≡◌, ◌≢◌, ℕ, ◌<◌, ◌≤◌, Boo
 use Rattle.std.specs.Prelude.{slice_get}
 use Rattle.std.specs.List.{prefix_len}
 use Rattle.std.specs.Str.{bytes_eq}
-use Rattle.std.proofs.lemmas.Bool.{lt-ltb, false≢true}
+use Rattle.std.proofs.lemmas.Bool.{lt-ltb, false≢true, false_from_ne_true}
 use Rattle.std.proofs.lemmas.List.Sums.{prefix_len_is}
 use Rattle.std.proofs.lemmas.Option.{get_or_from_slice_get, slice_get_cases}
 use Rattle.std.proofs.lemmas.Slice.Eq.{bytes_eq-Decides}
@@ -11,10 +11,8 @@ use Rattle.station_book.specs.Entries.{is_named, place_of}
 
 -- A name that differs is no match.
 other_name : (a b name : List ℕ) → b ≡ name → a ≢ b → not (bytes_eq a name) ≡ true
-other_name a b name same differ = split (bytes_eq a name) refl where
-  split : (v : Bool) → bytes_eq a name ≡ v → not (bytes_eq a name) ≡ true
-  split true e = absurd (differ ((bytes_eq-Decides a name).0 e ∙ sym same))
-  split false e = ap not e
+other_name a b name same differ = ap not (false_from_ne_true (bytes_eq a name)
+    (λ e. differ ((bytes_eq-Decides a name).0 e ∙ sym same)))
 
 abbrev IsThere : List (List ℕ) → ℕ → Type 0
 IsThere targets i =

@@ -2,10 +2,10 @@
 use Rattle.std.proofs.Common.{◌≡◌, ◌≢◌, ℕ, zero, suc, ◌+◌, ◌<◌, ◌≤◌, Bool, true, false, cond, not, ◌||◌, List, [], ◌∷◌, ◌++◌, length, map, filter, get_or, set, Option, Some, None, AllPairs, refl, sym, ap, ◌∙◌, inl, inr, ◌⊎◌, arith, append-nil}
 use Rattle.std.specs.List.{AllByRecursion, list_any, enumerate_from, filter_map}
 use Rattle.std.specs.Str.{bytes_eq}
-use Rattle.std.proofs.lemmas.Bool.{cases_Bool, false≢true, cases_eq, cases_lt, or_parts}
+use Rattle.std.proofs.lemmas.Bool.{cases_Bool, false≢true, cases_eq, cases_lt, or_parts, false_from_ne_true}
 use Rattle.std.proofs.lemmas.List.{length-set, ext_get_or, get_or-set_same, get_or-set_other, map-append}
 use Rattle.std.proofs.lemmas.List.Elements.{filter_map-append}
-use Rattle.std.proofs.lemmas.List.Folds.{list_any_at}
+use Rattle.std.proofs.lemmas.List.Folds.{list_any_at, list_any-append}
 use Rattle.std.proofs.lemmas.List.Quantifiers.{all_pairs_push, position-Some}
 use Rattle.std.proofs.lemmas.Slice.Eq.{bytes_eq-Decides}
 use Rattle.station_book.specs.Sights.{Sight}
@@ -54,62 +54,41 @@ slot_own true v r name rs s f g e = λ i. record {
 -- targets are all different
 pub distinct_different : (names : List (List ℕ)) → AllPairs (λ a b. a ≢ b) (distinct names)
 distinct_different [] = λ i j d lt inside. absurd (omega arith)
-distinct_different (name ∷ older) = split (is_among (distinct older) name) refl
-    (distinct_different older) where
-      split : (v : Bool) → is_among (distinct older) name ≡ v
-          → AllPairs (λ a b. a ≢ b) (distinct older)
-          → AllPairs (λ a b. a ≢ b) (cond v (distinct older) (distinct older ++ name ∷ []))
-      split true e h = h
-      split false e h = all_pairs_push (λ a b. a ≢ b) (distinct older) name h
-          (absent_name name (distinct older) e)
+distinct_different (name ∷ older) = elim (cases_Bool (is_among (distinct older) name)) [
+  | inl e ↦ rw e (distinct_different older)
+  | inr e ↦ rw e (all_pairs_push (λ a b. a ≢ b) (distinct older) name (distinct_different older)
+      (absent_name name (distinct older) e))
+]
 
-any_snoc : (p : List ℕ → Bool) (xs : List (List ℕ)) (x : List ℕ)
-    → list_any p (xs ++ x ∷ []) ≡ (list_any p xs || p x)
-any_snoc p [] x = or_no (p x) where
-  or_no : (b : Bool) → (b || false) ≡ b
-  or_no true = refl
-  or_no false = refl
-any_snoc p (y ∷ xs) x = ap (λ v. p y || v) (any_snoc p xs x)
-    ∙ assoc (p y) (list_any p xs) (p x) where
-      assoc : (a b c : Bool) → (a || (b || c)) ≡ ((a || b) || c)
-      assoc true b c = refl
-      assoc false b c = refl
+apart : (a b : List ℕ) → a ≢ b → bytes_eq a b ≡ false
+apart a b ne = false_from_ne_true (bytes_eq a b) (λ e. ne ((bytes_eq-Decides a b).0 e))
 
 -- a name that is no target has no reading
 no_reading_of : (name : List ℕ) (readings : List Place)
     → is_among (targets_in readings) name ≡ false
     → AllByRecursion (λ r. bytes_eq (target_at r) name ≡ false) readings
 no_reading_of name [] e = tt
-no_reading_of name (r ∷ rs) e = split (is_among (targets_in rs) (target_at r)) refl e
-    (no_reading_of name rs) where
-      among : (bytes_eq (target_at r) name ≡ true) → is_among (targets_in rs) (target_at r) ≡ true
-          → is_among (targets_in rs) name ≡ true
-      among b t = ap (is_among (targets_in rs)) (sym ((bytes_eq-Decides (target_at r) name).0 b))
-          ∙ t
-
-      split : (v : Bool) → is_among (targets_in rs) (target_at r) ≡ v
-          → is_among (cond v (targets_in rs) (targets_in rs ++ target_at r ∷ [])) name ≡ false
-          → (is_among (targets_in rs) name ≡ false
-          → AllByRecursion (λ r. bytes_eq (target_at r) name ≡ false) rs)
-          → AllByRecursion (λ r. bytes_eq (target_at r) name ≡ false) (r ∷ rs)
-      split true t e rest = (by (cases_Bool (bytes_eq (target_at r) name)), rest e) where
-        by : (bytes_eq (target_at r) name ≡ true) ⊎ (bytes_eq (target_at r) name ≡ false)
-            → bytes_eq (target_at r) name ≡ false
-        by (inl b) = absurd (false≢true (sym e ∙ among b t))
-        by (inr b) = b
-      split false t e rest = let p = or_parts (is_among (targets_in rs) name)
-          (bytes_eq (target_at r) name)
-          (sym (any_snoc (λ o. bytes_eq o name) (targets_in rs) (target_at r)) ∙ e) in
-          (p.1, rest p.0)
+no_reading_of name (r ∷ rs) e = elim (cases_Bool (is_among (targets_in rs) (target_at r))) [
+  | inl t ↦
+      let out : is_among (targets_in rs) name ≡ false = rw t at e in (
+        apart (target_at r) name (λ same. false≢true (sym out
+            ∙ ap (is_among (targets_in rs)) (sym same) ∙ t)),
+        no_reading_of name rs out,
+      )
+  | inr t ↦
+      let p = or_parts (is_among (targets_in rs) name) (bytes_eq (target_at r) name || false)
+      (sym (list_any-append (λ o. bytes_eq o name) (targets_in rs) (target_at r ∷ []))
+      ∙ (rw t at e)) in
+      ((or_parts (bytes_eq (target_at r) name) false p.1).0, no_reading_of name rs p.0)
+]
 
 pub all_filter : {X : Type 0} (P : X → Type 0) (p : X → Bool) (xs : List X) → AllByRecursion P xs
     → AllByRecursion P (filter p xs)
 all_filter P p [] all = tt
-all_filter P p (x ∷ xs) all = split (p x) (all_filter P p xs all.1) where
-  split : (v : Bool) → AllByRecursion P (filter p xs)
-      → AllByRecursion P (cond v (x ∷ filter p xs) (filter p xs))
-  split true r = (all.0, r)
-  split false r = r
+all_filter P p (x ∷ xs) all = elim (cases_Bool (p x)) [
+  | inl t ↦ rw t (all.0, all_filter P p xs all.1)
+  | inr t ↦ rw t (all_filter P p xs all.1)
+]
 
 none_read : (f : Bool) (name : List ℕ) (rs : List Place)
     → AllByRecursion (λ r. bytes_eq (target_at r) name ≡ false) rs → reading_in f name rs ≡ None
@@ -192,12 +171,6 @@ length_slots : (targets : List (List ℕ)) (rs : List Place)
     → length (slots_of targets rs) ≡ length targets
 length_slots [] rs = refl
 length_slots (t ∷ ts) rs = ap suc (length_slots ts rs)
-
-apart : (a b : List ℕ) → a ≢ b → bytes_eq a b ≡ false
-apart a b ne = split (bytes_eq a b) refl where
-  split : (v : Bool) → bytes_eq a b ≡ v → v ≡ false
-  split true e = absurd (ne ((bytes_eq-Decides a b).0 e))
-  split false e = refl
 
 -- a further reading of the target at place i
 existing : (targets : List (List ℕ)) (i : ℕ) (f : Bool) (v : Sight) (r : Place) (rs : List Place)

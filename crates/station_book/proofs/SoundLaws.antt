@@ -25,33 +25,28 @@ observed set m slots = filter_map (obs_at set) (enumerate_from m slots)
 direction_below : (a b : Sight) → direction a b < 80_000_000
 direction_below a b = omega arith
 
+from_lower : (set m top : ℕ) (os : List Obs) → All (IsOf set (m + 1) top) os
+    → All (IsOf set m top) os
+from_lower set m top os all = All-weaker (IsOf set (m + 1) top) (IsOf set m top) (λ o h. record {
+  of_set = h.of_set;
+  from = omega (arith, h.from);
+  below = h.below;
+  value = h.value;
+}) os all
+
 cons_of : (set m top : ℕ) (a b : Option Sight) (rest : List Obs) → m + 1 ≤ top
     → All (IsOf set (m + 1) top) rest
     → All (IsOf set m top) (cons_option (observation_of set m a b) rest)
 cons_of set m top (Some a) (Some b) rest le all =
     All-cons (IsOf set m top) (record { set = set; target = m; value = direction a b }) rest
-    (record { of_set = refl; from = omega arith; below = omega arith; value = direction_below a b })
-    (All-weaker (IsOf set (m + 1) top) (IsOf set m top)
-    (λ o h. record {
-      of_set = h.of_set;
-      from = omega (arith, h.from);
-      below = h.below;
-      value = h.value;
-    }) rest all)
-cons_of set m top (Some a) None rest le all = All-weaker (IsOf set (m + 1) top) (IsOf set m top)
-    (λ o h. record {
-      of_set = h.of_set;
-      from = omega (arith, h.from);
-      below = h.below;
-      value = h.value;
-    }) rest all
-cons_of set m top None b rest le all = All-weaker (IsOf set (m + 1) top) (IsOf set m top)
-    (λ o h. record {
-      of_set = h.of_set;
-      from = omega (arith, h.from);
-      below = h.below;
-      value = h.value;
-    }) rest all
+    (record {
+      of_set = refl;
+      from = omega arith;
+      below = omega arith;
+      value = direction_below a b;
+    }) (from_lower set m top rest all)
+cons_of set m top (Some a) None rest le all = from_lower set m top rest all
+cons_of set m top None b rest le all = from_lower set m top rest all
 
 -- what the slots give is of their set and targets
 all_of : (set m top : ℕ) (slots : List Slot) → m + length slots ≡ top
@@ -121,13 +116,11 @@ read_is_observed set m (suc t) (s ∷ slots) lt e f =
 some_read : (slots : List Slot) → list_all is_unread slots ≡ false
     → (t : ℕ) × (t < length slots) × (is_unread (slot_at slots t) ≡ false)
 some_read [] e = cc
-some_read (s ∷ slots) e = split (cases_Bool (is_unread s)) (some_read slots) where
-  split : (is_unread s ≡ true) ⊎ (is_unread s ≡ false) → (list_all is_unread slots ≡ false
-      → (t : ℕ) × (t < length slots) × (is_unread (slot_at slots t) ≡ false))
-      → (t : ℕ) × (t < length (s ∷ slots)) × (is_unread (slot_at (s ∷ slots) t) ≡ false)
-  split (inr f) rest = (0, omega arith, f)
-  split (inl f) rest = let r = rest (sym (ap (λ v. v && list_all is_unread slots) f) ∙ e) in
+some_read (s ∷ slots) e = elim (cases_Bool (is_unread s)) [
+  | inr f ↦ (0, omega arith, f)
+  | inl f ↦ let r = some_read slots (rw f at e) in
       (suc r.0, (let lt = r.1 in omega (arith, lt)), r.2)
+]
 
 -- the observations of the sets up to this one
 pub closes : (n : ℕ) (slots : List Slot) (obs : List Obs) → AreSoFar n slots obs
@@ -159,10 +152,7 @@ closes n slots obs h some faces = record {
   news = all_of n 0 (length slots) slots (omega arith)
 
   cases : (s : ℕ) → s < n + 1 → (s < n) ⊎ (s ≡ n)
-  cases s lt = by (cases_lt s n) where
-    by : (s < n) ⊎ (n ≤ s) → (s < n) ⊎ (s ≡ n)
-    by (inl l) = inl l
-    by (inr l) = inr (omega arith)
+  cases s lt = elim (cases_lt s n) [ inl l ↦ inl l | inr l ↦ inr (omega arith) ]
 
   by_set : (s : ℕ) → (s < n) ⊎ (s ≡ n) → Any (λ o. o.set ≡ s) (obs ++ obs_of n slots)
   by_set s (inl lt) = any_left (λ o. o.set ≡ s) obs (obs_of n slots) (h.each_set s lt)
