@@ -1,5 +1,5 @@
 -- At the end of a file its stations are closed one by one.
-use Rattle.std.proofs.Common.{◌≡◌, ◌≢◌, ℕ, zero, suc, ◌<◌, Bool, true, false, ◌||◌, List, [], ◌∷◌, ◌++◌, length, map, reverse, All, AllPairs, refl, sym, ap, ◌∙◌, subst, arith}
+use Rattle.std.proofs.Common.{◌≡◌, ◌≢◌, ℕ, zero, suc, ◌<◌, false, ◌||◌, List, [], ◌∷◌, ◌++◌, length, map, reverse, All, AllPairs, refl, sym, ap, ◌∙◌, subst, arith}
 use Rattle.std.specs.List.{list_any, IsDistinct}
 use Rattle.std.specs.Str.{bytes_eq}
 use Rattle.std.specs.Map.{keys_of, values_of}
@@ -14,6 +14,7 @@ use Rattle.station_book.specs.Entries.{EntryValue, MayEnd}
 use Rattle.station_book.specs.Shelves.{ShelfValue, LastMayEnd, OlderMayEnd, AreByName, survey_of, surveys_of}
 use Rattle.station_book.proofs.ShelfLaws.{name_eq, name_eq-same, same-name_eq}
 use Rattle.station_book.proofs.NewestLaws.{all_in_map}
+use Rattle.std.proofs.lemmas.Bool.{or_from, false_from_ne_true}
 
 -- what a station gives, by its name
 abbrev pub surveyed : List ℕ × EntryValue → List ℕ × SurveyedStation
@@ -42,7 +43,9 @@ not_among : (names later : List (List ℕ)) (name : List ℕ)
     → AllPairs (λ a b. a ≢ b) (names ++ name ∷ later)
     → list_any (λ n. bytes_eq name n) names ≡ false
 not_among [] later name pairs = refl
-not_among (n ∷ names) later name pairs = split (bytes_eq name n) refl
+not_among (n ∷ names) later name pairs =
+    or_from (bytes_eq name n) (list_any (λ m. bytes_eq name m) names)
+    (false_from_ne_true (bytes_eq name n) (λ e. differ (sym ((bytes_eq-Decides name n).0 e))))
     (not_among names later name
     (λ i j d lt within. pairs (suc i) (suc j) d (omega (arith, lt)) (omega (arith, within)))) where
       inside : length names < length (names ++ name ∷ later)
@@ -51,11 +54,6 @@ not_among (n ∷ names) later name pairs = split (bytes_eq name n) refl
       differ : n ≢ name
       differ e = pairs zero (suc (length names)) [] (omega arith) (omega (arith, inside))
           (e ∙ sym (get_or-append_seam names name later []))
-
-      split : (v : Bool) → bytes_eq name n ≡ v → list_any (λ m. bytes_eq name m) names ≡ false
-          → (bytes_eq name n || list_any (λ m. bytes_eq name m) names) ≡ false
-      split true e rest = absurd (differ (sym ((bytes_eq-Decides name n).0 e)))
-      split false e rest = ap (λ v. v || list_any (λ m. bytes_eq name m) names) e ∙ rest
 
 any_key : {V : Type 0} (name : List ℕ) (es : List (List ℕ × V))
     → list_any (λ e. bytes_eq name e.0) es ≡ list_any (λ n. bytes_eq name n) (keys_of es)

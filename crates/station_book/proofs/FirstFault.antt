@@ -1,5 +1,5 @@
 -- A file has no fault, or one first fault.
-use Rattle.std.proofs.Common.{◌≡◌, [], ◌∷◌, Option, Some, None, refl, sym, ap, ◌∙◌, inl, inr, ◌⊎◌, subst}
+use Rattle.std.proofs.Common.{◌≡◌, [], ◌∷◌, Some, None, refl, sym, ap, ◌∙◌, inl, inr, ◌⊎◌, subst}
 use Rattle.gsi_word.specs.Blocks.{GsiBlock}
 use Rattle.station_book.specs.declared.fault.BookKind.{BookKind}
 use Rattle.station_book.specs.Limits.{FaceLimits}
@@ -7,6 +7,7 @@ use Rattle.station_book.specs.Places.{History, Place, places, before}
 use Rattle.station_book.specs.Faults.{fault_after, IsWithoutFault, IsFirstFault}
 use Rattle.station_book.proofs.Membership.{In}
 use Rattle.station_book.proofs.Elements.{in_contains, contains_in}
+use Rattle.station_book.proofs.FaceLaws.{none_or_some}
 
 -- each block is without fault
 pub clean_at : (limits : FaceLimits) (h : History) (b : GsiBlock) (past : History)
@@ -31,39 +32,35 @@ in_order (c ∷ past) a b (inr pa) (inr pb) = in_order past a b pa pb
 pub fault_or_none : (limits : FaceLimits) (h : History)
     → IsWithoutFault limits h ⊎ ((r : Place) × (kind : BookKind) × IsFirstFault limits h r kind)
 fault_or_none limits [] = inl tt
-fault_or_none limits (b ∷ past) = split (fault_or_none limits past)
-    (fault_after limits past b) refl where
-      split : IsWithoutFault limits past
-          ⊎ ((r : Place) × (kind : BookKind) × IsFirstFault limits past r kind)
-          → (o : Option BookKind) → fault_after limits past b ≡ o → IsWithoutFault limits (b ∷ past)
-          ⊎ ((r : Place) × (kind : BookKind) × IsFirstFault limits (b ∷ past) r kind)
-      split (inl clean) None e = inl (e, clean)
-      split (inl clean) (Some kind) e =
-          inr (
-            b ∷ past,
-            kind,
-            record {
-              placed = contains_in (b ∷ past) (places (b ∷ past)) (inl refl);
-              clean = clean;
-              block = b;
-              stands = refl;
-              fault = e;
-            },
-          )
-      split (inr f) o e =
-          let first = f.2 in
-          inr (
-            f.0,
-            f.1,
-            record {
-              placed = contains_in f.0 (places (b ∷ past))
-                  (inr (in_contains f.0 (places past) first.placed));
-              clean = first.clean;
-              block = first.block;
-              stands = first.stands;
-              fault = first.fault;
-            },
-          )
+fault_or_none limits (b ∷ past) = elim (fault_or_none limits past) [
+  | inl clean ↦ elim (none_or_some (fault_after limits past b)) [
+    | inl e ↦ inl (e, clean)
+    | inr f ↦ inr (
+      b ∷ past,
+      f.0,
+      record {
+        placed = contains_in (b ∷ past) (places (b ∷ past)) (inl refl);
+        clean = clean;
+        block = b;
+        stands = refl;
+        fault = f.1;
+      },
+    )
+  ]
+  | inr f ↦
+      let first = f.2 in inr (
+        f.0,
+        f.1,
+        record {
+          placed = contains_in f.0 (places (b ∷ past))
+              (inr (in_contains f.0 (places past) first.placed));
+          clean = first.clean;
+          block = first.block;
+          stands = first.stands;
+          fault = first.fault;
+        },
+      )
+]
 
 -- where a fault stands, what comes after isn't without fault
 not_clean : (limits : FaceLimits) (h p : History) (r : Place) (kind : BookKind)

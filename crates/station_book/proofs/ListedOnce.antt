@@ -1,5 +1,5 @@
 -- At a station of a file without fault no set and target is listed twice.
-use Rattle.std.proofs.Common.{◌≡◌, ◌≢◌, ℕ, ◌+◌, ◌<◌, ◌≤◌, true, false, cond, ◌&&◌, eqb, List, [], ◌∷◌, ◌++◌, length, map, filter, reverse, Option, Some, None, refl, sym, ap, ◌∙◌, inl, inr, ◌⊎◌, subst, arith}
+use Rattle.std.proofs.Common.{◌≡◌, ◌≢◌, ℕ, ◌+◌, ◌<◌, ◌≤◌, true, false, ◌&&◌, eqb, List, [], ◌∷◌, ◌++◌, length, map, filter, reverse, Option, Some, None, refl, sym, ap, ◌∙◌, inl, inr, ◌⊎◌, subst, arith}
 use Rattle.std.specs.List.{AllPairs, AllByRecursion, AllZip, Contains, enumerate_from, filter_map, flat_map, cons_option}
 use Rattle.std.proofs.lemmas.Bool.{cases_Bool, and_parts, eqb-true, eq-eqb, false≢true}
 use Rattle.std.proofs.lemmas.List.{reverse-append, length-map}
@@ -116,29 +116,18 @@ numbers_apart : (limits : FaceLimits) (h : History) (st : Place) → IsWithoutFa
     → Pairwise NumbersDiffer (sets_of st h)
 numbers_apart limits [] st clean = tt
 numbers_apart limits (b ∷ past) st clean =
-    split (cases_Bool (opens_set b && is_same (station past) st))
-    (numbers_apart limits past st clean.1)
-  where
-    older : List Place
-    older = sets_of st past
-
-    split : ((opens_set b && is_same (station past) st) ≡ true)
-        ⊎ ((opens_set b && is_same (station past) st) ≡ false) → Pairwise NumbersDiffer older
-        → Pairwise NumbersDiffer (sets_of st (b ∷ past))
-    split (inr f) ih = subst (Pairwise NumbersDiffer)
-        (sym (ap (λ v. cond v ((b ∷ past) ∷ older) older) f)) ih
-    split (inl t) ih =
-        let parts = and_parts (opens_set b) (is_same (station past) st) t in
-        let c = clean_set limits past b parts.0 clean.0 in
-        let long : length (station past) ≡ length st = eqb-true (length (station past))
-        (length st) parts.1 in
-        let same : open_sets past ≡ older =
-        ap (λ (n : ℕ). filter (λ place. is_set place && eqb (length (station (before place))) n)
-        (places past)) long in
-        let others = each_false (λ s. same_number (at number None s) (number b))
-        (open_sets past) c.new_number in
-        subst (Pairwise NumbersDiffer) (sym (ap (λ v. cond v ((b ∷ past) ∷ older) older) t))
-        (subst (AllByRecursion (NumbersDiffer (b ∷ past))) same others, ih)
+    let ih = numbers_apart limits past st clean.1 in
+    elim (cases_Bool (opens_set b && is_same (station past) st)) [
+      | inr f ↦ rw f ih
+      | inl t ↦
+          let parts = and_parts (opens_set b) (is_same (station past) st) t in
+          let same : open_sets past ≡ sets_of st past =
+          ap (λ (n : ℕ). filter (λ place. is_set place && eqb (length (station (before place))) n)
+          (places past)) (eqb-true (length (station past)) (length st) parts.1) in
+          let others = each_false (λ s. same_number (at number None s) (number b))
+          (open_sets past) (clean_set limits past b parts.0 clean.0).new_number in
+          rw t (subst (AllByRecursion (NumbersDiffer (b ∷ past))) same others, ih)
+    ]
 
 apart_numbers : (x y : Place) (n m : ℕ) → at number None x ≡ Some n → at number None y ≡ Some m
     → same_number (at number None x) (at number None y) ≡ false → n ≢ m

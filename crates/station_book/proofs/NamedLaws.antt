@@ -1,5 +1,5 @@
 -- A station that is found by its name.
-use Rattle.std.proofs.Common.{◌≡◌, ℕ, suc, Bool, true, false, cond, List, [], ◌∷◌, None, Some, refl, ap, ◌∙◌, subst, arith}
+use Rattle.std.proofs.Common.{◌≡◌, ℕ, suc, cond, List, [], ◌∷◌, None, Some, refl, ap, ◌∙◌, subst, arith}
 use Rattle.std.specs.Str.{bytes_eq}
 use Rattle.std.specs.Map.{values_of, lookup}
 use Rattle.std.proofs.lemmas.Slice.Eq.{bytes_eq-Decides}
@@ -8,6 +8,7 @@ use Rattle.station_book.specs.Stations.{SurveyedStation, station_named}
 use Rattle.station_book.specs.Shelves.{AreByName}
 use Rattle.station_book.proofs.Membership.{same_bytes}
 use Rattle.station_book.proofs.ShelfLaws.{name_eq, names_by_bytes}
+use Rattle.std.proofs.lemmas.Bool.{false_from_ne_true}
 
 rest_by_name : (e : List ℕ × SurveyedStation) (es : List (List ℕ × SurveyedStation))
     → AreByName (e ∷ es) → AreByName es
@@ -26,12 +27,8 @@ found_named name (e ∷ es) h =
 pub none_named : (name : List ℕ) (es : List (List ℕ × SurveyedStation)) → AreByName es
     → (IsName name → ⊥) → station_named name (values_of es) ≡ None
 none_named name [] h never = refl
-none_named name (e ∷ es) h never = split (bytes_eq e.1.station.name name) refl
-    (none_named name es (rest_by_name e es h) never) where
-      split : (v : Bool) → bytes_eq e.1.station.name name ≡ v
-          → station_named name (values_of es) ≡ None
-          → station_named name (values_of (e ∷ es)) ≡ None
-      split true is later = absurd (never (subst IsName ((h 0 e (omega arith)).1
-          ∙ (bytes_eq-Decides e.1.station.name name).0 is) (h 0 e (omega arith)).0))
-      split false is later =
-          ap (λ v. cond v (Some e.1) (station_named name (values_of es))) is ∙ later
+none_named name (e ∷ es) h never =
+    let own = h 0 e (omega arith) in
+    rw (false_from_ne_true (bytes_eq e.1.station.name name) (λ is. never
+    (subst IsName (own.1 ∙ (bytes_eq-Decides e.1.station.name name).0 is) own.0)))
+    (none_named name es (rest_by_name e es h) never)

@@ -1,7 +1,7 @@
 -- A station of a whole file has an observation: its set has a reading, and no reading is lost.
-use Rattle.std.proofs.Common.{◌≡◌, ◌≤◌, arith, Bool, true, false, cond, ◌&&◌, ◌||◌, List, [], ◌∷◌, length, Some, None, refl, sym, ap, ◌∙◌, inl, inr, ◌⊎◌}
+use Rattle.std.proofs.Common.{◌≡◌, ◌≤◌, arith, Bool, true, false, cond, ◌&&◌, List, [], ◌∷◌, length, Some, None, refl, sym, ap, ◌∙◌, inl, inr, ◌⊎◌}
 use Rattle.std.specs.List.{Contains}
-use Rattle.std.proofs.lemmas.Bool.{cases_Bool}
+use Rattle.std.proofs.lemmas.Bool.{cases_Bool, or_right, or_left}
 use Rattle.std.proofs.lemmas.List.{length-map}
 use Rattle.gsi_word.specs.Blocks.{GsiBlock}
 use Rattle.adjust_kernel.specs.Matching.{key_of_obs, observed}
@@ -63,31 +63,25 @@ open_or_read limits [] set clean placed s = absurd placed
 open_or_read limits (b ∷ past) set clean (inl e) s =
     let opens : opens_set b ≡ true = ap (λ (p : Place). stands opens_set p) (sym e) ∙ s in
     inl (opening_here b past true
-    (is_code (opens_station b) (opens_set b) (closes_set b) opens) ∙ sym e)
-  where
-    is_code : (x y z : Bool) → y ≡ true → (x || (y || z)) ≡ true
-    is_code true y z e = refl
-    is_code false true z e = refl
-    is_code false false z e = cc
+    (or_right (opens_station b) _ (or_left (opens_set b) (closes_set b) opens)) ∙ sym e)
 open_or_read limits (b ∷ past) set clean (inr placed) s =
-    split (cases_Bool (is_opening b)) (open_or_read limits past set clean.1 placed s)
-  where
-    split : (is_opening b ≡ true) ⊎ (is_opening b ≡ false)
-        → (opening past ≡ set) ⊎ HasReading past set
-        → (opening (b ∷ past) ≡ set) ⊎ HasReading (b ∷ past) set
-    split o (inr r) = inr (later b past set r)
-    split (inl o) (inl e) = inr
-        (later b past set (open_has_reading past set e s (may_end limits past b o clean.0)))
-    split (inr o) (inl e) = inl (opening_here b past false o ∙ e)
+    elim (open_or_read limits past set clean.1 placed s) [
+      | inr r ↦ inr (later b past set r)
+      | inl e ↦ elim (cases_Bool (is_opening b)) [
+        | inl o ↦ inr
+            (later b past set (open_has_reading past set e s (may_end limits past b o clean.0)))
+        | inr o ↦ inl (opening_here b past false o ∙ e)
+      ]
+    ]
 
 set_has_reading : (limits : FaceLimits) (h : History) (set : Place) → IsWholeFile limits h
     → In set (places h) → is_set set ≡ true → HasReading h set
 unfolding fault_at_end
-set_has_reading limits h set whole placed s = split
-    (open_or_read limits h set whole.blocks placed s) where
-      split : (opening h ≡ set) ⊎ HasReading h set → HasReading h set
-      split (inl e) = open_has_reading h set e s whole.ending
-      split (inr r) = r
+set_has_reading limits h set whole placed s = elim
+    (open_or_read limits h set whole.blocks placed s) [
+      | inl e ↦ open_has_reading h set e s whole.ending
+      | inr r ↦ r
+    ]
 
 some_length : {X : Type 0} (xs : List X) (x : X) → Contains xs x → 1 ≤ length xs
 some_length xs x c = let inside = c.1 in omega arith

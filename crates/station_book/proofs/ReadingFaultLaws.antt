@@ -38,6 +38,7 @@ use Rattle.station_book.proofs.TakeLaws.{first_face, second_face}
 use Rattle.station_book.proofs.EndLaws.{slots_kept, some_sighted}
 use Rattle.station_book.proofs.FaultLaws.{first_append, fault_by_role}
 use Rattle.station_book.proofs.StandLaws.{open_entry}
+use Rattle.std.proofs.lemmas.Bool.{and_right}
 
 -- the faults of a reading in itself
 abbrev own_faults : GsiBlock → List (Option BookKind)
@@ -218,8 +219,7 @@ same_measured limits shelf past b w now h =
 
 not_open : (sees now : Bool) (os : List (Option BookKind)) → now ≡ false
     → None ≡ first_of (cond (sees && now) os [])
-not_open true now os e = sym (ap (λ v. first_of (cond v os [])) e)
-not_open false now os e = refl
+not_open sees now os e = rw (and_right sees now e)
 
 -- a measurement, by where it stands
 by_stage : (limits : FaceLimits) (stage : Stage) (shelf : ShelfValue) (past : History)

@@ -1,5 +1,5 @@
 -- What is kept of a station makes a station of the kernel once its last set is closed.
-use Rattle.std.proofs.Common.{◌≡◌, ℕ, zero, suc, ◌+◌, ◌<◌, ◌≤◌, true, false, ◌&&◌, ◌||◌, List, [], ◌∷◌, ◌++◌, length, get_or, All, Any, AllPairs, Option, Some, None, is_some, is_none, inl, inr, ◌⊎◌, refl, sym, ap, ◌∙◌, subst, arith}
+use Rattle.std.proofs.Common.{◌≡◌, ℕ, zero, suc, ◌+◌, ◌<◌, ◌≤◌, false, ◌&&◌, ◌||◌, List, [], ◌∷◌, ◌++◌, length, get_or, All, Any, AllPairs, Option, Some, None, is_some, is_none, inl, inr, ◌⊎◌, refl, sym, ◌∙◌, subst, arith}
 use Rattle.std.specs.List.{list_any, list_all, enumerate_from, filter_map, cons_option}
 use Rattle.std.proofs.lemmas.Bool.{cases_Bool, cases_lt, or_parts}
 use Rattle.std.proofs.lemmas.List.Elements.{All-cons, All-append, All-weaker}

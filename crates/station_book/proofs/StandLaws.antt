@@ -22,6 +22,10 @@ use Rattle.station_book.proofs.OlderLaws.{belonging-older, owners_in_order}
 use Rattle.station_book.proofs.CodeLaws.{no_set_at_station, no_station_at_set}
 use Rattle.station_book.proofs.StepLaws.{sight_opens_nothing, sight_opens_no_station, is_open-opening, is_open-other, sets-station, sets-more, sets-other, same_station, sight_opens_no_set}
 
+-- These places are all before this one.
+abbrev pub AllBefore : Place → List Place → Type 0
+AllBefore place sts = AllByRecursion (λ st. length st < length place) sts
+
 -- no reading: all slots are empty
 pub no_readings : (targets : List (List ℕ))
     → slots_of targets [] ≡ replicate (length targets) empty_slot
@@ -98,12 +102,11 @@ stays : (st : Place) (e : List ℕ × EntryValue) (b : GsiBlock) (past : History
     → station_readings st (b ∷ past) ≡ station_readings st past → StandsAt past st e
     → StandsAt (b ∷ past) st e
 stays st e b past sets readings h =
-    subst (λ (ss : List Place). IsEntryWith st ss (station_readings st (b ∷ past)) e) (sym sets)
-    (subst (λ (rs : List Place). IsEntryWith st (sets_of st past) rs e) (sym readings) h)
+    rw (sets, readings) h
 
 -- Whatever block comes, what is kept of the stations before the open one stays as it is.
 pub older_stay : (sts : List Place) (es : ShelfValue) (b : GsiBlock) (past : History)
-    → AllByRecursion (λ st. length st < length (station past)) sts → Stand past sts es
+    → AllBefore (station past) sts → Stand past sts es
     → Stand (b ∷ past) sts es
 older_stay [] [] b past all h = tt
 older_stay [] (e ∷ es) b past all h = h
@@ -118,7 +121,7 @@ older_stay (st ∷ sts) (e ∷ es) b past all h = (
 pub record HasOpenSet (past : History) : Type 0 where
   pub older : List Place
   pub sets : open_sets past ≡ opening past ∷ older
-  pub before_it : AllByRecursion (λ s. length s < length (opening past)) older
+  pub before_it : AllBefore (opening past) older
 
 places_below : (past : History) (n : ℕ) → length past ≤ n
     → AllByRecursion (λ s. length s < suc n) (places past)
@@ -135,8 +138,7 @@ open_set (b ∷ past) e = elim (cases_Bool (is_opening b)) [
         older = open_sets past;
         sets = sets-more b past (no_station_at_set b n) n
             ∙ ap (λ (p : Place). p ∷ open_sets past) (sym here);
-        before_it = subst (λ (p : Place). AllByRecursion (λ s. length s < length p)
-            (open_sets past)) (sym here)
+        before_it = subst (λ (p : Place). AllBefore p (open_sets past)) (sym here)
             (all_filter _ (λ place. is_set place && is_same (last opens_station (before place))
             (station past)) (places past) (places_below past (length past) (omega arith)));
       }
@@ -147,8 +149,7 @@ open_set (b ∷ past) e = elim (cases_Bool (is_opening b)) [
         older = k.older;
         sets = sets-other b past (sight_opens_no_station b o) (sight_opens_no_set b o) ∙ k.sets
             ∙ ap (λ (p : Place). p ∷ k.older) (sym same);
-        before_it = subst (λ (p : Place). AllByRecursion (λ s. length s < length p) k.older)
-            (sym same) k.before_it;
+        before_it = subst (λ (p : Place). AllBefore p k.older) (sym same) k.before_it;
       }
 ]
 
@@ -211,7 +212,7 @@ pub record HasOpenLast (past : History) : Type 0 where
   pub rest : List Place
   pub some_set : is_empty (open_sets past) ≡ false
   pub stations : stations_in past ≡ station past ∷ rest
-  pub older : AllByRecursion (λ st. length st < length (station past)) rest
+  pub older : AllBefore (station past) rest
 
 below_new : (n : ℕ) (past : History) (xs : List Place) → length (station past) ≤ n
     → AllByRecursion (λ s. length (last opens_station (before s)) ≤ length (station past)) xs
@@ -221,76 +222,59 @@ below_new n past (x ∷ xs) le all =
     ((let a = all.0 in omega (arith, a, le)), below_new n past xs le all.1)
 
 abbrev pub Parted : History → Type 0
-Parted past = ((open_sets past ≡ [])
-    × AllByRecursion (λ st. length st < length (station past)) (stations_in past))
+Parted past = ((open_sets past ≡ []) × AllBefore (station past) (stations_in past))
     ⊎ HasOpenLast past
 
 -- The stations stand in order.
 pub parted : (past : History) → Parted past
 parted [] = inl (refl, tt)
-parted (b ∷ past) = split (cases_Bool (opens_station b)) (cases_Bool (opens_set b))
-    (parted past) where
-      moved : (sts : List Place) → opens_station b ≡ false
-          → AllByRecursion (λ st. length st < length (station past)) sts
-          → AllByRecursion (λ st. length st < length (station (b ∷ past))) sts
-      moved sts s all = subst (λ (o : Place). AllByRecursion (λ st. length st < length o) sts)
-          (sym (same_station b past s)) all
-
-      split : (opens_station b ≡ true) ⊎ (opens_station b ≡ false)
-          → (opens_set b ≡ true) ⊎ (opens_set b ≡ false) → Parted past → Parted (b ∷ past)
-      split (inl s) n h =
-          let here : station (b ∷ past) ≡ b ∷ past = ap
-          (λ v. cond v (b ∷ past) (last opens_station past)) s in
-          let all = below_new (length past) past (first_sets past) (length-last opens_station past)
-          (all_filter _ (λ place. is_set place && is_empty
-          (sets_of (station (before place)) (before place))) (places past)
-          (owners_in_order opens_station past)) in
-          inl (
-            sets-station b past s,
-            subst (λ (sts : List Place). AllByRecursion
-                (λ st. length st < length (station (b ∷ past))) sts)
-                (sym (same_stations b past (no_set_at_station b s)))
-                (subst (λ (o : Place). AllByRecursion (λ st. length st < length o)
-                (stations_in past)) (sym here) all),
-          )
-      split (inr s) (inl n) (inl h) =
-          let first : stations_in (b ∷ past) ≡ station past ∷ stations_in past = ap
-          (λ v. map (λ t. station (before t))
-          (cond v ((b ∷ past) ∷ first_sets past) (first_sets past)))
-          ((λ i. n i && is_empty (h.0 i))) in
-          inr (record {
+parted (b ∷ past) = elim (cases_Bool (opens_station b)) [
+  | inl s ↦
+      let here : station (b ∷ past) ≡ b ∷ past = rw s in
+      let all = below_new (length past) past (first_sets past) (length-last opens_station past)
+      (all_filter _ (λ place. is_set place && is_empty
+      (sets_of (station (before place)) (before place))) (places past)
+      (owners_in_order opens_station past)) in
+      inl (
+        sets-station b past s,
+        subst (λ (o : Place). AllBefore o (stations_in (b ∷ past))) (sym here)
+            (rw (same_stations b past (no_set_at_station b s)) all),
+      )
+  | inr s ↦
+      let st = sym (same_station b past s) in
+      let moved = λ (sts : List Place) (all : AllBefore (station past) sts).
+      subst (λ (o : Place). AllBefore o sts) st all in
+      elim (parted past) [
+        | inl h ↦ elim (cases_Bool (opens_set b)) [
+          | inl n ↦ inr (record {
             rest = stations_in past;
             some_set = ap is_empty (sets-more b past s n);
-            stations = first
-                ∙ ap (λ (o : Place). o ∷ stations_in past) (sym (same_station b past s));
-            older = moved (stations_in past) s h.1;
+            stations = rw (n, h.0) (ap (λ (o : Place). o ∷ stations_in past) st);
+            older = moved (stations_in past) h.1;
           })
-      split (inr s) (inl n) (inr h) =
-          let some = h.some_set in
-          let same : stations_in (b ∷ past) ≡ stations_in past = ap
-          (λ v. map (λ t. station (before t))
-          (cond v ((b ∷ past) ∷ first_sets past) (first_sets past))) ((λ i. n i && some i)) in
-          inr (record {
-            rest = h.rest;
-            some_set = ap is_empty (sets-more b past s n);
-            stations = same ∙ h.stations ∙ ap (λ (o : Place). o ∷ h.rest)
-                (sym (same_station b past s));
-            older = moved h.rest s h.older;
-          })
-      split (inr s) (inr n) (inl h) = inl (
-        sets-other b past s n ∙ h.0,
-        subst (λ (sts : List Place). AllByRecursion
-            (λ st. length st < length (station (b ∷ past))) sts) (sym (same_stations b past n))
-            (moved (stations_in past) s h.1),
-      )
-      split (inr s) (inr n) (inr h) = inr
-          (record {
-            rest = h.rest;
-            some_set = ap is_empty (sets-other b past s n) ∙ h.some_set;
-            stations = same_stations b past n ∙ h.stations ∙ ap (λ (o : Place). o ∷ h.rest)
-                (sym (same_station b past s));
-            older = moved h.rest s h.older;
-          })
+          | inr n ↦ inl (
+            sets-other b past s n ∙ h.0,
+            rw (same_stations b past n) (moved (stations_in past) h.1),
+          )
+        ]
+        | inr h ↦
+            let last = h.stations ∙ ap (λ (o : Place). o ∷ h.rest) st in
+            elim (cases_Bool (opens_set b)) [
+              | inl n ↦ inr (record {
+                rest = h.rest;
+                some_set = ap is_empty (sets-more b past s n);
+                stations = rw (n, h.some_set) last;
+                older = moved h.rest h.older;
+              })
+              | inr n ↦ inr (record {
+                rest = h.rest;
+                some_set = ap is_empty (sets-other b past s n) ∙ h.some_set;
+                stations = same_stations b past n ∙ last;
+                older = moved h.rest h.older;
+              })
+            ]
+      ]
+]
 
 pub set_is_no_reading : (b : GsiBlock) (past : History) → opens_set b ≡ true
     → is_reading (b ∷ past) ≡ false
@@ -320,7 +304,7 @@ stand_first shelf b past name n s set none named_so numbered h =
     stations = ap (λ v. map (λ t. station (before t))
         (cond v ((b ∷ past) ∷ first_sets past) (first_sets past))) (λ i. set i && is_empty (none i))
 
-    older : AllByRecursion (λ st. length st < length (station past)) (stations_in past)
+    older : AllBefore (station past) (stations_in past)
     older = elim (parted past) [
       | inl p ↦ p.1
       | inr p ↦ absurd (false≢true (sym p.some_set ∙ ap is_empty none))
@@ -396,7 +380,7 @@ newest_there s past some h =
     of_first sts (x ∷ es) k = record { newest = x; older = es; is = refl }
 
 in_none : (b : GsiBlock) (past : History) (readings older : List Place)
-    → AllByRecursion (λ s. length s < length (opening past)) older
+    → AllBefore (opening past) older
     → IsInNone (b ∷ past) readings older
 in_none b past readings [] all = tt
 in_none b past readings (s ∷ older) all = (

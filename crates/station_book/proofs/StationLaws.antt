@@ -1,7 +1,7 @@
 -- The stations that have sets, and a station's sets.
-use Rattle.std.proofs.Common.{◌≡◌, Bool, true, false, cond, ◌&&◌, ◌||◌, not, List, [], ◌∷◌, filter, refl, sym, ap, ◌∙◌, inl, inr, ◌⊎◌}
+use Rattle.std.proofs.Common.{◌≡◌, Bool, true, false, ◌&&◌, ◌||◌, not, List, [], ◌∷◌, filter, refl, sym, ap, ◌∙◌, inl, inr}
 use Rattle.std.specs.List.{list_any}
-use Rattle.std.proofs.lemmas.Bool.{and_parts, and_from, cases_Bool, false≢true, or_left, or_right, and_right}
+use Rattle.std.proofs.lemmas.Bool.{and_parts, and_from, cases_Bool, false≢true}
 use Rattle.gsi_word.specs.Blocks.{GsiBlock}
 use Rattle.station_book.specs.Blocks.{opens_station, opens_set}
 use Rattle.station_book.specs.Places.{History, Place, places, last, before, belonging, is_same, is_set, station, first_sets, is_empty}

@@ -29,6 +29,7 @@ use Rattle.station_book.proofs.FaceLaws.{one_face}
 use Rattle.station_book.proofs.KeptLaws.{none_stands, none_when}
 use Rattle.station_book.proofs.ReadingLaws.{Says}
 use Rattle.station_book.proofs.StandLaws.{stand_idle, stand_first, stand_further, stand_reading, open_has_set, newest_there}
+use Rattle.std.proofs.lemmas.Bool.{and_right}
 
 -- what a role says of the tests
 pub station_as : (b : GsiBlock) (r : Role) → role_of b ≡ r → opens_station b ≡ is_station r
@@ -227,10 +228,7 @@ no_err limits shelf (Ok o) f k e = cc
 
 closed_no_reading : (b : GsiBlock) (past : History) → is_open past ≡ false
     → is_reading (b ∷ past) ≡ false
-closed_no_reading b past e = by (is_sight b) where
-  by : (v : Bool) → (v && is_open past) ≡ false
-  by true = e
-  by false = refl
+closed_no_reading b past e = and_right (is_sight b) (is_open past) e
 
 -- a measurement
 pub measurement_taken : (limits : FaceLimits) (shelf : ShelfValue) (stage : Stage) (b : GsiBlock)

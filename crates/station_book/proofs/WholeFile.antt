@@ -25,6 +25,7 @@ use Rattle.station_book.proofs.FilePlaces.{HasItsSet, last_placed, owner_placed,
 use Rattle.station_book.proofs.CoupleReadings.{IsRead}
 use Rattle.station_book.proofs.RecordedLaws.{IsPairObserved, pair_observed}
 use Rattle.station_book.proofs.StationLaws.{right_false}
+use Rattle.station_book.proofs.FaceLaws.{none_or_some}
 
 -- a reading of the other face, in the set and of the target of this one
 record HasOther (h : History) (r : Place) : Type 0 where
@@ -67,31 +68,16 @@ open_reading past r listed =
 -- Where an open set may end, a reading of it has one of the other face.
 other_in_open : (past : History) (r : Place) → In r (open_readings past)
     → first_of (end_faults past) ≡ None → HasOther past r
-other_in_open past r listed clean = split
-    (reading_in (not (face_at r)) (target_at r) (open_readings past)) refl where
-      own : IsOpenReading past r
-      own = open_reading past r listed
-
-      now : is_open past ≡ true
-      now = sym (ap (stands opens_set) own.of_set)
-          ∙ (and_parts (stands is_sight r) (is_open (before r)) own.reading).1
-
-      paired : has_one_face (open_readings past) ≡ false
-      paired = right_false (is_open past) (has_one_face (open_readings past)) now
-          (none_when (is_open past && has_one_face (open_readings past)) kinds.OneFace
-          (none_stands (end_faults past) clean).1.0)
-
-      split : (o : Option Place)
-          → reading_in (not (face_at r)) (target_at r) (open_readings past) ≡ o → HasOther past r
-      split None e =
-          absurd (false≢true (sym paired
-          ∙ any_from (λ q. is_none
+other_in_open past r listed clean = elim
+    (none_or_some (reading_in (not (face_at r)) (target_at r) (open_readings past))) [
+      | inl e ↦ absurd (false≢true (sym paired ∙ any_from (λ q. is_none
           (reading_in (not (face_at q)) (target_at q) (open_readings past))) r
           (open_readings past) listed (ap is_none e)))
-      split (Some q) e =
+      | inr s ↦
+          let q = s.0 in
           let found = find_some
           (λ p. bytes_eq (target_at p) (target_at r) && stands (is_of_face (not (face_at r))) p) q
-          (open_readings past) e in
+          (open_readings past) s.1 in
           let tests = and_parts (bytes_eq (target_at q) (target_at r))
           (stands (is_of_face (not (face_at r))) q) found.1 in
           let other = open_reading past q found.0 in
@@ -103,6 +89,19 @@ other_in_open past r listed clean = split
             of_target = (bytes_eq-Decides (target_at q) (target_at r)).0 tests.0;
             of_face = tests.1;
           }
+    ]
+  where
+    own : IsOpenReading past r
+    own = open_reading past r listed
+
+    now : is_open past ≡ true
+    now = sym (ap (stands opens_set) own.of_set)
+        ∙ (and_parts (stands is_sight r) (is_open (before r)) own.reading).1
+
+    paired : has_one_face (open_readings past) ≡ false
+    paired = right_false (is_open past) (has_one_face (open_readings past)) now
+        (none_when (is_open past && has_one_face (open_readings past)) kinds.OneFace
+        (none_stands (end_faults past) clean).1.0)
 
 first_left : {X : Type 0} (xs ys : List (Option X)) → first_of (xs ++ ys) ≡ None
     → first_of xs ≡ None
@@ -132,27 +131,26 @@ open_or_paired limits (b ∷ past) r clean (inl e) reading =
     (and_parts (is_sight b) (is_open past) here).0 in
     inl (subst (In r) (sym (readings-more b past o here)) (inl e))
 open_or_paired limits (b ∷ past) r clean (inr placed) reading =
-    split (cases_Bool (is_opening b)) (cases_Bool (is_reading (b ∷ past)))
-    (open_or_paired limits past r clean.1 placed reading)
-  where
-    split : (is_opening b ≡ true) ⊎ (is_opening b ≡ false)
-        → (is_reading (b ∷ past) ≡ true) ⊎ (is_reading (b ∷ past) ≡ false)
-        → In r (open_readings past) ⊎ HasOther past r
-        → In r (open_readings (b ∷ past)) ⊎ HasOther (b ∷ past) r
-    split o n (inr other) = inr (other_later b past r other)
-    split (inl o) n (inl now) = inr
-        (other_later b past r (other_in_open past r now (may_end limits past b o clean.0)))
-    split (inr o) (inl n) (inl now) = inl (subst (In r) (sym (readings-more b past o n)) (inr now))
-    split (inr o) (inr n) (inl now) = inl (subst (In r) (sym (readings-other b past o n)) now)
+    elim (open_or_paired limits past r clean.1 placed reading) [
+      | inr other ↦ inr (other_later b past r other)
+      | inl now ↦ elim (cases_Bool (is_opening b)) [
+        | inl o ↦ inr (other_later b past r
+            (other_in_open past r now (may_end limits past b o clean.0)))
+        | inr o ↦ inl (elim (cases_Bool (is_reading (b ∷ past))) [
+          | inl n ↦ subst (In r) (sym (readings-more b past o n)) (inr now)
+          | inr n ↦ subst (In r) (sym (readings-other b past o n)) now
+        ])
+      ]
+    ]
 
 other_face : (limits : FaceLimits) (h : History) (r : Place) → IsWholeFile limits h
     → In r (places h) → is_reading r ≡ true → HasOther h r
 unfolding fault_at_end
-other_face limits h r whole placed reading = split
-    (open_or_paired limits h r whole.blocks placed reading) where
-      split : In r (open_readings h) ⊎ HasOther h r → HasOther h r
-      split (inl now) = other_in_open h r now whole.ending
-      split (inr other) = other
+other_face limits h r whole placed reading = elim
+    (open_or_paired limits h r whole.blocks placed reading) [
+      | inl now ↦ other_in_open h r now whole.ending
+      | inr other ↦ other
+    ]
 
 -- each reading has a face
 has_face : (limits : FaceLimits) (h : History) (r : Place) → IsWithoutFault limits h
