@@ -153,25 +153,19 @@ module _ (limits : FaceLimits) where
   surveyed : (h : History) → IsWithoutFault limits h → (st : Place) (s : SurveyedStation)
       → IsComputed st (sets_of st h) (station_readings st h) s → IsSurveyed limits h st s
   surveyed h clean st s c =
-      let couples = sym (over_sets (targets_of st h) (station_readings st h) (sets_of st h)) in
-      let within : (set : Place)
-      → AllWithin limits (in_set set (station_readings st h)) = λ set. within_limits limits h st
-      set clean in
+      let sets = sets_of st h in
+      let readings = station_readings st h in
+      let targets = targets_of st h in
+      let within : (set : Place) → AllWithin limits (in_set set readings) =
+      λ set. within_limits limits h st set clean in
       record {
         name = c.named_so;
         targets = c.targets;
-        sets = sym (c.numbers ∙ numbers_are (sets_of st h));
-        directions = subst (λ (cs : List Couple). AllZip (IsObserved limits) cs s.station.obs)
-            couples
-            (subst (λ (os : List Obs). AllZip (IsObserved limits)
-            (couples_over (targets_of st h) (station_readings st h) (sets_of st h)) os)
-            (sym c.obs) (all_observed (targets_of st h) (station_readings st h)
-            (sets_of st h) within));
-        differences = subst (λ (cs : List Couple). AllZip (HasFaces limits) cs s.faces) couples
-            (subst (λ (fs : List Faces). AllZip (HasFaces limits)
-            (couples_over (targets_of st h) (station_readings st h) (sets_of st h)) fs)
-            (sym c.faces) (all_compared (targets_of st h) (station_readings st h)
-            (sets_of st h) within));
+        sets = sym (c.numbers ∙ numbers_are sets);
+        directions = rw (c.obs, over_sets targets readings sets)
+            (all_observed targets readings sets within);
+        differences = rw (c.faces, over_sets targets readings sets)
+            (all_compared targets readings sets within);
       }
 
   all_surveyed : (h : History) → IsWithoutFault limits h

@@ -9,9 +9,8 @@ use Rattle.station_book.specs.Blocks.{opens_station, is_opening, is_of_face}
 use Rattle.station_book.specs.Places.{History, Place, places, last, before, opening, station, is_same, is_set, is_reading, target_at, stands, reading_in, sets_of, station_readings, targets_of, is_among, distinct}
 use Rattle.station_book.specs.Faults.{sight_at, IsWithoutFault}
 use Rattle.station_book.specs.Stations.{Couple, joined, couples_in, in_set, couples_of}
-use Rattle.station_book.proofs.Membership.{In, any_to, find_some, find_found}
+use Rattle.station_book.proofs.Elements.{In, any_to, find_some, find_found, IsAt, in_filter, of_filter, of_reverse, in_places, of_places, in_filter_map, of_filter_map, in_flat_map, of_flat_map}
 use Rattle.station_book.proofs.KeptLaws.{among_new, among_more}
-use Rattle.station_book.proofs.Elements.{IsAt, in_filter, of_filter, of_reverse, in_places, of_places, in_filter_map, of_filter_map, in_flat_map, of_flat_map}
 use Rattle.station_book.proofs.OneReading.{IsOf, one_place}
 use Rattle.station_book.proofs.FilePlaces.{OfFile, same_of_file, owner_placed}
 

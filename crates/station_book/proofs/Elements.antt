@@ -1,9 +1,62 @@
--- What is in a list that is made of other lists.
-use Rattle.std.proofs.Common.{◌≡◌, ℕ, zero, suc, ◌+◌, ◌<◌, arith, Bool, true, List, [], ◌∷◌, ◌++◌, length, map, filter, reverse, get_or, Option, Some, None, refl, sym, ap, ◌∙◌, inl, inr, ◌⊎◌, subst}
-use Rattle.std.specs.List.{AllZip, Contains, enumerate_from, filter_map, flat_map, cons_option}
-use Rattle.std.proofs.lemmas.Bool.{cases_Bool}
+-- What is in a list, and in one that is made of other lists.
+use Rattle.std.proofs.Common.{◌≡◌, ℕ, zero, suc, ◌+◌, ◌<◌, arith, Bool, true, List, [], ◌∷◌, ◌++◌, length, map, filter, reverse, get_or, Option, Some, None, refl, sym, ap, ◌∙◌, inl, inr, ◌⊎◌, subst, false, find}
+use Rattle.std.specs.List.{AllZip, Contains, enumerate_from, filter_map, flat_map, cons_option, list_any, AllByRecursion}
+use Rattle.std.proofs.lemmas.Bool.{cases_Bool, or_cases, false≢true, or_left, or_right}
 use Rattle.std.proofs.lemmas.List.{reverse-reverse, reverse-append}
-use Rattle.station_book.proofs.Membership.{In}
+use Rattle.std.specs.Str.{bytes_eq}
+use Rattle.std.proofs.lemmas.Slice.Eq.{bytes_eq-Decides}
+
+module _ {X : Type 0} where
+  abbrev pub In : X → List X → Type 0
+  In x [] = ⊥
+  In x (y ∷ ys) = (x ≡ y) ⊎ In x ys
+
+  pub any_from : (p : X → Bool) (x : X) (xs : List X) → In x xs → p x ≡ true → list_any p xs ≡ true
+  any_from p x [] h e = absurd h
+  any_from p x (y ∷ ys) (inl h) e = or_left (p y) (list_any p ys) (sym (ap p h) ∙ e)
+  any_from p x (y ∷ ys) (inr h) e = or_right (p y) (list_any p ys) (any_from p x ys h e)
+
+  pub any_to : (p : X → Bool) (xs : List X) → list_any p xs ≡ true
+      → (x : X) × In x xs × (p x ≡ true)
+  any_to p [] e = absurd (false≢true e)
+  any_to p (y ∷ ys) e = elim (or_cases (p y) (list_any p ys) e) [
+    | inl h ↦ (y, inl refl, h)
+    | inr h ↦ let r = any_to p ys h in (r.0, inr r.1, r.2)
+  ]
+
+  pub find_some : (p : X → Bool) (x : X) (xs : List X) → find p xs ≡ Some x → In x xs × (p x ≡ true)
+  find_some p x [] e = cc
+  find_some p x (y ∷ ys) e = elim (cases_Bool (p y)) [
+    | inl h ↦ let f : Some y ≡ Some x = rw h at e in let g : y ≡ x = cc in
+        (inl (sym g), sym (ap p g) ∙ h)
+    | inr h ↦ let r = find_some p x ys (rw h at e) in (inr r.0, r.1)
+  ]
+
+  pub find_found : (p : X → Bool) (x : X) (xs : List X) → In x xs → p x ≡ true → find p xs ≡ None
+      → ⊥
+  find_found p x [] h e n = h
+  find_found p x (y ∷ ys) (inl h) e n = let g : Some y ≡ None = rw (sym (ap p h) ∙ e) at n in cc
+  find_found p x (y ∷ ys) (inr h) e n = elim (cases_Bool (p y)) [
+    | inl f ↦ let g : Some y ≡ None = rw f at n in cc
+    | inr f ↦ find_found p x ys h e (rw f at n)
+  ]
+
+  pub all_in : (P : X → Type 0) (x : X) (xs : List X) → AllByRecursion P xs → In x xs → P x
+  all_in P x [] all h = absurd h
+  all_in P x (y ∷ ys) all (inl h) = subst P (sym h) all.0
+  all_in P x (y ∷ ys) all (inr h) = all_in P x ys all.1 h
+
+-- tests that imply each other are one
+pub same_test : (a b : Bool) → (a ≡ true → b ≡ true) → (b ≡ true → a ≡ true) → a ≡ b
+same_test true b f g = sym (f refl)
+same_test false true f g = g refl
+same_test false false f g = refl
+
+-- names are compared either way
+pub same_bytes : (a b : List ℕ) → bytes_eq a b ≡ bytes_eq b a
+same_bytes a b = same_test (bytes_eq a b) (bytes_eq b a) (turned a b) (turned b a) where
+  turned : (x y : List ℕ) → bytes_eq x y ≡ true → bytes_eq y x ≡ true
+  turned x y e = (bytes_eq-Decides y x).1 (sym ((bytes_eq-Decides x y).0 e))
 
 pub in_contains : {X : Type 0} (x : X) (xs : List X) → Contains xs x → In x xs
 in_contains x [] c = absurd (let lt = c.1 in omega arith)

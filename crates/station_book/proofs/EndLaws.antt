@@ -16,7 +16,7 @@ use Rattle.station_book.specs.Kept.{Kept, ending}
 use Rattle.station_book.specs.Places.{History, Place, station, opening, is_empty, is_open, reading_in, sets_of, station_readings, target_at}
 use Rattle.station_book.specs.Keeps.{sighted, slot_of, slots_of, IsComputed, Stand, stations_in, IsStage}
 use Rattle.station_book.specs.Standing.{StandsFor}
-use Rattle.station_book.proofs.Membership.{In, any_to}
+use Rattle.station_book.proofs.Elements.{In, any_to}
 use Rattle.station_book.proofs.StepLaws.{open_targets}
 use Rattle.station_book.proofs.FaceLaws as faces
 use Rattle.station_book.proofs.FaceLaws.{IsKept, some_there}

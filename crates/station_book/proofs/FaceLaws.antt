@@ -8,8 +8,7 @@ use Rattle.gsi_word.specs.Blocks.{GsiBlock}
 use Rattle.station_book.specs.Blocks.{is_of_face, sight}
 use Rattle.station_book.specs.Places.{Place, reading_in, is_among, target_at, stands}
 use Rattle.station_book.specs.Faults.{has_one_face, face_at}
-use Rattle.station_book.proofs.Membership.{In, any_from, any_to, find_some, find_found, all_in, same_test}
-use Rattle.station_book.proofs.Elements.{in_map, of_map}
+use Rattle.station_book.proofs.Elements.{In, any_from, any_to, find_some, find_found, all_in, same_test, in_map, of_map}
 
 -- what a book keeps of the open set: the readings of each target of the station, in face I and in
 -- face II

@@ -8,10 +8,8 @@ use Rattle.station_book.specs.Blocks.{opens_station, opens_set, is_opening, is_s
 use Rattle.station_book.specs.Places.{History, Place, places, last, before, opening, station, is_open, is_set, is_reading, is_same, is_empty, first_sets, sets_of, stands}
 use Rattle.station_book.specs.Faults.{name_at, same_name}
 use Rattle.station_book.specs.Stations.{stations_of}
-use Rattle.station_book.proofs.Membership.{In, any_from, any_to, all_in}
-use Rattle.station_book.proofs.Elements.{in_map, of_map, in_reverse, of_reverse, of_filter}
-use Rattle.station_book.proofs.CodeLaws.{no_station_at_set}
-use Rattle.station_book.proofs.StepLaws.{is_open-opening, is_open-other, sight_opens_no_station, same_station}
+use Rattle.station_book.proofs.Elements.{In, any_from, any_to, all_in, in_map, of_map, in_reverse, of_reverse, of_filter}
+use Rattle.station_book.proofs.StepLaws.{no_station_at_set, is_open-opening, is_open-other, sight_opens_no_station, same_station}
 use Rattle.station_book.proofs.StationLaws.{any_station}
 use Rattle.station_book.proofs.NameLaws.{Pairwise, AreApart}
 use Rattle.station_book.proofs.OneReading.{length_place}

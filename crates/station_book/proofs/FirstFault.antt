@@ -5,8 +5,7 @@ use Rattle.station_book.specs.declared.fault.BookKind.{BookKind}
 use Rattle.station_book.specs.Limits.{FaceLimits}
 use Rattle.station_book.specs.Places.{History, Place, places, before}
 use Rattle.station_book.specs.Faults.{fault_after, IsWithoutFault, IsFirstFault}
-use Rattle.station_book.proofs.Membership.{In}
-use Rattle.station_book.proofs.Elements.{in_contains, contains_in}
+use Rattle.station_book.proofs.Elements.{In, in_contains, contains_in}
 use Rattle.station_book.proofs.FaceLaws.{none_or_some}
 
 -- each block is without fault

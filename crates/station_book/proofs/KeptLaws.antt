@@ -12,11 +12,9 @@ use Rattle.station_book.specs.Blocks.{number, target, is_of_face, opens_station,
 use Rattle.station_book.specs.Places.{History, Place, is_among, with_new, is_open, is_empty, is_reading, station}
 use Rattle.station_book.specs.Faults.{face, reading_faults, fault_after, IsWithoutFault, open_readings, when, first_of, end_faults, is_face_taken, set_faults, is_beyond, had_sets, has_no_two_c, has_set_number, has_no_two_i}
 use Rattle.station_book.specs.Limits.{FaceLimits}
-use Rattle.station_book.proofs.Membership.{any_from, any_to}
+use Rattle.station_book.proofs.Elements.{any_from, any_to, in_left, in_right}
 use Rattle.station_book.proofs.FaceLaws.{IsKept}
-use Rattle.station_book.proofs.StepLaws.{open_targets, readings-opening, readings-more, readings-other, targets-more, targets-other, sight_opens_no_station, sight_opens_nothing}
-use Rattle.station_book.proofs.Elements.{in_left, in_right}
-use Rattle.station_book.proofs.CodeLaws.{no_station_at_set}
+use Rattle.station_book.proofs.StepLaws.{open_targets, readings-opening, readings-more, readings-other, targets-more, targets-other, sight_opens_no_station, sight_opens_nothing, no_station_at_set}
 
 -- where none is the first, none stands
 pub none_stands : {X : Type 0} (os : List (Option X)) → first_of os ≡ None

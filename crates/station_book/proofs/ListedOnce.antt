@@ -10,8 +10,7 @@ use Rattle.station_book.specs.Blocks.{opens_set, number}
 use Rattle.station_book.specs.Places.{History, Place, places, at, before, station, is_same, is_set, target_at, sets_of, station_readings, targets_of, reading_in}
 use Rattle.station_book.specs.Faults.{same_number, sight_at, open_sets, IsWithoutFault}
 use Rattle.station_book.specs.Stations.{Couple, SurveyedStation, joined, couples_in, IsObserved, IsSurveyed, AreStations, stations_of, couples_of}
-use Rattle.station_book.proofs.Membership.{In}
-use Rattle.station_book.proofs.Elements.{in_contains, zip_left}
+use Rattle.station_book.proofs.Elements.{In, in_contains, zip_left}
 use Rattle.station_book.proofs.KeptLaws.{clean_set}
 use Rattle.station_book.proofs.NameLaws.{Pairwise, all_reverse, pairwise_snoc, each_false, pairs_of}
 use Rattle.station_book.proofs.FilePlaces.{OfFile, station_placed}

@@ -1,10 +1,10 @@
 -- No two stations of a file without fault have one name.
-use Rattle.std.proofs.Common.{◌≡◌, ◌≢◌, ◌↔◌, ℕ, arith, Bool, true, false, List, [], ◌∷◌, ◌++◌, map, reverse, Some, refl, sym, ap, ◌∙◌, inl, inr, subst}
+use Rattle.std.proofs.Common.{◌≡◌, ◌≢◌, ◌↔◌, ℕ, arith, Bool, true, false, List, [], ◌∷◌, ◌++◌, map, reverse, Some, refl, sym, ap, ◌∙◌, inl, inr, subst, suc, cond, None}
 use Rattle.std.specs.Str.{bytes_eq}
 use Rattle.std.specs.List.{list_any, AllByRecursion, AllZip, AllPairs, Contains}
 use Rattle.std.proofs.lemmas.List.Elements.{All-from_recursion}
 use Rattle.std.proofs.lemmas.List.Kept.{AllPairs-cons}
-use Rattle.std.proofs.lemmas.Bool.{cases_Bool, or_parts, false≢true}
+use Rattle.std.proofs.lemmas.Bool.{cases_Bool, or_parts, false≢true, false_from_ne_true}
 use Rattle.std.proofs.lemmas.List.{map-append, reverse-append}
 use Rattle.std.proofs.lemmas.Slice.Eq.{bytes_eq-Decides}
 use Rattle.station_book.specs.Limits.{FaceLimits}
@@ -12,10 +12,13 @@ use Rattle.station_book.specs.Blocks.{opens_set}
 use Rattle.station_book.specs.Places.{History, Place, before, station, is_empty, first_sets}
 use Rattle.station_book.specs.Faults.{open_sets, same_name, name_at, IsWithoutFault}
 use Rattle.station_book.specs.Stations.{SurveyedStation, IsSurveyed, AreStations, stations_of, station_named}
-use Rattle.station_book.proofs.Membership.{In, all_in, find_some}
-use Rattle.station_book.proofs.Elements.{in_contains, contains_in}
+use Rattle.station_book.proofs.Elements.{In, all_in, find_some, in_contains, contains_in, same_bytes}
 use Rattle.station_book.proofs.KeptLaws.{clean_set}
 use Rattle.station_book.proofs.StationLaws.{had_sets_by_names}
+use Rattle.std.specs.Map.{values_of, lookup}
+use Rattle.adjust_kernel.specs.Names.{IsName}
+use Rattle.station_book.specs.Shelves.{AreByName}
+use Rattle.station_book.proofs.ShelfLaws.{name_eq, names_by_bytes}
 
 module _ {X : Type 0} where
   -- R holds of each element and each later one
@@ -157,3 +160,26 @@ its_station limits h stations name s clean are = (there, back) where
   back : Contains stations s × (s.station.name ≡ name) → station_named name stations ≡ Some s
   back c = named_only name s stations (different_stations limits h stations clean are)
       (in_contains s stations c.0) c.1
+
+rest_by_name : (e : List ℕ × SurveyedStation) (es : List (List ℕ × SurveyedStation))
+    → AreByName (e ∷ es) → AreByName es
+rest_by_name e es h k d lt = h (suc k) d (omega (arith, lt))
+
+-- the map finds the first station of the name
+pub found_named : (name : List ℕ) (es : List (List ℕ × SurveyedStation)) → AreByName es
+    → lookup (name_eq name) es ≡ station_named name (values_of es)
+found_named name [] h = refl
+found_named name (e ∷ es) h =
+    let same : name_eq name e.0 ≡ bytes_eq e.1.station.name name = names_by_bytes name e.0
+    ∙ same_bytes name e.0 ∙ ap (λ (n : List ℕ). bytes_eq n name) (h 0 e (omega arith)).1 in
+    λ i. cond (same i) (Some e.1) (found_named name es (rest_by_name e es h) i)
+
+-- what is no name is that of no station
+pub none_named : (name : List ℕ) (es : List (List ℕ × SurveyedStation)) → AreByName es
+    → (IsName name → ⊥) → station_named name (values_of es) ≡ None
+none_named name [] h never = refl
+none_named name (e ∷ es) h never =
+    let own = h 0 e (omega arith) in
+    rw (false_from_ne_true (bytes_eq e.1.station.name name) (λ is. never
+    (subst IsName (own.1 ∙ (bytes_eq-Decides e.1.station.name name).0 is) own.0)))
+    (none_named name es (rest_by_name e es h) never)

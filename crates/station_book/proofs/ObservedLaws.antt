@@ -11,8 +11,7 @@ use Rattle.station_book.specs.Blocks.{opens_station, opens_set, closes_set, is_o
 use Rattle.station_book.specs.Places.{History, Place, places, last, before, opening, station, is_open, is_empty, is_set, is_reading, stands}
 use Rattle.station_book.specs.Faults.{first_of, end_faults, IsWithoutFault, IsWholeFile, fault_at_end, open_readings, name_at}
 use Rattle.station_book.specs.Stations.{SurveyedStation, IsSurveyed, AreStations, stations_of}
-use Rattle.station_book.proofs.Membership.{In}
-use Rattle.station_book.proofs.Elements.{in_contains, contains_in, zip_left}
+use Rattle.station_book.proofs.Elements.{In, in_contains, contains_in, zip_left}
 use Rattle.station_book.proofs.KeptLaws.{none_stands, none_when}
 use Rattle.station_book.proofs.FilePlaces.{listed_station, set_of_reading}
 use Rattle.station_book.proofs.NameLaws.{its_station}

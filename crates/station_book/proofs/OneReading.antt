@@ -10,9 +10,8 @@ use Rattle.station_book.specs.Places.{History, Place, places, last, before, open
 use Rattle.station_book.specs.Faults.{face, open_readings, fault_after, IsWithoutFault}
 use Rattle.station_book.specs.Recorded.{IsReadingOf}
 use Rattle.station_book.proofs.KeptLaws.{clean_reading}
-use Rattle.station_book.proofs.Elements.{in_filter, in_contains}
+use Rattle.station_book.proofs.Elements.{in_filter, in_contains, In, find_found}
 use Rattle.station_book.proofs.FaceLaws.{one_face}
-use Rattle.station_book.proofs.Membership.{In, find_found}
 
 -- a place of a file is one of its blocks, and stands there with those before it
 pub length_place : (h : History) (r : Place) → In r (places h) → length r ≤ length h

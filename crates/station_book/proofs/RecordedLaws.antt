@@ -12,8 +12,7 @@ use Rattle.station_book.specs.Places.{History, Place, places, at, last, before, 
 use Rattle.station_book.specs.Faults.{name_at, sight_at, IsWithoutFault}
 use Rattle.station_book.specs.Stations.{Couple, SurveyedStation, IsObserved, HasFaces, IsSurveyed, AreStations, stations_of, couples_of}
 use Rattle.station_book.specs.Recorded.{IsReadingOf, IsRecorded, IsRecordedWith, HasSet}
-use Rattle.station_book.proofs.Membership.{In}
-use Rattle.station_book.proofs.Elements.{in_contains, contains_in, IsAt, place_in, in_map, of_map, in_filter, in_reverse, zip_left, zip_right, matched}
+use Rattle.station_book.proofs.Elements.{In, in_contains, contains_in, IsAt, place_in, in_map, of_map, in_filter, in_reverse, zip_left, zip_right, matched}
 use Rattle.station_book.proofs.PairLaws.{one_two_face}
 use Rattle.station_book.proofs.NameLaws.{apart}
 use Rattle.station_book.proofs.OneReading.{is_of}

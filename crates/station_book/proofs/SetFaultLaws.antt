@@ -22,7 +22,7 @@ use Rattle.station_book.specs.Blocks.{opens_station, opens_set, has_two, number}
 use Rattle.station_book.specs.Places.{History, Place, before, station, is_empty, first_sets, sets_of, station_readings}
 use Rattle.station_book.specs.Keeps.{numbers_in, IsEntryWith, Stand, IsStage, stations_in, number_at}
 use Rattle.station_book.specs.Standing.{StandsFor}
-use Rattle.station_book.proofs.Membership.{same_bytes}
+use Rattle.station_book.proofs.Elements.{same_bytes}
 use Rattle.station_book.proofs.StepLaws.{sets-other}
 use Rattle.station_book.proofs.KeptLaws.{clean_set}
 use Rattle.station_book.proofs.StationLaws.{had_sets_by_names}

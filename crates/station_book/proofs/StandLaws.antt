@@ -17,10 +17,8 @@ use Rattle.station_book.specs.Places.{History, Place, places, last, before, stat
 use Rattle.station_book.specs.Stations.{in_set}
 use Rattle.station_book.specs.Faults.{open_sets, name_at}
 use Rattle.station_book.specs.Keeps.{slots_of, targets_in, obs_in, faces_in, numbers_in, IsEntryOf, IsEntryWith, StandsAt, IsComputed, stations_in, Stand, number_at}
-use Rattle.station_book.proofs.PlaceLaws.{length-last, belonging-more, belonging-same, belonging-fresh}
-use Rattle.station_book.proofs.OlderLaws.{belonging-older, owners_in_order}
-use Rattle.station_book.proofs.CodeLaws.{no_set_at_station, no_station_at_set}
-use Rattle.station_book.proofs.StepLaws.{sight_opens_nothing, sight_opens_no_station, is_open-opening, is_open-other, sets-station, sets-more, sets-other, same_station, sight_opens_no_set}
+use Rattle.station_book.proofs.PlaceLaws.{length-last, belonging-more, belonging-same, belonging-fresh, belonging-older, owners_in_order}
+use Rattle.station_book.proofs.StepLaws.{no_set_at_station, no_station_at_set, sight_opens_nothing, sight_opens_no_station, is_open-opening, is_open-other, sets-station, sets-more, sets-other, same_station, sight_opens_no_set}
 
 -- These places are all before this one.
 abbrev pub AllBefore : Place → List Place → Type 0
@@ -101,8 +99,7 @@ stays : (st : Place) (e : List ℕ × EntryValue) (b : GsiBlock) (past : History
     → sets_of st (b ∷ past) ≡ sets_of st past
     → station_readings st (b ∷ past) ≡ station_readings st past → StandsAt past st e
     → StandsAt (b ∷ past) st e
-stays st e b past sets readings h =
-    rw (sets, readings) h
+stays st e b past sets readings h = rw (sets, readings) h
 
 -- Whatever block comes, what is kept of the stations before the open one stays as it is.
 pub older_stay : (sts : List Place) (es : ShelfValue) (b : GsiBlock) (past : History)
@@ -319,12 +316,8 @@ stand_first shelf b past name n s set none named_so numbered h =
         ∙ no_set_no_reading past none
 
     head : StandsAt (b ∷ past) (station past) (name, first_entry n)
-    head =
-        subst (λ (ss : List Place). IsEntryWith (station past) ss
-        (station_readings (station past) (b ∷ past)) (name, first_entry n)) (sym sets)
-        (subst (λ (rs : List Place). IsEntryWith (station past) ((b ∷ past) ∷ []) rs
-        (name, first_entry n)) (sym readings)
-        (first_stands (station past) (b ∷ past) name n named_so numbered))
+    head = rw (sets, readings)
+        (first_stands (station past) (b ∷ past) name n named_so numbered)
 
 -- a set that is still to come has no readings among those of any station
 none_to_come : (b : GsiBlock) (past : History) (st : Place)
@@ -360,12 +353,11 @@ stand_further x es b past n s set some numbered h =
         let sets : sets_of (station past) (b ∷ past) ≡ (b ∷ past) ∷ open_sets past = ap
         (λ (st : Place). sets_of st (b ∷ past)) (sym (same_station b past s))
         ∙ sets-more b past s set in
-        let readings = idle opens_station is_reading (station past) b past
-        (set_is_no_reading b past set) in
-        subst (λ (ss : List Place). IsEntryWith (station past) ss
-        (station_readings (station past) (b ∷ past)) (x.0, with_set n x.1)) (sym sets)
-        (subst (λ (rs : List Place). IsEntryWith (station past) ((b ∷ past) ∷ open_sets past) rs
-        (x.0, with_set n x.1)) (sym readings) (further (open_sets past) k))
+        rw (
+          sets,
+          idle opens_station is_reading (station past) b past
+              (set_is_no_reading b past set),
+        ) (further (open_sets past) k)
 
 -- Where the open station has a set, a station is kept.
 pub newest_there : (s : ShelfValue) (past : History) → is_empty (open_sets past) ≡ false
@@ -427,17 +419,11 @@ stand_reading x es b past s o reading now says h =
         (station past) past = ap (λ (st : Place). station_readings st (b ∷ past))
         (sym (same_station b past no_station))
         ∙ belonging-more opens_station is_reading b past no_station reading in
-        let old : IsEntryWith (station past) (opening past ∷ set.older)
-        (station_readings (station past) past) x = subst
-        (λ (ss : List Place). IsEntryWith (station past) ss
-        (station_readings (station past) past) x) set.sets k in
-        subst (λ (ss : List Place). IsEntryWith (station past) ss
-        (station_readings (station past) (b ∷ past)) (x.0, with_reading s x.1)) (sym sets)
-        (subst (λ (rs : List Place). IsEntryWith (station past) (opening past ∷ set.older) rs
-        (x.0, with_reading s x.1)) (sym readings)
+        rw (sets, readings)
         (reading_stands (station past) (opening past) set.older (station_readings (station past) past)
         (b ∷ past) x.0 x.1 s says (mine (station_readings (station past) past))
-        (in_none b past (station_readings (station past) past) set.older set.before_it) old))
+        (in_none b past (station_readings (station past) past) set.older set.before_it)
+        (rw set.sets at k))
 
 -- what is kept of the open station, where it has a set
 pub record HasOpenEntry (past : History) (shelf : ShelfValue) : Type 0 where

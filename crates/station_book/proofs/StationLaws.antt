@@ -7,8 +7,7 @@ use Rattle.station_book.specs.Blocks.{opens_station, opens_set}
 use Rattle.station_book.specs.Places.{History, Place, places, last, before, belonging, is_same, is_set, station, first_sets, is_empty}
 use Rattle.station_book.specs.Faults.{open_sets, had_sets, same_name, name_at}
 use Rattle.station_book.proofs.PlaceLaws.{belonging-fresh, belonging-same}
-use Rattle.station_book.proofs.Membership.{In, any_from, any_to, same_test}
-use Rattle.station_book.proofs.Elements.{of_filter}
+use Rattle.station_book.proofs.Elements.{In, any_from, any_to, same_test, of_filter}
 
 pub right_false : (a b : Bool) → a ≡ true → (a && b) ≡ false → b ≡ false
 right_false true b e f = f

@@ -1,9 +1,8 @@
 -- What a block does to the open set, its readings, the station, its sets and targets.
-use Rattle.std.proofs.Common.{◌≡◌, ℕ, true, false, cond, eqb, ◌&&◌, not, List, [], ◌∷◌, map, refl, ap}
-use Rattle.std.specs.Prelude.{◌==◌}
-use Rattle.std.proofs.lemmas.Bool.{and_parts, or_from, eqb-true, or_parts}
+use Rattle.std.proofs.Common.{◌≡◌, ℕ, true, false, cond, eqb, ◌&&◌, not, List, [], ◌∷◌, map, refl, ap, ◌∙◌}
+use Rattle.std.specs.Prelude.{codes, ◌==◌}
+use Rattle.std.proofs.lemmas.Bool.{and_parts, or_from, eqb-true, or_parts, and_right}
 use Rattle.std.specs.Str.{bytes_eq}
-use Rattle.std.specs.Prelude.{codes}
 use Rattle.gsi_word.specs.Blocks.{GsiBlock}
 use Rattle.gsi_word.specs.Words.{GsiWord}
 use Rattle.gsi_word.specs.Names.{name_of}
@@ -11,6 +10,7 @@ use Rattle.station_book.specs.Blocks.{opens_station, opens_set, closes_set, is_o
 use Rattle.station_book.specs.Places.{History, last, stands, is_open, is_set, is_reading, station, targets_of, distinct, with_new, target_at}
 use Rattle.station_book.specs.Faults.{open_readings, open_sets}
 use Rattle.station_book.proofs.PlaceLaws.{belonging-fresh, belonging-more, belonging-same}
+use Rattle.std.proofs.lemmas.Slice.Eq.{bytes_eq-Decides}
 
 -- a set is open after a block
 pub is_open-opening : (b : GsiBlock) (past : History) → is_opening b ≡ true
@@ -87,3 +87,21 @@ sight_opens_no_station b e = (or_parts (opens_station b) _ e).0
 
 pub sight_opens_no_set : (b : GsiBlock) → is_opening b ≡ false → opens_set b ≡ false
 sight_opens_no_set b e = (or_parts (opens_set b) _ (or_parts (opens_station b) _ e).1).0
+
+code_alone : (code other : List ℕ) → bytes_eq code other ≡ false → (ws : List GsiWord)
+    → begins (λ w. w.index == 41 && bytes_eq (name_of w.content) code) ws ≡ true
+    → begins (λ w. w.index == 41 && bytes_eq (name_of w.content) other) ws ≡ false
+code_alone code other different [] e = refl
+code_alone code other different (w ∷ ws) e =
+    let same : name_of w.content ≡ code = (bytes_eq-Decides (name_of w.content) code).0
+    (and_parts (w.index == 41) (bytes_eq (name_of w.content) code) e).1 in
+    and_right (w.index == 41) (bytes_eq (name_of w.content) other)
+    (ap (λ (name : List ℕ). bytes_eq name other) same ∙ different)
+
+pub no_set_at_station : (b : GsiBlock) → opens_station b ≡ true → opens_set b ≡ false
+unfolding opens_station opens_set
+no_set_at_station b e = code_alone (codes "10") (codes "20") refl b.words e
+
+pub no_station_at_set : (b : GsiBlock) → opens_set b ≡ true → opens_station b ≡ false
+unfolding opens_station opens_set
+no_station_at_set b e = code_alone (codes "20") (codes "10") refl b.words e

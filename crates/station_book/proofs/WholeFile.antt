@@ -15,8 +15,7 @@ use Rattle.station_book.specs.Places.{History, Place, places, last, before, open
 use Rattle.station_book.specs.Faults.{first_of, end_faults, station_faults, set_faults, fault_after, fault_at_end, IsWithoutFault, IsFirstFault, IsWholeFile, IsFileFault, open_readings, face_at, has_one_face, name_at}
 use Rattle.station_book.specs.Stations.{SurveyedStation, IsSurveyed, AreStations, stations_of}
 use Rattle.station_book.specs.Recorded.{IsReadingOf, IsListed}
-use Rattle.station_book.proofs.Membership.{In, any_from, find_some}
-use Rattle.station_book.proofs.Elements.{in_contains, contains_in, in_map, of_filter, zip_right}
+use Rattle.station_book.proofs.Elements.{In, any_from, find_some, in_contains, contains_in, in_map, of_filter, zip_right}
 use Rattle.station_book.proofs.StepLaws.{readings-more, readings-other, sight_opens_nothing}
 use Rattle.station_book.proofs.KeptLaws.{none_stands, none_when}
 use Rattle.station_book.proofs.KeptLaws.{clean_reading}
