@@ -1,6 +1,6 @@
 -- What came of a reader, read by read.
-use Rattle.std.proofs.Common.{◌≡◌, [], Option, Some, None, refl, subst, ◌∙◌}
-use Rattle.std.specs.Prelude.{IfSome, false}
+use Rattle.std.proofs.Common.{◌≡◌, Option, Some, subst, ◌∙◌}
+use Rattle.std.specs.Prelude.{IfSome}
 use Rattle.byte_ends.proofs.Coming.{came_so, some_bytes}
 use Rattle.byte_ends.specs.Source.{Told, MayGive, Through}
 use Rattle.gsi_file.specs.FileAnswers.{FileAnswers, file_answers}

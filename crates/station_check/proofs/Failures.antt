@@ -9,8 +9,7 @@ use Rattle.gsi_file.specs.declared.file_fault.FileFault.TheVariants as file
 use Rattle.station_book.specs.declared.fault.BookFault.{BookFault}
 use Rattle.station_book.specs.declared.fault.BookFault.TheVariants as book
 use Rattle.station_check.specs.declared.fault.Fault.{Fault}
-use Rattle.station_check.specs.declared.fault.Fault.TheVariants.{Gsi}
-use Rattle.station_check.specs.Causes.{of_book, NoReadFailed, PassesNoFailure}
+use Rattle.station_check.specs.Causes.{of_book, of_lines, NoReadFailed, PassesNoFailure}
 
 -- no read failed in a call that gave a line or the end
 pub none_failed : (A : Type 0) (settled old new : Bool) (x : A) → new ≡ failed_in {A = A} settled old (Ok x) → new ≡ old
@@ -39,7 +38,7 @@ kept (Word nth) old new e = e
 kept FirstWord old new e = e
 
 -- nor where lines answer another fault than a failed read
-pub file_passes : (A B : Type 0) (settled : Bool) (fault : FileFault) (old now new : Bool) → new ≡ failed_in {A = A} settled now (Err fault) → now ≡ old → PassesNoFailure {A = B} (Err (Gsi fault)) old new
+pub file_passes : (A B : Type 0) (settled : Bool) (fault : FileFault) (old now new : Bool) → new ≡ failed_in {A = A} settled now (Err fault) → now ≡ old → PassesNoFailure {A = B} (Err (of_lines fault)) old new
 file_passes A B true (file.At number kind) old now new e same = kept kind old new (e ∙ same)
 file_passes A B false (file.At number kind) old now new e same = by_kind kind old now new e same
 file_passes A B true file.Memory old now new e same = e ∙ same

@@ -6,12 +6,12 @@ use Rattle.sheet_format.specs.declared.fault.SheetFault.{SheetFault}
 use Rattle.sheet_format.specs.declared.fault.SheetFault.TheVariants as sheet
 use Rattle.station_check.specs.declared.fault.Fault.{Fault}
 use Rattle.station_check.specs.declared.fault.Fault.TheVariants.{Gsi, Book, SheetRead, Sheet, NoStation, Means, Kernel, Write, Memory}
-use Rattle.station_check.specs.Causes.{IsOfFile}
+use Rattle.station_check.specs.Causes.{of_sheet, IsOfFile}
 use Rattle.byte_ends.specs.Came.{IsReadOut}
 use Rattle.station_check.specs.SheetInput.{LeavesAtFault}
 
 -- A fault of the sheet's bytes is answered where the reader has ended.
-pub left_by_text : (fault : SheetFault) (told : Option Told) (failed failed' : Bool) → IsReadOut told failed failed' → LeavesAtFault (Sheet fault) told failed failed'
+pub left_by_text : (fault : SheetFault) (told : Option Told) (failed failed' : Bool) → IsReadOut told failed failed' → LeavesAtFault (of_sheet fault) told failed failed'
 left_by_text sheet.TooLong told failed failed' h = h.1
 left_by_text (sheet.Row number what) told failed failed' h = h
 left_by_text sheet.Memory told failed failed' h = h.1

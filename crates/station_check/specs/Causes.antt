@@ -1,6 +1,9 @@
 -- Which faults a call may answer, whatever its readers and writers tell. That memory ran out is
 -- answered as `Memory`, whichever part it was, and `Write` only where a call of the writer failed.
 use Rattle.std.specs.Prelude.{◌≡◌, Bool, true, Result, Ok, Err}
+use Rattle.byte_ends.specs.declared.input.InputFault.{InputFault}
+use Rattle.byte_ends.specs.declared.input.InputFault.TheVariants as input
+use Rattle.gsi_file.specs.declared.file_fault.FileFault.{FileFault}
 use Rattle.gsi_file.specs.declared.file_fault.FileFault.TheVariants as file
 use Rattle.gsi_file.specs.declared.file_fault.FileKind.{FileKind}
 use Rattle.gsi_file.specs.declared.file_fault.FileKind.TheVariants as kind
@@ -9,21 +12,45 @@ use Rattle.station_book.specs.declared.fault.BookFault.{BookFault}
 use Rattle.station_book.specs.declared.fault.BookFault.TheVariants as book
 use Rattle.sheet_format.specs.declared.fault.SheetFault.{SheetFault}
 use Rattle.sheet_format.specs.declared.fault.SheetFault.TheVariants as sheet
+use Rattle.sheet_format.specs.declared.fault.WriteFault.{WriteFault}
+use Rattle.sheet_format.specs.declared.fault.WriteFault.TheVariants as writing
+use Rattle.sheet_means.specs.declared.fault.MeansFault.{MeansFault}
 use Rattle.sheet_means.specs.declared.fault.MeansFault.TheVariants as means
 use Rattle.station_check.specs.declared.fault.Fault.{Fault}
 use Rattle.station_check.specs.declared.fault.Fault.TheVariants.{Gsi, Book, SheetRead, Sheet}
 use Rattle.station_check.specs.declared.fault.Fault.TheVariants.{NoStation, Means, Kernel, Write, Memory}
+
+-- a fault of the lines as one of a run
+abbrev pub of_lines : FileFault → Fault
+of_lines (file.At number what) = Gsi (file.At number what)
+of_lines file.Memory = Memory
 
 -- a fault of the book as one of a run
 abbrev pub of_book : BookFault → Fault
 of_book (book.At number kind) = Book (book.At number kind)
 of_book book.Memory = Memory
 
+-- why a sheet's bytes can't be had, as a fault of a run
+abbrev pub of_input : InputFault → Fault
+of_input input.Read = SheetRead
+of_input input.TooLong = Sheet sheet.TooLong
+of_input input.Memory = Memory
+
 -- a fault of the sheet as one of a run
 abbrev pub of_sheet : SheetFault → Fault
 of_sheet sheet.TooLong = Sheet sheet.TooLong
 of_sheet (sheet.Row number kind) = Sheet (sheet.Row number kind)
 of_sheet sheet.Memory = Memory
+
+-- why there is no sheet of means, as a fault of a run
+abbrev pub of_means : MeansFault → Fault
+of_means means.Incomplete = Means means.Incomplete
+of_means means.Memory = Memory
+
+-- why a sheet was not written, as a fault of a run
+abbrev pub of_write : WriteFault → Fault
+of_write writing.Write = Write
+of_write writing.Memory = Memory
 
 -- A fault of the field file or of its blocks, or that memory ran out.
 abbrev pub IsOfFile : Fault → Type 0
