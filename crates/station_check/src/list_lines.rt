@@ -8,21 +8,21 @@ ghost use Rattle.station_check.specs.ListTexts.{station_line, key_text, faces_te
 
 use crate::page::PAGE;
 use crate::put::{Room, put, put_bytes, put_number};
+use crate::verdict_line::{LONGEST_U32, LONGEST_U64};
 use adjust_kernel::{LONGEST_NAME, Name, Obs, Station};
 use station_book::Faces;
 
-/// Bytes of a count, in plain decimals: twenty digits at most.
-const COUNT: usize = 20;
-
 /// Bytes of three counts, with the words around them.
-const COUNTS: usize = 31 + 3 * COUNT;
+const COUNTS: usize = 31 + 3 * LONGEST_U64;
 
-/// Bytes of what was observed: a number of five digits, a name, and a direction of ten digits at
-/// most, with the words around them.
-const KEY: usize = 17 + 5 + LONGEST_NAME + 10;
+/// Bytes of the number of a set: five digits at most.
+const SET_NUMBER: usize = 5;
 
-/// Bytes of two face differences, of a sign and ten digits at most, with the words around them.
-const FACES: usize = 11 + 2 * 11;
+/// Bytes of what was observed: a set, a target and a direction, with the words around them.
+const KEY: usize = 17 + SET_NUMBER + LONGEST_NAME + LONGEST_U32;
+
+/// Bytes of two face differences, each with its sign, and of the words around them.
+const FACES: usize = 11 + 2 * (1 + LONGEST_U32);
 
 /// Bytes that no line of a list passes. The longest is that of a station: a word and a blank, its
 /// name, and its counts.

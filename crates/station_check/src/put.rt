@@ -36,11 +36,16 @@ pub(crate) fn put<const N: usize>(room: &mut Room, at: usize, text: &[u8; N]) ->
     put_bytes(room, at, &text)
 }
 
-/// Puts the first n of sixteen bytes.
+/// Puts the first n bytes of a text of a constant length, after which there is room for all of it.
 #[inline(always)]
-pub(crate) fn put_start(room: &mut Room, at: usize, bytes: &[u8; 16], n: usize) -> usize
-    requires room { at + 16 ≤ PAGE }
-    requires short { n ≤ 16 }
+pub(crate) fn put_start<const N: usize>(
+    room: &mut Room,
+    at: usize,
+    bytes: &[u8; N],
+    n: usize,
+) -> usize
+    requires room { at + N ≤ PAGE }
+    requires short { n ≤ N }
     ensures next { result ≡ at + n }
     ensures text { take result room.new ≡ take at room.old ++ take n bytes.now }
 {

@@ -6,7 +6,9 @@ ghost use Rattle.station_check.specs.FaultTexts.{file_kind_text, file_fault_text
 ghost use Rattle.station_check.specs.VerdictLines.{refusal_line};
 
 use crate::fault::Fault;
-use crate::verdict_line::{VerdictLine, add, add_numbered};
+use crate::verdict_line::{
+    LONGEST_U32, LONGEST_U64, LONGEST_VERDICT_LINE, VerdictLine, add, add_numbered,
+};
 use adjust_kernel::KernelFault;
 use gsi_file::{FileFault, FileKind};
 use gsi_word::AngleFault;
@@ -14,6 +16,36 @@ use itoa::Buffer;
 use sheet_format::{RowKind, SheetFault};
 use sheet_means::MeansFault;
 use station_book::{BookFault, BookKind};
+
+/// Bytes of a block's number, with the words around it.
+const BLOCK: usize = 6 + LONGEST_U32 + 2;
+
+/// Bytes of the name of a fault of the file, at most: that of a byte or a word, and its place.
+const FILE_KIND: usize = 5 + LONGEST_U64;
+
+/// Bytes of the name of a fault of an angle, at most.
+const ANGLE_FAULT: usize = 9;
+
+/// Bytes of the name of a fault of a block, at most: a word, and its number.
+const BOOK_KIND: usize = 10 + LONGEST_U32;
+
+/// Bytes of a fault of the book, at most.
+const BOOK_FAULT: usize = BLOCK + BOOK_KIND;
+
+/// Bytes of the name of a fault of a row, at most.
+const ROW_KIND: usize = 10;
+
+/// Bytes of a fault of the sheet, at most: its row, with the words around it, and its name.
+const SHEET_FAULT: usize = 10 + LONGEST_U32 + 2 + ROW_KIND;
+
+/// Bytes of a fault of the means, at most.
+const MEANS_FAULT: usize = 17;
+
+/// Bytes of a fault of the kernel, at most: a word, and its number.
+pub const LONGEST_KERNEL_FAULT: usize = 10 + LONGEST_U32;
+
+/// Bytes of the text of a fault, at most. The longest is that of the file.
+pub const LONGEST_FAULT: usize = BLOCK + FILE_KIND;
 
 /// The line of a refusal, with its line feed.
 pub fn refusal_line(fault: Fault) -> VerdictLine
@@ -28,9 +60,9 @@ pub fn refusal_line(fault: Fault) -> VerdictLine
 
 /// Adds the text of a fault, to a line that has room for it.
 pub fn add_fault(line: &mut VerdictLine, fault: Fault)
-    requires { array_vec_len line.old ≤ 12 }
+    requires { array_vec_len line.old + LONGEST_FAULT ≤ LONGEST_VERDICT_LINE }
     ensures items { line.new.items ≡ line.old.items ++ fault_text fault }
-    ensures len { array_vec_len line.new ≤ array_vec_len line.old + 110 }
+    ensures len { array_vec_len line.new ≤ array_vec_len line.old + LONGEST_FAULT }
 {
     match fault {
         Fault::Gsi(fault) => add_file_fault(line, fault),
@@ -50,9 +82,9 @@ pub fn add_fault(line: &mut VerdictLine, fault: Fault)
 
 /// Adds the name of a fault of the file, and the number that it carries.
 fn add_file_kind(line: &mut VerdictLine, kind: FileKind)
-    requires { array_vec_len line.old ≤ 60 }
+    requires { array_vec_len line.old + FILE_KIND ≤ LONGEST_VERDICT_LINE }
     ensures items { line.new.items ≡ line.old.items ++ file_kind_text kind }
-    ensures len { array_vec_len line.new ≤ array_vec_len line.old + 60 }
+    ensures len { array_vec_len line.new ≤ array_vec_len line.old + FILE_KIND }
 {
     let mut digits = Buffer::new();
     match kind {
@@ -73,9 +105,9 @@ fn add_file_kind(line: &mut VerdictLine, kind: FileKind)
 
 /// Adds a fault of the file, after its block.
 fn add_file_fault(line: &mut VerdictLine, fault: FileFault)
-    requires { array_vec_len line.old ≤ 12 }
+    requires { array_vec_len line.old + LONGEST_FAULT ≤ LONGEST_VERDICT_LINE }
     ensures items { line.new.items ≡ line.old.items ++ file_fault_text fault }
-    ensures len { array_vec_len line.new ≤ array_vec_len line.old + 110 }
+    ensures len { array_vec_len line.new ≤ array_vec_len line.old + LONGEST_FAULT }
 {
     match fault {
         FileFault::At(number, kind) => {
@@ -89,9 +121,9 @@ fn add_file_fault(line: &mut VerdictLine, fault: FileFault)
 
 /// Adds the name of a fault of an angle.
 fn add_angle_fault(line: &mut VerdictLine, fault: AngleFault)
-    requires { array_vec_len line.old ≤ 60 }
+    requires { array_vec_len line.old + ANGLE_FAULT ≤ LONGEST_VERDICT_LINE }
     ensures items { line.new.items ≡ line.old.items ++ angle_fault_text fault }
-    ensures len { array_vec_len line.new ≤ array_vec_len line.old + 10 }
+    ensures len { array_vec_len line.new ≤ array_vec_len line.old + ANGLE_FAULT }
 {
     match fault {
         AngleFault::Unit => add(line, b"Unit"),
@@ -104,9 +136,9 @@ fn add_angle_fault(line: &mut VerdictLine, fault: AngleFault)
 
 /// Adds the name of a fault of the book, and what it carries.
 fn add_book_kind(line: &mut VerdictLine, kind: BookKind)
-    requires { array_vec_len line.old ≤ 50 }
+    requires { array_vec_len line.old + BOOK_KIND ≤ LONGEST_VERDICT_LINE }
     ensures items { line.new.items ≡ line.old.items ++ book_kind_text kind }
-    ensures len { array_vec_len line.new ≤ array_vec_len line.old + 20 }
+    ensures len { array_vec_len line.new ≤ array_vec_len line.old + BOOK_KIND }
 {
     match kind {
         BookKind::EmptySet => add(line, b"EmptySet"),
@@ -138,9 +170,9 @@ fn add_book_kind(line: &mut VerdictLine, kind: BookKind)
 
 /// Adds a fault of the book, after its block.
 fn add_book_fault(line: &mut VerdictLine, fault: BookFault)
-    requires { array_vec_len line.old ≤ 12 }
+    requires { array_vec_len line.old + BOOK_FAULT ≤ LONGEST_VERDICT_LINE }
     ensures items { line.new.items ≡ line.old.items ++ book_fault_text fault }
-    ensures len { array_vec_len line.new ≤ array_vec_len line.old + 60 }
+    ensures len { array_vec_len line.new ≤ array_vec_len line.old + BOOK_FAULT }
 {
     match fault {
         BookFault::At(number, kind) => {
@@ -154,9 +186,9 @@ fn add_book_fault(line: &mut VerdictLine, fault: BookFault)
 
 /// Adds the name of a fault of a row.
 fn add_row_kind(line: &mut VerdictLine, kind: RowKind)
-    requires { array_vec_len line.old ≤ 60 }
+    requires { array_vec_len line.old + ROW_KIND ≤ LONGEST_VERDICT_LINE }
     ensures items { line.new.items ≡ line.old.items ++ row_kind_text kind }
-    ensures len { array_vec_len line.new ≤ array_vec_len line.old + 10 }
+    ensures len { array_vec_len line.new ≤ array_vec_len line.old + ROW_KIND }
 {
     match kind {
         RowKind::Fields => add(line, b"Fields"),
@@ -173,9 +205,9 @@ fn add_row_kind(line: &mut VerdictLine, kind: RowKind)
 
 /// Adds a fault of the sheet, after its row.
 fn add_sheet_fault(line: &mut VerdictLine, fault: SheetFault)
-    requires { array_vec_len line.old ≤ 12 }
+    requires { array_vec_len line.old + SHEET_FAULT ≤ LONGEST_VERDICT_LINE }
     ensures items { line.new.items ≡ line.old.items ++ sheet_fault_text fault }
-    ensures len { array_vec_len line.new ≤ array_vec_len line.old + 60 }
+    ensures len { array_vec_len line.new ≤ array_vec_len line.old + SHEET_FAULT }
 {
     match fault {
         SheetFault::TooLong => add(line, b"sheet: TooLong"),
@@ -190,9 +222,9 @@ fn add_sheet_fault(line: &mut VerdictLine, fault: SheetFault)
 
 /// Adds a fault of the means.
 fn add_means_fault(line: &mut VerdictLine, fault: MeansFault)
-    requires { array_vec_len line.old ≤ 12 }
+    requires { array_vec_len line.old + MEANS_FAULT ≤ LONGEST_VERDICT_LINE }
     ensures items { line.new.items ≡ line.old.items ++ means_fault_text fault }
-    ensures len { array_vec_len line.new ≤ array_vec_len line.old + 60 }
+    ensures len { array_vec_len line.new ≤ array_vec_len line.old + MEANS_FAULT }
 {
     match fault {
         MeansFault::Incomplete => add(line, b"means: Incomplete"),
@@ -203,9 +235,9 @@ fn add_means_fault(line: &mut VerdictLine, fault: MeansFault)
 /// Adds the name of a fault of the kernel, and the number that it carries, to a line that has room
 /// for them.
 pub fn add_kernel_fault(line: &mut VerdictLine, fault: KernelFault)
-    requires { array_vec_len line.old ≤ 20 }
+    requires { array_vec_len line.old + LONGEST_KERNEL_FAULT ≤ LONGEST_VERDICT_LINE }
     ensures items { line.new.items ≡ line.old.items ++ kernel_fault_text fault }
-    ensures len { array_vec_len line.new ≤ array_vec_len line.old + 20 }
+    ensures len { array_vec_len line.new ≤ array_vec_len line.old + LONGEST_KERNEL_FAULT }
 {
     match fault {
         KernelFault::Name => add(line, b"Name"),
