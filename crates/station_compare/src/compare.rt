@@ -102,8 +102,5 @@ fn compare_table(
 pub(crate) fn largest_limit() -> ResidualLimit
     ensures { result ≡ LARGEST_RESIDUAL_LIMIT }
 {
-    let Some(limit) = ResidualLimit::new(LARGEST_RESIDUAL_LIMIT) else {
-        unreachable!()
-    };
-    limit
+    ResidualLimit::new(LARGEST_RESIDUAL_LIMIT).unwrap()
 }

@@ -69,10 +69,8 @@ pub fn write_directions<R: Source, W: Sink>(
         W.failed W.holds W.handed_on writer.old writer.new result }
 {
     let text = directions_text(alloc, gsi, name, limits, decimals)?;
-    match write_whole(writer, &text) {
-        Ok(()) => Ok(()),
-        Err(_) => Err(CompareFault::Write),
-    }
+    write_whole(writer, &text)?;
+    Ok(())
 }
 
 /// The text of the table of a station.

@@ -1,9 +1,9 @@
 //! Why stated directions don't agree, or aren't compared.
 ghost use Rattle.std.specs.Prelude.{◌≡◌};
 ghost use Rattle.station_compare.specs.Faults.{of_adjust, of_file, of_input, of_table};
-ghost use Rattle.station_compare.specs.declared.fault.CompareFault.TheVariants.{Memory};
+ghost use Rattle.station_compare.specs.declared.fault.CompareFault.TheVariants.{Memory, Write};
 
-use byte_ends::InputFault;
+use byte_ends::{Failed, InputFault};
 use direction_table::TableFault;
 use stated_directions::AdjustFault;
 use station_check::Fault;
@@ -69,6 +69,14 @@ impl From<TableFault> for CompareFault {
             TableFault::Memory => CompareFault::Memory,
             fault => CompareFault::Table(fault),
         }
+    }
+}
+
+impl From<Failed> for CompareFault {
+    ghost from_gives = { λ _ fault. fault ≡ Write };
+
+    fn from(_: Failed) -> CompareFault {
+        CompareFault::Write
     }
 }
 

@@ -7,7 +7,22 @@ ghost use Rattle.station_compare.specs.FaultTexts as spec;
 use crate::fault::CompareFault;
 use direction_table::{RowKind, TableFault};
 use stated_directions::AdjustFault;
-use station_check::{VerdictLine, add, add_fault, add_kernel_fault, add_numbered};
+use station_check::{
+    LONGEST_FAULT, LONGEST_KERNEL_FAULT, LONGEST_U32, LONGEST_VERDICT_LINE, VerdictLine, add,
+    add_fault, add_kernel_fault, add_numbered,
+};
+
+/// Bytes of the name of a fault of a table's row, at most.
+const ROW_KIND: usize = 7;
+
+/// Bytes of a fault of a table, at most: its row, with the words around it, and its name.
+const TABLE_FAULT: usize = 10 + LONGEST_U32 + 2 + ROW_KIND;
+
+/// Bytes of why a station's least-squares directions are not told, at most.
+const ADJUST_FAULT: usize = 8 + LONGEST_KERNEL_FAULT;
+
+/// Bytes of the text of a fault, at most. The longest is that of the field file.
+const COMPARE_FAULT: usize = LONGEST_FAULT;
 
 /// The line of a refusal, with its line feed.
 pub fn refusal_line(fault: CompareFault) -> VerdictLine
@@ -22,9 +37,9 @@ pub fn refusal_line(fault: CompareFault) -> VerdictLine
 
 /// Adds the text of a fault.
 fn add_compare_fault(line: &mut VerdictLine, fault: CompareFault)
-    requires { array_vec_len line.old ≤ 12 }
+    requires { array_vec_len line.old + COMPARE_FAULT ≤ LONGEST_VERDICT_LINE }
     ensures items { line.new.items ≡ line.old.items ++ spec.compare_fault_text fault }
-    ensures len { array_vec_len line.new ≤ array_vec_len line.old + 110 }
+    ensures len { array_vec_len line.new ≤ array_vec_len line.old + COMPARE_FAULT }
 {
     match fault {
         CompareFault::File(fault) => add_fault(line, fault),
@@ -39,9 +54,9 @@ fn add_compare_fault(line: &mut VerdictLine, fault: CompareFault)
 
 /// Adds the name of a fault of a table's row.
 fn add_row_kind(line: &mut VerdictLine, kind: RowKind)
-    requires { array_vec_len line.old ≤ 60 }
+    requires { array_vec_len line.old + ROW_KIND ≤ LONGEST_VERDICT_LINE }
     ensures items { line.new.items ≡ line.old.items ++ spec.row_kind_text kind }
-    ensures len { array_vec_len line.new ≤ array_vec_len line.old + 10 }
+    ensures len { array_vec_len line.new ≤ array_vec_len line.old + ROW_KIND }
 {
     match kind {
         RowKind::Fields => add(line, b"Fields"),
@@ -55,9 +70,9 @@ fn add_row_kind(line: &mut VerdictLine, kind: RowKind)
 
 /// Adds a fault of a table, after its row or with its target.
 fn add_table_fault(line: &mut VerdictLine, fault: TableFault)
-    requires { array_vec_len line.old ≤ 12 }
+    requires { array_vec_len line.old + TABLE_FAULT ≤ LONGEST_VERDICT_LINE }
     ensures items { line.new.items ≡ line.old.items ++ spec.table_fault_text fault }
-    ensures len { array_vec_len line.new ≤ array_vec_len line.old + 60 }
+    ensures len { array_vec_len line.new ≤ array_vec_len line.old + TABLE_FAULT }
 {
     match fault {
         TableFault::TooLong => add(line, b"table: TooLong"),
@@ -73,9 +88,9 @@ fn add_table_fault(line: &mut VerdictLine, fault: TableFault)
 
 /// Adds why a station's least-squares directions are not told.
 fn add_adjust_fault(line: &mut VerdictLine, fault: AdjustFault)
-    requires { array_vec_len line.old ≤ 12 }
+    requires { array_vec_len line.old + ADJUST_FAULT ≤ LONGEST_VERDICT_LINE }
     ensures items { line.new.items ≡ line.old.items ++ spec.adjust_fault_text fault }
-    ensures len { array_vec_len line.new ≤ array_vec_len line.old + 60 }
+    ensures len { array_vec_len line.new ≤ array_vec_len line.old + ADJUST_FAULT }
 {
     match fault {
         AdjustFault::Kernel(fault) => {

@@ -38,7 +38,7 @@ pub fn run_compare<R: Source, Q: Source, W: Sink, E: Sink>(
         result E.failed E.holds err.old err.new }
 {
     let verdict = compare_bytes(alloc, gsi, table, name, limits, within);
-    match print_verdict(&verdict, out) {
+    match print_verdict(verdict, out) {
         Ok(()) => DONE,
         Err(fault) => refuse(fault, err),
     }
@@ -68,19 +68,15 @@ pub fn run_directions<R: Source, W: Sink, E: Sink>(
 
 /// Prints the line of a table that agrees, and hands on a refusal.
 fn print_verdict<W: Sink>(
-    verdict: &Result<Agreement, CompareFault>,
+    verdict: Result<Agreement, CompareFault>,
     out: &mut W,
 ) -> Result<(), CompareFault>
-    ensures { PrintsAnswer spec.agreement_line verdict.now
+    ensures { PrintsAnswer spec.agreement_line verdict
         W.failed W.holds W.handed_on out.old out.new result }
 {
-    match verdict {
-        Ok(agreement) => match write_whole(out, agreement_line(*agreement).as_slice()) {
-            Ok(()) => Ok(()),
-            Err(_) => Err(CompareFault::Write),
-        },
-        Err(fault) => Err(*fault),
-    }
+    let agreement = verdict?;
+    write_whole(out, agreement_line(agreement).as_slice())?;
+    Ok(())
 }
 
 /// Writes the line of a refusal, and answers its status.

@@ -1,4 +1,5 @@
-use Rattle.std.proofs.Common.{refl, rules, Ok, Err}
+use Rattle.std.proofs.Common.{◌≡◌, refl, rules, Ok, Err}
+use Rattle.station_compare.specs.declared.fault.CompareFault.TheVariants.{Write}
 use Rattle.station_compare.proofs.directions.write_directions.Goals as goal
 
 pub returns-in_err-text : goal.returns-in_err-text
@@ -8,16 +9,18 @@ returns-in_err-text g c = record {
   printed = (search rules, refl);
 }
 
-pub returns-in-Ok : goal.returns-in-Ok
-returns-in-Ok g c = record {
+pub returns : goal.returns
+returns g c = record {
   answer = Ok c.in_ok-text.text.items;
   tells = c.in_ok-text.ensures;
   printed = (record { got = search rules; unfailed = search rules }, search rules);
 }
 
-pub returns : goal.returns
-returns g c = record {
-  answer = Ok c.in_ok-text.text.items;
-  tells = c.in_ok-text.ensures;
-  printed = (refl, record { got = search rules; call_failed = search rules });
-}
+pub returns-in_err-write_whole : goal.returns-in_err-write_whole
+returns-in_err-write_whole g c =
+    let is_its : c.from_residual-in_err-write_whole.result ≡ Err Write = search rules in
+    rw is_its (record {
+      answer = Ok c.in_ok-text.text.items;
+      tells = c.in_ok-text.ensures;
+      printed = (refl, record { got = search rules; call_failed = search rules });
+    })
