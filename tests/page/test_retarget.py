@@ -12,6 +12,7 @@ from test_page_calls import RT, make_page
 
 sys.path[:0] = [str(ROOT / "page")]
 import build  # noqa: E402
+import retarget  # noqa: E402
 
 # The crate, over libraries of the page that need no heap, with parameters and answers such as the page's
 # exports have. Of the kit's own libraries one has lanes, and one products of 128 bits.
@@ -46,6 +47,16 @@ pub extern "C" fn count_digits(number: i64) -> usize {
     buffer.format(number).len()
 }
 """
+
+# The names of the target that a module begins with, and parts of a module that are not known.
+NAMES = 'target datalayout = "e-m:e"\ntarget triple = "x86_64-unknown-linux-gnu"\n'
+UNKNOWN = [
+    ("", "the module exports nothing"),
+    ("attributes #0 = { \"target-cpu\"=\"x86-64-v3\" }\n", "something of x86 is left"),
+    ("  %r0 = phi i64 [ 0, %start ]\n", "a block begins with phi"),
+    ("define noundef i16 @half() #0 {\nstart:\n  ret i16 1\n}\n", "half answers i16"),
+    (NAMES, "2 places fit"),
+]
 
 # What a crate is made of, and what `rt lib` kept of it.
 PARTS = ["src", "specs", "proofs", "out/rlib"]
@@ -92,6 +103,11 @@ class RetargetTest(TimedTest):
         kits = (crate / "out" / f"{NAME}.wasm").read_bytes()
         self.assertGreater(len(kits), 10_000)
         self.assertEqual(kits, ours.read_bytes())
+
+    def test_it_stops_at_what_it_does_not_know(self):
+        for part, why in UNKNOWN:
+            with self.subTest(why), self.assertRaisesRegex(SystemExit, why):
+                retarget.retargeted(NAMES + part)
 
 
 if __name__ == "__main__":
