@@ -1,9 +1,9 @@
 -- What an argument more, or a command more, makes of a grammar.
-use Rattle.std.proofs.Common.{◌≡◌, ◌∙◌, true, false, not, ap, ap₂, is_some, List, [], None, Option, Some, option_map, refl, subst, sym, true≢false}
+use Rattle.std.proofs.Common.{◌≡◌, ◌∙◌, true, false, not, ap, ap₂, is_some, List, [], None, Option, Some, option_map, refl, subst, true≢false}
 use Rattle.clap.proofs.SimpleLemmas.{is_false, plain_fields}
 use Rattle.clap.proofs.WalkLemmas.{both}
 use Rattle.clap.specs.Walk.{is_empty, is_simple_arg}
-use Rattle.clap.specs.Words.{AddsArg, AddsSubcommand, App, Rule, app_of, rule_of, shape_of, with_rule, with_subcommand}
+use Rattle.clap.specs.Words.{AddsArg, AddsSubcommand, App, Rule, app_of, rule_of, with_rule, with_subcommand}
 use Rattle.clap.specs.Words.{HasKind, HasMatchesOf, Row, Text, fault_of, has_subcommand, is_simple, is_simple_and_free, rows_of, subcommand_name_of, subcommand_of, subcommand_rows, subcommand_rows_of}
 use Rattle.clap.proofs.OnLiterals.{clap_on_literals}
 use Rattle.clap.specs.declared.builder.arg.Arg.{Arg}
@@ -14,8 +14,8 @@ use Rattle.clap.specs.declared.parser.matches.ArgMatches.TheViews.{out-ArgMatche
 use Rattle.clap.specs.declared.parser.matches.Found.{Found}
 use Rattle.clap.specs.declared.parser.matches.SubCommand.{SubCommand}
 use Rattle.std.specs.Box.{box_value}
-use Rattle.std.specs.Prelude.{Box, option_and_then}
-use Rattle.station_program.specs.CommandLine.{Meets, named_by}
+use Rattle.std.specs.Prelude.{Box, IfNone, option_and_then}
+use Rattle.station_program.specs.CommandLine.{Lacks, LacksNeed, Meets, named_by}
 use Rattle.station_program.specs.Commands.{the_program}
 
 -- An argument that changes nothing in how words are read is of its own command alone.
@@ -95,3 +95,12 @@ met_by a words m e h = (h (ap is_simple e ∙ is_known)).1 ∙ ap (λ (x : App).
 pub mistaken_by : (a : App) (words : List Text) (error : Error) → a ≡ the_program
     → (is_simple_and_free a ≡ true → HasKind (fault_of a words) error) → HasKind (fault_of the_program words) error
 mistaken_by a words error e h = subst (λ (x : App). HasKind (fault_of x words) error) e (h (ap is_simple_and_free e ∙ has_known_faults))
+
+-- What a parse's subcommand needs isn't found, whatever value is answered with none.
+pub lacks_need : {A : Type 0} → (value : Option A) → (m : ArgMatches) (name : Text) (found : Found)
+    → subcommand_name_of m ≡ Some name
+    → option_map (λ p. p.1) (subcommand_rows_of m) ≡ Some (rows_of found)
+    → Lacks name found → IfNone value (LacksNeed (subcommand_rows_of m))
+lacks_need None m name found named rows lacks =
+    record { name = name; found = found; met = meets m name found named rows; lacks = lacks }
+lacks_need (Some value) m name found named rows lacks = tt

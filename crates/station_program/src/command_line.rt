@@ -1,7 +1,7 @@
 //! What the words of a command line ask for. Each subcommand is one case of `Request` and one
 //! command of the builder.
 
-ghost use Rattle.std.specs.Prelude.{◌≡◌, ◌≤◌, IfSome, IfOk, IfErr, codes};
+ghost use Rattle.std.specs.Prelude.{◌≡◌, ◌≤◌, IfSome, IfNone, IfOk, IfErr, codes};
 ghost use Rattle.std.specs.Prelude.{map, string_bytes};
 ghost use Rattle.clap.specs.Words.{app_of, found_of, kind_of, rule_of, subcommand_rows_of, with_rule};
 ghost use Rattle.station_program.specs.Commands.{alone, the_program, compare_words, check_words};
@@ -11,8 +11,9 @@ ghost use Rattle.station_program.specs.Commands.{field_file_rule, station_rule, 
 ghost use Rattle.station_program.specs.Commands.{limit_rule, two_c_rule, two_i_rule, residual_rule};
 ghost use Rattle.station_program.specs.Commands.{within_rule, decimals_rule, fault_rule};
 ghost use Rattle.station_program.specs.CommandLine.{StatesLimits, StatesNumber, StatesResidual};
-ghost use Rattle.station_program.specs.CommandLine.{IsAskedFor, IsGiven, IsAskedForBy, IsMistakeIn};
-ghost use Rattle.station_program.specs.CommandLine.{AsksToExplain, IsMistakenName};
+ghost use Rattle.station_program.specs.CommandLine.{StatesNoLimits, StatesNoNumber, StatesNoResidual};
+ghost use Rattle.station_program.specs.CommandLine.{IsAskedFor, IsGiven, IsMissing, IsAskedForBy, IsMistakeIn};
+ghost use Rattle.station_program.specs.CommandLine.{AsksToExplain, IsMistakenName, LacksNeed};
 
 use crate::help;
 use adjust_kernel::{LARGEST_RESIDUAL_LIMIT, ResidualLimit};
@@ -57,51 +58,52 @@ const LARGEST_WITHIN: u32 = 1_000_000;
 /// How many decimals a direction is written with where no option states it.
 const USUAL_DECIMALS: &str = "6";
 
-/// What the program is asked to do.
+/// What the program is asked to do with files of type `F`: their paths, or the files once they are
+/// open.
 #[derive(Debug, Drop)]
-pub enum Request<'a> {
-    /// Checks the sheet at a path against the field file at another.
+pub enum Request<'a, F> {
+    /// Checks a sheet against a field file.
     Check {
-        gsi: &'a str,
-        sheet: &'a str,
+        gsi: F,
+        sheet: F,
         limits: Limits,
         residual: Option<ResidualLimit>,
     },
 
-    /// Prints the sheet of means of a station of the field file at this path.
+    /// Prints the sheet of means of a station of a field file.
     Means {
-        gsi: &'a str,
+        gsi: F,
         station: &'a str,
         limits: Limits,
     },
 
-    /// Prints the least-squares directions of a station of the field file at this path, as a table.
+    /// Prints the least-squares directions of a station of a field file, as a table.
     Directions {
-        gsi: &'a str,
+        gsi: F,
         station: &'a str,
         limits: Limits,
         decimals: Decimals,
     },
 
-    /// Compares the table at a path with a station of the field file at another: they agree within
-    /// so many units of 0.000001 gon.
+    /// Compares a table with a station of a field file: they agree within so many units of
+    /// 0.000001 gon.
     Compare {
-        gsi: &'a str,
+        gsi: F,
         station: &'a str,
-        table: &'a str,
+        table: F,
         limits: Limits,
         within: u32,
     },
 
-    /// Lists the stations of the field file at this path.
+    /// Lists the stations of a field file.
     List {
-        gsi: &'a str,
+        gsi: F,
         limits: Limits,
     },
 
-    /// Prints the words of the field file at this path.
+    /// Prints the words of a field file.
     Words {
-        gsi: &'a str,
+        gsi: F,
     },
 
     /// Prints the words of standard input.
@@ -123,7 +125,7 @@ pub fn asked_for<'a>(
     alloc: Global,
     table: &[&'static [Explanation]],
     words: &'a [String],
-) -> Result<Request<'a>, Error>
+) -> Result<Request<'a, &'a str>, Error>
     ensures asked { IfOk result (IsAskedForBy (map string_bytes words.now) table.now) }
     ensures mistake { IfErr result (IsMistakeIn (map string_bytes words.now) table.now) }
 {
@@ -342,8 +344,9 @@ fn number<'a>(alloc: Global, name: &'a str, smallest: u32, largest: u32) -> Arg<
 }
 
 /// The request, unless an argument is missing or out of its range.
-fn request_of<'a>(matches: &ArgMatches<'a>) -> Option<Request<'a>>
-    ensures { IfSome result (IsAskedFor (subcommand_rows_of matches.now)) }
+fn request_of<'a>(matches: &ArgMatches<'a>) -> Option<Request<'a, &'a str>>
+    ensures asked { IfSome result (IsAskedFor (subcommand_rows_of matches.now)) }
+    ensures none { IfNone result (LacksNeed (subcommand_rows_of matches.now)) }
 {
     match matches.subcommand() {
         Some(("check", found)) => Some(Request::Check {
@@ -388,7 +391,7 @@ fn explanation_asked_for<'a>(
     table: &[&'static [Explanation]],
     program: &mut Command<'a>,
     found: &ArgMatches<'a>,
-) -> Result<Request<'a>, Error>
+) -> Result<Request<'a, &'a str>, Error>
     ensures asked { IfOk result (AsksToExplain (found_of found.now) table.now) }
     ensures mistake { IfErr result (IsMistakenName (found_of found.now) table.now) }
 {
@@ -427,22 +430,25 @@ fn no_such_fault<'a>(
 
 /// The name of the station, unless it is missing.
 fn station_of<'a>(found: &ArgMatches<'a>) -> Option<&'a str>
-    ensures { IfSome result (λ station.
+    ensures given { IfSome result (λ station.
         IsGiven (found_of found.now) (codes "STATION") station.now) }
+    ensures none { IfNone result (IsMissing (found_of found.now) (codes "STATION")) }
 {
     found.get_str(STATION)
 }
 
 /// The limits of face differences, unless one is missing or out of its range.
 fn limits_of(found: &ArgMatches<'_>) -> Option<Limits>
-    ensures { IfSome result (StatesLimits (found_of found.now)) }
+    ensures stated { IfSome result (StatesLimits (found_of found.now)) }
+    ensures none { IfNone result (StatesNoLimits (found_of found.now)) }
 {
     Limits::new(found.get_one(TWO_C)?, found.get_one(TWO_I)?)
 }
 
 /// The residual limit or that there is none, unless it is out of its range.
 fn residual_of(found: &ArgMatches<'_>) -> Option<Option<ResidualLimit>>
-    ensures { IfSome result (StatesResidual (found_of found.now)) }
+    ensures stated { IfSome result (StatesResidual (found_of found.now)) }
+    ensures none { IfNone result (StatesNoResidual (found_of found.now)) }
 {
     if !found.contains_id(RESIDUAL) {
         return Some(None);
@@ -452,7 +458,9 @@ fn residual_of(found: &ArgMatches<'_>) -> Option<Option<ResidualLimit>>
 
 /// How many decimals a direction is written with, unless it is missing or out of its range.
 fn decimals_of(found: &ArgMatches<'_>) -> Option<Decimals>
-    ensures { IfSome result (StatesNumber (found_of found.now) (codes "decimals")) }
+    ensures stated { IfSome result (StatesNumber (found_of found.now) (codes "decimals")) }
+    ensures none { IfNone result (StatesNoNumber (found_of found.now) (codes "decimals")
+        1 MOST_WRITTEN) }
 {
     Decimals::new(found.get_one(DECIMALS)?)
 }
@@ -461,6 +469,8 @@ fn decimals_of(found: &ArgMatches<'_>) -> Option<Decimals>
 fn within_of(found: &ArgMatches<'_>) -> Option<u32>
     ensures stated { IfSome result (StatesNumber (found_of found.now) (codes "within")) }
     ensures range { IfSome result (λ within. within ≤ LARGEST_WITHIN) }
+    ensures none { IfNone result (StatesNoNumber (found_of found.now) (codes "within")
+        0 LARGEST_WITHIN) }
 {
     let within: u32 = found.get_one(WITHIN)?;
     if within > LARGEST_WITHIN {

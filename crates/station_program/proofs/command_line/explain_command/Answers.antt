@@ -1,6 +1,5 @@
-use Rattle.std.proofs.Common.{◌≡◌, ◌∙◌, ap, codes, refl, rules}
+use Rattle.std.proofs.Common.{◌≡◌, codes, refl, rules}
 use Rattle.clap.specs.Words.{app_of, new_app}
-use Rattle.station_program.specs.Commands.{fault_rule}
 use Rattle.station_program.proofs.CommandsLaws.{adds_rule}
 use Rattle.station_program.proofs.command_line.explain_command.Goals as goal
 

@@ -1,4 +1,4 @@
-use Rattle.std.proofs.Common.{◌≡◌, rules, inl, inr, sym, ap, ◌∙◌, map, codes, Some}
+use Rattle.std.proofs.Common.{◌≡◌, rules, inr, map, codes, Some}
 use Rattle.std.specs.Prelude.{option_map}
 use Rattle.clap.specs.Words.{found_of, matched_of, raw_values}
 use Rattle.station_program.proofs.NamingLaws.{names_fault}
