@@ -11,13 +11,21 @@ abbrev pub is_positive : List ℕ → Bool
 is_positive [] = false
 is_positive (c ∷ cs) = is_in_range 49 57 c && list_all is_ascii_digit cs
 
+-- the digit 0
+abbrev pub zero_digit : ℕ
+zero_digit = 48
+
+-- the sign of a number below 0
+abbrev pub minus : ℕ
+minus = 45
+
 -- a canonical decimal: 0, or an optional minus, a digit 1 to 9 and any digits. So each number has
 -- one text, of any length: no leading zeros, no plus, no minus before 0 (profile)
 abbrev pub is_canonical : List ℕ → Bool
 is_canonical [] = false
 is_canonical (c ∷ cs) =
-    if c == 48 then length cs == 0
-    else (if c == 45 then is_positive cs else is_positive (c ∷ cs))
+    if c == zero_digit then length cs == 0
+    else (if c == minus then is_positive cs else is_positive (c ∷ cs))
 
 -- the number that a canonical decimal writes, whatever its length
 abbrev pub value_of : List ℕ → ℤ

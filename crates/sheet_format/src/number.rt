@@ -47,7 +47,7 @@ pub const SHORT: usize = 18;
 pub fn of_digits(digits: &[u8]) -> Option<u64>
     requires { length digits.now ≤ SHORT }
     ensures value { IfSome result (λ number. number ≡ digits_value 10 digits.now) }
-    ensures bound { IfSome result (λ number. number < 10 ^ 18) }
+    ensures bound { IfSome result (λ number. number < 10 ^ SHORT) }
     ensures some { OnSome result (list_all is_ascii_digit digits.now ≡ true) }
     ensures none { IfNone result (list_all is_ascii_digit digits.now ≡ false) }
 {
@@ -66,7 +66,7 @@ pub fn of_digits(digits: &[u8]) -> Option<u64>
 fn positive_of(field: &[u8]) -> Option<u64>
     requires { length field.now ≤ SHORT }
     ensures value { IfSome result (λ number. number ≡ digits_value 10 field.now) }
-    ensures bound { IfSome result (λ number. number < 10 ^ 18) }
+    ensures bound { IfSome result (λ number. number < 10 ^ SHORT) }
     ensures some { OnSome result (spec.is_positive field.now ≡ true) }
     ensures none { IfNone result (spec.is_positive field.now ≡ false) }
 {
@@ -120,13 +120,14 @@ pub(crate) struct Numeral<'a> {
 impl<'a> Model for Numeral<'a> {
     ghost use Rattle.std.specs.Prelude.{◌≡◌, ◌≤◌, ℤ, length, true};
     ghost use Rattle.sheet_format.specs.Numbers.{is_canonical, value_of};
+    ghost use Rattle.sheet_format.specs.declared.number.TheConstants.{SHORT};
 
     ghost Value = { ℤ };
 
     ghost view = { λ n. value_of n.field.now };
 
     ghost invariant = { λ n. (is_canonical n.field.now ≡ true)
-        × (length n.field.now ≤ 18 → n.short ≡ value_of n.field.now) };
+        × (length n.field.now ≤ SHORT → n.short ≡ value_of n.field.now) };
 }
 
 impl<'a> Numeral<'a> {
