@@ -9,6 +9,7 @@ ghost use Rattle.csv.specs.Records.{fields_of};
 ghost use Rattle.sheet_format.specs.Columns.{columns_view};
 ghost use Rattle.sheet_format.specs.Drafts as spec;
 ghost use Rattle.sheet_format.specs.Faults as faults;
+ghost use Rattle.sheet_format.specs.declared.draft.Refusal.TheVariants.{Fault, Memory};
 ghost use Rattle.sheet_format.specs.declared.kind.Kind.TheVariants as kind;
 
 use crate::columns::Columns;
@@ -18,14 +19,32 @@ use crate::kind::Kind;
 use crate::version::Version;
 use adjust_kernel::{Direction, MOST_ROWS, MOST_SETS, MOST_TARGETS, Orientation, Row, Sheet};
 use csv::ByteRecord;
-use std::alloc::Global;
+use std::alloc::{AllocFailed, Global};
 use std::marker::Model;
 
 /// Why a row was not taken.
 #[derive(Drop)]
 pub(crate) enum Refusal {
+    /// The row has this fault.
     Fault(RowKind),
+    /// There was no memory.
     Memory,
+}
+
+impl From<RowKind> for Refusal {
+    ghost from_gives = { λ kind refusal. refusal ≡ Fault kind };
+
+    fn from(kind: RowKind) -> Refusal {
+        Refusal::Fault(kind)
+    }
+}
+
+impl<T: Drop> From<AllocFailed<T>> for Refusal {
+    ghost from_gives = { λ _ refusal. refusal ≡ Memory };
+
+    fn from(_: AllocFailed<T>) -> Refusal {
+        Refusal::Memory
+    }
 }
 
 /// The entries of the rows that were read so far.
@@ -167,8 +186,7 @@ impl Draft {
             (faults.columns_fault (spec.said_by_draft self.old) kind.Sheet
             (columns_view columns.now))) }
     {
-        let header = header_of(columns).map_err(Refusal::Fault)?;
-        self.header = Some(header);
+        self.header = Some(header_of(columns)?);
         Ok(())
     }
 
@@ -183,11 +201,12 @@ impl Draft {
             (faults.columns_fault (spec.said_by_draft self.old) kind.Target
             (columns_view columns.now))) }
     {
-        let direction = direction_of(columns, self.version()).map_err(Refusal::Fault)?;
+        let direction = direction_of(columns, self.version())?;
         if self.directions.len() >= MOST_TARGETS {
             return Err(Refusal::Fault(RowKind::TooMany));
         }
-        self.directions.push(direction).map_err(|_| Refusal::Memory)
+        self.directions.push(direction)?;
+        Ok(())
     }
 
     fn take_set(&mut self, columns: &Columns<'_>) -> Result<(), Refusal>
@@ -201,13 +220,12 @@ impl Draft {
             (faults.columns_fault (spec.said_by_draft self.old) kind.Set
             (columns_view columns.now))) }
     {
-        let orientation = orientation_of(columns, self.version()).map_err(Refusal::Fault)?;
+        let orientation = orientation_of(columns, self.version())?;
         if self.orientations.len() >= MOST_SETS {
             return Err(Refusal::Fault(RowKind::TooMany));
         }
-        self.orientations
-            .push(orientation)
-            .map_err(|_| Refusal::Memory)
+        self.orientations.push(orientation)?;
+        Ok(())
     }
 
     fn take_obs(&mut self, columns: &Columns<'_>) -> Result<(), Refusal>
@@ -221,10 +239,11 @@ impl Draft {
             (faults.columns_fault (spec.said_by_draft self.old) kind.Obs
             (columns_view columns.now))) }
     {
-        let row = obs_row_of(columns).map_err(Refusal::Fault)?;
+        let row = obs_row_of(columns)?;
         if self.rows.len() >= MOST_ROWS {
             return Err(Refusal::Fault(RowKind::TooMany));
         }
-        self.rows.push(row).map_err(|_| Refusal::Memory)
+        self.rows.push(row)?;
+        Ok(())
     }
 }
