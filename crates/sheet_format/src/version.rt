@@ -28,12 +28,10 @@ impl Version {
     pub(crate) fn of(field: &[u8]) -> Option<Version>
         ensures { result ≡ spec.version_of field.now }
     {
-        if field == b"1".as_slice() {
-            Some(Version::One)
-        } else if field == b"2".as_slice() {
-            Some(Version::Two)
-        } else {
-            None
+        match field {
+            b"1" => Some(Version::One),
+            b"2" => Some(Version::Two),
+            _ => None,
         }
     }
 
@@ -78,7 +76,7 @@ impl Version {
         }
     }
 
-    // Whether the numbers of a sheet are within its ranges.
+    /// Whether the numbers of a sheet are within its ranges.
     fn takes(self, sheet: &Sheet) -> bool
         ensures { result ≡ is_of_version self sheet.now }
     {
