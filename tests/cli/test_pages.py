@@ -20,6 +20,11 @@ LINKED = [
     ROOT / "page" / "README.md",
 ]
 
+TRUSTED = ROOT / "page" / "README.md"
+
+# A part of what is trusted, and how many lines it has.
+PART = re.compile(r"^\| \[`[\w.]+`\]\(([\w.]+)\): .* \| (\d+) \|$", re.MULTILINE)
+
 LINK = re.compile(r"\]\(([^)#]*)(?:#([^)]*))?\)")
 
 
@@ -65,6 +70,14 @@ class PagesTest(TimedTest):
         for crate, libraries in lines:
             with self.subTest(crate):
                 self.assertEqual(libraries.split(), drawn[crate])
+
+    def test_the_lines_of_what_is_trusted_are_counted(self):
+        parts = PART.findall(TRUSTED.read_text())
+        self.assertEqual(5, len(parts))
+        for name, lines in parts:
+            with self.subTest(name):
+                text = (TRUSTED.parent / name).read_text()
+                self.assertEqual(int(lines), len(text.splitlines()))
 
 
 if __name__ == "__main__":
