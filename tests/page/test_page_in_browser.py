@@ -26,7 +26,7 @@ ACCEPTED = "accepted S1: 2 sets, 2 targets, 4 directions, greatest residual 4/4"
 SCREEN, PHONE = (1000, 1400), (360, 640)
 
 # Stations, sets and targets of a large field file, and the time of an answer to it, in milliseconds, on
-# a machine that is slow and busy: page/README.md has the time on an idle one.
+# a machine that is slow and busy; page/README.md has times that were measured.
 LARGE, SOON = (400, 40, 10), 5_000
 
 FILES = {"gsi": FIELD, "sheet": SHEET, "table": TABLE}

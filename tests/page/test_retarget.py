@@ -49,13 +49,13 @@ pub extern "C" fn count_digits(number: i64) -> usize {
 """
 
 # The names of the target that a module begins with, and parts of a module that are not known.
-NAMES = 'target datalayout = "e-m:e"\ntarget triple = "x86_64-unknown-linux-gnu"\n'
+TARGET_NAMES = 'target datalayout = "e-m:e"\ntarget triple = "x86_64-unknown-linux-gnu"\n'
 UNKNOWN = [
     ("", "the module exports nothing"),
     ("attributes #0 = { \"target-cpu\"=\"x86-64-v3\" }\n", "something of x86 is left"),
     ("  %r0 = phi i64 [ 0, %start ]\n", "a block begins with phi"),
     ("define noundef i16 @half() #0 {\nstart:\n  ret i16 1\n}\n", "half answers i16"),
-    (NAMES, "2 places fit"),
+    (TARGET_NAMES, "2 places fit"),
 ]
 
 # What a crate is made of, and what `rt lib` kept of it.
@@ -107,7 +107,7 @@ class RetargetTest(TimedTest):
     def test_it_stops_at_what_it_does_not_know(self):
         for part, why in UNKNOWN:
             with self.subTest(why), self.assertRaisesRegex(SystemExit, why):
-                retarget.retargeted(NAMES + part)
+                retarget.retargeted(TARGET_NAMES + part)
 
 
 if __name__ == "__main__":
