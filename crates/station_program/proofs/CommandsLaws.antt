@@ -57,6 +57,13 @@ module _ {Z : Type 0} where
   named_as (Some b) name rows is_name are_rows = ap₂ pair is_name are_rows
   named_as None name rows is_name are_rows = ap₂ pair is_name are_rows
 
+  -- The subcommand of some rows has the name that stands with them.
+  name_with_rows : (sub : Option (Box SubCommand Z)) (name : Text) (rows : List Row)
+      → subcommand_rows sub ≡ Some (name, rows)
+      → option_map (λ b. (out-SubCommand (box_value b)).name.now) sub ≡ Some name
+  name_with_rows (Some b) name rows e = ap (option_map (λ p. p.0)) e
+  name_with_rows None name rows e = ap (option_map (λ p. p.0)) e
+
   -- No subcommand has no rows.
   not_named : (sub : Option (Box SubCommand Z)) → is_some sub ≡ false → subcommand_rows sub ≡ None
   not_named (Some b) none = absurd (true≢false none)
@@ -66,6 +73,11 @@ module _ {Z : Type 0} where
 pub meets : (m : ArgMatches) (name : Text) (found : Found) → subcommand_name_of m ≡ Some name
     → option_map (λ p. p.1) (subcommand_rows_of m) ≡ Some (rows_of found) → Meets (subcommand_rows_of m) name found
 meets m name found = named_as (out-ArgMatches m).subcommand name (rows_of found)
+
+-- A parse that met a subcommand of this name has it.
+pub has_name : (m : ArgMatches) (name : Text) (found : Found) → Meets (subcommand_rows_of m) name found
+    → subcommand_name_of m ≡ Some name
+has_name m name found = name_with_rows (out-ArgMatches m).subcommand name (rows_of found)
 
 -- A parse met no subcommand.
 pub meets_none : (m : ArgMatches) → has_subcommand m ≡ false → subcommand_rows_of m ≡ None

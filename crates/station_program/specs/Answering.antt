@@ -153,17 +153,10 @@ pub record Stream (W : Type 0) : Type 0 where
 abbrev pub untold_text : {W : Type 0} → OfWrite W → Option (List ℕ)
 untold_text w = None
 
--- The exit status of some words of a command line, with some streams of these types.
-pub record IsStatusOfSomeWords (R I W E : Type 0) (faults : List (Bor (List Explanation)))
-    (status : ℕ) : Type 0 where
-  pub words : List Text
+-- The exit status of the words of a command line, with some streams of these types.
+pub record IsStatusOverStreams (R I W E : Type 0) (faults : List (Bor (List Explanation)))
+    (words : List Text) (status : ℕ) : Type 0 where
   pub out : Stream W
   pub err : Stream E
   pub exits : IsStatusOfWords R I faults has_failed untold_text is_handed_on out.before out.left
       has_failed untold_text err.before err.left words status
-
--- The exit status of the program: that of the words of its command line; or, where they can't be
--- had, 1 where memory was refused, or 2.
-abbrev pub IsStatusOfRun : (R I W E : Type 0) → List (Bor (List Explanation)) → ℕ → Type 0
-IsStatusOfRun R I W E faults status = IsStatusOfSomeWords R I W E faults status
-    ⊎ ((status ≡ 1) ⊎ (status ≡ 2))

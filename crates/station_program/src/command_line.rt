@@ -131,7 +131,7 @@ pub fn asked_for<'a>(
 {
     let mut program = program(alloc)?;
     let matches = program.try_get_matches_from_mut(words)?;
-    if let Some(("explain", found)) = matches.subcommand() {
+    if let Some(found) = matches.subcommand_matches("explain") {
         return explanation_asked_for(alloc, table, &mut program, found);
     }
     match request_of(&matches) {

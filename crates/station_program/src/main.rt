@@ -11,7 +11,7 @@ ghost use Rattle.std.specs.declared.rt.Stdin.{Stdin};
 ghost use Rattle.std.specs.declared.rt.Stdout.{Stdout};
 ghost use Rattle.std.specs.declared.rt.Stderr.{Stderr};
 ghost use Rattle.clap.specs.Words.{kind_of};
-ghost use Rattle.station_program.specs.Answering.{IsStatusOfKind, IsStatusOfRun, IsStatusOfWords};
+ghost use Rattle.station_program.specs.Answering.{IsStatusOfKind, IsStatusOfWords, IsStatusOverStreams};
 
 mod answering;
 mod command_line;
@@ -44,23 +44,44 @@ Limits are whole numbers: of 2c and 2i in units of 0.01 mgon, of residuals in ha
 0.005 mgon, of --within in units of 0.001 mgon. So 0.3 mgon is --two-c 30, --two-i 30,
 --residual 60 and --within 300.";
 
-fn main(rt: HostRuntime) -> ExitCode {
-    ExitCode::from(status_of_run(&rt, &all_explanations()))
+/// Why the words of the command line can't be had.
+enum NoWords {
+    /// Memory was refused.
+    OutOfMemory,
+
+    /// An argument is not UTF-8 text.
+    NotText,
 }
 
-/// The exit status of the run that the words of the command line ask for. `faults` are the
-/// explanations of all faults.
-fn status_of_run(rt: &HostRuntime, faults: &[&'static [Explanation]]) -> u8
+fn main(rt: HostRuntime) -> ExitCode {
+    let given = command_line_words(&rt);
+    ExitCode::from(status_of_run(&rt, &all_explanations(), given))
+}
+
+/// The exit status of the run that the words of the command line ask for, where they could be had.
+/// `faults` are the explanations of all faults.
+fn status_of_run(
+    rt: &HostRuntime,
+    faults: &[&'static [Explanation]],
+    given: Result<Vec<String>, NoWords>,
+) -> u8
     ensures range { result ≤ 2 }
-    ensures run { IsStatusOfRun File Stdin Stdout Stderr faults.now result }
+    ensures run { IfOk given (λ words. IsStatusOverStreams File Stdin Stdout Stderr faults.now
+        (map string_bytes words.items) result) }
+    ensures memory { IfErr given (λ none. none ≡ NoWords.OutOfMemory → result ≡ 1) }
+    ensures not_text { IfErr given (λ none. none ≡ NoWords.NotText → result ≡ 2) }
 {
-    match command_line_words(rt) {
+    match given {
         Ok(words) => {
             let mut out = OfWrite::new(rt.stdout());
             let mut err = OfWrite::new(rt.stderr());
             status_of_words(rt, faults, words.as_slice(), &mut out, &mut err)
         }
-        Err(status) => status,
+        Err(NoWords::OutOfMemory) => out_of_memory(rt),
+        Err(NoWords::NotText) => {
+            let _ = eprintln!(rt; "{NOT_TEXT}");
+            USAGE
+        }
     }
 }
 
@@ -94,19 +115,13 @@ fn status_of_answer(rt: &HostRuntime, answered: Result<u8, Unopened<'_>>) -> u8
     }
 }
 
-/// The words of the command line, or the status where they can't be had.
-fn command_line_words(rt: &HostRuntime) -> Result<Vec<String>, u8>
-    ensures { IfErr result (λ status. (status ≡ 1) ⊎ (status ≡ 2)) }
-{
-    let given = match std::env::args(rt) {
-        Ok(given) => given,
-        Err(error) if error.kind() == io::ErrorKind::OutOfMemory => return Err(out_of_memory(rt)),
-        Err(_) => {
-            let _ = eprintln!(rt; "{NOT_TEXT}");
-            return Err(USAGE);
-        }
-    };
-    given.collect(rt.alloc()).map_err(|_| out_of_memory(rt))
+/// The words of the command line, of which the first is the program's name.
+fn command_line_words(rt: &HostRuntime) -> Result<Vec<String>, NoWords> {
+    match std::env::args(rt) {
+        Ok(given) => given.collect(rt.alloc()).map_err(|_| NoWords::OutOfMemory),
+        Err(error) if error.kind() == io::ErrorKind::OutOfMemory => Err(NoWords::OutOfMemory),
+        Err(_) => Err(NoWords::NotText),
+    }
 }
 
 fn out_of_memory(rt: &HostRuntime) -> u8
