@@ -113,8 +113,8 @@ pub record IsAnswered {W E : Type 0} (R I : Type 0) (faults : List (Bor (List Ex
   pub run : IsRun faults read_told read_failed (read_told input) failed holds handed_on out out'
       err_failed err_holds err err' opened status
 
--- A file that a request names can't be opened: the exit status is 2, and nothing is asked of the two
--- sinks.
+-- One of the paths that a request names is said not to open: the exit status is 2, and nothing is
+-- asked of the two sinks.
 pub record IsUnopened {W E : Type 0} (out out' : W) (err err' : E) (asked : Asked) (status : ℕ)
     : Type 0 where
   pub path : List ℕ
