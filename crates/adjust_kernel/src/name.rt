@@ -93,6 +93,15 @@ impl Name {
         &self.bytes[..self.len]
     }
 
+    /// What always holds of a name, for a proof that needs it where the name is only held. It does
+    /// nothing when the program runs.
+    #[inline(always)]
+    pub fn recall(&self)
+        ensures { IsName self.now }
+    {
+        let _ = &self.len;
+    }
+
     /// Whether another name is this one: all that is kept of both is compared at once, for no byte
     /// of a name is 0.
     #[inline(always)]
@@ -140,15 +149,6 @@ fn is_name(bytes: &[u8]) -> bool
         && bytes
             .iter()
             .all(|byte| (FIRST_PRINTABLE..=LAST_PRINTABLE).contains(byte))
-}
-
-/// Whether a name keeps its rules: it always does, and who asks may rest on it. The field is named
-/// so that a proof sees them.
-pub fn is_valid(name: &Name) -> bool
-    ensures { IsTrue result ↔ IsName name.now }
-{
-    let _ = &name.len;
-    true
 }
 
 #[cfg(test)]

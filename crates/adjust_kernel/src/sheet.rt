@@ -7,7 +7,7 @@ ghost use Rattle.adjust_kernel.specs.Within.{IsWithin};
 use crate::limits::{
     LARGEST_ANGLE, LARGEST_DENOMINATOR, LARGEST_TURN, MOST_ROWS, MOST_SETS, MOST_TARGETS, TURN,
 };
-use crate::name::{Name, is_valid};
+use crate::name::Name;
 use crate::row::{Direction, Orientation, Row, is_set_number};
 use std::marker::Model;
 
@@ -54,7 +54,7 @@ impl Sheet {
             (IsSheet (sheet_of name denominator directions.items orientations.items rows.items)
             → ⊥) }
     {
-        let _bytes = name.bytes();
+        name.recall();
         if is_denominator(denominator)
             && are_directions(&directions)
             && are_orientations(&orientations)
@@ -163,7 +163,8 @@ fn is_angle(value: i128) -> bool
 fn is_direction(direction: &Direction) -> bool
     ensures { IsTrue result ↔ IsDirection direction.now }
 {
-    is_valid(&direction.name) && is_angle(direction.value)
+    direction.name.recall();
+    is_angle(direction.value)
 }
 
 /// Whether an orientation is one of a sheet.
@@ -177,8 +178,8 @@ fn is_orientation(orientation: &Orientation) -> bool
 fn is_row(row: &Row) -> bool
     ensures { IsTrue result ↔ IsRow row.now }
 {
+    row.target.recall();
     is_set_number(&row.set)
-        && is_valid(&row.target)
         && row.value < TURN
         && (-LARGEST_TURN..=LARGEST_TURN).contains(&row.turn)
 }

@@ -1,10 +1,12 @@
 //! The station as it was measured.
 
-ghost use Rattle.std.specs.Prelude.{◌≡◌, ◌≢◌, ◌↔◌, ◌≤◌, AllPairs, IsTrue, IfSome, IfNone, length};
+ghost use Rattle.std.specs.Prelude.{◌≡◌, ◌≢◌, ◌↔◌, ◌≤◌, All, AllPairs, IsTrue, IfSome, IfNone, length};
+ghost use Rattle.std.specs.Bool.{OnTrue};
+ghost use Rattle.adjust_kernel.specs.Names.{IsName};
 ghost use Rattle.adjust_kernel.specs.Stations.{IsStation, AreTargets, AreSets, station_of};
 
 use crate::limits::{MOST_ROWS, MOST_SETS, MOST_TARGETS};
-use crate::name::{Name, is_valid};
+use crate::name::Name;
 use crate::obs::{Obs, are_obs};
 use crate::row::is_set_number;
 use std::marker::Model;
@@ -44,7 +46,7 @@ impl Station {
         ensures none { IfNone result
             (IsStation (station_of name targets.items sets.items obs.items) → ⊥) }
     {
-        let _bytes = name.bytes();
+        name.recall();
         if are_targets(&targets) && are_sets(&sets) && are_obs(&obs, sets.len(), targets.len()) {
             return Some(Station::of_valid(name, targets, sets, obs));
         }
@@ -111,18 +113,17 @@ impl Station {
 fn are_targets(targets: &[Name]) -> bool
     ensures { IsTrue result ↔ AreTargets targets.now }
 {
-    !targets.is_empty()
-        && targets.len() <= MOST_TARGETS
-        && targets.iter().all(is_valid)
-        && are_different_names(targets)
+    !targets.is_empty() && targets.len() <= MOST_TARGETS && are_different_names(targets)
 }
 
-/// Whether no name stands twice.
+/// Whether no name stands twice. What always holds of each name is brought in on the way.
 fn are_different_names(names: &[Name]) -> bool
-    ensures { IsTrue result ↔ AllPairs (λ a b. a ≢ b) names.now }
+    ensures value { IsTrue result ↔ AllPairs (λ a b. a ≢ b) names.now }
+    ensures valid { OnTrue result (All IsName names.now) }
 {
     for place in 0..names.len() {
         let name = names[place];
+        name.recall();
         if names[..place].iter().any(|earlier| earlier.is_same(&name)) {
             return false;
         }

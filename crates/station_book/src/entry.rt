@@ -149,7 +149,7 @@ impl Entry {
         if self.targets.len() >= MOST_TARGETS {
             return Err(Refusal::Kind(BookKind::TooManyTargets));
         }
-        let _name = reading.target.bytes();
+        reading.target.recall();
         let slot = with_side(empty_slot(), reading.is_second, reading.sight);
         self.targets.add(reading.target, slot)?;
         Ok(())
@@ -161,7 +161,7 @@ impl Entry {
         ensures station { IfOk result (λ s. s ≡ survey_of (name, self)) }
         ensures named { IfOk result (λ s. IsName s.station.name) }
     {
-        let _name = name.bytes();
+        name.recall();
         let Entry {
             targets,
             sets,
