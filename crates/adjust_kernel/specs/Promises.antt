@@ -1,16 +1,17 @@
--- What a verdict on a sheet says of least squares.
-use Rattle.std.specs.Prelude.{ℕ, List, length, Option, IfSome, Result, Ok, Err, ⊤}
+-- What the check of a sheet answers, and what the answer says of least squares.
+use Rattle.std.specs.Prelude.{◌≡◌, ℕ, List, length, Option, IfSome, Result, Ok, Err, OnOk, ⊤}
 use Rattle.adjust_kernel.specs.declared.accepted.Accepted.{Accepted}
 use Rattle.adjust_kernel.specs.declared.kernel_fault.KernelFault.{KernelFault}
 use Rattle.adjust_kernel.specs.declared.kernel_fault.KernelFault.TheVariants.{TargetSum, SetSum, NotConnected}
 use Rattle.adjust_kernel.specs.Least.{IsLeast, IsUnique, HasBetter, HasAnother}
+use Rattle.adjust_kernel.specs.Matching.{Matches}
 use Rattle.adjust_kernel.specs.Pairs.{choice_stated_by}
 use Rattle.adjust_kernel.specs.Readings.{Reading}
 use Rattle.adjust_kernel.specs.Residuals.{Choice}
 use Rattle.adjust_kernel.specs.Sheets.{SheetValue}
 use Rattle.adjust_kernel.specs.Stations.{StationValue}
 use Rattle.adjust_kernel.specs.Turns.{IsLeastOverTurns, OnlyTurnedWhole}
-use Rattle.adjust_kernel.specs.Verdict.{readings}
+use Rattle.adjust_kernel.specs.Verdict.{IsVerdict, readings}
 
 -- The choice is the least-squares adjustment of the readings with their turns: no choice has a
 -- smaller sum of squares, and what reaches the same sum is a rotation of it.
@@ -41,3 +42,13 @@ TellsOfSquares station sheet limit (Err NotConnected) =
     HasAnother (length station.sets) (length station.targets)
     (choice_stated_by sheet) (readings station sheet)
 TellsOfSquares station sheet limit (Err fault) = ⊤
+
+-- What the check of a sheet answers, under a residual limit where one is stated: the verdict and no
+-- other; an accepted sheet is of the station; and of least squares it tells what is said above.
+pub record IsAnswer (station : StationValue) (sheet : SheetValue) (limit : Option ℕ)
+    (answer : Result Accepted KernelFault) : Type 0 where
+  pub verdict : IsVerdict station sheet limit answer
+  pub no_other_verdict : (other : Result Accepted KernelFault)
+      → IsVerdict station sheet limit other → answer ≡ other
+  pub matches : OnOk answer (Matches station sheet)
+  pub squares : TellsOfSquares station sheet limit answer

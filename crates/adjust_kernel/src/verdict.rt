@@ -10,7 +10,7 @@ ghost use Rattle.adjust_kernel.specs.declared.kernel_fault.KernelFault.{KernelFa
 ghost use Rattle.adjust_kernel.specs.Greatest.{IsGreatest};
 ghost use Rattle.adjust_kernel.specs.Matching.{Matches};
 ghost use Rattle.adjust_kernel.specs.Pairs.{choice_stated_by};
-ghost use Rattle.adjust_kernel.specs.Promises.{TellsOfSquares};
+ghost use Rattle.adjust_kernel.specs.Promises.{IsAnswer};
 ghost use Rattle.adjust_kernel.specs.Sheets.{IsSheet};
 ghost use Rattle.adjust_kernel.specs.Stations.{IsStation};
 ghost use Rattle.adjust_kernel.specs.Tallies.{all_added};
@@ -44,11 +44,7 @@ pub fn check(
     sheet: &Sheet,
     residual: Option<ResidualLimit>,
 ) -> Result<Accepted, KernelFault>
-    ensures verdict { IsVerdict station.now sheet.now residual result }
-    ensures no_other_verdict { (other : Result Accepted KernelFault)
-        → IsVerdict station.now sheet.now residual other → result ≡ other }
-    ensures matches { OnOk result (Matches station.now sheet.now) }
-    ensures squares { TellsOfSquares station.now sheet.now residual result }
+    ensures { IsAnswer station.now sheet.now residual result }
 {
     check_with(Running::new(), station, sheet, residual)
 }
@@ -62,11 +58,7 @@ pub fn check_with<T: Tally>(
 ) -> Result<Accepted, KernelFault>
     requires nothing { T.StandsFor tally [] }
     requires room { T.room tally ≡ MOST_ROWS }
-    ensures verdict { IsVerdict station.now sheet.now residual result }
-    ensures no_other_verdict { (other : Result Accepted KernelFault)
-        → IsVerdict station.now sheet.now residual other → result ≡ other }
-    ensures matches { OnOk result (Matches station.now sheet.now) }
-    ensures squares { TellsOfSquares station.now sheet.now residual result }
+    ensures { IsAnswer station.now sheet.now residual result }
 {
     verdict_of(tally, station, sheet, residual)
 }

@@ -11,17 +11,24 @@ use Rattle.adjust_kernel.proofs.VerdictSquares.{tells_of_squares}
 use Rattle.adjust_kernel.proofs.verdict.check_with.Goals as goal
 
 -- what is accepted is of the station
-matches_on_ok : (station : StationValue) (sheet : SheetValue) (limit : Option ℕ) (result : Result Accepted KernelFault) → IsVerdict station sheet limit result → OnOk result (Matches station sheet)
-matches_on_ok station sheet limit (Ok accepted) v = matches_where_accepted station sheet limit accepted v
+matches_on_ok : (station : StationValue) (sheet : SheetValue) (limit : Option ℕ)
+    (result : Result Accepted KernelFault) → IsVerdict station sheet limit result
+    → OnOk result (Matches station sheet)
+matches_on_ok station sheet limit (Ok accepted) v =
+    matches_where_accepted station sheet limit accepted v
 matches_on_ok station sheet limit (Err fault) v = tt
 
-pub returns-clause-no_other_verdict : goal.returns-clause-no_other_verdict
-returns-clause-no_other_verdict g c = λ other stands.
-    only_one_verdict c.args.station.now c.args.sheet.now c.args.residual c.verdict_of.result other c.verdict_of.ensures.verdict stands
-
-pub returns-clause-matches : goal.returns-clause-matches
-returns-clause-matches g c = matches_on_ok c.args.station.now c.args.sheet.now c.args.residual c.verdict_of.result c.verdict_of.ensures.verdict
-
-pub returns-clause-squares : goal.returns-clause-squares
-returns-clause-squares g c =
-    tells_of_squares c.args.station.now c.args.sheet.now c.verdict_of.ensures.valid_station c.verdict_of.ensures.valid_sheet c.args.residual c.verdict_of.result c.verdict_of.ensures.valid_limit c.verdict_of.ensures.verdict
+pub returns : goal.returns
+returns g c =
+    let station = c.args.station.now in
+    let sheet = c.args.sheet.now in
+    let limit = c.args.residual in
+    let of = c.verdict_of.ensures in
+    record {
+      verdict = of.verdict;
+      no_other_verdict = λ other stands.
+          only_one_verdict station sheet limit c.verdict_of.result other of.verdict stands;
+      matches = matches_on_ok station sheet limit c.verdict_of.result of.verdict;
+      squares = tells_of_squares station sheet of.valid_station of.valid_sheet limit
+          c.verdict_of.result of.valid_limit of.verdict;
+    }
