@@ -32,10 +32,10 @@ use Rattle.sheet_format.proofs.NameTests.{name-found}
 use Rattle.sheet_format.proofs.Ranges.{angle-fits, natural-text, number-text, turn-fits, within-found}
 use Rattle.sheet_format.proofs.SaidBy.{IsBare}
 
--- what the first row states is within its limits
-abbrev pub IsHeader : Option Header → Type 0
-IsHeader None = Unit {0}
-IsHeader (Some h) = IsName h.name × (1 ≤ h.denominator) × (h.denominator ≤ largest_denominator h.version)
+-- what the first row states is within the limits of its version
+abbrev pub IsVersionedHeader : Option Header → Type 0
+IsVersionedHeader None = Unit {0}
+IsVersionedHeader (Some h) = IsName h.name × (1 ≤ h.denominator) × (h.denominator ≤ largest_denominator h.version)
 
 -- a direction and an orientation within the ranges of a version
 abbrev pub IsDirectionOf : Version → Direction → Type 0
@@ -46,7 +46,7 @@ IsOrientationOf v o = IsSetNumber o.set × IsWithin (largest_angle v) o.value
 
 -- the entries of a draft are within their limits, and no kind of entry stands without the one before it
 pub record IsDraft (d : DraftValue) : Type 0 where
-  pub header : IsHeader d.header
+  pub header : IsVersionedHeader d.header
   pub bare : d.header ≡ None → IsBare d
   pub directions : All (IsDirectionOf (version_of_header d.header)) d.directions
   pub orientations : All (IsOrientationOf (version_of_header d.header)) d.orientations
@@ -164,7 +164,7 @@ headed d bare k first follows e =
 pushed : {X : Type 0} (a b c e : List X) (x : X) → a ++ (b ++ (c ++ (e ++ (x ∷ [])))) ≡ (a ++ (b ++ (c ++ e))) ++ (x ∷ [])
 pushed {X = X} a b c e x = sym (append_assoc a (b ++ (c ++ e)) (x ∷ []) ∙ ap (λ (t : List X). a ++ t) (append_assoc b (c ++ e) (x ∷ []) ∙ ap (λ (t : List X). b ++ t) (append_assoc c e (x ∷ []))))
 
-All-pushed : {X : Type 0} (P : X → Type 0) (xs : List X) (x : X) → All P xs → P x → All P (xs ++ (x ∷ []))
+pub All-pushed : {X : Type 0} (P : X → Type 0) (xs : List X) (x : X) → All P xs → P x → All P (xs ++ (x ∷ []))
 All-pushed P xs x h p = All-append P xs (x ∷ []) h (All-cons P x [] p (All-nil P))
 
 targets-pushed : (hs : List (List (List ℕ))) (ds : List Direction) (x : Direction) → hs ++ (map target_fields (ds ++ (x ∷ [])) ++ []) ≡ (hs ++ (map target_fields ds ++ [])) ++ (target_fields x ∷ [])
@@ -206,7 +206,7 @@ circle-small : TURN - 1 < 2 ^ 127
 circle-small = omega arith
 
 abbrev IsSheetRow : Fields → Header → Type 0
-IsSheetRow c h = (listed c ≡ sheet_fields h.version h.name h.denominator) × IsHeader (Some h)
+IsSheetRow c h = (listed c ≡ sheet_fields h.version h.name h.denominator) × IsVersionedHeader (Some h)
 
 versioned-row : (v : Version) (c : Fields) → c.kind ≡ kind_text kind.Sheet → c.number ≡ version_text v → versioned_fault v c ≡ None
     → IsSheetRow c (record { version = v; name = c.name; denominator = natural_of (value_of c.value) })

@@ -1,28 +1,24 @@
 -- The rows that were read: none of them has a fault, and what the next row or the end says of the whole.
 use Rattle.std.specs.Prelude.{if◌then◌else◌, ◌⊎◌}
-use Rattle.std.proofs.Common.{◌≡◌, ℕ, ◌<◌, ◌≤◌, Bool, true, false, List, [], ◌∷◌, ◌++◌, length, Option, Some, None, All, get_or, refl, ap, sym, subst, ◌∙◌, arith, inl, inr, ℤ, ◌==◌, length-append, append_assoc}
+use Rattle.std.proofs.Common.{◌≡◌, ℕ, ◌<◌, ◌≤◌, Bool, true, false, List, [], ◌∷◌, ◌++◌, length, Option, Some, None, All, get_or, refl, ap, sym, subst, ◌∙◌, arith, inl, inr, ◌==◌, length-append, append_assoc}
 use Rattle.std.proofs.Math.Seq.{drop-append_seam, take-append_seam}
 use Rattle.std.proofs.lemmas.Bool.{cases_Bool, eqb-false, eqb-true}
-use Rattle.std.proofs.lemmas.Int.{ints}
 use Rattle.std.proofs.lemmas.List.{append-nil}
 use Rattle.adjust_kernel.specs.declared.row.Direction.{Direction}
 use Rattle.adjust_kernel.specs.declared.row.Orientation.{Orientation}
 use Rattle.adjust_kernel.specs.Sheets.{IsDirection, IsOrientation, IsSheet, SheetValue}
-use Rattle.adjust_kernel.specs.Within.{IsWithin}
-use Rattle.adjust_kernel.specs.declared.limits.TheConstants.{LARGEST_ANGLE, LARGEST_DENOMINATOR}
 use Rattle.sheet_format.specs.Drafts.{DraftValue, IsOfDraft, HasParts, blank, header_rows, last_of_draft, last_of_header, rows_of_draft, said_by_draft, sheet_of, version_of_header, with_row}
 use Rattle.sheet_format.specs.Faults.{Before, IsFirstFault, NoFaultBefore, fault_at, fault_between, last_kind, row_fault, said_by}
 use Rattle.sheet_format.specs.Kinds.{may_end}
 use Rattle.sheet_format.specs.Rows.{IsOfVersion, IsSheetText, body_rows, records_of, rows_of}
-use Rattle.sheet_format.specs.Versions.{largest_angle, largest_denominator}
 use Rattle.sheet_format.specs.declared.entry.Header.{Header}
 use Rattle.sheet_format.specs.declared.fault.RowKind.{RowKind}
 use Rattle.sheet_format.specs.declared.fault.RowKind.TheVariants.{Unfinished}
 use Rattle.sheet_format.specs.declared.kind.Kind.TheVariants as kind
 use Rattle.sheet_format.specs.declared.reading.TheConstants.{LONGEST_SHEET}
 use Rattle.sheet_format.specs.declared.version.Version.{Version}
-use Rattle.sheet_format.specs.declared.version.Version.TheVariants as version
-use Rattle.sheet_format.proofs.DraftRows.{IsDirectionOf, IsDraft, IsHeader, IsOrientationOf, blank-draft, none-or-some, row-taken}
+use Rattle.sheet_format.proofs.DraftRows.{IsDirectionOf, IsDraft, IsVersionedHeader, IsOrientationOf, blank-draft, none-or-some, row-taken}
+use Rattle.sheet_format.proofs.Ranges.{angle-below, denominator-below}
 use Rattle.sheet_format.proofs.SaidBy.{said}
 
 -- the fault at the place where these rows part
@@ -76,14 +72,6 @@ read-fault all d row rest k read found =
     }
 
 -- a draft whose last row is an observation's has all parts of a sheet
-denominator-below : (v : Version) (n : ℕ) → n ≤ largest_denominator v → n ≤ LARGEST_DENOMINATOR
-denominator-below version.One n h = omega (arith, h)
-denominator-below version.Two n h = h
-
-angle-below : (v : Version) (z : ℤ) → IsWithin (largest_angle v) z → IsWithin LARGEST_ANGLE z
-angle-below version.One z h = record { low = omega (arith, ints, h.low); high = omega (arith, ints, h.high) }
-angle-below version.Two z h = h
-
 pub directions-below : (v : Version) (ds : List Direction) → All (IsDirectionOf v) ds → All IsDirection ds
 directions-below v ds h k x below = let d = h k x below in record { name = d.0; value = angle-below v (get_or ds k x).value d.1 }
 
@@ -106,7 +94,7 @@ finished-sheet d ok some = by d.header refl
         let none : length d.rows ≡ 0 = rw rs refl in
         absurd (omega (arith, none, some))
     by (Some h) e =
-        let header : IsHeader (Some h) = subst IsHeader e ok.header in
+        let header : IsVersionedHeader (Some h) = subst IsVersionedHeader e ok.header in
         let sets = ok.rows_follow some in
         let targets = ok.sets_follow sets in
         let v = version_of_header d.header in (
@@ -162,7 +150,7 @@ read-whole bytes d s short read parts whole = by d.header refl parts
     by : (h : Option Header) → d.header ≡ h → HasParts h d s → IsSheetText bytes s
     by None e p = absurd p
     by (Some h) e p =
-        let header : IsHeader (Some h) = subst IsHeader e read.draft.header in
+        let header : IsVersionedHeader (Some h) = subst IsVersionedHeader e read.draft.header in
         let directions : All (IsDirectionOf h.version) d.directions = subst (λ (o : Option Header). All (IsDirectionOf (version_of_header o)) d.directions) e read.draft.directions in
         let orientations : All (IsOrientationOf h.version) d.orientations = subst (λ (o : Option Header). All (IsOrientationOf (version_of_header o)) d.orientations) e read.draft.orientations in
         let rows : records_of bytes ≡ rows_of h.version (sheet_of h d) =

@@ -5,10 +5,11 @@ use Rattle.std.specs.Int.{w128}
 use Rattle.std.specs.Int.Signed.{le_z_yes}
 use Rattle.std.proofs.lemmas.Bool.{and_from, and_parts, leb-true, le-leb}
 use Rattle.std.proofs.lemmas.Float.{T_from_true}
+use Rattle.std.proofs.lemmas.Int.{ints}
 use Rattle.adjust_kernel.specs.Within.{IsWithin}
-use Rattle.adjust_kernel.specs.declared.limits.TheConstants.{LARGEST_TURN}
+use Rattle.adjust_kernel.specs.declared.limits.TheConstants.{LARGEST_ANGLE, LARGEST_DENOMINATOR, LARGEST_TURN}
 use Rattle.sheet_format.specs.Numbers.{is_at_most, is_canonical, is_within, natural_of, value_of}
-use Rattle.sheet_format.specs.Versions.{largest_angle}
+use Rattle.sheet_format.specs.Versions.{largest_angle, largest_denominator}
 use Rattle.sheet_format.specs.declared.version.Version.{Version}
 use Rattle.sheet_format.specs.declared.version.Version.TheVariants.{One, Two}
 use Rattle.sheet_format.proofs.CanonicalDecimals.{between-fits}
@@ -89,3 +90,20 @@ natural-again n small =
 
 pub natural-within : (low high n : ℕ) → low ≤ n → n ≤ high → is_within (pos low) (pos high) (pos n) ≡ true
 natural-within low high n a b = and_from _ _ (le-leb _ _ a) (le-leb _ _ b)
+
+-- a denominator and an angle within the ranges of a version are within those of any sheet
+pub denominator-below : (v : Version) (n : ℕ) → n ≤ largest_denominator v → n ≤ LARGEST_DENOMINATOR
+denominator-below One n h = omega (arith, h)
+denominator-below Two n h = h
+
+pub angle-below : (v : Version) (z : ℤ) → IsWithin (largest_angle v) z → IsWithin LARGEST_ANGLE z
+angle-below One z h = record {
+  low = omega (arith, ints, h.low);
+  high = omega (arith, ints, h.high);
+}
+angle-below Two z h = h
+
+-- an angle that passes the test of its version is within the range of any sheet
+pub angle-found : (v : Version) (z : ℤ) → is_at_most (largest_angle v) z ≡ true
+    → IsWithin LARGEST_ANGLE z
+angle-found v z e = angle-below v z (within-found (largest_angle v) z e)

@@ -18,7 +18,7 @@ use Rattle.sheet_format.specs.declared.entry.Header.{Header}
 use Rattle.sheet_format.specs.declared.kind.Kind.TheVariants as kind
 use Rattle.sheet_format.specs.declared.version.Version.{Version}
 use Rattle.sheet_format.specs.declared.version.Version.TheVariants as version
-use Rattle.sheet_format.proofs.DraftRows.{IsDirectionOf, IsHeader, IsOrientationOf}
+use Rattle.sheet_format.proofs.DraftRows.{IsDirectionOf, IsVersionedHeader, IsOrientationOf}
 use Rattle.sheet_format.proofs.FirstFaults.{HasRead, read-more}
 use Rattle.sheet_format.proofs.NameTests.{name-test}
 use Rattle.sheet_format.proofs.Ranges.{angle-fits, natural-again, natural-within, number-again, turn-fits, within-test}
@@ -35,7 +35,7 @@ denominator-small : (v : Version) (n : ℕ) → n ≤ largest_denominator v → 
 denominator-small version.One n h = omega (arith, h)
 denominator-small version.Two n h = omega (arith, h)
 
-pub sheet-row-clean : (h : Header) → IsHeader (Some h) → (row_fault (said_by_draft blank) (sheet_fields h.version h.name h.denominator) ≡ None) × (draft h [] [] [] ≡ with_row blank (sheet_fields h.version h.name h.denominator))
+pub sheet-row-clean : (h : Header) → IsVersionedHeader (Some h) → (row_fault (said_by_draft blank) (sheet_fields h.version h.name h.denominator) ≡ None) × (draft h [] [] [] ≡ with_row blank (sheet_fields h.version h.name h.denominator))
 unfolding row_fault with_row
 sheet-row-clean h ok =
     let d = natural-again h.denominator (denominator-small h.version h.denominator ok.2) in

@@ -1,7 +1,9 @@
 -- What the rows that were read so far say of the sheet, and what one more row adds: how the code
 -- reads. No public clause cites it.
-use Rattle.std.specs.Prelude.{◌≡◌, ℕ, ◌==◌, if◌then◌else◌, List, [], ◌∷◌, ◌++◌, length, Option, Some, None, unwrap_or}
-use Rattle.adjust_kernel.specs.Sheets.{SheetValue}
+use Rattle.std.specs.Prelude.{◌≡◌, ℕ, ◌==◌, if◌then◌else◌, List, [], ◌∷◌, ◌++◌, ◌≤◌, length, All, Option, Some, None, IfSome, unwrap_or}
+use Rattle.adjust_kernel.specs.Names.{IsName}
+use Rattle.adjust_kernel.specs.Sheets.{IsDenominator, IsDirection, IsOrientation, IsRow, SheetValue}
+use Rattle.adjust_kernel.specs.declared.limits.TheConstants.{MOST_ROWS, MOST_SETS, MOST_TARGETS}
 use Rattle.adjust_kernel.specs.declared.row.Direction.{Direction}
 use Rattle.adjust_kernel.specs.declared.row.Orientation.{Orientation}
 use Rattle.adjust_kernel.specs.declared.row.Row.{Row}
@@ -26,6 +28,31 @@ pub record DraftValue : Type 0 where
   pub directions : List Direction
   pub orientations : List Orientation
   pub rows : List Row
+
+-- the draft with these parts
+abbrev pub draft_of : Option Header → List Direction → List Orientation → List Row → DraftValue
+draft_of header directions orientations rows = record {
+  header = header;
+  directions = directions;
+  orientations = orientations;
+  rows = rows;
+}
+
+-- what the first row states is within the limits of a sheet
+pub record IsHeader (h : Header) : Type 0 where
+  pub name : IsName h.name
+  pub denominator : IsDenominator h.denominator
+
+-- The entries of a draft keep the rules of a sheet's, each by itself, and none are too many: so
+-- where a draft has all parts of a sheet, they are one.
+pub record KeepsRules (d : DraftValue) : Type 0 where
+  pub header : IfSome d.header IsHeader
+  pub directions : All IsDirection d.directions
+  pub orientations : All IsOrientation d.orientations
+  pub rows : All IsRow d.rows
+  pub few_directions : length d.directions ≤ MOST_TARGETS
+  pub few_orientations : length d.orientations ≤ MOST_SETS
+  pub few_rows : length d.rows ≤ MOST_ROWS
 
 -- the draft before any row
 abbrev pub blank : DraftValue

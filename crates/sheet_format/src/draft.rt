@@ -1,7 +1,8 @@
 //! The sheet as far as its rows were read.
 //!
 //! A draft takes the rows one by one and keeps the entry of each. What may come next follows from
-//! the entries that it has, so it keeps no other state.
+//! the entries that it has, so it keeps no other state. Each entry is tested when it is taken and
+//! never again: the entries of a draft keep the rules of a sheet's.
 
 ghost use Rattle.std.specs.Prelude.{◌≡◌, ◌≤◌, if◌then◌else◌, length, None, Some, IfErr, IfNone, IfSome, OnOk};
 ghost use Rattle.adjust_kernel.specs.Sheets.{IsSheet, SheetValue};
@@ -57,21 +58,14 @@ pub(crate) struct Draft {
 }
 
 impl Model for Draft {
-    ghost use Rattle.std.specs.Prelude.{◌≤◌, length};
-    ghost use Rattle.adjust_kernel.specs.declared.limits.TheConstants.{MOST_ROWS, MOST_SETS, MOST_TARGETS};
     ghost use Rattle.sheet_format.specs.Drafts as spec;
 
     ghost Value = { spec.DraftValue };
 
-    ghost view = { λ d. record {
-      header = d.header;
-      directions = d.directions.items;
-      orientations = d.orientations.items;
-      rows = d.rows.items;
-    } };
+    ghost view = { λ d. spec.draft_of d.header d.directions.items d.orientations.items d.rows.items };
 
-    ghost invariant = { λ d. (length d.directions.items ≤ MOST_TARGETS)
-        × (length d.orientations.items ≤ MOST_SETS) × (length d.rows.items ≤ MOST_ROWS) };
+    ghost invariant = { λ d. spec.KeepsRules
+        (spec.draft_of d.header d.directions.items d.orientations.items d.rows.items) };
 }
 
 impl Draft {
@@ -136,16 +130,17 @@ impl Draft {
             orientations,
             rows,
         } = self;
-        match header {
-            Some(header) => Sheet::new(
-                header.name,
-                header.denominator,
-                directions,
-                orientations,
-                rows,
-            ),
-            None => None,
+        let header = header?;
+        if directions.is_empty() || orientations.is_empty() || rows.is_empty() {
+            return None;
         }
+        Some(Sheet::of_valid(
+            header.name,
+            header.denominator,
+            directions,
+            orientations,
+            rows,
+        ))
     }
 
     /// Takes the next row.

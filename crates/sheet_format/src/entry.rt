@@ -1,6 +1,9 @@
 //! The entry that each kind of row states: its columns are tested in a fixed order.
 
-ghost use Rattle.std.specs.Prelude.{◌≡◌, true, false, None, Some, IfErr, IfNone, IfOk, IfSome, OnOk, OnSome};
+ghost use Rattle.std.specs.Prelude.{◌≡◌, ◌<◌, true, false, None, Some, IfErr, IfNone, IfOk, IfSome, OnOk, OnSome};
+ghost use Rattle.adjust_kernel.specs.Names.{IsName};
+ghost use Rattle.adjust_kernel.specs.Sheets.{IsDirection, IsOrientation, IsRow, IsSetNumber};
+ghost use Rattle.adjust_kernel.specs.Within.{IsWithin};
 ghost use Rattle.sheet_format.specs.Columns.{columns_view};
 ghost use Rattle.sheet_format.specs.Drafts as spec;
 ghost use Rattle.sheet_format.specs.Faults as faults;
@@ -11,7 +14,9 @@ use crate::columns::Columns;
 use crate::fault::RowKind;
 use crate::number::Numeral;
 use crate::version::Version;
-use adjust_kernel::{Direction, LARGEST_SET_NUMBER, LARGEST_TURN, Name, Orientation, Row, TURN};
+use adjust_kernel::{
+    Direction, LARGEST_ANGLE, LARGEST_SET_NUMBER, LARGEST_TURN, Name, Orientation, Row, TURN,
+};
 
 /// What the first row states.
 #[derive(Clone, Copy)]
@@ -25,6 +30,7 @@ pub(crate) struct Header {
 fn name_of(field: &[u8]) -> Option<Name>
     ensures value { IfSome result (λ name. name ≡ field.now) }
     ensures some { OnSome result (faults.is_name field.now ≡ true) }
+    ensures valid { IfSome result IsName }
     ensures none { IfNone result (faults.is_name field.now ≡ false) }
 {
     Name::new(field)
@@ -34,6 +40,7 @@ fn name_of(field: &[u8]) -> Option<Name>
 #[inline(always)]
 fn set_number(number: &Numeral<'_>) -> Option<u16>
     ensures value { IfSome result (λ set. set ≡ natural_of number.now) }
+    ensures valid { IfSome result IsSetNumber }
     ensures within { OnSome result (faults.is_set_number number.now ≡ true) }
     ensures outside { IfNone result (faults.is_set_number number.now ≡ false) }
 {
@@ -46,6 +53,7 @@ fn set_number(number: &Numeral<'_>) -> Option<u16>
 #[inline(always)]
 fn circle_value(number: &Numeral<'_>) -> Option<u32>
     ensures value { IfSome result (λ value. value ≡ natural_of number.now) }
+    ensures valid { IfSome result (λ value. value < TURN) }
     ensures within { OnSome result (faults.is_circle_value number.now ≡ true) }
     ensures outside { IfNone result (faults.is_circle_value number.now ≡ false) }
 {
@@ -58,6 +66,7 @@ fn circle_value(number: &Numeral<'_>) -> Option<u32>
 #[inline(always)]
 fn full_turns(number: &Numeral<'_>) -> Option<i8>
     ensures value { IfSome result (λ turns. turns ≡ number.now) }
+    ensures valid { IfSome result (IsWithin LARGEST_TURN) }
     ensures within { OnSome result (is_at_most LARGEST_TURN number.now ≡ true) }
     ensures outside { IfNone result (is_at_most LARGEST_TURN number.now ≡ false) }
 {
@@ -69,6 +78,7 @@ fn full_turns(number: &Numeral<'_>) -> Option<i8>
 #[inline(always)]
 fn angle(number: &Numeral<'_>, version: Version) -> Option<i128>
     ensures value { IfSome result (λ angle. angle ≡ number.now) }
+    ensures valid { IfSome result (IsWithin LARGEST_ANGLE) }
     ensures within { OnSome result (is_at_most (largest_angle version) number.now ≡ true) }
     ensures outside { IfNone result (is_at_most (largest_angle version) number.now ≡ false) }
 {
@@ -79,6 +89,7 @@ fn angle(number: &Numeral<'_>, version: Version) -> Option<i128>
 pub(crate) fn header_of(columns: &Columns<'_>) -> Result<Header, RowKind>
     ensures faultless { OnOk result (faults.sheet_row_fault (columns_view columns.now) ≡ None) }
     ensures value { IfOk result (λ header. header ≡ spec.header_of (columns_view columns.now)) }
+    ensures valid { IfOk result spec.IsHeader }
     ensures err { IfErr result
         (λ kind. faults.sheet_row_fault (columns_view columns.now) ≡ Some kind) }
 {
@@ -104,6 +115,7 @@ pub(crate) fn direction_of(columns: &Columns<'_>, version: Version) -> Result<Di
         (faults.target_fault version (columns_view columns.now) ≡ None) }
     ensures value { IfOk result
         (λ direction. direction ≡ spec.direction_of (columns_view columns.now)) }
+    ensures valid { IfOk result IsDirection }
     ensures err { IfErr result
         (λ kind. faults.target_fault version (columns_view columns.now) ≡ Some kind) }
 {
@@ -124,6 +136,7 @@ pub(crate) fn orientation_of(
     ensures faultless { OnOk result (faults.set_fault version (columns_view columns.now) ≡ None) }
     ensures value { IfOk result
         (λ orientation. orientation ≡ spec.orientation_of (columns_view columns.now)) }
+    ensures valid { IfOk result IsOrientation }
     ensures err { IfErr result
         (λ kind. faults.set_fault version (columns_view columns.now) ≡ Some kind) }
 {
@@ -141,6 +154,7 @@ pub(crate) fn orientation_of(
 pub(crate) fn obs_row_of(columns: &Columns<'_>) -> Result<Row, RowKind>
     ensures faultless { OnOk result (faults.obs_fault (columns_view columns.now) ≡ None) }
     ensures value { IfOk result (λ row. row ≡ spec.obs_row_of (columns_view columns.now)) }
+    ensures valid { IfOk result IsRow }
     ensures err { IfErr result (λ kind. faults.obs_fault (columns_view columns.now) ≡ Some kind) }
 {
     let target = name_of(columns.name).ok_or(RowKind::Name)?;

@@ -199,7 +199,7 @@ impl<'a> Numeral<'a> {
     #[inline(always)]
     pub(crate) fn natural_within(&self, low: u64, high: u64) -> Option<u64>
         ensures value { IfSome result (λ number. number ≡ spec.natural_of self.now) }
-        ensures high { IfSome result (λ number. number ≤ high) }
+        ensures range { IfSome result (λ number. (low ≤ number) × (number ≤ high)) }
         ensures within { OnSome result (spec.is_within (pos low) (pos high) self.now ≡ true) }
         ensures outside { IfNone result (spec.is_within (pos low) (pos high) self.now ≡ false) }
     {
