@@ -9,6 +9,7 @@ ghost use Rattle.adjust_kernel.specs.Names.{IsName, padded};
 
 use crate::limits::LONGEST_NAME;
 use std::fmt;
+use std::hash::{Hash, Hasher};
 use std::marker::Model;
 use std::simd::prelude::*;
 
@@ -22,7 +23,7 @@ pub const FIRST_PRINTABLE: u8 = 0x20;
 pub const LAST_PRINTABLE: u8 = 0x7e;
 
 /// The name of a station or of a target: 1 to 16 bytes from the blank to the tilde.
-#[derive(Clone, Copy, Debug, PartialEq, Eq, Hash, Drop)]
+#[derive(Clone, Copy, Debug, PartialEq, Eq, Drop)]
 pub struct Name {
     bytes: [u8; LONGEST_NAME],
     len: usize,
@@ -110,6 +111,23 @@ impl Name {
         ensures same { IsTrue result ↔ (self.now ≡ other.now) }
     {
         self.bytes == other.bytes
+    }
+}
+
+impl Hash for Name {
+    ghost use Rattle.std.specs.Cmp.Rules.{hashing};
+    ghost use Rattle.std.specs.Prelude.{[], ◌∷◌};
+    ghost use Rattle.adjust_kernel.specs.Names.{padded};
+    ghost use Rattle.std.proofs.Common.{rules};
+
+    ghost hash_input = { λ name. padded name ∷ [] };
+
+    ghost respects_eq = { Prim.search (hashing, rules) };
+
+    /// All that is kept of it is hashed at once, as `is_same` compares it.
+    #[inline(always)]
+    fn hash<H: Hasher>(&self, state: &mut H) {
+        state.write(&self.bytes);
     }
 }
 
