@@ -19,7 +19,7 @@ use Rattle.station_book.specs.declared.slot.Slot.{Slot}
 use Rattle.station_book.specs.Faults.{when, first_of}
 use Rattle.station_book.specs.Slots.{slot_at, empty_slot, with_side, is_unread, is_single, obs_of, faces_of, IsKeptSlot}
 use Rattle.station_book.specs.Sound.{AreSoFar}
-use Rattle.station_book.specs.Entries.{EntryValue, closed, with_set, place_of, is_new_to, entry_faults_at, entry_faults, with_reading_at, IsEntry, MayEnd}
+use Rattle.station_book.specs.Entries.{EntryValue, closed, with_set, place_of, is_new_to, new_target_fault, entry_faults_at, entry_faults, with_reading_at, IsEntry, MayEnd}
 use Rattle.std.specs.Prelude.{IfErr, IfNone}
 use Rattle.station_book.specs.Limits.{FaceLimits}
 use Rattle.station_book.specs.declared.faces.Faces.{Faces}
@@ -29,7 +29,8 @@ use Rattle.station_book.specs.Refusals.{ExplainsRefusal, WantsOnly}
 use Rattle.station_book.proofs.SoundLaws.{closes}
 use Rattle.station_book.proofs.SlotLaws.{pairs_match}
 use Rattle.std.proofs.lemmas.List.Folds.{list_any_at}
-use Rattle.station_book.specs.Targets.{TargetsValue}
+use Rattle.station_book.specs.Targets.{TargetsValue, with_first}
+use Rattle.station_book.proofs.ListLaws.{absent}
 
 -- what is kept of a station, by the parts in which the code keeps it
 abbrev pub entry_of : TargetsValue → List ℕ → List Obs → List Faces → EntryValue
@@ -41,6 +42,10 @@ none_when : (a b : Bool) → first_of (when a kinds.EmptySet ∷ when b kinds.On
 none_when true b e = cc
 none_when false true e = cc
 none_when false false e = (refl, refl)
+
+-- the targets of what is kept
+abbrev pub targets_of : EntryValue → TargetsValue
+targets_of e = record { names = e.targets; slots = e.slots }
 
 length_one : {X : Type 0} (xs : List X) (x : X) → length (xs ++ x ∷ []) ≡ length xs + 1
 length_one xs x = length-append xs (x ∷ [])
@@ -240,28 +245,41 @@ target_is_entry s e h new few named low = record {
       ∙ ap is_unread (get_or-append-add e.slots (slot ∷ []) 0 empty_slot)
       ∙ read_now s.is_second s.sight empty_slot)
 
--- the same, with the lists as the code has them
-pub target_kept : (s : Sighting) (e : EntryValue) (targets : List (List ℕ)) (slots : List Slot)
-    → targets ≡ e.targets ++ s.target ∷ []
-    → slots ≡ e.slots ++ with_side s.is_second s.sight empty_slot ∷ []
-    → IsEntry e → list_any (λ t. bytes_eq t s.target) e.targets ≡ false → length e.targets < 100
-    → IsName s.target → AreOnCircle s.sight → IsEntry (record {
-      targets = targets;
-      slots = slots;
+-- the same, where the target was added as the code adds it
+pub added_kept : (s : Sighting) (e : EntryValue) (t : TargetsValue) (place : Option ℕ)
+    → place ≡ None → place ≡ place_of s.target e.targets → IfNone place (length e.targets < 100)
+    → t ≡ with_first place s.target (with_side s.is_second s.sight empty_slot) (targets_of e)
+    → IsEntry e → IsName s.target → AreOnCircle s.sight → IsEntry (entry_of t e.sets e.obs e.faces)
+added_kept s e t (Some i) none place few is h named low = cc
+added_kept s e t None none place few is h named low = subst IsEntry
+    (λ i. entry_of (sym is i) e.sets e.obs e.faces)
+    (target_is_entry s e h (absent (λ t. bytes_eq t s.target) e.targets (sym place)) few named low)
+
+-- where the target was found, nothing was added
+pub found_same : (name : List ℕ) (first : Slot) (old t : TargetsValue) (place : Option ℕ) (i : ℕ)
+    → place ≡ Some i → t ≡ with_first place name first old → t ≡ old
+found_same name first old t None i found is = cc
+found_same name first old t (Some k) i found is = is
+
+-- a reading more of a target, as the code notes it
+pub read_kept : (s : Sighting) (e : EntryValue) (old t : TargetsValue) (i : ℕ) (new : Slot)
+    → old ≡ targets_of e → t.names ≡ old.names → t.slots ≡ set old.slots i new
+    → new ≡ with_side s.is_second s.sight (slot_at old.slots i) → IsEntry e → i < length e.targets
+    → AreOnCircle s.sight → IsEntry (entry_of t e.sets e.obs e.faces)
+read_kept s e old t i new was names slots is h inside low =
+    let here : i < length e.slots = let l = h.same_length in omega (arith, inside, l) in
+    subst IsEntry
+    (λ k. record {
+      targets = sym (names ∙ ap (λ (w : TargetsValue). w.names) was) k;
+      slots = sym (slots ∙ (λ j. set (was j).slots i (same j))) k;
       sets = e.sets;
       obs = e.obs;
       faces = e.faces;
     })
-target_kept s e targets slots et es h new few named low = subst IsEntry
-    (λ i. record { targets = sym et i; slots = sym es i; sets = e.sets; obs = e.obs; faces = e.faces })
-    (target_is_entry s e h new few named low)
-
-pub reading_kept : (s : Sighting) (e : EntryValue) (i : ℕ) (new : Slot)
-    → new ≡ with_side s.is_second s.sight (slot_at e.slots i) → IsEntry e → i < length e.slots
-    → AreOnCircle s.sight → IsEntry (record e { slots = set e.slots i new })
-reading_kept s e i new same h inside low = subst
-    (λ (n : Slot). IsEntry (record e { slots = set e.slots i n })) (sym same)
-    (reading_is_entry s e i h inside low)
+    (reading_is_entry s e i h here low)
+  where
+    same : new ≡ with_side s.is_second s.sight (slot_at e.slots i)
+    same = is ∙ ap (λ (w : TargetsValue). with_side s.is_second s.sight (slot_at w.slots i)) was
 
 pub set_kept : (n : ℕ) (e : EntryValue) (targets : List (List ℕ)) (slots : List Slot)
     (sets : List ℕ) (obs : List Obs) (faces : List Faces) → targets ≡ e.targets
@@ -281,23 +299,22 @@ set_kept n e targets slots sets obs faces et el es eo ef h may new few number = 
 
 -- the fault of a new target, as that of a reading
 pub fault_moved : {X : Type 0} (limits : FaceLimits) (e now : EntryValue) (s : Sighting)
-    (r : Result X Refusal) → e ≡ now → None ≡ place_of s.target e.targets → IfErr r (ExplainsRefusal
-    (first_of (when (leb 100 (length now.targets)) kinds.TooManyTargets ∷ [])))
+    (f : Refusal) (r : Result X Refusal) → Err f ≡ r → e ≡ now → place_of s.target e.targets ≡ None
+    → ExplainsRefusal (new_target_fault e.targets) f
     → IfErr r (ExplainsRefusal (first_of (entry_faults limits now s)))
-fault_moved limits e now s (Ok x) v p h = h
-fault_moved limits e now s (Err f) v p h =
-    let q : None ≡ place_of s.target now.targets = p
-    ∙ ap (λ (w : EntryValue). place_of s.target w.targets) v in
-    subst (λ (o : Option ℕ). ExplainsRefusal (first_of (entry_faults_at limits now s o)) f) q h
+fault_moved limits e now s f r it v absent h =
+    subst (λ r. IfErr r (ExplainsRefusal (first_of (entry_faults limits now s)))) it
+    (subst (λ (w : EntryValue). ExplainsRefusal (first_of (entry_faults limits w s)) f) v
+    (subst (λ (o : Option ℕ). ExplainsRefusal (first_of (entry_faults_at limits e s o)) f)
+    (sym absent) h))
+
+wanted : (needed : Bool) (f : Refusal) → needed ≡ true → WantsOnly needed f
+wanted needed (refusals.Kind k) e = tt
+wanted needed refusals.Memory e = e
 
 -- where the station has no target of this name, the reading is the first of its target
-pub new_moved : {X : Type 0} (e now : EntryValue) (s : Sighting) (r : Result X Refusal) → e ≡ now
-    → None ≡ place_of s.target e.targets → IfErr r (WantsOnly (is_new_to now s))
-new_moved e now s (Ok x) v p = tt
-new_moved e now s (Err (refusals.Kind k)) v p = tt
-new_moved e now s (Err refusals.Memory) v p = ap is_none
-    (sym (p ∙ ap (λ (w : EntryValue). place_of s.target w.targets) v))
-
-pub if_none : {X : Type 0} {P : Type 0} (o : Option X) → (o ≡ None → P) → IfNone o P
-if_none None f = f refl
-if_none (Some x) f = tt
+pub new_moved : {X : Type 0} (e now : EntryValue) (s : Sighting) (f : Refusal)
+    (r : Result X Refusal) → Err f ≡ r → e ≡ now → place_of s.target e.targets ≡ None
+    → IfErr r (WantsOnly (is_new_to now s))
+new_moved e now s f r it v absent = subst (λ r. IfErr r (WantsOnly (is_new_to now s))) it
+    (wanted (is_new_to now s) f (ap (λ (w : EntryValue). is_new_to w s) (sym v) ∙ ap is_none absent))

@@ -58,6 +58,10 @@ place_of name targets = position (λ t. bytes_eq t name) targets
 abbrev pub is_new_to : EntryValue → Sighting → Bool
 is_new_to e s = is_none (place_of s.target e.targets)
 
+-- the fault of a target more, where a station has as many as it may have
+abbrev pub new_target_fault : List (List ℕ) → Option BookKind
+new_target_fault targets = first_of (when (nat_le MOST_TARGETS (length targets)) kinds.TooManyTargets ∷ [])
+
 abbrev pub entry_faults_at : FaceLimits → EntryValue → Sighting → Option ℕ → List (Option BookKind)
 entry_faults_at limits e s None = when
     (nat_le MOST_TARGETS (length e.targets)) kinds.TooManyTargets ∷ []

@@ -1,5 +1,5 @@
 -- The targets of a station, as a book keeps them.
-use Rattle.std.specs.Prelude.{ℕ, List, [], ◌∷◌, ◌++◌}
+use Rattle.std.specs.Prelude.{ℕ, List, [], ◌∷◌, ◌++◌, Option, None, Some}
 use Rattle.station_book.specs.declared.slot.Slot.{Slot}
 
 -- their names, in the order of their first readings, and their readings in the last set
@@ -13,3 +13,8 @@ with_target name slot t = record {
   names = t.names ++ name ∷ [];
   slots = t.slots ++ slot ∷ [];
 }
+
+-- what is kept once the target of a name was found at its place, or, where it has none, was added
+abbrev pub with_first : Option ℕ → List ℕ → Slot → TargetsValue → TargetsValue
+with_first None name slot t = with_target name slot t
+with_first (Some i) name slot t = t

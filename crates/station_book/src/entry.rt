@@ -20,7 +20,7 @@ use crate::sight::Sighting;
 use crate::slot::{empty_slot, end_fault, push_pairs, slot_fault, with_side};
 use crate::surveyed::Surveyed;
 use crate::targets::Targets;
-use adjust_kernel::{MOST_SETS, MOST_TARGETS, Name, Obs, Station};
+use adjust_kernel::{MOST_SETS, Name, Obs, Station};
 use std::alloc::{AllocError, Global};
 use std::marker::Model;
 
@@ -65,7 +65,7 @@ impl Entry {
         let mut sets = Vec::new(alloc);
         sets.push(number)?;
         Ok(Entry {
-            targets: Targets::new(alloc),
+            targets: Targets::new(alloc)?,
             sets,
             obs: Vec::new(alloc),
             faces: Vec::new(alloc),
@@ -119,39 +119,21 @@ impl Entry {
         ensures memory { IfErr result (WantsOnly (is_new_to self.old reading)) }
         ensures err { OnErr result (self.new ≡ self.old) }
     {
-        match self.targets.place_of(&reading.target, reading.is_second) {
-            Some(place) => {
-                let slot = self.targets.slot(place);
-                match slot_fault(limits, slot, reading) {
-                    Some(kind) => Err(Refusal::Kind(kind)),
-                    None => {
-                        let slot = with_side(slot, reading.is_second, reading.sight);
-                        self.targets.set(place, slot);
-                        Ok(())
-                    }
-                }
-            }
-            None => self.add_target(reading),
+        let Sighting {
+            target,
+            is_second,
+            sight,
+        } = reading;
+        let first = with_side(empty_slot(), is_second, sight);
+        let Some(place) = self.targets.find_or_add(target, is_second, first)? else {
+            target.recall();
+            return Ok(());
+        };
+        let slot = self.targets.slot(place);
+        if let Some(kind) = slot_fault(limits, slot, reading) {
+            return Err(Refusal::Kind(kind));
         }
-    }
-
-    /// Takes the first reading of a target.
-    fn add_target(&mut self, reading: Sighting) -> Result<(), Refusal>
-        requires new { list_any (λ t. bytes_eq t reading.target) self.old.targets ≡ false }
-        requires angle { AreOnCircle reading.sight }
-        ensures clean { OnOk result (length self.old.targets < 100) }
-        ensures ok { OnOk result (self.new ≡ with_reading_at reading self.old None) }
-        ensures fault { IfErr result
-            (ExplainsRefusal (first_of
-            (when (nat_le 100 (length self.old.targets)) kinds.TooManyTargets ∷ []))) }
-        ensures err { OnErr result (self.new ≡ self.old) }
-    {
-        if self.targets.len() >= MOST_TARGETS {
-            return Err(Refusal::Kind(BookKind::TooManyTargets));
-        }
-        reading.target.recall();
-        let slot = with_side(empty_slot(), reading.is_second, reading.sight);
-        self.targets.add(reading.target, slot)?;
+        self.targets.set(place, with_side(slot, is_second, sight));
         Ok(())
     }
 

@@ -1,16 +1,18 @@
 //! The targets of a station with their readings in its last set, and the place at which one is
 //! found.
 
-ghost use Rattle.std.specs.Prelude.{◌≡◌, ◌≢◌, ◌<◌, AllPairs, slice_get, slice_set, length, replicate, IfNone, IfOk, IfSome, OnErr, OnOk, false, [], ◌∷◌, ◌++◌};
-ghost use Rattle.std.specs.List.{list_any};
-ghost use Rattle.std.specs.Str.{bytes_eq};
-ghost use Rattle.station_book.specs.Entries.{is_named, place_of};
+ghost use Rattle.std.specs.Prelude.{◌≡◌, ◌≢◌, ◌<◌, AllPairs, None, Some, slice_get, slice_set, length, replicate, IfErr, IfNone, IfOk, IfSome, OnErr, []};
+ghost use Rattle.adjust_kernel.specs.declared.limits.TheConstants.{MOST_TARGETS};
+ghost use Rattle.station_book.specs.Entries.{is_named, place_of, new_target_fault};
+ghost use Rattle.station_book.specs.Refusals.{ExplainsRefusal};
 ghost use Rattle.station_book.specs.Slots.{slot_at, empty_slot};
-ghost use Rattle.station_book.specs.Targets.{with_target};
+ghost use Rattle.station_book.specs.Targets.{with_first};
 
+use crate::fault::{BookKind, Refusal};
 use crate::slot::{Slot, empty_slot};
-use adjust_kernel::Name;
+use adjust_kernel::{MOST_TARGETS, Name};
 use indexmap::IndexMap;
+use indexmap::map::Entry;
 use std::alloc::{AllocError, Global};
 use std::marker::Model;
 
@@ -47,21 +49,12 @@ fn beside(place: usize, is_second: bool) -> usize {
 }
 
 impl Targets {
-    /// No target.
-    pub(crate) fn new(alloc: Global) -> Targets
-        ensures { result ≡ record { names = []; slots = [] } }
+    /// No target, with room for as many as a station may have.
+    pub(crate) fn new(alloc: Global) -> Result<Targets, AllocError>
+        ensures { IfOk result (λ t. t ≡ record { names = []; slots = [] }) }
     {
-        Targets {
-            slots: IndexMap::new(alloc),
-            last: 0,
-        }
-    }
-
-    /// How many targets there are.
-    pub(crate) fn len(&self) -> usize
-        ensures { result ≡ length self.now.names }
-    {
-        self.slots.len()
+        let slots = IndexMap::with_capacity(alloc, MOST_TARGETS)?;
+        Ok(Targets { slots, last: 0 })
     }
 
     /// The readings, in the order of the targets.
@@ -89,21 +82,14 @@ impl Targets {
         }
     }
 
-    /// The place of the target of this name, by its hash.
-    #[inline(never)]
-    fn search(&self, name: &Name) -> Option<usize>
-        ensures { result ≡ place_of name.now self.now.names }
-    {
-        self.slots.get_index_of(name)
-    }
-
-    /// The same, which is looked for first beside the target that was read last: targets are read
-    /// in turn, and in face II mostly backwards.
+    /// The place of the target of this name, if it is one of those beside the target that was read
+    /// last: targets are read in turn, and in face II mostly backwards.
     #[inline(always)]
     #[tactic(auto, using(crate::proofs::PlacedLaws::placed))]
-    fn place_from(&self, name: &Name, is_second: bool) -> Option<usize>
+    fn place_beside(&self, name: &Name, is_second: bool) -> Option<usize>
         requires { AllPairs (λ a b. a ≢ b) self.now.names }
-        ensures { result ≡ place_of name.now self.now.names }
+        ensures place { IfSome result (λ i. Some i ≡ place_of name.now self.now.names) }
+        ensures inside { IfSome result (λ i. i < length self.now.names) }
     {
         let next = beside(self.last, is_second);
         if self.is_at(name, next) {
@@ -116,20 +102,64 @@ impl Targets {
         if self.is_at(name, other) {
             return Some(other);
         }
-        self.search(name)
+        None
     }
 
-    /// The place of the target of this name, for a reading in face I or II.
-    #[inline(always)]
-    pub(crate) fn place_of(&self, name: &Name, is_second: bool) -> Option<usize>
-        requires { AllPairs (λ a b. a ≢ b) self.now.names }
-        ensures place { result ≡ place_of name.now self.now.names }
-        ensures inside { IfSome result (λ i. i < length self.now.names) }
-        ensures absent { IfNone result
-            (list_any (λ t. bytes_eq t name.now) self.now.names ≡ false) }
+    /// The place of the target of this name, by its hash, which is computed once. Where there is
+    /// none of this name and there may be one more, it is added with this first reading.
+    #[inline(never)]
+    fn search_or_add(&mut self, name: Name, first: Slot) -> Result<Option<usize>, Refusal>
+        ensures place { IfOk result (λ place. place ≡ place_of name self.old.names) }
+        ensures inside { IfOk result (λ place. IfSome place (λ i. i < length self.old.names)) }
+        ensures room { IfOk result (λ place. IfNone place (length self.old.names < MOST_TARGETS)) }
+        ensures targets { IfOk result (λ place. self.new ≡ with_first place name first self.old) }
+        ensures absent { OnErr result (place_of name self.old.names ≡ None) }
+        ensures fault { IfErr result (ExplainsRefusal (new_target_fault self.old.names)) }
+        ensures err { OnErr result (self.new ≡ self.old) }
     {
-        let place = self.place_from(name, is_second);
-        place
+        let count = self.slots.len();
+        if count >= MOST_TARGETS {
+            let place = self
+                .slots
+                .get_index_of(&name)
+                .ok_or(BookKind::TooManyTargets)?;
+            return Ok(Some(place));
+        }
+        let Ok(entry) = self.slots.entry(name) else {
+            return Err(Refusal::Memory);
+        };
+        match entry {
+            Entry::Occupied(target) => Ok(Some(target.index())),
+            Entry::Vacant(target) => {
+                target.insert(first);
+                self.last = count;
+                Ok(None)
+            }
+        }
+    }
+
+    /// The place of the target of this name, of which a reading came in face I or II. Where there
+    /// is none of this name and there may be one more, it is added with this first reading.
+    #[inline(always)]
+    pub(crate) fn find_or_add(
+        &mut self,
+        name: Name,
+        is_second: bool,
+        first: Slot,
+    ) -> Result<Option<usize>, Refusal>
+        requires { AllPairs (λ a b. a ≢ b) self.old.names }
+        ensures place { IfOk result (λ place. place ≡ place_of name self.old.names) }
+        ensures inside { IfOk result (λ place. IfSome place (λ i. i < length self.old.names)) }
+        ensures room { IfOk result (λ place. IfNone place (length self.old.names < MOST_TARGETS)) }
+        ensures targets { IfOk result (λ place. self.new ≡ with_first place name first self.old) }
+        ensures absent { OnErr result (place_of name self.old.names ≡ None) }
+        ensures fault { IfErr result (ExplainsRefusal (new_target_fault self.old.names)) }
+        ensures err { OnErr result (self.new ≡ self.old) }
+    {
+        if let Some(place) = self.place_beside(&name, is_second) {
+            return Ok(Some(place));
+        }
+        self.search_or_add(name, first)
     }
 
     /// The readings of the target at this place.
@@ -151,17 +181,6 @@ impl Targets {
     {
         self.slots[place] = slot;
         self.last = place;
-    }
-
-    /// Adds a target, which was read.
-    pub(crate) fn add(&mut self, name: Name, slot: Slot) -> Result<(), AllocError>
-        requires { list_any (λ t. bytes_eq t name) self.old.names ≡ false }
-        ensures ok { OnOk result (self.new ≡ with_target name slot self.old) }
-        ensures err { OnErr result (self.new ≡ self.old) }
-    {
-        self.slots.insert(name, slot)?;
-        self.last = self.slots.len() - 1;
-        Ok(())
     }
 
     /// Takes all readings out.

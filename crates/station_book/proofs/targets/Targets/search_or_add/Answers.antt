@@ -1,0 +1,63 @@
+use Rattle.std.proofs.Common.{rules, ◌≡◌, ◌∷◌, [], None, Some, sym, ap, ◌∙◌, ℕ, List, length, arith}
+use Rattle.std.specs.Map.{keys_of, values_of}
+use Rattle.std.proofs.lemmas.List.{length-map, map-append}
+use Rattle.indexmap.specs.Entry.{entry_index, entry_map, entry_value, map_with_value}
+use Rattle.station_book.specs.declared.slot.Slot.{Slot}
+use Rattle.station_book.specs.Entries.{place_of}
+use Rattle.station_book.specs.Targets.{TargetsValue, with_target}
+use Rattle.station_book.proofs.TargetLaws.{added, found_place, known_place, unknown_place, if_failed}
+use Rattle.station_book.proofs.targets.Targets.search_or_add.Goals as goal
+
+pub returns-in_err-place-clause-absent : goal.returns-in_err-place-clause-absent
+returns-in_err-place-clause-absent c =
+    let none : c.get_index_of.result ≡ None = search rules in
+    if_failed c.from_residual.result (sym (c.get_index_of.ensures.index
+    ∙ found_place c.args.name (keys_of c.self.inside.slots.entries)
+    ∙ ap (λ (t : TargetsValue). place_of c.args.name t.names) c.self.view_is) ∙ none)
+
+pub returns-then-count-ge-MOST_TARGETS-clause-place :
+    goal.returns-then-count-ge-MOST_TARGETS-clause-place
+returns-then-count-ge-MOST_TARGETS-clause-place c =
+    let found : Some c.in_ok-place.place ≡ c.get_index_of.result = search rules in
+    found ∙ c.get_index_of.ensures.index
+    ∙ found_place c.args.name (keys_of c.self.inside.slots.entries)
+    ∙ ap (λ (t : TargetsValue). place_of c.args.name t.names) c.self.view_is
+
+pub returns-in-Occupied-clause-place : goal.returns-in-Occupied-clause-place
+unfolding entry_index
+returns-in-Occupied-clause-place c =
+    let es = c.self.inside.slots.entries in
+    let same : c.in-Occupied.target.map.now.entries ≡ es =
+    ap (λ e. (entry_map e).entries) (sym c.in-Occupied.is) ∙ c.in-Ok.ensures.unchanged in
+    known_place c.args.name (keys_of es) c.index.result
+    (c.index.ensures ∙ ap entry_index (sym c.in-Occupied.is) ∙ c.in-Ok.ensures.index)
+    (let inside = c.in-Occupied.target.within in let long = ap length same in let keys =
+    length-map es (λ (e : List ℕ × Slot). e.0) in let at = c.index.ensures in omega
+    (arith, inside, long, keys, at))
+    ∙ ap (λ (t : TargetsValue). place_of c.args.name t.names) c.self.view_is
+
+pub returns-in-Vacant-clause-place : goal.returns-in-Vacant-clause-place
+unfolding entry_value
+returns-in-Vacant-clause-place c =
+    unknown_place c.args.name c.self.inside.slots.entries
+    (sym c.in-Ok.ensures.value ∙ ap entry_value c.in-Vacant.is)
+    ∙ ap (λ (t : TargetsValue). place_of c.args.name t.names) c.self.view_is
+
+pub returns-in-Vacant-clause-targets : goal.returns-in-Vacant-clause-targets
+unfolding entry_value
+returns-in-Vacant-clause-targets c =
+    let es = c.self.inside.slots.entries in
+    let one : List (List ℕ × Slot) = (c.args.name, c.args.first) ∷ [] in
+    let now : c.self-in-Vacant-2-1.given.0 ≡ map_with_value c.in-Ok.entry c.args.first = search rules in
+    let more = ap (λ m. m.entries) now ∙ c.in-Ok.ensures.update.1 c.args.first
+    ∙ added c.args.name c.args.first es (sym c.in-Ok.ensures.value ∙ ap entry_value c.in-Vacant.is) in
+    (λ i. record { names = keys_of (more i); slots = values_of (more i) })
+    ∙ (λ i. record {
+      names = map-append (λ e. e.0) es one i;
+      slots = map-append (λ e. e.1) es one i;
+    }) ∙ ap (with_target c.args.name c.args.first) c.self.view_is
+
+pub returns-in_default-clause-absent : goal.returns-in_default-clause-absent
+returns-in_default-clause-absent c =
+    sym (unknown_place c.args.name c.self.inside.slots.entries c.in_default.ensures.absent
+    ∙ ap (λ (t : TargetsValue). place_of c.args.name t.names) c.self.view_is)
