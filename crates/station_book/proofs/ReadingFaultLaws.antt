@@ -14,11 +14,11 @@ use Rattle.station_book.specs.Sights.{Sight}
 use Rattle.station_book.specs.declared.sight.Sighting.{Sighting}
 use Rattle.station_book.specs.declared.stage.Stage.{Stage}
 use Rattle.station_book.specs.declared.stage.Stage.TheVariants.{Outside, Station, BetweenSets, InSet}
-use Rattle.station_book.specs.Faults.{when, first_of, has_no_two_c, has_no_two_i, open_readings, face, by_faces, reading_faults, fault_after, IsWithoutFault}
+use Rattle.station_book.specs.Faults.{when, first_of, has_no_two_c, has_no_two_i, open_readings, face, is_apart, reading_faults, fault_after, IsWithoutFault}
 use Rattle.station_book.specs.Kept.{then_fault}
 use Rattle.station_book.specs.Roles.{role_of}
 use Rattle.station_book.specs.Readings as said
-use Rattle.station_book.specs.Slots.{side, is_apart, slot_at}
+use Rattle.station_book.specs.Slots.{side, slot_at}
 use Rattle.station_book.specs.Entries as entries
 use Rattle.station_book.specs.Entries.{EntryValue, place_of}
 use Rattle.station_book.specs.Shelves.{ShelfValue, last_of}
@@ -65,8 +65,10 @@ abbrev later_faults : FaceLimits → List (List ℕ) → List Place → GsiBlock
 later_faults limits targets rs b =
     tests (is_some (reading_in (face b) (target b) rs))
     (not (is_among targets (target b)) && leb 100 (length targets))
-    (by_faces (has_no_two_c limits.two_c) b (reading_in (not (face b)) (target b) rs))
-    (by_faces (has_no_two_i limits.two_i) b (reading_in (not (face b)) (target b) rs))
+    (is_apart (has_no_two_c limits.two_c) (sight b)
+    (sighted (reading_in (not (face b)) (target b) rs)))
+    (is_apart (has_no_two_i limits.two_i) (sight b)
+    (sighted (reading_in (not (face b)) (target b) rs)))
 
 two_faces : (f s : Bool) → not (f || s) ≡ is_none (cond f (Some false) (cond s (Some true) None))
 two_faces true s = refl
@@ -114,11 +116,6 @@ side_sighted : (f : Bool) (rs : List Place) (name : List ℕ)
 side_sighted false rs name = refl
 side_sighted true rs name = refl
 
-apart_same : (beyond : Sight → Sight → Bool) (b : GsiBlock) (o : Option Place)
-    → is_apart beyond (reading_of b) (sighted o) ≡ by_faces beyond b o
-apart_same beyond b None = refl
-apart_same beyond b (Some m) = refl
-
 new_target_tests : (many : Bool)
     → first_of (when many kinds.TooManyTargets ∷ []) ≡ first_of (tests false many false false)
 new_target_tests true = refl
@@ -151,8 +148,8 @@ same_later limits targets rs b e kept ts ss = split (place_of (target b) e.targe
       new_target_tests (leb 100 (length e.targets))
       ∙ (λ i. first_of (tests false (leb 100 (length (ts i))) false false))
       ∙ sym (λ i. first_of (tests (is_some (one i)) (not (out i) && leb 100 (length targets))
-      (by_faces (has_no_two_c limits.two_c) b (other i))
-      (by_faces (has_no_two_i limits.two_i) b (other i))))
+      (is_apart (has_no_two_c limits.two_c) (sight b) (sighted (other i)))
+      (is_apart (has_no_two_i limits.two_i) (sight b) (sighted (other i)))))
   split (Some n) p =
       let at = position-Some (λ x. bytes_eq x (target b)) targets n [] (sym place ∙ p) in
       let here : get_or targets n [] ≡ target b =
@@ -168,24 +165,19 @@ same_later limits targets rs b e kept ts ss = split (place_of (target b) e.targe
       let other : side (not (face b)) (slot_at e.slots n) ≡ sighted
       (reading_in (not (face b)) (target b) rs) = ap (side (not (face b))) slot
       ∙ side_sighted (not (face b)) rs (target b) in
-      let c : is_apart (has_no_two_c limits.two_c) (reading_of b)
-      (side (not (face b)) (slot_at e.slots n)) ≡ by_faces (has_no_two_c limits.two_c) b
-      (reading_in (not (face b)) (target b) rs) =
-      ap (is_apart (has_no_two_c limits.two_c) (reading_of b)) other
-      ∙ apart_same (has_no_two_c limits.two_c) b (reading_in (not (face b)) (target b) rs) in
-      let d : is_apart (has_no_two_i limits.two_i) (reading_of b)
-      (side (not (face b)) (slot_at e.slots n)) ≡ by_faces (has_no_two_i limits.two_i) b
-      (reading_in (not (face b)) (target b) rs) =
-      ap (is_apart (has_no_two_i limits.two_i) (reading_of b)) other
-      ∙ apart_same (has_no_two_i limits.two_i) b (reading_in (not (face b)) (target b) rs) in
-      (λ i. first_of (when (taken i) kinds.FaceTwice ∷ when (c i) kinds.TwoC ∷ when
-      (d i) kinds.TwoI ∷ [])) ∙ old_target_tests (is_some (reading_in (face b) (target b) rs))
-      (by_faces (has_no_two_c limits.two_c) b (reading_in (not (face b)) (target b) rs))
-      (by_faces (has_no_two_i limits.two_i) b (reading_in (not (face b)) (target b) rs))
+      (λ i. first_of (when (taken i) kinds.FaceTwice
+      ∷ when (is_apart (has_no_two_c limits.two_c) (sight b) (other i)) kinds.TwoC
+      ∷ when (is_apart (has_no_two_i limits.two_i) (sight b) (other i)) kinds.TwoI ∷ [])) ∙ old_target_tests (is_some (reading_in (face b) (target b) rs))
+      (is_apart (has_no_two_c limits.two_c) (sight b)
+    (sighted (reading_in (not (face b)) (target b) rs)))
+      (is_apart (has_no_two_i limits.two_i) (sight b)
+    (sighted (reading_in (not (face b)) (target b) rs)))
       ∙ sym (λ i. first_of (tests (is_some (reading_in (face b) (target b) rs))
       (not (among i) && leb 100 (length targets))
-      (by_faces (has_no_two_c limits.two_c) b (reading_in (not (face b)) (target b) rs))
-      (by_faces (has_no_two_i limits.two_i) b (reading_in (not (face b)) (target b) rs))))
+      (is_apart (has_no_two_c limits.two_c) (sight b)
+    (sighted (reading_in (not (face b)) (target b) rs)))
+      (is_apart (has_no_two_i limits.two_i) (sight b)
+    (sighted (reading_in (not (face b)) (target b) rs)))))
 
 -- the same, in the open set
 same_later_open : (limits : FaceLimits) (shelf : ShelfValue) (past : History) (b : GsiBlock)

@@ -1,7 +1,7 @@
 -- In a file without fault the two readings of a target in a set are within the limits.
-use Rattle.std.proofs.Common.{◌≡◌, ℕ, ◌<◌, Bool, true, false, cond, eqb, leb, ◌&&◌, not, List, [], ◌∷◌, length, filter, Option, Some, None, Ok, Err, refl, sym, ap, subst, ◌∙◌, arith, inr, inl}
+use Rattle.std.proofs.Common.{◌≡◌, ℕ, ◌<◌, Bool, true, false, cond, eqb, leb, ltb, ◌+◌, ◌-◌, ◌%◌, ◌&&◌, ◌||◌, not, add_comm, List, [], ◌∷◌, length, filter, Option, Some, None, Ok, Err, refl, sym, ap, subst, ◌∙◌, arith, inr, inl}
 use Rattle.std.specs.Str.{bytes_eq}
-use Rattle.std.proofs.lemmas.Bool.{eqb-true, leb-true, cases_Bool}
+use Rattle.std.proofs.lemmas.Bool.{eqb-true, leb-true, ltb-true, ltb-false, and_parts, and_cases, false_from_ne_true, cases_Bool}
 use Rattle.std.proofs.lemmas.Slice.Eq.{bytes_eq-Decides}
 use Rattle.gsi_word.specs.Blocks.{GsiBlock}
 use Rattle.gsi_word.specs.Angles.{is_gon, is_input_mode, decimal_number, angle_within_turn, last_unit}
@@ -57,20 +57,46 @@ pub record AreWithin (limits : FaceLimits) (first second : Sight) : Type 0 where
   pub two_c : has_no_two_c limits.two_c first second ≡ false
   pub two_i : has_no_two_i limits.two_i first second ≡ false
 
+-- The tests ask the same whichever reading comes first.
+two_c_turned : (limit : ℕ) (a b : Sight) → AreOnCircle a → AreOnCircle b
+    → has_no_two_c limit a b ≡ false → has_no_two_c limit b a ≡ false
+unfolding has_no_two_c
+two_c_turned limit a b ha hb e = false_from_ne_true (has_no_two_c limit b a) (λ t.
+    let parts = and_parts (ltb limit (((a.hz + 60_000_000) - b.hz) % 40_000_000))
+    (ltb (((a.hz + 60_000_000) - b.hz) % 40_000_000) (40_000_000 - limit)) t in
+    let low = ltb-true limit (((a.hz + 60_000_000) - b.hz) % 40_000_000) parts.0 in
+    let high = ltb-true (((a.hz + 60_000_000) - b.hz) % 40_000_000) (40_000_000 - limit) parts.1 in
+    elim (and_cases (ltb limit (((b.hz + 60_000_000) - a.hz) % 40_000_000)) _ e) [
+      | inl f ↦ let le = ltb-false limit (((b.hz + 60_000_000) - a.hz) % 40_000_000) f in
+          omega arith
+      | inr f ↦ let le = ltb-false (((b.hz + 60_000_000) - a.hz) % 40_000_000)
+          (40_000_000 - limit) f in omega arith
+    ])
+
+two_i_turned : (limit : ℕ) (a b : Sight) → has_no_two_i limit a b ≡ false
+    → has_no_two_i limit b a ≡ false
+unfolding has_no_two_i
+two_i_turned limit a b e =
+    (λ i. ltb (40_000_000 + limit) (add_comm b.zenith a.zenith i)
+    || ltb (add_comm b.zenith a.zenith i + limit) 40_000_000) ∙ e
+
 -- a reading without fault, and the reading of the other face
 beside_first : (limits : FaceLimits) (past : History) (b : GsiBlock) (m : Place)
     → IsCleanReading limits past b → face b ≡ false
     → reading_in true (target b) (open_readings past) ≡ Some m
     → AreWithin limits (sight b) (sight_at m)
 beside_first limits past b m clean f g =
-    record { two_c = rw (f, g, f) at clean.two_c; two_i = rw (f, g, f) at clean.two_i }
+    record { two_c = rw (f, g) at clean.two_c; two_i = rw (f, g) at clean.two_i }
 
 beside_second : (limits : FaceLimits) (past : History) (b : GsiBlock) (m : Place)
     → IsCleanReading limits past b → face b ≡ true
     → reading_in false (target b) (open_readings past) ≡ Some m
     → AreWithin limits (sight_at m) (sight b)
-beside_second limits past b m clean f g =
-    record { two_c = rw (f, g, f) at clean.two_c; two_i = rw (f, g, f) at clean.two_i }
+beside_second limits past b m clean f g = record {
+  two_c = two_c_turned limits.two_c (sight b) (sight_at m) (sight_on_circle b) (place_on_circle m)
+      (rw (f, g) at clean.two_c);
+  two_i = two_i_turned limits.two_i (sight b) (sight_at m) (rw (f, g) at clean.two_i);
+}
 
 -- the readings of a set by the lengths of its place and of its station's
 abbrev of_places : ℕ → ℕ → History → List Place

@@ -9,7 +9,7 @@ use Rattle.station_book.specs.declared.faces.Faces.{Faces}
 use Rattle.station_book.specs.Sights.{Sight, AreOnCircle}
 use Rattle.station_book.specs.declared.sight.Sighting.{Sighting}
 use Rattle.station_book.specs.declared.slot.Slot.{Slot}
-use Rattle.station_book.specs.Faults.{when, first_of, has_no_two_c, has_no_two_i}
+use Rattle.station_book.specs.Faults.{when, first_of, has_no_two_c, has_no_two_i, is_apart}
 use Rattle.station_book.specs.Pairs.{two_c, two_i, direction}
 
 -- the reading of face I, or with `true` of face II
@@ -24,17 +24,12 @@ with_side true v s = record s { second = Some v }
 abbrev pub empty_slot : Slot
 empty_slot = record { first = None; second = None }
 
--- whether with the reading of the other face the difference is beyond its limit
-abbrev pub is_apart : (Sight → Sight → Bool) → Sighting → Option Sight → Bool
-is_apart beyond s None = false
-is_apart beyond s (Some other) = if s.is_second then beyond other s.sight else beyond s.sight other
-
 -- the faults of a reading of a target that has this slot
 abbrev pub slot_faults : FaceLimits → Slot → Sighting → List (Option BookKind)
 slot_faults limits slot s =
     when (is_some (side s.is_second slot)) kinds.FaceTwice
-    ∷ when (is_apart (has_no_two_c limits.two_c) s (side (not s.is_second) slot)) kinds.TwoC
-    ∷ when (is_apart (has_no_two_i limits.two_i) s (side (not s.is_second) slot)) kinds.TwoI
+    ∷ when (is_apart (has_no_two_c limits.two_c) s.sight (side (not s.is_second) slot)) kinds.TwoC
+    ∷ when (is_apart (has_no_two_i limits.two_i) s.sight (side (not s.is_second) slot)) kinds.TwoI
     ∷ []
 
 -- the fault of two readings

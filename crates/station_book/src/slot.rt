@@ -69,14 +69,11 @@ pub(crate) fn slot_fault(limits: Limits, slot: Slot, reading: Sighting) -> Optio
     let Some(other) = side(slot, !reading.is_second) else {
         return None;
     };
-    if reading.is_second {
-        pair_fault(limits, other, reading.sight)
-    } else {
-        pair_fault(limits, reading.sight, other)
-    }
+    pair_fault(limits, reading.sight, other)
 }
 
-/// The fault of a reading in face I and one in face II of a target, if they have one.
+/// The fault of two readings of a target, one of each face, if they have one: whichever comes
+/// first, they have the same.
 fn pair_fault(limits: Limits, first: Sight, second: Sight) -> Option<BookKind>
     requires first_in { AreOnCircle first }
     requires second_in { AreOnCircle second }
