@@ -5,6 +5,7 @@ use Rattle.std.specs.List.{AllZip, enumerate_from, filter_map, flat_map, cons_op
 use Rattle.std.proofs.lemmas.List.{append-nil, length-reverse, map-append, reverse-append, reverse-reverse}
 use Rattle.std.proofs.lemmas.Grind.{flat_map-append}
 use Rattle.adjust_kernel.specs.declared.obs.Obs.{Obs}
+use Rattle.station_book.specs.declared.face.Face.TheVariants.{One, Two}
 use Rattle.station_book.specs.declared.faces.Faces.{Faces}
 use Rattle.station_book.specs.declared.fault.BookFault.{BookFault}
 use Rattle.station_book.specs.declared.fault.BookFault.TheVariants.{At, Memory}
@@ -67,11 +68,11 @@ module _ (limits : FaceLimits) where
 
   set_observed : (s n : ℕ) (targets : List (List ℕ)) (rs : List Place) → AllWithin limits rs
       → AllZip (IsObserved limits)
-      (filter_map (λ t. joined s t.0 (reading_in false t.1 rs) (reading_in true t.1 rs))
+      (filter_map (λ t. joined s t.0 (reading_in One t.1 rs) (reading_in Two t.1 rs))
       (enumerate_from n targets)) (filter_map (obs_at s) (enumerate_from n (slots_of targets rs)))
   set_observed s n [] rs w = tt
-  set_observed s n (t ∷ ts) rs w = one_observed s n (reading_in false t rs)
-      (reading_in true t rs) _ _ (w t) (set_observed s (n + 1) ts rs w)
+  set_observed s n (t ∷ ts) rs w = one_observed s n (reading_in One t rs)
+      (reading_in Two t rs) _ _ (w t) (set_observed s (n + 1) ts rs w)
 
   one_compared : (s n : ℕ) (o p : Option Place) (cs : List Couple) (fs : List Faces) → Beside o p
       → AllZip (HasFaces limits) cs fs → AllZip (HasFaces limits) (cons_option (joined s n o p) cs)
@@ -90,11 +91,11 @@ module _ (limits : FaceLimits) where
 
   set_compared : (s n : ℕ) (targets : List (List ℕ)) (rs : List Place) → AllWithin limits rs
       → AllZip (HasFaces limits)
-      (filter_map (λ t. joined s t.0 (reading_in false t.1 rs) (reading_in true t.1 rs))
+      (filter_map (λ t. joined s t.0 (reading_in One t.1 rs) (reading_in Two t.1 rs))
       (enumerate_from n targets)) (filter_map faces_at (slots_of targets rs))
   set_compared s n [] rs w = tt
-  set_compared s n (t ∷ ts) rs w = one_compared s n (reading_in false t rs)
-      (reading_in true t rs) _ _ (w t) (set_compared s (n + 1) ts rs w)
+  set_compared s n (t ∷ ts) rs w = one_compared s n (reading_in One t rs)
+      (reading_in Two t rs) _ _ (w t) (set_compared s (n + 1) ts rs w)
 
   -- the couples of these sets, which come the newest first
   abbrev couples_over : List (List ℕ) → List Place → List Place → List Couple

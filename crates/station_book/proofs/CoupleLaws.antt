@@ -2,6 +2,7 @@
 use Rattle.std.proofs.Common.{◌≡◌, ℕ, ◌≤◌, Bool, true, false, cond, ◌&&◌, List, [], ◌∷◌, length, filter, Some, refl, sym, ap, ◌∙◌, inl, inr, arith}
 use Rattle.std.specs.Str.{bytes_eq}
 use Rattle.std.proofs.lemmas.Bool.{cases_Bool, eq-eqb, ne_eqb, and_right}
+use Rattle.station_book.specs.declared.face.Face.{Face}
 use Rattle.station_book.specs.Blocks.{is_of_face, opens_station, is_opening}
 use Rattle.station_book.specs.Places.{History, Place, places, last, before, reading_in, is_same, is_reading, opening, station, station_readings, target_at, stands}
 use Rattle.station_book.specs.Faults.{open_readings}
@@ -10,17 +11,17 @@ use Rattle.station_book.proofs.PlaceLaws.{length-last, belonging-more, belonging
 use Rattle.station_book.proofs.StepLaws.{readings-opening, readings-more, readings-other, sight_opens_no_station}
 
 -- what a reading does to the slots: nothing at other targets
-pub found_other : (f : Bool) (r : Place) (name : List ℕ) (rs : List Place)
+pub found_other : (f : Face) (r : Place) (name : List ℕ) (rs : List Place)
     → bytes_eq (target_at r) name ≡ false → reading_in f name (r ∷ rs) ≡ reading_in f name rs
 found_other f r name rs e = rw e
 
 -- and at its own target it is found
-pub found_here : (f : Bool) (r : Place) (name : List ℕ) (rs : List Place)
+pub found_here : (f : Face) (r : Place) (name : List ℕ) (rs : List Place)
     → bytes_eq (target_at r) name ≡ true → stands (is_of_face f) r ≡ true
     → reading_in f name (r ∷ rs) ≡ Some r
 found_here f r name rs e g = rw (e, g)
 
-pub found_not : (f : Bool) (r : Place) (name : List ℕ) (rs : List Place)
+pub found_not : (f : Face) (r : Place) (name : List ℕ) (rs : List Place)
     → stands (is_of_face f) r ≡ false → reading_in f name (r ∷ rs) ≡ reading_in f name rs
 found_not f r name rs g = rw (and_right (bytes_eq (target_at r) name) _ g)
 

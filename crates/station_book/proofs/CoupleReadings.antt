@@ -4,6 +4,8 @@ use Rattle.std.specs.Str.{bytes_eq}
 use Rattle.std.specs.List.{enumerate_from}
 use Rattle.std.proofs.lemmas.Bool.{and_parts, and_from, eq-eqb, eqb-true}
 use Rattle.std.proofs.lemmas.Slice.Eq.{bytes_eq-Decides}
+use Rattle.station_book.specs.declared.face.Face.{Face}
+use Rattle.station_book.specs.declared.face.Face.TheVariants.{One, Two}
 use Rattle.station_book.specs.Limits.{FaceLimits}
 use Rattle.station_book.specs.Blocks.{opens_station, is_opening, is_of_face}
 use Rattle.station_book.specs.Places.{History, Place, places, last, before, opening, station, is_same, is_set, is_reading, target_at, stands, reading_in, sets_of, station_readings, targets_of, is_among, distinct}
@@ -15,7 +17,7 @@ use Rattle.station_book.proofs.OneReading.{IsOf, one_place}
 use Rattle.station_book.proofs.FilePlaces.{OfFile, same_of_file, owner_placed}
 
 -- a reading of this station, set, target and face
-pub record IsRead (h : History) (st set : Place) (name : List ℕ) (f : Bool)
+pub record IsRead (h : History) (st set : Place) (name : List ℕ) (f : Face)
     (r : Place) : Type 0 where
   pub placed : In r (places h)
   pub of_station : station (before r) ≡ st
@@ -25,7 +27,7 @@ abbrev pub readings_in : History → Place → Place → List Place
 readings_in h st set = in_set set (station_readings st h)
 
 -- what is found among the readings of a set is such a reading
-pub reading_found : (h : History) (st set : Place) (name : List ℕ) (f : Bool) (r : Place)
+pub reading_found : (h : History) (st set : Place) (name : List ℕ) (f : Face) (r : Place)
     → OfFile h st → OfFile h set
     → reading_in f name (readings_in h st set) ≡ Some r → IsRead h st set name f r
 reading_found h st set name f r st_placed set_placed e =
@@ -51,7 +53,7 @@ reading_found h st set name f r st_placed set_placed e =
       };
     }
 
-pub of_station_readings : (h : History) (st set : Place) (name : List ℕ) (f : Bool) (r : Place)
+pub of_station_readings : (h : History) (st set : Place) (name : List ℕ) (f : Face) (r : Place)
     → IsRead h st set name f r → In r (station_readings st h)
 of_station_readings h st set name f r read =
     in_filter (λ place. is_reading place && is_same (last opens_station (before place)) st) r
@@ -60,7 +62,7 @@ of_station_readings h st set name f r read =
     (eq-eqb (length (station (before r))) (length st) (ap length read.of_station)))
 
 -- and in a file without fault each such reading is found
-pub reading_listed : (limits : FaceLimits) (h : History) (st set : Place) (name : List ℕ) (f : Bool)
+pub reading_listed : (limits : FaceLimits) (h : History) (st set : Place) (name : List ℕ) (f : Face)
     (r : Place) → IsWithoutFault limits h → OfFile h st → OfFile h set → IsRead h st set name f r
     → reading_in f name (readings_in h st set) ≡ Some r
 reading_listed limits h st set name f r clean st_placed set_placed read = split
@@ -119,15 +121,15 @@ pub record IsPairOf (h : History) (st : Place) (c : Couple) : Type 0 where
   pub name_place : IsAt (targets_of st h) c.target name
   pub first : Place
   pub second : Place
-  pub one : IsRead h st set name false first
-  pub two : IsRead h st set name true second
+  pub one : IsRead h st set name One first
+  pub two : IsRead h st set name Two second
   pub first_is : c.first ≡ sight_at first
   pub second_is : c.second ≡ sight_at second
 
 pair_at : (h : History) (st : Place) (c : Couple) (e : ℕ × Place) (t : ℕ × List ℕ) → OfFile h st
     → In e (enumerate_from 0 (reverse (sets_of st h))) → In t (enumerate_from 0 (targets_of st h))
-    → IsJoined e.0 t.0 (reading_in false t.1 (readings_in h st e.1))
-    (reading_in true t.1 (readings_in h st e.1)) c → IsPairOf h st c
+    → IsJoined e.0 t.0 (reading_in One t.1 (readings_in h st e.1))
+    (reading_in Two t.1 (readings_in h st e.1)) c → IsPairOf h st c
 pair_at h st c e t st_placed e_in t_in j =
     at (of_places (reverse (sets_of st h)) e e_in) (of_places (targets_of st h) t t_in)
   where
@@ -151,8 +153,8 @@ pair_at h st c e t st_placed e_in t_in j =
           name_place = subst (λ (m : ℕ). IsAt (targets_of st h) m t.1) (target_is k k_is) k_at;
           first = j.first;
           second = j.second;
-          one = reading_found h st e.1 t.1 false j.first st_placed set_placed j.one_is;
-          two = reading_found h st e.1 t.1 true j.second st_placed set_placed j.two_is;
+          one = reading_found h st e.1 t.1 One j.first st_placed set_placed j.one_is;
+          two = reading_found h st e.1 t.1 Two j.second st_placed set_placed j.two_is;
           first_is = sym (ap (λ (c : Couple). c.first) j.couple);
           second_is = sym (ap (λ (c : Couple). c.second) j.couple);
         }
@@ -165,36 +167,36 @@ pair_of_couple h st c st_placed listed =
   where
     of_target : (e : ℕ × Place) → In e (enumerate_from 0 (reverse (sets_of st h)))
         → (t : ℕ × List ℕ) × In t (enumerate_from 0 (targets_of st h))
-        × (joined e.0 t.0 (reading_in false t.1 (readings_in h st e.1))
-        (reading_in true t.1 (readings_in h st e.1)) ≡ Some c) → IsPairOf h st c
+        × (joined e.0 t.0 (reading_in One t.1 (readings_in h st e.1))
+        (reading_in Two t.1 (readings_in h st e.1)) ≡ Some c) → IsPairOf h st c
     of_target e e_in (t, t_in, is) =
         pair_at h st c e t st_placed e_in t_in
-        (join_parts e.0 t.0 (reading_in false t.1 (readings_in h st e.1))
-        (reading_in true t.1 (readings_in h st e.1)) c is)
+        (join_parts e.0 t.0 (reading_in One t.1 (readings_in h st e.1))
+        (reading_in Two t.1 (readings_in h st e.1)) c is)
 
     of_set : (e : ℕ × Place) × In e (enumerate_from 0 (reverse (sets_of st h)))
         × In c (couples_in e.0 (targets_of st h) (readings_in h st e.1)) → IsPairOf h st c
     of_set (e, e_in, own) =
         of_target e e_in (of_filter_map
-        (λ t. joined e.0 t.0 (reading_in false t.1 (readings_in h st e.1))
-        (reading_in true t.1 (readings_in h st e.1))) c (enumerate_from 0 (targets_of st h)) own)
+        (λ t. joined e.0 t.0 (reading_in One t.1 (readings_in h st e.1))
+        (reading_in Two t.1 (readings_in h st e.1))) c (enumerate_from 0 (targets_of st h)) own)
 
 -- In a file without fault two such readings are a couple.
 pub couple_of_pair : (limits : FaceLimits) (h : History) (st set : Place) (name : List ℕ) (i j : ℕ)
     (first second : Place) → IsWithoutFault limits h
     → OfFile h st → OfFile h set → IsAt (reverse (sets_of st h)) i set
     → IsAt (targets_of st h) j name
-    → IsRead h st set name false first → IsRead h st set name true second
+    → IsRead h st set name One first → IsRead h st set name Two second
     → In (record { set = i; target = j; first = sight_at first; second = sight_at second })
     (couples_of st h)
 couple_of_pair limits h st set name i j first second clean st_placed set_placed iat jat one two =
     in_flat_map (λ s. couples_in s.0 (targets_of st h) (readings_in h st s.1)) (i, set) couple
     (enumerate_from 0 (reverse (sets_of st h))) (in_places (reverse (sets_of st h)) i set iat)
-    (in_filter_map (λ t. joined i t.0 (reading_in false t.1 (readings_in h st set))
-    (reading_in true t.1 (readings_in h st set))) (j, name) couple
+    (in_filter_map (λ t. joined i t.0 (reading_in One t.1 (readings_in h st set))
+    (reading_in Two t.1 (readings_in h st set))) (j, name) couple
     (enumerate_from 0 (targets_of st h)) (in_places (targets_of st h) j name jat)
-    (λ x. joined i j (reading_listed limits h st set name false first clean st_placed set_placed one
-    x) (reading_listed limits h st set name true second clean st_placed set_placed two x)))
+    (λ x. joined i j (reading_listed limits h st set name One first clean st_placed set_placed one
+    x) (reading_listed limits h st set name Two second clean st_placed set_placed two x)))
   where
     couple : Couple
     couple = record { set = i; target = j; first = sight_at first; second = sight_at second }

@@ -5,6 +5,8 @@ use Rattle.std.specs.List.{list_any, list_all, AllByRecursion}
 use Rattle.std.specs.Str.{bytes_eq}
 use Rattle.std.proofs.lemmas.List.{reverse-reverse}
 use Rattle.std.proofs.lemmas.Slice.Eq.{bytes_eq-Decides}
+use Rattle.station_book.specs.declared.face.Face.{Face}
+use Rattle.station_book.specs.declared.face.Face.TheVariants.{One, Two}
 use Rattle.station_book.specs.declared.fault.BookKind.TheVariants as kinds
 use Rattle.station_book.specs.declared.stage.Stage.{Stage}
 use Rattle.station_book.specs.declared.stage.Stage.TheVariants.{Outside, Station, BetweenSets, InSet}
@@ -37,8 +39,8 @@ none_sighted (Some p) = refl
 single_same : (rs : List Place) (name : List ℕ)
     → is_single (slot_of rs name) ≡ faces.is_single (faces.slot rs name)
 single_same rs name = λ i.
-    (some_sighted (reading_in false name rs) i && none_sighted (reading_in true name rs) i) ||
-    (none_sighted (reading_in false name rs) i && some_sighted (reading_in true name rs) i)
+    (some_sighted (reading_in One name rs) i && none_sighted (reading_in Two name rs) i) ||
+    (none_sighted (reading_in One name rs) i && some_sighted (reading_in Two name rs) i)
 
 singles_same : (targets : List (List ℕ)) (rs : List Place)
     → list_any is_single (slots_of targets rs) ≡ list_any faces.is_single (faces.slots targets rs)
@@ -60,12 +62,12 @@ no_none : (o : Option Place) → is_some o ≡ true → is_none (sighted o) ≡ 
 no_none None e = cc
 no_none (Some p) e = refl
 
-seen : (f : Bool) (rs : List Place) (name : List ℕ) → is_some (reading_in f name rs) ≡ true
+seen : (f : Face) (rs : List Place) (name : List ℕ) → is_some (reading_in f name rs) ≡ true
     → is_unread (slot_of rs name) ≡ false
-seen false rs name e = and_left (is_none (sighted (reading_in false name rs))) _
-    (no_none (reading_in false name rs) e)
-seen true rs name e = and_right (is_none (sighted (reading_in false name rs))) _
-    (no_none (reading_in true name rs) e)
+seen One rs name e = and_left (is_none (sighted (reading_in One name rs))) _
+    (no_none (reading_in One name rs) e)
+seen Two rs name e = and_right (is_none (sighted (reading_in One name rs))) _
+    (no_none (reading_in Two name rs) e)
 
 -- no slot is read exactly where there is no reading
 empty_by_slots : (targets : List (List ℕ)) (rs : List Place) → AllByRecursion (IsKept targets) rs

@@ -12,12 +12,14 @@ use Rattle.adjust_kernel.specs.Names.{IsName}
 use Rattle.adjust_kernel.specs.Sheets.{IsSetNumber}
 use Rattle.adjust_kernel.specs.Stations.{IsObs, AreObs, IsStation, station_of}
 use Rattle.adjust_kernel.specs.declared.obs.Obs.{Obs}
+use Rattle.station_book.specs.declared.face.Face.{Face}
+use Rattle.station_book.specs.declared.face.Face.TheVariants.{One, Two}
 use Rattle.station_book.specs.declared.fault.BookKind.TheVariants as kinds
 use Rattle.station_book.specs.Sights.{Sight, AreOnCircle}
 use Rattle.station_book.specs.declared.sight.Sighting.{Sighting}
 use Rattle.station_book.specs.declared.slot.Slot.{Slot}
 use Rattle.station_book.specs.Faults.{when, first_of}
-use Rattle.station_book.specs.Slots.{slot_at, empty_slot, with_side, is_unread, is_single, obs_of, faces_of, IsKeptSlot}
+use Rattle.station_book.specs.Slots.{slot_at, empty_slot, with_face_reading, is_unread, is_single, obs_of, faces_of, IsKeptSlot}
 use Rattle.station_book.specs.Sound.{AreSoFar}
 use Rattle.station_book.specs.Entries.{EntryValue, closed, with_set, place_of, is_new_to, new_target_fault, entry_faults_at, entry_faults, with_reading_at, IsEntry, MayEnd}
 use Rattle.std.specs.Prelude.{IfErr, IfNone}
@@ -137,14 +139,14 @@ set_is_entry n e h may new few number = record {
     each_target = λ t lt. inl (obs.each_target t (let l = targets in omega (arith, l, lt)));
   }
 
-read_now : (f : Bool) (v : Sight) (s : Slot) → is_unread (with_side f v s) ≡ false
-read_now false v s = refl
-read_now true v s = and_right (is_none s.first) false refl
+read_now : (f : Face) (v : Sight) (s : Slot) → is_unread (with_face_reading f v s) ≡ false
+read_now One v s = refl
+read_now Two v s = and_right (is_none s.first) false refl
 
-kept_side : (f : Bool) (v : Sight) (s : Slot) → AreOnCircle v → IsKeptSlot s
-    → IsKeptSlot (with_side f v s)
-kept_side false v s lt h = (lt, h.1)
-kept_side true v s lt h = (h.0, lt)
+kept_reading : (f : Face) (v : Sight) (s : Slot) → AreOnCircle v → IsKeptSlot s
+    → IsKeptSlot (with_face_reading f v s)
+kept_reading One v s lt h = (lt, h.1)
+kept_reading Two v s lt h = (h.0, lt)
 
 -- after a further reading of a target
 pub reading_is_entry : (s : Sighting) (e : EntryValue) (i : ℕ) → IsEntry e → i < length e.slots
@@ -156,7 +158,7 @@ reading_is_entry s e i h inside low = record {
   some_set = h.some_set;
   few_sets = h.few_sets;
   angles = All-set IsKeptSlot e.slots i new
-      (kept_side s.is_second s.sight (slot_at e.slots i) low (h.angles i empty_slot inside))
+      (kept_reading s.face s.sight (slot_at e.slots i) low (h.angles i empty_slot inside))
       h.angles;
   names = h.names;
   different = h.different;
@@ -173,7 +175,7 @@ reading_is_entry s e i h inside low = record {
   };
 } where
   new : Slot
-  new = with_side s.is_second s.sight (slot_at e.slots i)
+  new = with_face_reading s.face s.sight (slot_at e.slots i)
 
   apart : (t : ℕ) → (t ≡ i) ⊎ (t ≢ i)
   apart t = cases_eq t i
@@ -185,7 +187,7 @@ reading_is_entry s e i h inside low = record {
   by t (inr r) (inl c) = inr
       (ap (λ (k : ℕ). is_unread (slot_at (set e.slots i new) k)) c
       ∙ ap is_unread (get_or-set_same e.slots i new empty_slot inside)
-      ∙ read_now s.is_second s.sight (slot_at e.slots i))
+      ∙ read_now s.face s.sight (slot_at e.slots i))
   by t (inr r) (inr c) = inr (ap is_unread (get_or-set_other e.slots i t new empty_slot c) ∙ r)
 
 pub absent_name : (name : List ℕ) (targets : List (List ℕ))
@@ -207,7 +209,7 @@ target_is_entry s e h new few named low = record {
   some_set = h.some_set;
   few_sets = h.few_sets;
   angles = All-push IsKeptSlot e.slots slot h.angles
-      (kept_side s.is_second s.sight empty_slot low (tt, tt));
+      (kept_reading s.face s.sight empty_slot low (tt, tt));
   names = All-push IsName e.targets s.target h.names named;
   different = all_pairs_push (λ a b. a ≢ b) e.targets s.target h.different
       (absent_name s.target e.targets new);
@@ -227,7 +229,7 @@ target_is_entry s e h new few named low = record {
   };
 } where
   slot : Slot
-  slot = with_side s.is_second s.sight empty_slot
+  slot = with_face_reading s.face s.sight empty_slot
 
   cases : (t : ℕ) → t < length e.slots + 1 → (t < length e.slots) ⊎ (t ≡ length e.slots + 0)
   cases t lt = elim (cases_lt t (length e.slots)) [ inl l ↦ inl l | inr l ↦ inr (omega arith) ]
@@ -243,12 +245,12 @@ target_is_entry s e h new few named low = record {
   by t (inl lt) = old t lt (h.sound.each_target t lt)
   by t (inr c) = inr (ap (λ (k : ℕ). is_unread (slot_at (e.slots ++ slot ∷ []) k)) c
       ∙ ap is_unread (get_or-append-add e.slots (slot ∷ []) 0 empty_slot)
-      ∙ read_now s.is_second s.sight empty_slot)
+      ∙ read_now s.face s.sight empty_slot)
 
 -- the same, where the target was added as the code adds it
 pub added_kept : (s : Sighting) (e : EntryValue) (t : TargetsValue) (place : Option ℕ)
     → place ≡ None → place ≡ place_of s.target e.targets → IfNone place (length e.targets < 100)
-    → t ≡ with_first place s.target (with_side s.is_second s.sight empty_slot) (targets_of e)
+    → t ≡ with_first place s.target (with_face_reading s.face s.sight empty_slot) (targets_of e)
     → IsEntry e → IsName s.target → AreOnCircle s.sight → IsEntry (entry_of t e.sets e.obs e.faces)
 added_kept s e t (Some i) none place few is h named low = cc
 added_kept s e t None none place few is h named low = subst IsEntry
@@ -264,7 +266,7 @@ found_same name first old t (Some k) i found is = is
 -- a reading more of a target, as the code notes it
 pub read_kept : (s : Sighting) (e : EntryValue) (old t : TargetsValue) (i : ℕ) (new : Slot)
     → old ≡ targets_of e → t.names ≡ old.names → t.slots ≡ set old.slots i new
-    → new ≡ with_side s.is_second s.sight (slot_at old.slots i) → IsEntry e → i < length e.targets
+    → new ≡ with_face_reading s.face s.sight (slot_at old.slots i) → IsEntry e → i < length e.targets
     → AreOnCircle s.sight → IsEntry (entry_of t e.sets e.obs e.faces)
 read_kept s e old t i new was names slots is h inside low =
     let here : i < length e.slots = let l = h.same_length in omega (arith, inside, l) in
@@ -278,8 +280,8 @@ read_kept s e old t i new was names slots is h inside low =
     })
     (reading_is_entry s e i h here low)
   where
-    same : new ≡ with_side s.is_second s.sight (slot_at e.slots i)
-    same = is ∙ ap (λ (w : TargetsValue). with_side s.is_second s.sight (slot_at w.slots i)) was
+    same : new ≡ with_face_reading s.face s.sight (slot_at e.slots i)
+    same = is ∙ ap (λ (w : TargetsValue). with_face_reading s.face s.sight (slot_at w.slots i)) was
 
 pub set_kept : (n : ℕ) (e : EntryValue) (targets : List (List ℕ)) (slots : List Slot)
     (sets : List ℕ) (obs : List Obs) (faces : List Faces) → targets ≡ e.targets

@@ -5,6 +5,7 @@ use Rattle.std.specs.List.{AllByRecursion}
 use Rattle.std.specs.Str.{bytes_eq}
 use Rattle.std.proofs.lemmas.Bool.{cases_Bool, or_cases, false≢true, or_parts, and_parts, true_from_ne_false}
 use Rattle.std.proofs.lemmas.Slice.Eq.{bytes_eq-Decides}
+use Rattle.station_book.specs.declared.face.Face.TheVariants.{One, Two}
 use Rattle.station_book.specs.declared.fault.BookKind.{BookKind}
 use Rattle.station_book.specs.declared.fault.BookKind.TheVariants as kinds
 use Rattle.gsi_word.specs.Blocks.{GsiBlock}
@@ -51,11 +52,11 @@ kept_more names name (r ∷ rs) k = (
   kept_more names name rs k.1,
 )
 
-pub face_is : (b : GsiBlock) → (is_of_face false b || is_of_face true b) ≡ true
+pub face_is : (b : GsiBlock) → (is_of_face One b || is_of_face Two b) ≡ true
     → is_of_face (face b) b ≡ true
-face_is b e = elim (cases_Bool (is_of_face true b)) [
+face_is b e = elim (cases_Bool (is_of_face Two b)) [
   | inl h ↦ rw h h
-  | inr h ↦ rw h (elim (or_cases (is_of_face false b) (is_of_face true b) e) [
+  | inr h ↦ rw h (elim (or_cases (is_of_face One b) (is_of_face Two b) e) [
     | inl f ↦ f
     | inr t ↦ absurd (false≢true (sym h ∙ t))
   ])
@@ -94,7 +95,7 @@ clean_reading limits past b e clean =
     let other = or_parts (opens_set b) (closes_set b) (or_parts (opens_station b) _ o).1 in
     let none = (none_stands (reading_faults limits past b)
     (rw (sight_opens_no_station b o, other.0, other.1, e) at clean)).1.1.1.1.1 in
-    let faced = is_of_face false b || is_of_face true b in
+    let faced = is_of_face One b || is_of_face Two b in
     record {
       faced = face_is b (true_from_ne_false faced (λ f. false≢true
           (sym (none_when (not faced) kinds.FaceUnclear none.0) ∙ ap not f)));

@@ -5,6 +5,7 @@ use Rattle.std.proofs.lemmas.Bool.{cases_Bool, and_parts, eqb-true, eq-eqb, fals
 use Rattle.std.proofs.lemmas.List.{reverse-append, length-map}
 use Rattle.adjust_kernel.specs.declared.obs.Obs.{Obs}
 use Rattle.adjust_kernel.specs.Matching.{Key, key_of_obs, observed}
+use Rattle.station_book.specs.declared.face.Face.TheVariants.{One, Two}
 use Rattle.station_book.specs.Limits.{FaceLimits}
 use Rattle.station_book.specs.Blocks.{opens_set, number}
 use Rattle.station_book.specs.Places.{History, Place, places, at, before, station, is_same, is_set, target_at, sets_of, station_readings, targets_of, reading_in}
@@ -50,15 +51,15 @@ abbrev InSet : ℕ → ℕ → Couple → Type 0
 InSet i n c = (c.set ≡ i) × (n ≤ c.target)
 
 by_target : (i n : ℕ) (targets : List (List ℕ)) (rs : List Place) → Pairwise Before (filter_map
-    (λ t. joined i t.0 (reading_in false t.1 rs) (reading_in true t.1 rs))
+    (λ t. joined i t.0 (reading_in One t.1 rs) (reading_in Two t.1 rs))
     (enumerate_from n targets)) × AllByRecursion (InSet i n)
-    (filter_map (λ t. joined i t.0 (reading_in false t.1 rs) (reading_in true t.1 rs))
+    (filter_map (λ t. joined i t.0 (reading_in One t.1 rs) (reading_in Two t.1 rs))
     (enumerate_from n targets))
 by_target i n [] rs = (tt, tt)
-by_target i n (t ∷ ts) rs = split (reading_in false t rs) (reading_in true t rs)
+by_target i n (t ∷ ts) rs = split (reading_in One t rs) (reading_in Two t rs)
     (by_target i (n + 1) ts rs) where
       rest : List Couple
-      rest = filter_map (λ t. joined i t.0 (reading_in false t.1 rs) (reading_in true t.1 rs))
+      rest = filter_map (λ t. joined i t.0 (reading_in One t.1 rs) (reading_in Two t.1 rs))
           (enumerate_from (n + 1) ts)
 
       weaker : (c : Couple) → InSet i (n + 1) c → InSet i n c

@@ -4,6 +4,7 @@ use Rattle.std.specs.Str.{bytes_eq}
 use Rattle.std.proofs.lemmas.Bool.{and_from, eq-eqb}
 use Rattle.std.proofs.lemmas.Slice.Eq.{bytes_eq-Decides}
 use Rattle.gsi_word.specs.Blocks.{GsiBlock}
+use Rattle.station_book.specs.declared.face.Face.{Face}
 use Rattle.station_book.specs.Limits.{FaceLimits}
 use Rattle.station_book.specs.Blocks.{target, is_of_face, is_opening}
 use Rattle.station_book.specs.Places.{History, Place, places, last, before, opening, is_same, is_reading, target_at, stands, reading_in}
@@ -11,7 +12,7 @@ use Rattle.station_book.specs.Faults.{face, open_readings, fault_after, IsWithou
 use Rattle.station_book.specs.Recorded.{IsReadingOf}
 use Rattle.station_book.proofs.KeptLaws.{clean_reading}
 use Rattle.station_book.proofs.Elements.{in_filter, in_contains, In, find_found}
-use Rattle.station_book.proofs.FaceLaws.{one_face}
+use Rattle.station_book.proofs.FaceLaws.{face_of}
 
 -- a place of a file is one of its blocks, and stands there with those before it
 pub length_place : (h : History) (r : Place) → In r (places h) → length r ≤ length h
@@ -20,12 +21,8 @@ length_place (b ∷ past) r (inl e) = let l : length r ≡ length
     (b ∷ past) = ap length e in omega arith
 length_place (b ∷ past) r (inr placed) = let l = length_place past r placed in omega arith
 
-pub face_of : (f : Bool) (b : GsiBlock) → is_of_face f b ≡ true → face b ≡ f
-face_of true b e = e
-face_of false b e = one_face b e
-
 -- What places of one set, target and face have in common.
-pub record IsOf (set : Place) (name : List ℕ) (f : Bool) (r : Place) : Type 0 where
+pub record IsOf (set : Place) (name : List ℕ) (f : Face) (r : Place) : Type 0 where
   pub reading : is_reading r ≡ true
   pub of_set : opening (before r) ≡ set
   pub of_target : target_at r ≡ name
@@ -37,7 +34,7 @@ none_there (Some r) e = cc
 
 -- a reading without fault is the first of its set, target and face
 pub first_time : (limits : FaceLimits) (past : History) (b : GsiBlock) (set : Place) (name : List ℕ)
-    (f : Bool) (q : Place)
+    (f : Face) (q : Place)
     → fault_after limits past b ≡ None → IsOf set name f (b ∷ past) → In q (places past)
     → IsOf set name f q → ⊥
 first_time limits past b set name f q clean new placed old =
@@ -56,7 +53,7 @@ first_time limits past b set name f q clean new placed old =
     (ap (λ v. stands (is_of_face v) q) faced ∙ old.of_face))
     (none_there (reading_in (face b) (target b) (open_readings past)) free)
 
-pub one_place : (limits : FaceLimits) (h : History) (set : Place) (name : List ℕ) (f : Bool)
+pub one_place : (limits : FaceLimits) (h : History) (set : Place) (name : List ℕ) (f : Face)
     (a b : Place) → IsWithoutFault limits h → In a (places h) → In b (places h) → IsOf set name f a
     → IsOf set name f b → a ≡ b
 one_place limits [] set name f a b clean pa pb ia ib = absurd pa
@@ -68,7 +65,7 @@ one_place limits (c ∷ past) set name f a b clean (inr pa) (inl eb) ia ib =
 one_place limits (c ∷ past) set name f a b clean (inr pa) (inr pb) ia ib =
     one_place limits past set name f a b clean.1 pa pb ia ib
 
-pub is_of : (h : History) (station : List ℕ) (set : Place) (name : List ℕ) (f : Bool) (r : Place)
+pub is_of : (h : History) (station : List ℕ) (set : Place) (name : List ℕ) (f : Face) (r : Place)
     → IsReadingOf h station set name f r → IsOf set name f r
 is_of h station set name f r is = record {
   reading = is.reading;
@@ -78,7 +75,7 @@ is_of h station set name f r is = record {
 }
 
 pub one_reading : (limits : FaceLimits) (h : History) (station : List ℕ) (set : Place)
-    (name : List ℕ) (f : Bool) (a b : Place)
+    (name : List ℕ) (f : Face) (a b : Place)
     → IsWithoutFault limits h → IsReadingOf h station set name f a
     → IsReadingOf h station set name f b → a ≡ b
 one_reading limits h station set name f a b clean ra rb =

@@ -1,11 +1,13 @@
 -- The fault of a measurement by what is kept is its fault by the blocks before it.
-use Rattle.std.proofs.Common.{◌≡◌, ℕ, Bool, true, false, cond, not, leb, ltb, ◌&&◌, ◌||◌, List, [], ◌∷◌, length, get_or, Option, Some, None, is_none, is_some, Ok, refl, sym, ap, ◌∙◌}
+use Rattle.std.proofs.Common.{◌≡◌, ℕ, Bool, true, false, cond, not, leb, ltb, ◌&&◌, ◌||◌, List, [], ◌∷◌, length, get_or, Option, Some, None, is_none, is_some, Ok, refl, sym, ap, ◌∙◌, unwrap_or}
 use Rattle.std.specs.List.{AllByRecursion}
 use Rattle.std.specs.Option.{option_map}
 use Rattle.std.specs.Str.{bytes_eq}
 use Rattle.std.proofs.lemmas.List.Folds.{list_any_at}
 use Rattle.std.proofs.lemmas.List.Quantifiers.{position-Some}
 use Rattle.std.proofs.lemmas.Slice.Eq.{bytes_eq-Decides}
+use Rattle.station_book.specs.declared.face.Face.{Face}
+use Rattle.station_book.specs.declared.face.Face.TheVariants.{One, Two}
 use Rattle.station_book.specs.declared.fault.BookKind.{BookKind}
 use Rattle.station_book.specs.declared.fault.BookKind.TheVariants as kinds
 use Rattle.station_book.specs.Limits.{FaceLimits}
@@ -18,13 +20,13 @@ use Rattle.station_book.specs.Faults.{when, first_of, has_no_two_c, has_no_two_i
 use Rattle.station_book.specs.Kept.{then_fault}
 use Rattle.station_book.specs.Roles.{role_of}
 use Rattle.station_book.specs.Readings as said
-use Rattle.station_book.specs.Slots.{side, slot_at}
+use Rattle.station_book.specs.Slots.{face_reading, slot_at}
 use Rattle.station_book.specs.Entries as entries
 use Rattle.station_book.specs.Entries.{EntryValue, place_of}
 use Rattle.station_book.specs.Shelves.{ShelfValue, last_of}
 use Rattle.station_book.specs.Kept as kept
 use Rattle.gsi_word.specs.Blocks.{GsiBlock}
-use Rattle.station_book.specs.Blocks.{has_two, lacks, angle_fault, is_of_face, sight, target}
+use Rattle.station_book.specs.Blocks.{has_two, lacks, angle_fault, is_of_face, other_face, sight, target}
 use Rattle.station_book.specs.Places.{History, Place, is_among, is_open, reading_in}
 use Rattle.station_book.specs.Keeps.{sighted, slot_of, slots_of, Stand, IsStage, stations_in}
 use Rattle.station_book.specs.Standing.{StandsFor}
@@ -48,7 +50,7 @@ own_faults b =
     ∷ when (lacks 22 b) kinds.NoZenith
     ∷ option_map kinds.Hz (angle_fault 21 b)
     ∷ option_map kinds.Zenith (angle_fault 22 b)
-    ∷ when (not (is_of_face false b || is_of_face true b)) kinds.FaceUnclear
+    ∷ when (not (is_of_face One b || is_of_face Two b)) kinds.FaceUnclear
     ∷ []
 
 -- the tests of a reading with those before it
@@ -66,17 +68,17 @@ later_faults limits targets rs b =
     tests (is_some (reading_in (face b) (target b) rs))
     (not (is_among targets (target b)) && leb 100 (length targets))
     (is_apart (has_no_two_c limits.two_c) (sight b)
-    (sighted (reading_in (not (face b)) (target b) rs)))
+    (sighted (reading_in (other_face (face b)) (target b) rs)))
     (is_apart (has_no_two_i limits.two_i) (sight b)
-    (sighted (reading_in (not (face b)) (target b) rs)))
+    (sighted (reading_in (other_face (face b)) (target b) rs)))
 
-two_faces : (f s : Bool) → not (f || s) ≡ is_none (cond f (Some false) (cond s (Some true) None))
+two_faces : (f s : Bool) → not (f || s) ≡ is_none (cond f (Some One) (cond s (Some Two) None))
 two_faces true s = refl
 two_faces false true = refl
 two_faces false false = refl
 
 unclear_as : (b : GsiBlock)
-    → not (is_of_face false b || is_of_face true b) ≡ is_none (said.face_of ((sight b).zenith))
+    → not (is_of_face One b || is_of_face Two b) ≡ is_none (said.face_of ((sight b).zenith))
 unclear_as b =
     (λ i. not (first_face b i || second_face b i))
     ∙ two_faces (ltb 0 ((sight b).zenith) && ltb ((sight b).zenith) 20_000_000)
@@ -93,28 +95,28 @@ own_same b = λ i. when (has_two 21 b) (kinds.WordTwice 21)
 
 -- the face that is read is the face of the block
 second_of : (f s : Bool) → (f ≡ true → s ≡ false)
-    → said.is_second (cond f (Some false) (cond s (Some true) None)) ≡ s
-second_of true s one = sym (one refl)
+    → unwrap_or (cond f (Some One) (cond s (Some Two) None)) One ≡ cond s Two One
+second_of true s one = sym (ap (λ v. cond v Two One) (one refl))
 second_of false true one = refl
 second_of false false one = refl
 
-face_as : (b : GsiBlock) → said.is_second (said.face_of ((sight b).zenith)) ≡ face b
+face_as : (b : GsiBlock) → unwrap_or (said.face_of ((sight b).zenith)) One ≡ face b
 face_as b =
     second_of (ltb 0 ((sight b).zenith) && ltb ((sight b).zenith) 20_000_000)
     (ltb 20_000_000 ((sight b).zenith) && ltb ((sight b).zenith) 40_000_000)
-    (λ e. sym (second_face b) ∙ one_face b (first_face b ∙ e)) ∙ sym (second_face b)
+    (λ e. sym (second_face b) ∙ one_face b (first_face b ∙ e)) ∙ ap (λ v. cond v Two One) (sym (second_face b))
 
 -- a reading as the definitions say it
 abbrev reading_of : GsiBlock → Sighting
-reading_of b = record { target = target b; sight = sight b; is_second = face b }
+reading_of b = record { target = target b; sight = sight b; face = face b }
 
 sighting_as : (b : GsiBlock) → said.sighting b ≡ reading_of b
-sighting_as b = λ i. record { target = target b; sight = sight b; is_second = face_as b i }
+sighting_as b = λ i. record { target = target b; sight = sight b; face = face_as b i }
 
-side_sighted : (f : Bool) (rs : List Place) (name : List ℕ)
-    → side f (slot_of rs name) ≡ sighted (reading_in f name rs)
-side_sighted false rs name = refl
-side_sighted true rs name = refl
+reading_sighted : (f : Face) (rs : List Place) (name : List ℕ)
+    → face_reading f (slot_of rs name) ≡ sighted (reading_in f name rs)
+reading_sighted One rs name = refl
+reading_sighted Two rs name = refl
 
 new_target_tests : (many : Bool)
     → first_of (when many kinds.TooManyTargets ∷ []) ≡ first_of (tests false many false false)
@@ -144,7 +146,7 @@ same_later limits targets rs b e kept ts ss = split (place_of (target b) e.targe
       let out : is_among targets (target b) ≡ false = absent (λ x. bytes_eq x (target b)) targets
       (sym place ∙ p) in
       let one = unseen targets rs (target b) (face b) kept out in
-      let other = unseen targets rs (target b) (not (face b)) kept out in
+      let other = unseen targets rs (target b) (other_face (face b)) kept out in
       new_target_tests (leb 100 (length e.targets))
       ∙ (λ i. first_of (tests false (leb 100 (length (ts i))) false false))
       ∙ sym (λ i. first_of (tests (is_some (one i)) (not (out i) && leb 100 (length targets))
@@ -158,26 +160,26 @@ same_later limits targets rs b e kept ts ss = split (place_of (target b) e.targe
       (λ x. bytes_eq x (target b)) targets n [] at.0 at.1 in
       let slot : slot_at e.slots n ≡ slot_of rs (target b) = ap (λ s. slot_at s n) ss
       ∙ slot_get targets rs n [] at.0 ∙ ap (slot_of rs) here in
-      let taken : is_some (side (face b) (slot_at e.slots n)) ≡ is_some
+      let taken : is_some (face_reading (face b) (slot_at e.slots n)) ≡ is_some
       (reading_in (face b) (target b) rs) =
-      ap (λ s. is_some (side (face b) s)) slot ∙ ap is_some (side_sighted (face b) rs (target b))
+      ap (λ s. is_some (face_reading (face b) s)) slot ∙ ap is_some (reading_sighted (face b) rs (target b))
       ∙ some_sighted (reading_in (face b) (target b) rs) in
-      let other : side (not (face b)) (slot_at e.slots n) ≡ sighted
-      (reading_in (not (face b)) (target b) rs) = ap (side (not (face b))) slot
-      ∙ side_sighted (not (face b)) rs (target b) in
+      let other : face_reading (other_face (face b)) (slot_at e.slots n) ≡ sighted
+      (reading_in (other_face (face b)) (target b) rs) = ap (face_reading (other_face (face b))) slot
+      ∙ reading_sighted (other_face (face b)) rs (target b) in
       (λ i. first_of (when (taken i) kinds.FaceTwice
       ∷ when (is_apart (has_no_two_c limits.two_c) (sight b) (other i)) kinds.TwoC
       ∷ when (is_apart (has_no_two_i limits.two_i) (sight b) (other i)) kinds.TwoI ∷ [])) ∙ old_target_tests (is_some (reading_in (face b) (target b) rs))
       (is_apart (has_no_two_c limits.two_c) (sight b)
-    (sighted (reading_in (not (face b)) (target b) rs)))
+    (sighted (reading_in (other_face (face b)) (target b) rs)))
       (is_apart (has_no_two_i limits.two_i) (sight b)
-    (sighted (reading_in (not (face b)) (target b) rs)))
+    (sighted (reading_in (other_face (face b)) (target b) rs)))
       ∙ sym (λ i. first_of (tests (is_some (reading_in (face b) (target b) rs))
       (not (among i) && leb 100 (length targets))
       (is_apart (has_no_two_c limits.two_c) (sight b)
-    (sighted (reading_in (not (face b)) (target b) rs)))
+    (sighted (reading_in (other_face (face b)) (target b) rs)))
       (is_apart (has_no_two_i limits.two_i) (sight b)
-    (sighted (reading_in (not (face b)) (target b) rs)))))
+    (sighted (reading_in (other_face (face b)) (target b) rs)))))
 
 -- the same, in the open set
 same_later_open : (limits : FaceLimits) (shelf : ShelfValue) (past : History) (b : GsiBlock)

@@ -1,5 +1,5 @@
 -- What is kept of a station stands for it after a reading.
-use Rattle.std.proofs.Common.{◌≡◌, ◌≢◌, ℕ, zero, suc, ◌+◌, ◌<◌, ◌≤◌, Bool, true, false, cond, not, ◌||◌, List, [], ◌∷◌, ◌++◌, length, map, filter, get_or, set, Option, Some, None, AllPairs, refl, sym, ap, ◌∙◌, inl, inr, ◌⊎◌, arith, append-nil}
+use Rattle.std.proofs.Common.{◌≡◌, ◌≢◌, ℕ, zero, suc, ◌+◌, ◌<◌, ◌≤◌, Bool, true, false, cond, ◌||◌, List, [], ◌∷◌, ◌++◌, length, map, filter, get_or, set, Option, Some, None, AllPairs, refl, sym, ap, ◌∙◌, inl, inr, ◌⊎◌, arith, append-nil}
 use Rattle.std.specs.List.{AllByRecursion, enumerate_from, filter_map}
 use Rattle.std.specs.Str.{bytes_eq}
 use Rattle.std.proofs.lemmas.Bool.{cases_Bool, false≢true, cases_eq, cases_lt, or_parts, false_from_ne_true}
@@ -8,12 +8,14 @@ use Rattle.std.proofs.lemmas.List.Elements.{filter_map-append}
 use Rattle.std.proofs.lemmas.List.Folds.{list_any_at, list_any-append}
 use Rattle.std.proofs.lemmas.List.Quantifiers.{all_pairs_push, position-Some}
 use Rattle.std.proofs.lemmas.Slice.Eq.{bytes_eq-Decides}
+use Rattle.station_book.specs.declared.face.Face.{Face}
+use Rattle.station_book.specs.declared.face.Face.TheVariants.{One, Two}
 use Rattle.station_book.specs.Sights.{Sight}
 use Rattle.station_book.specs.declared.sight.Sighting.{Sighting}
 use Rattle.station_book.specs.declared.slot.Slot.{Slot}
-use Rattle.station_book.specs.Slots.{empty_slot, slot_at, with_side, obs_at, obs_of, faces_at, faces_of}
+use Rattle.station_book.specs.Slots.{empty_slot, slot_at, with_face_reading, obs_at, obs_of, faces_at, faces_of}
 use Rattle.station_book.specs.Entries.{EntryValue, place_of, with_reading, with_reading_at}
-use Rattle.station_book.specs.Blocks.{is_of_face}
+use Rattle.station_book.specs.Blocks.{is_of_face, other_face}
 use Rattle.station_book.specs.Places.{Place, opening, before, is_same, is_among, distinct, reading_in, target_at, stands}
 use Rattle.station_book.specs.Stations.{in_set}
 use Rattle.station_book.specs.Keeps.{sighted, slot_of, slots_of, targets_in, obs_in, faces_in, IsEntryOf}
@@ -27,28 +29,29 @@ use Rattle.station_book.specs.Faults.{sight_at}
 pub record Says (s : Sighting) (r : Place) : Type 0 where
   pub target_is : s.target ≡ target_at r
   pub sight_is : s.sight ≡ sight_at r
-  pub face_is : stands (is_of_face s.is_second) r ≡ true
-  pub face_not : stands (is_of_face (not s.is_second)) r ≡ false
+  pub face_is : stands (is_of_face s.face) r ≡ true
+  pub face_not : stands (is_of_face (other_face s.face)) r ≡ false
 
 -- the slots of other targets stay
 slot_other : (r : Place) (name : List ℕ) (rs : List Place) → bytes_eq (target_at r) name ≡ false
     → slot_of (r ∷ rs) name ≡ slot_of rs name
 slot_other r name rs e = λ i. record {
-  first = sighted (found_other false r name rs e i);
-  second = sighted (found_other true r name rs e i);
+  first = sighted (found_other One r name rs e i);
+  second = sighted (found_other Two r name rs e i);
 }
 
--- its own takes the face's side
-slot_own : (f : Bool) (v : Sight) (r : Place) (name : List ℕ) (rs : List Place) → v ≡ sight_at r
-    → stands (is_of_face f) r ≡ true → stands (is_of_face (not f)) r ≡ false
-    → bytes_eq (target_at r) name ≡ true → slot_of (r ∷ rs) name ≡ with_side f v (slot_of rs name)
-slot_own false v r name rs s f g e = λ i. record {
-  first = (ap sighted (found_here false r name rs e f) ∙ ap Some (sym s)) i;
-  second = sighted (found_not true r name rs g i);
+-- its own takes the reading of the face
+slot_own : (f : Face) (v : Sight) (r : Place) (name : List ℕ) (rs : List Place) → v ≡ sight_at r
+    → stands (is_of_face f) r ≡ true → stands (is_of_face (other_face f)) r ≡ false
+    → bytes_eq (target_at r) name ≡ true
+    → slot_of (r ∷ rs) name ≡ with_face_reading f v (slot_of rs name)
+slot_own One v r name rs s f g e = λ i. record {
+  first = (ap sighted (found_here One r name rs e f) ∙ ap Some (sym s)) i;
+  second = sighted (found_not Two r name rs g i);
 }
-slot_own true v r name rs s f g e = λ i. record {
-  first = sighted (found_not false r name rs g i);
-  second = (ap sighted (found_here true r name rs e f) ∙ ap Some (sym s)) i;
+slot_own Two v r name rs s f g e = λ i. record {
+  first = sighted (found_not One r name rs g i);
+  second = (ap sighted (found_here Two r name rs e f) ∙ ap Some (sym s)) i;
 }
 
 -- targets are all different
@@ -90,7 +93,7 @@ all_filter P p (x ∷ xs) all = elim (cases_Bool (p x)) [
   | inr t ↦ rw t (all_filter P p xs all.1)
 ]
 
-none_read : (f : Bool) (name : List ℕ) (rs : List Place)
+none_read : (f : Face) (name : List ℕ) (rs : List Place)
     → AllByRecursion (λ r. bytes_eq (target_at r) name ≡ false) rs → reading_in f name rs ≡ None
 none_read f name [] all = refl
 none_read f name (r ∷ rs) all = found_other f r name rs all.0 ∙ none_read f name rs all.1
@@ -98,8 +101,8 @@ none_read f name (r ∷ rs) all = found_other f r name rs all.0 ∙ none_read f 
 empty_of : (name : List ℕ) (rs : List Place)
     → AllByRecursion (λ r. bytes_eq (target_at r) name ≡ false) rs → slot_of rs name ≡ empty_slot
 empty_of name rs all = λ i. record {
-  first = sighted (none_read false name rs all i);
-  second = sighted (none_read true name rs all i);
+  first = sighted (none_read One name rs all i);
+  second = sighted (none_read Two name rs all i);
 }
 
 -- an empty slot at the end gives nothing
@@ -173,10 +176,10 @@ length_slots [] rs = refl
 length_slots (t ∷ ts) rs = ap suc (length_slots ts rs)
 
 -- a further reading of the target at place i
-existing : (targets : List (List ℕ)) (i : ℕ) (f : Bool) (v : Sight) (r : Place) (rs : List Place)
+existing : (targets : List (List ℕ)) (i : ℕ) (f : Face) (v : Sight) (r : Place) (rs : List Place)
     → i < length targets → get_or targets i [] ≡ target_at r → AllPairs (λ a b. a ≢ b) targets
-    → v ≡ sight_at r → stands (is_of_face f) r ≡ true → stands (is_of_face (not f)) r ≡ false
-    → set (slots_of targets rs) i (with_side f v (slot_at (slots_of targets rs) i))
+    → v ≡ sight_at r → stands (is_of_face f) r ≡ true → stands (is_of_face (other_face f)) r ≡ false
+    → set (slots_of targets rs) i (with_face_reading f v (slot_at (slots_of targets rs) i))
     ≡ slots_of targets (r ∷ rs)
 existing targets i f v r rs inside here different s g n = ext_get_or empty_slot
     (set (slots_of targets rs) i new) (slots_of targets (r ∷ rs)) same_length
@@ -184,7 +187,7 @@ existing targets i f v r rs inside here different s g n = ext_get_or empty_slot
     (slots_of targets rs) i new in let m = length_slots targets rs in omega (arith, l, m, lt))
     (cases_eq k i)) where
       new : Slot
-      new = with_side f v (slot_at (slots_of targets rs) i)
+      new = with_face_reading f v (slot_at (slots_of targets rs) i)
 
       same_length : length (set (slots_of targets rs) i new) ≡ length (slots_of targets (r ∷ rs))
       same_length = length-set (slots_of targets rs) i new ∙ length_slots targets rs
@@ -194,7 +197,7 @@ existing targets i f v r rs inside here different s g n = ext_get_or empty_slot
       inside_slots = let m = length_slots targets rs in omega (arith, m)
 
       own : new ≡ slot_at (slots_of targets (r ∷ rs)) i
-      own = ap (with_side f v) (slot_get targets rs i [] inside)
+      own = ap (with_face_reading f v) (slot_get targets rs i [] inside)
           ∙ sym (slot_own f v r (get_or targets i []) rs s g n
           ((bytes_eq-Decides (target_at r) (get_or targets i [])).1 (sym here)))
           ∙ sym (slot_get targets (r ∷ rs) i [] inside)
@@ -251,8 +254,9 @@ reading_stands st newest older readings r name e s says mine none h = split
             named_so = h.named_so;
             targets = h.targets ∙ sym same;
             numbers = h.numbers;
-            slots = (λ j. set (h.slots j) i (with_side s.is_second s.sight (slot_at (h.slots j) i)))
-                ∙ existing (targets_in readings) i s.is_second s.sight r
+            slots = (λ j. set (h.slots j) i
+                (with_face_reading s.face s.sight (slot_at (h.slots j) i)))
+                ∙ existing (targets_in readings) i s.face s.sight r
                 (in_set newest readings) at.0 here
                 (distinct_different (map (λ q. target_at q) readings)) says.sight_is says.face_is
                 says.face_not ∙ (λ j. slots_of (sym same j) (sym mine j));
@@ -269,17 +273,17 @@ reading_stands st newest older readings r name e s says mine none h = split
           (λ v. cond v (targets_in readings) (targets_in readings ++ target_at r ∷ [])) out in
           let unread = no_reading_of (target_at r) readings out in
           let own : slot_of (r ∷ in_set newest readings) (target_at r)
-          ≡ with_side s.is_second s.sight empty_slot = slot_own s.is_second s.sight r (target_at r)
+          ≡ with_face_reading s.face s.sight empty_slot = slot_own s.face s.sight r (target_at r)
           (in_set newest readings) says.sight_is says.face_is says.face_not
           ((bytes_eq-Decides (target_at r) (target_at r)).1 refl)
-          ∙ ap (with_side s.is_second s.sight)
+          ∙ ap (with_face_reading s.face s.sight)
           (empty_of (target_at r) (in_set newest readings)
           (all_filter _ (λ q. is_same (opening (before q)) newest) readings unread)) in
           record {
             named_so = h.named_so;
             targets = (λ j. h.targets j ++ says.target_is j ∷ []) ∙ sym more;
             numbers = h.numbers;
-            slots = (λ j. h.slots j ++ with_side s.is_second s.sight empty_slot ∷ [])
+            slots = (λ j. h.slots j ++ with_face_reading s.face s.sight empty_slot ∷ [])
                 ∙ sym (map-append (slot_of (r ∷ in_set newest readings)) (targets_in readings)
                 (target_at r ∷ []) ∙ (λ j. others_stay (targets_in readings) r
                 (in_set newest readings) out j ++ own j ∷ []))

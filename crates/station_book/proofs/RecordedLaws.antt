@@ -4,6 +4,8 @@ use Rattle.std.specs.List.{Contains, AllZip}
 use Rattle.std.proofs.lemmas.Bool.{and_from, eq-eqb}
 use Rattle.adjust_kernel.specs.declared.obs.Obs.{Obs}
 use Rattle.adjust_kernel.specs.Matching.{Key, key_of_obs, observed}
+use Rattle.station_book.specs.declared.face.Face.{Face}
+use Rattle.station_book.specs.declared.face.Face.TheVariants.{One, Two}
 use Rattle.station_book.specs.declared.faces.Faces.{Faces}
 use Rattle.station_book.specs.Limits.{FaceLimits, AreLimits}
 use Rattle.station_book.specs.Sights.{Sight, IsTwoC, IsTwoI, IsTwoFace}
@@ -19,7 +21,7 @@ use Rattle.station_book.proofs.OneReading.{is_of}
 use Rattle.station_book.proofs.FilePlaces.{OfFile, station_placed, set_station, set_of_reading, listed_station, one_named}
 use Rattle.station_book.proofs.CoupleReadings.{IsRead, IsPairOf, pair_of_couple, couple_of_pair, of_station_readings, in_distinct}
 
-reading_of : (h : History) (st set : Place) (station target name : List ℕ) (f : Bool) (r : Place)
+reading_of : (h : History) (st set : Place) (station target name : List ℕ) (f : Face) (r : Place)
     → name_at st ≡ Some station → name ≡ target
     → IsRead h st set name f r → IsReadingOf h station set target f r
 reading_of h st set station target name f r named same read = record {
@@ -50,9 +52,9 @@ recorded_couple limits h st s c o p surveyed is = record {
     first = p.first;
     second = p.second;
     face_one = reading_of h st p.set s.station.name
-        (get_or s.station.targets o.target []) p.name false p.first surveyed.name same p.one;
+        (get_or s.station.targets o.target []) p.name One p.first surveyed.name same p.one;
     face_two = reading_of h st p.set s.station.name
-        (get_or s.station.targets o.target []) p.name true p.second surveyed.name same p.two;
+        (get_or s.station.targets o.target []) p.name Two p.second surveyed.name same p.two;
     direction = subst (λ (a : Sight). IsTwoFace limits.two_c a (sight_at p.second) o.value)
         p.first_is
         (subst (λ (b : Sight). IsTwoFace limits.two_c c.first b o.value) p.second_is is.direction);
@@ -100,7 +102,7 @@ pub pair_observed : (limits : FaceLimits) (h : History) (st : Place) (s : Survey
     (set : Place) (target : List ℕ) (first second : Place) → IsWithoutFault limits h
     → In st (stations_of h) → IsSurveyed limits h st s → In set (places h) → is_set set ≡ true
     → station (before set) ≡ st
-    → IsRead h st set target false first → IsRead h st set target true second
+    → IsRead h st set target One first → IsRead h st set target Two second
     → IsPairObserved limits s set target first second
 pair_observed limits h st s set target first second clean listed surveyed set_placed set_is
     set_station_is one two = record {
@@ -127,7 +129,7 @@ pair_observed limits h st s set target first second clean listed surveyed set_pl
           (subst (λ (name : List ℕ). In name (map target_at (station_readings st h)))
           one.is.of_target
           (in_map target_at first (station_readings st h)
-          (of_station_readings h st set target false first one))))
+          (of_station_readings h st set target One first one))))
 
       couple : Couple
       couple = record { set = i.0; target = j.0; first = sight_at first; second = sight_at second }
@@ -176,18 +178,18 @@ observed_key limits h st s k small clean listed surveyed r =
         (apart limits h clean) (set_station h r.set set_placed set_is) listed
         (ap name_at (sym first_station) ∙ r.face_one.of_station) surveyed.name
 
-    one : IsRead h st r.set k.target false r.first
+    one : IsRead h st r.set k.target One r.first
     one = record {
       placed = first_placed;
       of_station = first_station ∙ set_station_is;
-      is = is_of h s.station.name r.set k.target false r.first r.face_one;
+      is = is_of h s.station.name r.set k.target One r.first r.face_one;
     }
 
-    two : IsRead h st r.set k.target true r.second
+    two : IsRead h st r.set k.target Two r.second
     two = record {
       placed = in_contains r.second (places h) r.face_two.placed;
       of_station = second_station ∙ set_station_is;
-      is = is_of h s.station.name r.set k.target true r.second r.face_two;
+      is = is_of h s.station.name r.set k.target Two r.second r.face_two;
     }
 
     pair : IsPairObserved limits s r.set k.target r.first r.second

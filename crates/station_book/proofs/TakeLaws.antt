@@ -1,8 +1,10 @@
 -- After a block without fault, what is kept stands for the blocks with it.
-use Rattle.std.proofs.Common.{◌≡◌, ℕ, ◌+◌, Bool, true, false, cond, not, ltb, ◌&&◌, ◌||◌, List, [], ◌∷◌, Option, Some, None, is_none, Result, Ok, Err, refl, sym, ap, ◌∙◌, subst, arith}
+use Rattle.std.proofs.Common.{◌≡◌, ℕ, ◌+◌, Bool, true, false, cond, not, ltb, ◌&&◌, ◌||◌, List, [], ◌∷◌, Option, Some, None, is_none, Result, Ok, Err, refl, sym, ap, ◌∙◌, subst, arith, unwrap_or}
 use Rattle.gsi_word.specs.Names.{name_of}
 use Rattle.gsi_word.specs.declared.found.Found.{Found}
 use Rattle.gsi_word.specs.declared.found.Found.TheVariants.{Absent, One, Twice}
+use Rattle.station_book.specs.declared.face.Face.{Face}
+use Rattle.station_book.specs.declared.face.Face.TheVariants as faces
 use Rattle.station_book.specs.declared.fault.BookKind.{BookKind}
 use Rattle.station_book.specs.declared.fault.BookKind.TheVariants as kinds
 use Rattle.station_book.specs.declared.role.Role.{Role}
@@ -17,7 +19,7 @@ use Rattle.station_book.specs.Entries.{with_set, with_reading}
 use Rattle.station_book.specs.Shelves.{ShelfValue, change_last}
 use Rattle.station_book.specs.Kept as kept
 use Rattle.gsi_word.specs.Blocks.{GsiBlock}
-use Rattle.station_book.specs.Blocks.{opens_station, opens_set, closes_set, is_opening, is_sight, named, number, sight, is_of_face, found, is_absent, is_twice, name_found, has_two, lacks}
+use Rattle.station_book.specs.Blocks.{opens_station, opens_set, closes_set, is_opening, is_sight, named, number, sight, is_of_face, other_face, found, is_absent, is_twice, name_found, has_two, lacks}
 use Rattle.station_book.specs.Places.{History, last, station, is_empty, is_open, is_reading}
 use Rattle.station_book.specs.Keeps.{IsStage, Stand, stations_in}
 use Rattle.station_book.specs.Readings as said
@@ -156,21 +158,21 @@ none_cases false None s e = absurd cc
 none_cases false (Some k) s e = absurd cc
 
 pub first_face : (b : GsiBlock)
-    → is_of_face false b ≡ (ltb 0 ((sight b).zenith) && ltb ((sight b).zenith) 20_000_000)
+    → is_of_face faces.One b ≡ (ltb 0 ((sight b).zenith) && ltb ((sight b).zenith) 20_000_000)
 unfolding is_of_face
 first_face b = refl
 
 pub second_face : (b : GsiBlock)
-    → is_of_face true b ≡ (ltb 20_000_000 ((sight b).zenith) && ltb ((sight b).zenith) 40_000_000)
+    → is_of_face faces.Two b ≡ (ltb 20_000_000 ((sight b).zenith) && ltb ((sight b).zenith) 40_000_000)
 unfolding is_of_face
 second_face b = refl
 
-abbrev HasFace : GsiBlock → Bool → Type 0
-HasFace b f = (is_of_face f b ≡ true) × (is_of_face (not f) b ≡ false)
+abbrev HasFace : GsiBlock → Face → Type 0
+HasFace b f = (is_of_face f b ≡ true) × (is_of_face (other_face f) b ≡ false)
 
-face_cases : (b : GsiBlock) (one two : Bool) → is_of_face false b ≡ one → is_of_face true b ≡ two
-    → is_none (cond one (Some false) (cond two (Some true) None)) ≡ false
-    → HasFace b (said.is_second (cond one (Some false) (cond two (Some true) None)))
+face_cases : (b : GsiBlock) (one two : Bool) → is_of_face faces.One b ≡ one → is_of_face faces.Two b ≡ two
+    → is_none (cond one (Some faces.One) (cond two (Some faces.Two) None)) ≡ false
+    → HasFace b (unwrap_or (cond one (Some faces.One) (cond two (Some faces.Two) None)) faces.One)
 face_cases b true two e f g = (e, one_face b e)
 face_cases b false true e f g = (f, e)
 face_cases b false false e f g = absurd cc
@@ -179,11 +181,11 @@ says : (b : GsiBlock) (past : History) (s : Sighting) → WasRead b s → Says s
 says b past s w =
     let clear = none_when (is_none (said.face_of ((sight b).zenith))) kinds.FaceUnclear
     (none_stands (said.sighting_faults b) w.clean).1.1.1.1.1.0 in
-    let face : HasFace b (said.is_second (said.face_of ((sight b).zenith))) = face_cases b
+    let face : HasFace b (unwrap_or (said.face_of ((sight b).zenith)) faces.One) = face_cases b
     (ltb 0 ((sight b).zenith) && ltb ((sight b).zenith) 20_000_000)
     (ltb 20_000_000 ((sight b).zenith) && ltb ((sight b).zenith) 40_000_000) (first_face b)
     (second_face b) clear in
-    let here : HasFace b s.is_second = subst (λ (t : Sighting). HasFace b t.is_second) w.is face in
+    let here : HasFace b s.face = subst (λ (t : Sighting). HasFace b t.face) w.is face in
     record {
       target_is = sym (ap (λ (t : Sighting). t.target) w.is);
       sight_is = sym (ap (λ (t : Sighting). t.sight) w.is);

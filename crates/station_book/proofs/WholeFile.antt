@@ -1,16 +1,18 @@
 -- In a whole file no reading is lost: each has one of the other face beside it, and the two are
 -- listed.
-use Rattle.std.proofs.Common.{◌≡◌, ℕ, ◌+◌, Bool, true, false, not, ◌&&◌, List, [], ◌∷◌, ◌++◌, length, get_or, Option, Some, None, is_none, refl, sym, ap, ◌∙◌, inl, inr, ◌⊎◌, subst}
+use Rattle.std.proofs.Common.{◌≡◌, ℕ, ◌+◌, Bool, true, false, ◌&&◌, List, [], ◌∷◌, ◌++◌, length, get_or, Option, Some, None, is_none, refl, sym, ap, ◌∙◌, inl, inr, ◌⊎◌, subst}
 use Rattle.std.specs.List.{Contains}
 use Rattle.std.specs.Str.{bytes_eq}
 use Rattle.std.proofs.lemmas.Bool.{cases_Bool, and_parts, eqb-true, false≢true}
 use Rattle.std.proofs.lemmas.Slice.Eq.{bytes_eq-Decides}
 use Rattle.adjust_kernel.specs.Matching.{key_of_obs, observed}
 use Rattle.gsi_word.specs.Blocks.{GsiBlock}
+use Rattle.station_book.specs.declared.face.Face.{Face}
+use Rattle.station_book.specs.declared.face.Face.TheVariants.{One, Two}
 use Rattle.station_book.specs.declared.fault.BookKind.{BookKind}
 use Rattle.station_book.specs.declared.fault.BookKind.TheVariants as kinds
 use Rattle.station_book.specs.Limits.{FaceLimits}
-use Rattle.station_book.specs.Blocks.{opens_station, opens_set, closes_set, is_opening, is_sight, is_of_face}
+use Rattle.station_book.specs.Blocks.{opens_station, opens_set, closes_set, is_opening, is_sight, is_of_face, other_face}
 use Rattle.station_book.specs.Places.{History, Place, places, last, before, opening, station, is_open, is_same, is_reading, target_at, stands, reading_in}
 use Rattle.station_book.specs.Faults.{first_of, end_faults, station_faults, set_faults, fault_after, fault_at_end, IsWithoutFault, IsFirstFault, IsWholeFile, IsFileFault, open_readings, face_at, has_one_face, name_at}
 use Rattle.station_book.specs.Stations.{SurveyedStation, IsSurveyed, AreStations, stations_of}
@@ -33,7 +35,7 @@ record HasOther (h : History) (r : Place) : Type 0 where
   pub reading : is_reading other ≡ true
   pub of_set : opening (before other) ≡ opening (before r)
   pub of_target : target_at other ≡ target_at r
-  pub of_face : stands (is_of_face (not (face_at r))) other ≡ true
+  pub of_face : stands (is_of_face (other_face (face_at r))) other ≡ true
 
 other_later : (b : GsiBlock) (past : History) (r : Place) → HasOther past r → HasOther (b ∷ past) r
 other_later b past r o = record {
@@ -68,17 +70,18 @@ open_reading past r listed =
 other_in_open : (past : History) (r : Place) → In r (open_readings past)
     → first_of (end_faults past) ≡ None → HasOther past r
 other_in_open past r listed clean = elim
-    (none_or_some (reading_in (not (face_at r)) (target_at r) (open_readings past))) [
+    (none_or_some (reading_in (other_face (face_at r)) (target_at r) (open_readings past))) [
       | inl e ↦ absurd (false≢true (sym paired ∙ any_from (λ q. is_none
-          (reading_in (not (face_at q)) (target_at q) (open_readings past))) r
+          (reading_in (other_face (face_at q)) (target_at q) (open_readings past))) r
           (open_readings past) listed (ap is_none e)))
       | inr s ↦
           let q = s.0 in
           let found = find_some
-          (λ p. bytes_eq (target_at p) (target_at r) && stands (is_of_face (not (face_at r))) p) q
+          (λ p. bytes_eq (target_at p) (target_at r)
+          && stands (is_of_face (other_face (face_at r))) p) q
           (open_readings past) s.1 in
           let tests = and_parts (bytes_eq (target_at q) (target_at r))
-          (stands (is_of_face (not (face_at r))) q) found.1 in
+          (stands (is_of_face (other_face (face_at r))) q) found.1 in
           let other = open_reading past q found.0 in
           record {
             other = q;
@@ -142,10 +145,10 @@ open_or_paired limits (b ∷ past) r clean (inr placed) reading =
       ]
     ]
 
-other_face : (limits : FaceLimits) (h : History) (r : Place) → IsWholeFile limits h
+has_other : (limits : FaceLimits) (h : History) (r : Place) → IsWholeFile limits h
     → In r (places h) → is_reading r ≡ true → HasOther h r
 unfolding fault_at_end
-other_face limits h r whole placed reading = elim
+has_other limits h r whole placed reading = elim
     (open_or_paired limits h r whole.blocks placed reading) [
       | inl now ↦ other_in_open h r now whole.ending
       | inr other ↦ other
@@ -167,8 +170,8 @@ list_pair : (limits : FaceLimits) (h : History) (stations : List SurveyedStation
     (s : SurveyedStation) (r first second : Place) → IsWithoutFault limits h
     → In s stations → In (station (before r)) (stations_of h)
     → IsSurveyed limits h (station (before r)) s → HasItsSet h r
-    → IsRead h (station (before r)) (opening (before r)) (target_at r) false first
-    → IsRead h (station (before r)) (opening (before r)) (target_at r) true second
+    → IsRead h (station (before r)) (opening (before r)) (target_at r) One first
+    → IsRead h (station (before r)) (opening (before r)) (target_at r) Two second
     → (first ≡ r) ⊎ (second ≡ r) → IsListed limits h stations r
 list_pair limits h stations s r first second clean among listed surveyed set one two is_one =
     record {
@@ -186,8 +189,8 @@ list_pair limits h stations s r first second clean among listed surveyed set one
         numbered = pair.of_set;
         first = first;
         second = second;
-        face_one = reading_as false first one;
-        face_two = reading_as true second two;
+        face_one = reading_as One first one;
+        face_two = reading_as Two second two;
         direction = pair.direction;
       };
       is_one = is_one;
@@ -197,7 +200,7 @@ list_pair limits h stations s r first second clean among listed surveyed set one
           (target_at r) first second clean listed surveyed set.placed set.is_set set.of_station one
           two
 
-      reading_as : (f : Bool) (q : Place)
+      reading_as : (f : Face) (q : Place)
           → IsRead h (station (before r)) (opening (before r)) (target_at r) f q
           → IsReadingOf h s.station.name (opening (before r))
           (get_or s.station.targets pair.obs.target []) f q
@@ -223,7 +226,7 @@ no_reading_lost limits h stations r whole are contained reading = by (face_at r)
   set = set_of_reading h r placed reading
 
   other : HasOther h r
-  other = other_face limits h r whole placed reading
+  other = has_other limits h r whole placed reading
 
   listed : In (station (before r)) (stations_of h)
   listed = subst (λ (st : Place). In st (stations_of h)) set.of_station
@@ -232,7 +235,7 @@ no_reading_lost limits h stations r whole are contained reading = by (face_at r)
   own : (s : SurveyedStation) × In s stations × IsSurveyed limits h (station (before r)) s
   own = zip_right (IsSurveyed limits h) (stations_of h) stations are (station (before r)) listed
 
-  this : (f : Bool) → face_at r ≡ f
+  this : (f : Face) → face_at r ≡ f
       → IsRead h (station (before r)) (opening (before r)) (target_at r) f r
   this f e = record {
     placed = placed;
@@ -246,8 +249,8 @@ no_reading_lost limits h stations r whole are contained reading = by (face_at r)
     };
   }
 
-  beside : (f : Bool) → face_at r ≡ f
-      → IsRead h (station (before r)) (opening (before r)) (target_at r) (not f) other.other
+  beside : (f : Face) → face_at r ≡ f
+      → IsRead h (station (before r)) (opening (before r)) (target_at r) (other_face f) other.other
   beside f e = record {
     placed = other.placed;
     of_station = sym (set_of_reading h other.other other.placed other.reading).of_station
@@ -256,15 +259,15 @@ no_reading_lost limits h stations r whole are contained reading = by (face_at r)
       reading = other.reading;
       of_set = other.of_set;
       of_target = other.of_target;
-      of_face = sym (ap (λ v. stands (is_of_face (not v)) other.other) e) ∙ other.of_face;
+      of_face = sym (ap (λ v. stands (is_of_face (other_face v)) other.other) e) ∙ other.of_face;
     };
   }
 
-  by : (f : Bool) → face_at r ≡ f → IsListed limits h stations r
-  by false e = list_pair limits h stations own.0 r r other.other whole.blocks own.1 listed own.2 set
-      (this false e) (beside false e) (inl refl)
-  by true e = list_pair limits h stations own.0 r other.other r whole.blocks own.1 listed own.2 set
-      (beside true e) (this true e) (inr refl)
+  by : (f : Face) → face_at r ≡ f → IsListed limits h stations r
+  by One e = list_pair limits h stations own.0 r r other.other whole.blocks own.1 listed own.2 set
+      (this One e) (beside One e) (inl refl)
+  by Two e = list_pair limits h stations own.0 r other.other r whole.blocks own.1 listed own.2 set
+      (beside Two e) (this Two e) (inr refl)
 
 -- A file is whole, or has a first fault: at a block or at its end.
 pub whole_or_fault : (limits : FaceLimits) (h : History)

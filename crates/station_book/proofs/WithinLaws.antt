@@ -9,13 +9,14 @@ use Rattle.gsi_word.specs.declared.angle.AngleFault.TheVariants as angle_faults
 use Rattle.gsi_word.specs.declared.found.Found.{Found}
 use Rattle.gsi_word.specs.declared.found.Found.TheVariants.{Absent, One, Twice}
 use Rattle.std.specs.Prelude.{slice_index}
+use Rattle.station_book.specs.declared.face.Face.TheVariants as faces
 use Rattle.station_book.specs.Limits.{FaceLimits}
 use Rattle.station_book.specs.Sights.{Sight, AreOnCircle}
 use Rattle.station_book.specs.Blocks.{found, angle_found, angle_or_zero, sight, target, is_of_face}
 use Rattle.station_book.specs.Places.{History, Place, places, before, station, opening, is_same, is_reading, reading_in, station_readings}
 use Rattle.station_book.specs.Faults.{face, has_no_two_c, has_no_two_i, open_readings, sight_at, IsWithoutFault}
 use Rattle.station_book.specs.Stations.{in_set}
-use Rattle.station_book.proofs.FaceLaws.{one_face}
+use Rattle.station_book.proofs.FaceLaws.{one_face, face_of}
 use Rattle.station_book.proofs.KeptLaws.{IsCleanReading, clean_reading}
 use Rattle.station_book.proofs.CoupleLaws.{open_in_set}
 
@@ -82,15 +83,15 @@ two_i_turned limit a b e =
 
 -- a reading without fault, and the reading of the other face
 beside_first : (limits : FaceLimits) (past : History) (b : GsiBlock) (m : Place)
-    → IsCleanReading limits past b → face b ≡ false
-    → reading_in true (target b) (open_readings past) ≡ Some m
+    → IsCleanReading limits past b → face b ≡ faces.One
+    → reading_in faces.Two (target b) (open_readings past) ≡ Some m
     → AreWithin limits (sight b) (sight_at m)
 beside_first limits past b m clean f g =
     record { two_c = rw (f, g) at clean.two_c; two_i = rw (f, g) at clean.two_i }
 
 beside_second : (limits : FaceLimits) (past : History) (b : GsiBlock) (m : Place)
-    → IsCleanReading limits past b → face b ≡ true
-    → reading_in false (target b) (open_readings past) ≡ Some m
+    → IsCleanReading limits past b → face b ≡ faces.Two
+    → reading_in faces.One (target b) (open_readings past) ≡ Some m
     → AreWithin limits (sight_at m) (sight b)
 beside_second limits past b m clean f g = record {
   two_c = two_c_turned limits.two_c (sight b) (sight_at m) (sight_on_circle b) (place_on_circle m)
@@ -112,8 +113,8 @@ open_of_places past st set s o =
 
 -- Two readings of a target in a set are within the limits.
 abbrev pub AllWithin : FaceLimits → List Place → Type 0
-AllWithin limits rs = (name : List ℕ) (a b : Place) → reading_in false name rs ≡ Some a
-    → reading_in true name rs ≡ Some b → AreWithin limits (sight_at a) (sight_at b)
+AllWithin limits rs = (name : List ℕ) (a b : Place) → reading_in faces.One name rs ≡ Some a
+    → reading_in faces.Two name rs ≡ Some b → AreWithin limits (sight_at a) (sight_at b)
 
 -- one reading more, in the open set
 one_more : (limits : FaceLimits) (past : History) (b : GsiBlock) → IsCleanReading limits past b
@@ -122,20 +123,20 @@ one_more limits past b clean ih name x y ex ey = elim (cases_Bool (bytes_eq (tar
   | inr t ↦ ih name x y (rw t at ex) (rw t at ey)
   | inl t ↦
       let own : target b ≡ name = (bytes_eq-Decides (target b) name).0 t in
-      elim (cases_Bool (is_of_face false b)) [
+      elim (cases_Bool (is_of_face faces.One b)) [
         | inl f ↦
-            let g : is_of_face true b ≡ false = one_face b f in
+            let g : is_of_face faces.Two b ≡ false = one_face b f in
             let found : Some (b ∷ past) ≡ Some x = rw (t, f) at ex in
             let here : b ∷ past ≡ x = cc in
             subst (λ (p : Place). AreWithin limits (sight_at p) (sight_at y)) here
-            (beside_first limits past b y clean g (ap (λ (n : List ℕ). reading_in true n
+            (beside_first limits past b y clean (face_of faces.One b f) (ap (λ (n : List ℕ). reading_in faces.Two n
             (open_readings past)) own ∙ (rw (t, g) at ey)))
-        | inr f ↦ elim (cases_Bool (is_of_face true b)) [
+        | inr f ↦ elim (cases_Bool (is_of_face faces.Two b)) [
           | inl g ↦
               let found : Some (b ∷ past) ≡ Some y = rw (t, g) at ey in
               let here : b ∷ past ≡ y = cc in
               subst (λ (p : Place). AreWithin limits (sight_at x) (sight_at p)) here
-              (beside_second limits past b x clean g (ap (λ (n : List ℕ). reading_in false n
+              (beside_second limits past b x clean (face_of faces.Two b g) (ap (λ (n : List ℕ). reading_in faces.One n
               (open_readings past)) own ∙ (rw (t, f) at ex)))
           | inr g ↦ ih name x y (rw (t, f) at ex) (rw (t, g) at ey)
         ]

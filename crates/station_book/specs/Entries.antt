@@ -13,7 +13,7 @@ use Rattle.station_book.specs.Faults.{when, first_of}
 use Rattle.adjust_kernel.specs.Names.{IsName}
 use Rattle.adjust_kernel.specs.Sheets.{IsSetNumber}
 use Rattle.station_book.specs.Sound.{AreSoFar}
-use Rattle.station_book.specs.Slots.{slot_at, with_side, empty_slot, slot_faults, closing_faults, IsKeptSlot, obs_of, faces_of}
+use Rattle.station_book.specs.Slots.{slot_at, with_face_reading, empty_slot, slot_faults, closing_faults, IsKeptSlot, obs_of, faces_of}
 
 -- the names of its targets, their readings in its last set, the numbers of its sets, and what all
 -- sets before the last gave
@@ -75,11 +75,11 @@ abbrev pub with_reading_at : Sighting → EntryValue → Option ℕ → EntryVal
 with_reading_at s e None = record
     e {
       targets = e.targets ++ s.target ∷ [];
-      slots = e.slots ++ with_side s.is_second s.sight
+      slots = e.slots ++ with_face_reading s.face s.sight
           empty_slot ∷ [];
     }
 with_reading_at s e (Some i) = record
-    e { slots = slice_set e.slots i (with_side s.is_second s.sight (slot_at e.slots i)) }
+    e { slots = slice_set e.slots i (with_face_reading s.face s.sight (slot_at e.slots i)) }
 
 -- the station with one more reading in the last set
 abbrev pub with_reading : Sighting → EntryValue → EntryValue

@@ -3,6 +3,7 @@
 use Rattle.std.specs.Prelude.{◌≡◌, ℕ, true, false, List, [], ◌∷◌, ◌++◌, length, map, Option, Some, None}
 use Rattle.std.specs.Option.{option_map}
 use Rattle.adjust_kernel.specs.declared.obs.Obs.{Obs}
+use Rattle.station_book.specs.declared.face.Face.TheVariants.{One, Two}
 use Rattle.station_book.specs.declared.faces.Faces.{Faces}
 use Rattle.station_book.specs.Sights.{Sight}
 use Rattle.station_book.specs.declared.slot.Slot.{Slot}
@@ -11,7 +12,7 @@ use Rattle.station_book.specs.declared.stage.Stage.TheVariants.{Outside, Station
 use Rattle.station_book.specs.Slots.{obs_of, faces_of}
 use Rattle.station_book.specs.Entries.{EntryValue}
 use Rattle.station_book.specs.Shelves.{ShelfValue}
-use Rattle.station_book.specs.Blocks.{number, face_one, face_two}
+use Rattle.station_book.specs.Blocks.{number}
 use Rattle.station_book.specs.Places.{History, Place, before, station, is_empty, is_open, sets_of, station_readings, first_sets, distinct, reading_in, target_at, at}
 use Rattle.station_book.specs.Stations.{SurveyedStation, in_set}
 use Rattle.station_book.specs.Faults.{open_sets, name_at, sight_at}
@@ -26,8 +27,8 @@ sighted o = option_map sight_at o
 -- the angles of a target's readings, among these
 abbrev pub slot_of : List Place → List ℕ → Slot
 slot_of rs name = record {
-  first = sighted (reading_in face_one name rs);
-  second = sighted (reading_in face_two name rs);
+  first = sighted (reading_in One name rs);
+  second = sighted (reading_in Two name rs);
 }
 
 abbrev pub slots_of : List (List ℕ) → List Place → List Slot

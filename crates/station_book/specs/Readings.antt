@@ -1,19 +1,21 @@
 -- What the code reads in one measurement, and the faults that it finds in the block alone.
-use Rattle.std.specs.Prelude.{ℕ, Bool, false, ◌&&◌, nat_lt, is_none, List, [], ◌∷◌, Option, Some, None, Result, Ok, Err, if◌then◌else◌}
+use Rattle.std.specs.Prelude.{ℕ, ◌&&◌, nat_lt, is_none, List, [], ◌∷◌, Option, Some, None, Result, Ok, Err, if◌then◌else◌, unwrap_or}
 use Rattle.std.specs.Option.{option_map}
 use Rattle.gsi_word.specs.Blocks.{GsiBlock}
 use Rattle.station_book.specs.declared.bounds.TheConstants.{CIRCLE, HALF_CIRCLE}
+use Rattle.station_book.specs.declared.face.Face.{Face}
+use Rattle.station_book.specs.declared.face.Face.TheVariants.{One, Two}
 use Rattle.station_book.specs.declared.fault.BookKind.{BookKind}
 use Rattle.station_book.specs.declared.fault.BookKind.TheVariants as kinds
 use Rattle.station_book.specs.declared.sight.Sighting.{Sighting}
-use Rattle.station_book.specs.Blocks.{has_two, lacks, angle_fault, face_one, face_two, target, sight}
+use Rattle.station_book.specs.Blocks.{has_two, lacks, angle_fault, target, sight}
 use Rattle.station_book.specs.Faults.{when, first_of}
 
 -- the face of a zenith angle
-abbrev pub face_of : ℕ → Option Bool
+abbrev pub face_of : ℕ → Option Face
 face_of zenith =
-    if nat_lt 0 zenith && nat_lt zenith HALF_CIRCLE then Some face_one else
-    (if nat_lt HALF_CIRCLE zenith && nat_lt zenith CIRCLE then Some face_two else None)
+    if nat_lt 0 zenith && nat_lt zenith HALF_CIRCLE then Some One else
+    (if nat_lt HALF_CIRCLE zenith && nat_lt zenith CIRCLE then Some Two else None)
 
 -- the faults of a measurement with a direction, in themselves
 abbrev pub sighting_faults : GsiBlock → List (Option BookKind)
@@ -26,17 +28,12 @@ sighting_faults b =
     ∷ when (is_none (face_of (sight b).zenith)) kinds.FaceUnclear
     ∷ []
 
-abbrev pub is_second : Option Bool → Bool
-is_second None = false
-is_second (Some f) = f
-
 -- what a measurement with a direction says
 abbrev pub sighting : GsiBlock → Sighting
 sighting b = record {
   target = target b;
   sight = sight b;
-  is_second = is_second
-      (face_of (sight b).zenith);
+  face = unwrap_or (face_of (sight b).zenith) One;
 }
 
 abbrev pub unless_fault : Option BookKind → Sighting → Result (Option Sighting) BookKind

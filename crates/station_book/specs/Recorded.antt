@@ -1,10 +1,12 @@
 -- What a field file recorded, in the words of its blocks alone.
-use Rattle.std.specs.Prelude.{◌≡◌, ℕ, Bool, IsTrue, List, Contains, Some, None, ◌⊎◌}
+use Rattle.std.specs.Prelude.{◌≡◌, ℕ, IsTrue, List, Contains, Some, None, ◌⊎◌}
 use Rattle.adjust_kernel.specs.Matching.{Key, observed}
+use Rattle.station_book.specs.declared.face.Face.{Face}
+use Rattle.station_book.specs.declared.face.Face.TheVariants.{One, Two}
 use Rattle.station_book.specs.declared.faces.Faces.{Faces}
 use Rattle.station_book.specs.Limits.{FaceLimits}
 use Rattle.station_book.specs.Sights.{IsTwoC, IsTwoI, IsTwoFace}
-use Rattle.station_book.specs.Blocks.{number, face_one, face_two, is_of_face}
+use Rattle.station_book.specs.Blocks.{number, is_of_face}
 use Rattle.station_book.specs.Places.{History, Place, places, at, before, opening, station, is_set, is_reading, target_at, stands}
 use Rattle.station_book.specs.Faults.{name_at, sight_at}
 use Rattle.station_book.specs.Stations.{SurveyedStation}
@@ -12,7 +14,7 @@ use Rattle.station_book.specs.Stations.{SurveyedStation}
 -- The file has a reading at this place: of this station, named by its block with code 10, of the
 -- set that was opened at `set`, of this target and face.
 pub record IsReadingOf (h : History) (name : List ℕ) (set : Place) (target : List ℕ)
-    (face : Bool) (r : Place) : Type 0 where
+    (face : Face) (r : Place) : Type 0 where
   pub placed : Contains (places h) r
   pub reading : IsTrue (is_reading r)
   pub of_station : name_at (station (before r)) ≡ Some name
@@ -35,8 +37,8 @@ pub record IsRecorded (limits : FaceLimits) (h : History) (name : List ℕ) (k :
   pub numbered : at number None set ≡ Some k.set
   pub first : Place
   pub second : Place
-  pub face_one : IsReadingOf h name set k.target face_one first
-  pub face_two : IsReadingOf h name set k.target face_two second
+  pub face_one : IsReadingOf h name set k.target One first
+  pub face_two : IsReadingOf h name set k.target Two second
   pub direction : IsTwoFace limits.two_c (sight_at first) (sight_at second) k.value
 
 -- The same, with the face differences of the same two readings, each within its limit.

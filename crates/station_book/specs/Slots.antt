@@ -1,7 +1,9 @@
 -- The readings of a set by target, as a book keeps them.
-use Rattle.std.specs.Prelude.{ℕ, Bool, true, false, ◌&&◌, ◌||◌, not, is_some, is_none, List, [], ◌∷◌, Option, Some, None, IfSome, if◌then◌else◌, filter_map, slice_index_or}
+use Rattle.std.specs.Prelude.{ℕ, Bool, ◌&&◌, ◌||◌, is_some, is_none, List, [], ◌∷◌, Option, Some, None, IfSome, filter_map, slice_index_or}
 use Rattle.std.specs.List.{list_any, list_all, enumerate_from}
 use Rattle.adjust_kernel.specs.declared.obs.Obs.{Obs}
+use Rattle.station_book.specs.declared.face.Face.{Face}
+use Rattle.station_book.specs.declared.face.Face.TheVariants.{One, Two}
 use Rattle.station_book.specs.declared.fault.BookKind.{BookKind}
 use Rattle.station_book.specs.declared.fault.BookKind.TheVariants as kinds
 use Rattle.station_book.specs.Limits.{FaceLimits}
@@ -9,17 +11,19 @@ use Rattle.station_book.specs.declared.faces.Faces.{Faces}
 use Rattle.station_book.specs.Sights.{Sight, AreOnCircle}
 use Rattle.station_book.specs.declared.sight.Sighting.{Sighting}
 use Rattle.station_book.specs.declared.slot.Slot.{Slot}
+use Rattle.station_book.specs.Blocks.{other_face}
 use Rattle.station_book.specs.Faults.{when, first_of, has_no_two_c, has_no_two_i, is_apart}
 use Rattle.station_book.specs.Pairs.{two_c, two_i, direction}
 
--- the reading of face I, or with `true` of face II
-abbrev pub side : Bool → Slot → Option Sight
-side false s = s.first
-side true s = s.second
+-- the reading of a face
+abbrev pub face_reading : Face → Slot → Option Sight
+face_reading One s = s.first
+face_reading Two s = s.second
 
-abbrev pub with_side : Bool → Sight → Slot → Slot
-with_side false v s = record s { first = Some v }
-with_side true v s = record s { second = Some v }
+-- the slot with a reading in this face
+abbrev pub with_face_reading : Face → Sight → Slot → Slot
+with_face_reading One v s = record s { first = Some v }
+with_face_reading Two v s = record s { second = Some v }
 
 abbrev pub empty_slot : Slot
 empty_slot = record { first = None; second = None }
@@ -27,9 +31,11 @@ empty_slot = record { first = None; second = None }
 -- the faults of a reading of a target that has this slot
 abbrev pub slot_faults : FaceLimits → Slot → Sighting → List (Option BookKind)
 slot_faults limits slot s =
-    when (is_some (side s.is_second slot)) kinds.FaceTwice
-    ∷ when (is_apart (has_no_two_c limits.two_c) s.sight (side (not s.is_second) slot)) kinds.TwoC
-    ∷ when (is_apart (has_no_two_i limits.two_i) s.sight (side (not s.is_second) slot)) kinds.TwoI
+    when (is_some (face_reading s.face slot)) kinds.FaceTwice
+    ∷ when (is_apart (has_no_two_c limits.two_c) s.sight (face_reading (other_face s.face) slot))
+    kinds.TwoC
+    ∷ when (is_apart (has_no_two_i limits.two_i) s.sight (face_reading (other_face s.face) slot))
+    kinds.TwoI
     ∷ []
 
 -- the fault of two readings

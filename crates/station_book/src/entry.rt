@@ -17,7 +17,7 @@ use crate::faces::Faces;
 use crate::fault::{BookKind, Refusal};
 use crate::limits::Limits;
 use crate::sight::Sighting;
-use crate::slot::{empty_slot, end_fault, push_pairs, slot_fault, with_side};
+use crate::slot::{empty_slot, end_fault, push_pairs, slot_fault};
 use crate::surveyed::Surveyed;
 use crate::targets::Targets;
 use adjust_kernel::{MOST_SETS, Name, Obs, Station};
@@ -121,11 +121,11 @@ impl Entry {
     {
         let Sighting {
             target,
-            is_second,
+            face,
             sight,
         } = reading;
-        let first = with_side(empty_slot(), is_second, sight);
-        let Some(place) = self.targets.find_or_add(target, is_second, first)? else {
+        let first = empty_slot().with_reading(face, sight);
+        let Some(place) = self.targets.find_or_add(target, face, first)? else {
             target.recall();
             return Ok(());
         };
@@ -133,7 +133,7 @@ impl Entry {
         if let Some(kind) = slot_fault(limits, slot, reading) {
             return Err(Refusal::Kind(kind));
         }
-        self.targets.set(place, with_side(slot, is_second, sight));
+        self.targets.set(place, slot.with_reading(face, sight));
         Ok(())
     }
 

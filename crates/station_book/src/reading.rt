@@ -11,6 +11,7 @@ ghost use Rattle.station_book.specs.declared.fault.BookKind.TheVariants as kinds
 ghost use Rattle.station_book.specs.Sights.{AreOnCircle};
 
 use crate::bounds::{CIRCLE, HALF_CIRCLE};
+use crate::face::Face;
 use crate::fault::BookKind;
 use crate::sight::{Sight, Sighting};
 use adjust_kernel::{LARGEST_SET_NUMBER, Name};
@@ -68,15 +69,15 @@ pub(crate) fn set_number(block: &Block<'_>) -> Result<Option<u16>, BookKind>
     }
 }
 
-/// Whether a reading with this zenith angle is of face II; nothing where it is of neither face.
-fn face_of(zenith: u32) -> Option<bool>
+/// The face of a reading with this zenith angle; nothing where it is of neither.
+fn face_of(zenith: u32) -> Option<Face>
     ensures { result ≡ face_of zenith }
 {
     if 0 < zenith && zenith < HALF_CIRCLE {
-        return Some(false);
+        return Some(Face::One);
     }
     if HALF_CIRCLE < zenith && zenith < CIRCLE {
-        return Some(true);
+        return Some(Face::Two);
     }
     None
 }
@@ -112,13 +113,13 @@ pub(crate) fn read(block: &Block<'_>) -> Result<Option<Sighting>, BookKind>
     };
     let hz = direction.angle().map_err(BookKind::Hz)?;
     let zenith = zenith.angle().map_err(BookKind::Zenith)?;
-    let Some(is_second) = face_of(zenith) else {
+    let Some(face) = face_of(zenith) else {
         return Err(BookKind::FaceUnclear);
     };
     let target = target(block);
     Ok(Some(Sighting {
         target,
         sight: Sight { hz, zenith },
-        is_second,
+        face,
     }))
 }

@@ -5,9 +5,10 @@ ghost use Rattle.std.specs.Vec.{vec_capacity};
 ghost use Rattle.std.specs.List.{list_any, list_all};
 ghost use Rattle.std.specs.Option.{option_to_list};
 ghost use Rattle.station_book.specs.Faults.{first_of};
-ghost use Rattle.station_book.specs.Slots.{side, with_side, empty_slot, slot_faults, pair_fault, closing_faults, is_unread, is_single, IsKeptSlot, obs_at, obs_of, faces_at, faces_of};
+ghost use Rattle.station_book.specs.Slots.{face_reading, with_face_reading, empty_slot, slot_faults, pair_fault, closing_faults, is_unread, is_single, IsKeptSlot, obs_at, obs_of, faces_at, faces_of};
 ghost use Rattle.station_book.specs.Sights.{AreOnCircle};
 
+use crate::face::Face;
 use crate::faces::Faces;
 use crate::fault::BookKind;
 use crate::limits::Limits;
@@ -33,26 +34,30 @@ pub(crate) fn empty_slot() -> Slot
     }
 }
 
-/// The reading of a face.
-fn side(slot: Slot, is_second: bool) -> Option<Sight>
-    ensures { result ≡ side is_second slot }
-{
-    if is_second { slot.second } else { slot.first }
-}
-
-/// The slot with a reading more.
-pub(crate) fn with_side(slot: Slot, is_second: bool, sight: Sight) -> Slot
-    ensures { result ≡ with_side is_second sight slot }
-{
-    if is_second {
-        Slot {
-            first: slot.first,
-            second: Some(sight),
+impl Slot {
+    /// The reading of a face.
+    fn reading(self, face: Face) -> Option<Sight>
+        ensures { result ≡ face_reading face self }
+    {
+        match face {
+            Face::One => self.first,
+            Face::Two => self.second,
         }
-    } else {
-        Slot {
-            first: Some(sight),
-            second: slot.second,
+    }
+
+    /// The slot with a reading in this face.
+    pub(crate) fn with_reading(self, face: Face, sight: Sight) -> Slot
+        ensures { result ≡ with_face_reading face sight self }
+    {
+        match face {
+            Face::One => Slot {
+                first: Some(sight),
+                second: self.second,
+            },
+            Face::Two => Slot {
+                first: self.first,
+                second: Some(sight),
+            },
         }
     }
 }
@@ -63,10 +68,10 @@ pub(crate) fn slot_fault(limits: Limits, slot: Slot, reading: Sighting) -> Optio
     requires sight { AreOnCircle reading.sight }
     ensures { result ≡ first_of (slot_faults limits slot reading) }
 {
-    if side(slot, reading.is_second).is_some() {
+    if slot.reading(reading.face).is_some() {
         return Some(BookKind::FaceTwice);
     }
-    let Some(other) = side(slot, !reading.is_second) else {
+    let Some(other) = slot.reading(reading.face.other()) else {
         return None;
     };
     pair_fault(limits, reading.sight, other)

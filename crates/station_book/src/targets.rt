@@ -8,6 +8,7 @@ ghost use Rattle.station_book.specs.Refusals.{ExplainsRefusal};
 ghost use Rattle.station_book.specs.Slots.{slot_at, empty_slot};
 ghost use Rattle.station_book.specs.Targets.{with_first};
 
+use crate::face::Face;
 use crate::fault::{BookKind, Refusal};
 use crate::slot::{Slot, empty_slot};
 use adjust_kernel::{MOST_TARGETS, Name};
@@ -40,11 +41,10 @@ impl Model for Targets {
 /// The place beside this one: in face II the one before it, else the one after it. Whatever it
 /// answers, what is looked for there is compared: it changes the speed alone.
 #[inline(always)]
-fn beside(place: usize, is_second: bool) -> usize {
-    if is_second {
-        place.wrapping_sub(1)
-    } else {
-        place.wrapping_add(1)
+fn beside(place: usize, face: Face) -> usize {
+    match face {
+        Face::One => place.wrapping_add(1),
+        Face::Two => place.wrapping_sub(1),
     }
 }
 
@@ -86,19 +86,19 @@ impl Targets {
     /// last: targets are read in turn, and in face II mostly backwards.
     #[inline(always)]
     #[tactic(auto, using(crate::proofs::PlacedLaws::placed))]
-    fn place_beside(&self, name: &Name, is_second: bool) -> Option<usize>
+    fn place_beside(&self, name: &Name, face: Face) -> Option<usize>
         requires { AllPairs (λ a b. a ≢ b) self.now.names }
         ensures place { IfSome result (λ i. Some i ≡ place_of name.now self.now.names) }
         ensures inside { IfSome result (λ i. i < length self.now.names) }
     {
-        let next = beside(self.last, is_second);
+        let next = beside(self.last, face);
         if self.is_at(name, next) {
             return Some(next);
         }
         if self.is_at(name, self.last) {
             return Some(self.last);
         }
-        let other = beside(self.last, !is_second);
+        let other = beside(self.last, face.other());
         if self.is_at(name, other) {
             return Some(other);
         }
@@ -144,7 +144,7 @@ impl Targets {
     pub(crate) fn find_or_add(
         &mut self,
         name: Name,
-        is_second: bool,
+        face: Face,
         first: Slot,
     ) -> Result<Option<usize>, Refusal>
         requires { AllPairs (λ a b. a ≢ b) self.old.names }
@@ -156,7 +156,7 @@ impl Targets {
         ensures fault { IfErr result (ExplainsRefusal (new_target_fault self.old.names)) }
         ensures err { OnErr result (self.new ≡ self.old) }
     {
-        if let Some(place) = self.place_beside(&name, is_second) {
+        if let Some(place) = self.place_beside(&name, face) {
             return Ok(Some(place));
         }
         self.search_or_add(name, first)
