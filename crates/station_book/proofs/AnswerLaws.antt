@@ -1,7 +1,7 @@
 -- What a book answers at the end are the stations of its blocks.
 use Rattle.std.proofs.Common.{◌≡◌, ℕ, ◌+◌, true, false, List, [], ◌∷◌, ◌++◌, length, map, reverse, Option, Some, None, refl, sym, ap, ◌∙◌, subst, arith}
 use Rattle.std.specs.Prelude.{Result, Ok, Err, OnOk, IfOk, IfErr}
-use Rattle.std.specs.List.{AllZip, enumerate_from, filter_map, flat_map, cons_option}
+use Rattle.std.specs.List.{AllZip, AllByRecursion, enumerate_from, filter_map, flat_map, cons_option}
 use Rattle.std.proofs.lemmas.List.{append-nil, length-reverse, map-append, reverse-append, reverse-reverse}
 use Rattle.std.proofs.lemmas.Grind.{flat_map-append}
 use Rattle.adjust_kernel.specs.declared.obs.Obs.{Obs}
@@ -11,19 +11,20 @@ use Rattle.station_book.specs.declared.fault.BookFault.{BookFault}
 use Rattle.station_book.specs.declared.fault.BookFault.TheVariants.{At, Memory}
 use Rattle.station_book.specs.declared.stage.Stage.TheVariants.{Outside}
 use Rattle.station_book.specs.Limits.{FaceLimits}
-use Rattle.station_book.specs.Places.{History, Place, before, station, reading_in, sets_of, first_sets, station_readings, targets_of}
+use Rattle.station_book.specs.Places.{number_at, History, Place, before, station, reading_in, readings_of, sets_of, first_sets, station_readings, targets_of}
 use Rattle.station_book.specs.Faults.{fault_at_end, sight_at, IsWithoutFault}
-use Rattle.station_book.specs.Stations.{Couple, joined, couples_in, in_set, SurveyedStation, IsObserved, HasFaces, IsSurveyed, AreStations}
+use Rattle.station_book.specs.Stations.{Couple, joined, couples_in, SurveyedStation, IsObserved, HasFaces, IsSurveyed, AreStations}
 use Rattle.station_book.specs.Slots as slots
 use Rattle.station_book.specs.Slots.{obs_at, obs_of, faces_at, faces_of}
 use Rattle.station_book.specs.Shelves.{empty_shelf, surveys_of}
 use Rattle.station_book.specs.Refusals.{ExplainsFault}
 use Rattle.station_book.specs.Kept.{Kept, ending}
-use Rattle.station_book.specs.Keeps.{sighted, slots_of, obs_in, faces_in, numbers_in, number_at, IsComputed, stations_in}
+use Rattle.station_book.specs.Keeps.{in_set, sighted, slots_of, obs_in, faces_in, numbers_in, IsComputed, stations_in}
 use Rattle.station_book.specs.Standing.{StandsFor, ExplainsEnd}
 use Rattle.station_book.proofs.SlotLaws.{enumerate-append}
 use Rattle.station_book.proofs.ComputedLaws.{computed_two_c, computed_two_i, computed_direction}
 use Rattle.station_book.proofs.WithinLaws.{AreWithin, AllWithin, within_limits, place_on_circle}
+use Rattle.station_book.proofs.FilePlaces.{sets_readings}
 use Rattle.station_book.proofs.TakeLaws.{at_own}
 use Rattle.station_book.proofs.EndLaws.{AreComputed, same_end, same_stations}
 use Rattle.indexmap.proofs.ReorderLemmas.{map-reverse}
@@ -124,24 +125,25 @@ module _ (limits : FaceLimits) where
       (set_compared (length older) 0 targets (in_set s readings) (w s))
 
   -- by set from the oldest, each with its place
-  over_sets : (targets : List (List ℕ)) (readings sets : List Place)
-      → flat_map (λ s. couples_in s.0 targets (in_set s.1 readings))
+  over_sets : (h : History) (targets : List (List ℕ)) (readings sets : List Place)
+      → AllByRecursion (λ s. readings_of s h ≡ in_set s readings) sets
+      → flat_map (λ s. couples_in s.0 targets (readings_of s.1 h))
       (enumerate_from 0 (reverse sets)) ≡ couples_over targets readings sets
-  over_sets targets readings [] = refl
-  over_sets targets readings (s ∷ older) =
+  over_sets h targets readings [] same = refl
+  over_sets h targets readings (s ∷ older) same =
       let l = length-reverse older in
       let place : 0 + length (reverse older) ≡ length older = omega (arith, l) in
       ap (λ l. flat_map each (enumerate_from 0 l)) (reverse-append (s ∷ []) older)
       ∙ ap (flat_map each) (enumerate-append 0 (reverse older) (s ∷ []))
       ∙ flat_map-append each (enumerate_from 0 (reverse older))
       (enumerate_from (0 + length (reverse older)) (s ∷ []))
-      ∙ (λ i. over_sets targets readings older i ++ append-nil
-      (couples_in (0 + length (reverse older)) targets (in_set s readings)) i)
+      ∙ (λ i. over_sets h targets readings older same.1 i ++ append-nil
+      (couples_in (0 + length (reverse older)) targets (same.0 i)) i)
       ∙ ap (λ (n : ℕ). couples_over targets readings older ++ couples_in n targets
       (in_set s readings)) place
     where
       each : ℕ × Place → List Couple
-      each p = couples_in p.0 targets (in_set p.1 readings)
+      each p = couples_in p.0 targets (readings_of p.1 h)
 
   numbers_are : (sets : List Place) → numbers_in sets ≡ map number_at (reverse sets)
   numbers_are [] = refl
@@ -159,13 +161,14 @@ module _ (limits : FaceLimits) where
       let targets = targets_of st h in
       let within : (set : Place) → AllWithin limits (in_set set readings) =
       λ set. within_limits limits h st set clean in
+      let same = sets_readings h st in
       record {
         name = c.named_so;
         targets = c.targets;
         sets = sym (c.numbers ∙ numbers_are sets);
-        directions = rw (c.obs, over_sets targets readings sets)
+        directions = rw (c.obs, over_sets h targets readings sets same)
             (all_observed targets readings sets within);
-        differences = rw (c.faces, over_sets targets readings sets)
+        differences = rw (c.faces, over_sets h targets readings sets same)
             (all_compared targets readings sets within);
       }
 

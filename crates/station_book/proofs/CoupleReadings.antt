@@ -8,13 +8,13 @@ use Rattle.station_book.specs.declared.face.Face.{Face}
 use Rattle.station_book.specs.declared.face.Face.TheVariants.{One, Two}
 use Rattle.station_book.specs.Limits.{FaceLimits}
 use Rattle.station_book.specs.Blocks.{opens_station, is_opening, is_of_face}
-use Rattle.station_book.specs.Places.{History, Place, places, last, before, opening, station, is_same, is_set, is_reading, target_at, stands, reading_in, sets_of, station_readings, targets_of, is_among, distinct}
+use Rattle.station_book.specs.Places.{History, Place, places, last, before, opening, station, is_same, is_set, is_reading, target_at, stands, reading_in, readings_of, sets_of, station_readings, targets_of, is_among, distinct}
 use Rattle.station_book.specs.Faults.{sight_at, IsWithoutFault}
-use Rattle.station_book.specs.Stations.{Couple, joined, couples_in, in_set, couples_of}
+use Rattle.station_book.specs.Stations.{Couple, joined, couples_in, couples_of}
 use Rattle.station_book.proofs.Elements.{In, any_to, find_some, find_found, IsAt, in_filter, of_filter, of_reverse, in_places, of_places, in_filter_map, of_filter_map, in_flat_map, of_flat_map}
 use Rattle.station_book.proofs.KeptLaws.{among_new, among_more}
 use Rattle.station_book.proofs.OneReading.{IsOf, one_place}
-use Rattle.station_book.proofs.FilePlaces.{OfFile, same_of_file, owner_placed}
+use Rattle.station_book.proofs.FilePlaces.{OfFile, same_of_file, owner_placed, set_of_reading}
 
 -- a reading of this station, set, target and face
 pub record IsRead (h : History) (st set : Place) (name : List ℕ) (f : Face)
@@ -23,31 +23,27 @@ pub record IsRead (h : History) (st set : Place) (name : List ℕ) (f : Face)
   pub of_station : station (before r) ≡ st
   pub is : IsOf set name f r
 
-abbrev pub readings_in : History → Place → Place → List Place
-readings_in h st set = in_set set (station_readings st h)
-
 -- what is found among the readings of a set is such a reading
 pub reading_found : (h : History) (st set : Place) (name : List ℕ) (f : Face) (r : Place)
-    → OfFile h st → OfFile h set
-    → reading_in f name (readings_in h st set) ≡ Some r → IsRead h st set name f r
-reading_found h st set name f r st_placed set_placed e =
+    → OfFile h set → station (before set) ≡ st
+    → reading_in f name (readings_of set h) ≡ Some r → IsRead h st set name f r
+reading_found h st set name f r set_placed set_station e =
     let found = find_some (λ r. bytes_eq (target_at r) name && stands (is_of_face f) r) r
-    (readings_in h st set) e in
+    (readings_of set h) e in
     let tests = and_parts (bytes_eq (target_at r) name) (stands (is_of_face f) r) found.1 in
-    let own = of_filter (λ r. is_same (opening (before r)) set) r (station_readings st h) found.0 in
-    let all = of_filter (λ place. is_reading place && is_same
-    (last opens_station (before place)) st) r (places h) own.0 in
-    let parts = and_parts (is_reading r) (is_same (station (before r)) st) all.1 in
+    let own = of_filter (λ place. is_reading place && is_same (last is_opening (before place)) set) r
+    (places h) found.0 in
+    let parts = and_parts (is_reading r) (is_same (opening (before r)) set) own.1 in
+    let here : opening (before r) ≡ set = same_of_file h (opening (before r)) set
+    (owner_placed is_opening h r own.0) set_placed
+    (eqb-true (length (opening (before r))) (length set) parts.1) in
     record {
-      placed = all.0;
-      of_station = same_of_file h (station (before r)) st
-          (owner_placed opens_station h r all.0) st_placed
-          (eqb-true (length (station (before r))) (length st) parts.1);
+      placed = own.0;
+      of_station = sym (set_of_reading h r own.0 parts.0).of_station
+          ∙ ap (λ (p : Place). station (before p)) here ∙ set_station;
       is = record {
         reading = parts.0;
-        of_set = same_of_file h (opening (before r)) set
-            (owner_placed is_opening h r all.0) set_placed
-            (eqb-true (length (opening (before r))) (length set) own.1);
+        of_set = here;
         of_target = (bytes_eq-Decides (target_at r) name).0 tests.0;
         of_face = tests.1;
       };
@@ -63,24 +59,29 @@ of_station_readings h st set name f r read =
 
 -- and in a file without fault each such reading is found
 pub reading_listed : (limits : FaceLimits) (h : History) (st set : Place) (name : List ℕ) (f : Face)
-    (r : Place) → IsWithoutFault limits h → OfFile h st → OfFile h set → IsRead h st set name f r
-    → reading_in f name (readings_in h st set) ≡ Some r
-reading_listed limits h st set name f r clean st_placed set_placed read = split
-    (reading_in f name (readings_in h st set)) refl where
-      own : In r (readings_in h st set)
-      own = in_filter (λ r. is_same (opening (before r)) set) r (station_readings st h)
-          (of_station_readings h st set name f r read)
-          (eq-eqb (length (opening (before r))) (length set) (ap length read.is.of_set))
+    (r : Place) → IsWithoutFault limits h → OfFile h set → IsRead h st set name f r
+    → reading_in f name (readings_of set h) ≡ Some r
+reading_listed limits h st set name f r clean set_placed read = split
+    (reading_in f name (readings_of set h)) refl where
+      own : In r (readings_of set h)
+      own = in_filter (λ place. is_reading place && is_same (last is_opening (before place)) set) r
+          (places h) read.placed
+          (and_from (is_reading r) (is_same (opening (before r)) set) read.is.reading
+          (eq-eqb (length (opening (before r))) (length set) (ap length read.is.of_set)))
 
-      split : (o : Option Place) → reading_in f name (readings_in h st set) ≡ o
-          → reading_in f name (readings_in h st set) ≡ Some r
+      set_station : station (before set) ≡ st
+      set_station = ap (λ (p : Place). station (before p)) (sym read.is.of_set)
+          ∙ (set_of_reading h r read.placed read.is.reading).of_station ∙ read.of_station
+
+      split : (o : Option Place) → reading_in f name (readings_of set h) ≡ o
+          → reading_in f name (readings_of set h) ≡ Some r
       split None e =
           absurd (find_found (λ r. bytes_eq (target_at r) name && stands (is_of_face f) r) r
-          (readings_in h st set) own
+          (readings_of set h) own
           (and_from (bytes_eq (target_at r) name) (stands (is_of_face f) r)
           ((bytes_eq-Decides (target_at r) name).1 read.is.of_target) read.is.of_face) e)
       split (Some q) e =
-          let other = reading_found h st set name f q st_placed set_placed e in
+          let other = reading_found h st set name f q set_placed set_station e in
           e ∙ ap (λ (x : Place). Some x)
           (one_place limits h set name f q r clean other.placed read.placed other.is read.is)
 
@@ -128,8 +129,8 @@ pub record IsPairOf (h : History) (st : Place) (c : Couple) : Type 0 where
 
 pair_at : (h : History) (st : Place) (c : Couple) (e : ℕ × Place) (t : ℕ × List ℕ) → OfFile h st
     → In e (enumerate_from 0 (reverse (sets_of st h))) → In t (enumerate_from 0 (targets_of st h))
-    → IsJoined e.0 t.0 (reading_in One t.1 (readings_in h st e.1))
-    (reading_in Two t.1 (readings_in h st e.1)) c → IsPairOf h st c
+    → IsJoined e.0 t.0 (reading_in One t.1 (readings_of e.1 h))
+    (reading_in Two t.1 (readings_of e.1 h)) c → IsPairOf h st c
 pair_at h st c e t st_placed e_in t_in j =
     at (of_places (reverse (sets_of st h)) e e_in) (of_places (targets_of st h) t t_in)
   where
@@ -143,9 +144,13 @@ pair_at h st c e t st_placed e_in t_in j =
         → (k : ℕ) × (t.0 ≡ k) × IsAt (targets_of st h) k t.1 × In t.1 (targets_of st h)
         → IsPairOf h st c
     at (i, i_is, i_at, set_in) (k, k_is, k_at, name_in) =
-        let set_placed : OfFile h e.1 =
-        inr (of_filter (λ place. is_set place && is_same (last opens_station (before place)) st) e.1
-        (places h) (of_reverse e.1 (sets_of st h) set_in)).0 in
+        let set = of_filter
+        (λ place. is_set place && is_same (last opens_station (before place)) st) e.1 (places h)
+        (of_reverse e.1 (sets_of st h) set_in) in
+        let set_station : station (before e.1) ≡ st = same_of_file h (station (before e.1)) st
+        (owner_placed opens_station h e.1 set.0) st_placed
+        (eqb-true (length (station (before e.1))) (length st)
+        (and_parts (is_set e.1) (is_same (station (before e.1)) st) set.1).1) in
         record {
           set = e.1;
           set_place = subst (λ (m : ℕ). IsAt (reverse (sets_of st h)) m e.1) (set_is i i_is) i_at;
@@ -153,8 +158,8 @@ pair_at h st c e t st_placed e_in t_in j =
           name_place = subst (λ (m : ℕ). IsAt (targets_of st h) m t.1) (target_is k k_is) k_at;
           first = j.first;
           second = j.second;
-          one = reading_found h st e.1 t.1 One j.first st_placed set_placed j.one_is;
-          two = reading_found h st e.1 t.1 Two j.second st_placed set_placed j.two_is;
+          one = reading_found h st e.1 t.1 One j.first (inr set.0) set_station j.one_is;
+          two = reading_found h st e.1 t.1 Two j.second (inr set.0) set_station j.two_is;
           first_is = sym (ap (λ (c : Couple). c.first) j.couple);
           second_is = sym (ap (λ (c : Couple). c.second) j.couple);
         }
@@ -162,41 +167,41 @@ pair_at h st c e t st_placed e_in t_in j =
 pub pair_of_couple : (h : History) (st : Place) (c : Couple) → OfFile h st → In c (couples_of st h)
     → IsPairOf h st c
 pair_of_couple h st c st_placed listed =
-    of_set (of_flat_map (λ s. couples_in s.0 (targets_of st h) (readings_in h st s.1)) c
+    of_set (of_flat_map (λ s. couples_in s.0 (targets_of st h) (readings_of s.1 h)) c
     (enumerate_from 0 (reverse (sets_of st h))) listed)
   where
     of_target : (e : ℕ × Place) → In e (enumerate_from 0 (reverse (sets_of st h)))
         → (t : ℕ × List ℕ) × In t (enumerate_from 0 (targets_of st h))
-        × (joined e.0 t.0 (reading_in One t.1 (readings_in h st e.1))
-        (reading_in Two t.1 (readings_in h st e.1)) ≡ Some c) → IsPairOf h st c
+        × (joined e.0 t.0 (reading_in One t.1 (readings_of e.1 h))
+        (reading_in Two t.1 (readings_of e.1 h)) ≡ Some c) → IsPairOf h st c
     of_target e e_in (t, t_in, is) =
         pair_at h st c e t st_placed e_in t_in
-        (join_parts e.0 t.0 (reading_in One t.1 (readings_in h st e.1))
-        (reading_in Two t.1 (readings_in h st e.1)) c is)
+        (join_parts e.0 t.0 (reading_in One t.1 (readings_of e.1 h))
+        (reading_in Two t.1 (readings_of e.1 h)) c is)
 
     of_set : (e : ℕ × Place) × In e (enumerate_from 0 (reverse (sets_of st h)))
-        × In c (couples_in e.0 (targets_of st h) (readings_in h st e.1)) → IsPairOf h st c
+        × In c (couples_in e.0 (targets_of st h) (readings_of e.1 h)) → IsPairOf h st c
     of_set (e, e_in, own) =
         of_target e e_in (of_filter_map
-        (λ t. joined e.0 t.0 (reading_in One t.1 (readings_in h st e.1))
-        (reading_in Two t.1 (readings_in h st e.1))) c (enumerate_from 0 (targets_of st h)) own)
+        (λ t. joined e.0 t.0 (reading_in One t.1 (readings_of e.1 h))
+        (reading_in Two t.1 (readings_of e.1 h))) c (enumerate_from 0 (targets_of st h)) own)
 
 -- In a file without fault two such readings are a couple.
 pub couple_of_pair : (limits : FaceLimits) (h : History) (st set : Place) (name : List ℕ) (i j : ℕ)
-    (first second : Place) → IsWithoutFault limits h
-    → OfFile h st → OfFile h set → IsAt (reverse (sets_of st h)) i set
+    (first second : Place) → IsWithoutFault limits h → OfFile h set
+    → IsAt (reverse (sets_of st h)) i set
     → IsAt (targets_of st h) j name
     → IsRead h st set name One first → IsRead h st set name Two second
     → In (record { set = i; target = j; first = sight_at first; second = sight_at second })
     (couples_of st h)
-couple_of_pair limits h st set name i j first second clean st_placed set_placed iat jat one two =
-    in_flat_map (λ s. couples_in s.0 (targets_of st h) (readings_in h st s.1)) (i, set) couple
+couple_of_pair limits h st set name i j first second clean set_placed iat jat one two =
+    in_flat_map (λ s. couples_in s.0 (targets_of st h) (readings_of s.1 h)) (i, set) couple
     (enumerate_from 0 (reverse (sets_of st h))) (in_places (reverse (sets_of st h)) i set iat)
-    (in_filter_map (λ t. joined i t.0 (reading_in One t.1 (readings_in h st set))
-    (reading_in Two t.1 (readings_in h st set))) (j, name) couple
+    (in_filter_map (λ t. joined i t.0 (reading_in One t.1 (readings_of set h))
+    (reading_in Two t.1 (readings_of set h))) (j, name) couple
     (enumerate_from 0 (targets_of st h)) (in_places (targets_of st h) j name jat)
-    (λ x. joined i j (reading_listed limits h st set name One first clean st_placed set_placed one
-    x) (reading_listed limits h st set name Two second clean st_placed set_placed two x)))
+    (λ x. joined i j (reading_listed limits h st set name One first clean set_placed one
+    x) (reading_listed limits h st set name Two second clean set_placed two x)))
   where
     couple : Couple
     couple = record { set = i; target = j; first = sight_at first; second = sight_at second }

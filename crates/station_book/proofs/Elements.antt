@@ -46,6 +46,10 @@ module _ {X : Type 0} where
   all_in P x (y ∷ ys) all (inl h) = subst P (sym h) all.0
   all_in P x (y ∷ ys) all (inr h) = all_in P x ys all.1 h
 
+  pub all_from : (P : X → Type 0) (xs : List X) → ((x : X) → In x xs → P x) → AllByRecursion P xs
+  all_from P [] each = tt
+  all_from P (y ∷ ys) each = (each y (inl refl), all_from P ys (λ x h. each x (inr h)))
+
 -- tests that imply each other are one
 pub same_test : (a b : Bool) → (a ≡ true → b ≡ true) → (b ≡ true → a ≡ true) → a ≡ b
 same_test true b f g = sym (f refl)

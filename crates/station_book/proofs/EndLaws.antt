@@ -13,10 +13,10 @@ use Rattle.station_book.specs.declared.stage.Stage.TheVariants.{Outside, Station
 use Rattle.station_book.specs.Faults.{when, first_of, open_readings, has_one_face, fault_at_end, face_at}
 use Rattle.station_book.specs.Slots.{is_unread, is_single}
 use Rattle.station_book.specs.Shelves.{ShelfValue, last_of, survey_of, surveys_of}
-use Rattle.station_book.specs.Stations.{SurveyedStation, in_set}
+use Rattle.station_book.specs.Stations.{SurveyedStation}
 use Rattle.station_book.specs.Kept.{Kept, ending}
 use Rattle.station_book.specs.Places.{History, Place, station, opening, is_empty, is_open, reading_in, sets_of, station_readings, target_at}
-use Rattle.station_book.specs.Keeps.{sighted, slot_of, slots_of, IsComputed, Stand, stations_in, IsStage}
+use Rattle.station_book.specs.Keeps.{in_set, sighted, slot_of, slots_of, IsComputed, Stand, stations_in, IsStage}
 use Rattle.station_book.specs.Standing.{StandsFor}
 use Rattle.station_book.proofs.Elements.{In, any_to}
 use Rattle.station_book.proofs.StepLaws.{open_targets}

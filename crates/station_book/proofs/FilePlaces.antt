@@ -1,14 +1,15 @@
 -- The places of a file: the opening and the station of each are places of the file too.
-use Rattle.std.proofs.Common.{◌≡◌, ℕ, ◌<◌, Bool, true, false, ◌&&◌, List, [], ◌∷◌, length, reverse, Some, refl, sym, ap, ◌∙◌, inl, inr, ◌⊎◌, subst, arith}
-use Rattle.std.specs.List.{list_any}
+use Rattle.std.proofs.Common.{◌≡◌, ℕ, ◌<◌, Bool, true, false, ◌&&◌, List, [], ◌∷◌, length, filter, reverse, Some, refl, sym, ap, ◌∙◌, inl, inr, ◌⊎◌, subst, arith}
+use Rattle.std.specs.List.{list_any, AllByRecursion}
 use Rattle.std.proofs.lemmas.Bool.{cases_Bool, and_parts, and_from, eq-eqb, eqb-true, false≢true}
 use Rattle.std.proofs.lemmas.Slice.Eq.{bytes_eq-Decides}
 use Rattle.gsi_word.specs.Blocks.{GsiBlock}
 use Rattle.station_book.specs.Blocks.{opens_station, opens_set, is_opening, is_sight}
-use Rattle.station_book.specs.Places.{History, Place, places, last, before, opening, station, is_open, is_set, is_reading, is_same, is_empty, first_sets, sets_of, stands}
+use Rattle.station_book.specs.Places.{History, Place, places, last, before, opening, station, is_open, is_set, is_reading, is_same, is_empty, first_sets, readings_of, sets_of, station_readings, stands}
 use Rattle.station_book.specs.Faults.{name_at, same_name}
 use Rattle.station_book.specs.Stations.{stations_of}
-use Rattle.station_book.proofs.Elements.{In, any_from, any_to, all_in, in_map, of_map, in_reverse, of_reverse, of_filter}
+use Rattle.station_book.specs.Keeps.{in_set}
+use Rattle.station_book.proofs.Elements.{In, any_from, any_to, all_in, all_from, in_map, of_map, in_reverse, of_reverse, of_filter}
 use Rattle.station_book.proofs.StepLaws.{no_station_at_set, is_open-opening, is_open-other, sight_opens_no_station, same_station}
 use Rattle.station_book.proofs.StationLaws.{any_station}
 use Rattle.station_book.proofs.NameLaws.{Pairwise, AreApart}
@@ -103,6 +104,43 @@ set_of_reading h r placed reading =
     split now (inl e) = let bad : false ≡ true = sym (ap (λ (p : Place). stands opens_set p) e)
         ∙ now in cc
     split now (inr k) = k
+
+filter_both : {X : Type 0} (p o d : X → Bool) (xs : List X)
+    → ((x : X) → In x xs → p x ≡ true → o x ≡ true → d x ≡ true)
+    → filter (λ x. p x && o x) xs ≡ filter o (filter (λ x. p x && d x) xs)
+filter_both p o d [] all = refl
+filter_both p o d (x ∷ xs) all =
+    let rest = filter_both p o d xs (λ y h. all y (inr h)) in elim (cases_Bool (p x)) [
+      | inr t ↦ rw t rest
+      | inl t ↦ elim (cases_Bool (o x)) [
+        | inl s ↦ rw (t, s, all x (inl refl) t s, s) (ap (λ ys. x ∷ ys) rest)
+        | inr s ↦ elim (cases_Bool (d x)) [
+          | inl e ↦ rw (t, s, e, s) rest
+          | inr e ↦ rw (t, s, e) rest
+        ]
+      ]
+    ]
+
+-- The readings of a set are those of its station that are of the set.
+pub sets_readings : (h : History) (st : Place)
+    → AllByRecursion (λ s. readings_of s h ≡ in_set s (station_readings st h)) (sets_of st h)
+sets_readings h st = all_from (λ s. readings_of s h ≡ in_set s (station_readings st h))
+    (sets_of st h) (λ s listed. same s (of_filter
+    (λ place. is_set place && is_same (last opens_station (before place)) st) s (places h) listed))
+  where
+    same : (s : Place)
+        → In s (places h) × ((is_set s && is_same (station (before s)) st) ≡ true)
+        → readings_of s h ≡ in_set s (station_readings st h)
+    same s (s_placed, own) =
+        filter_both is_reading (λ r. is_same (opening (before r)) s)
+        (λ r. is_same (station (before r)) st) (places h) (λ r placed reading of_set.
+        let set = set_of_reading h r placed reading in
+        let here : opening (before r) ≡ s = same_place h (opening (before r)) s set.placed s_placed
+        (eqb-true (length (opening (before r))) (length s) of_set) in
+        let its : station (before s) ≡ station (before r) =
+        ap (λ (p : Place). station (before p)) (sym here) ∙ set.of_station in
+        ap (λ (p : Place). is_same p st) (sym its)
+        ∙ (and_parts (is_set s) (is_same (station (before s)) st) own).1)
 
 -- the station of a set is listed
 pub set_station : (h : History) (s : Place) → In s (places h) → is_set s ≡ true

@@ -8,14 +8,14 @@ use Rattle.adjust_kernel.specs.Matching.{Key, key_of_obs, observed}
 use Rattle.station_book.specs.declared.face.Face.TheVariants.{One, Two}
 use Rattle.station_book.specs.Limits.{FaceLimits}
 use Rattle.station_book.specs.Blocks.{opens_set, number}
-use Rattle.station_book.specs.Places.{History, Place, places, at, before, station, is_same, is_set, target_at, sets_of, station_readings, targets_of, reading_in}
+use Rattle.station_book.specs.Places.{History, Place, places, number_at, before, station, is_same, is_set, target_at, sets_of, station_readings, readings_of, targets_of, reading_in}
 use Rattle.station_book.specs.Faults.{same_number, sight_at, open_sets, IsWithoutFault}
 use Rattle.station_book.specs.Stations.{Couple, SurveyedStation, joined, couples_in, IsObserved, IsSurveyed, AreStations, stations_of, couples_of}
 use Rattle.station_book.proofs.Elements.{In, in_contains, zip_left}
 use Rattle.station_book.proofs.KeptLaws.{clean_set}
 use Rattle.station_book.proofs.NameLaws.{Pairwise, all_reverse, pairwise_snoc, each_false, pairs_of}
 use Rattle.station_book.proofs.FilePlaces.{OfFile, station_placed}
-use Rattle.station_book.proofs.CoupleReadings.{readings_in, pair_of_couple}
+use Rattle.station_book.proofs.CoupleReadings.{pair_of_couple}
 use Rattle.station_book.proofs.ReadingLaws.{distinct_different}
 
 module _ {X : Type 0} where
@@ -81,18 +81,18 @@ by_target i n (t ∷ ts) rs = split (reading_in One t rs) (reading_in Two t rs)
       split None b ih = (ih.0, all_weaker (InSet i (n + 1)) (InSet i n) weaker rest ih.1)
 
 by_set : (h : History) (st : Place) (n : ℕ) (sets : List Place) →
-    Pairwise Before (flat_map (λ s. couples_in s.0 (targets_of st h) (readings_in h st s.1))
+    Pairwise Before (flat_map (λ s. couples_in s.0 (targets_of st h) (readings_of s.1 h))
     (enumerate_from n sets)) × AllByRecursion (λ c. n ≤ c.set)
-    (flat_map (λ s. couples_in s.0 (targets_of st h) (readings_in h st s.1))
+    (flat_map (λ s. couples_in s.0 (targets_of st h) (readings_of s.1 h))
     (enumerate_from n sets))
 by_set h st n [] = (tt, tt)
-by_set h st n (s ∷ ss) = both (by_target n 0 (targets_of st h) (readings_in h st s))
+by_set h st n (s ∷ ss) = both (by_target n 0 (targets_of st h) (readings_of s h))
     (by_set h st (n + 1) ss) where
       own : List Couple
-      own = couples_in n (targets_of st h) (readings_in h st s)
+      own = couples_in n (targets_of st h) (readings_of s h)
 
       rest : List Couple
-      rest = flat_map (λ s. couples_in s.0 (targets_of st h) (readings_in h st s.1))
+      rest = flat_map (λ s. couples_in s.0 (targets_of st h) (readings_of s.1 h))
           (enumerate_from (n + 1) ss)
 
       both : Pairwise Before own × AllByRecursion (InSet n 0) own
@@ -110,7 +110,7 @@ by_set h st n (s ∷ ss) = both (by_target n 0 (targets_of st h) (readings_in h 
 
 -- No two sets of a station have one number.
 abbrev NumbersDiffer : Place → Place → Type 0
-NumbersDiffer newer older = same_number (at number None older) (at number None newer) ≡ false
+NumbersDiffer newer older = same_number (number_at older) (number_at newer) ≡ false
 
 numbers_apart : (limits : FaceLimits) (h : History) (st : Place) → IsWithoutFault limits h
     → Pairwise NumbersDiffer (sets_of st h)
@@ -124,38 +124,38 @@ numbers_apart limits (b ∷ past) st clean =
           let same : open_sets past ≡ sets_of st past =
           ap (λ (n : ℕ). filter (λ place. is_set place && eqb (length (station (before place))) n)
           (places past)) (eqb-true (length (station past)) (length st) parts.1) in
-          let others = each_false (λ s. same_number (at number None s) (number b))
+          let others = each_false (λ s. same_number (number_at s) (number b))
           (open_sets past) (clean_set limits past b parts.0 clean.0).new_number in
           rw t (subst (AllByRecursion (NumbersDiffer (b ∷ past))) same others, ih)
     ]
 
-apart_numbers : (x y : Place) (n m : ℕ) → at number None x ≡ Some n → at number None y ≡ Some m
-    → same_number (at number None x) (at number None y) ≡ false → n ≢ m
+apart_numbers : (x y : Place) (n m : ℕ) → number_at x ≡ Some n → number_at y ≡ Some m
+    → same_number (number_at x) (number_at y) ≡ false → n ≢ m
 apart_numbers x y n m ex ey f = λ e. false≢true
     (sym f ∙ (λ i. same_number (ex i) (ey i)) ∙ eq-eqb n m e)
 
-apart_from : (x : Place) (n : ℕ) (xs : List Place) (ns : List ℕ) → at number None x ≡ Some n
-    → map (λ s. at number None s) xs ≡ map (λ m. Some m) ns
-    → AllByRecursion (λ y. same_number (at number None x) (at number None y) ≡ false) xs
+apart_from : (x : Place) (n : ℕ) (xs : List Place) (ns : List ℕ) → number_at x ≡ Some n
+    → map number_at xs ≡ map (λ m. Some m) ns
+    → AllByRecursion (λ y. same_number (number_at x) (number_at y) ≡ false) xs
     → AllByRecursion (λ m. n ≢ m) ns
 apart_from x n [] [] ex e all = tt
 apart_from x n [] (m ∷ ns) ex e all = cc
 apart_from x n (y ∷ ys) [] ex e all = cc
 apart_from x n (y ∷ ys) (m ∷ ns) ex e all =
-    let head : at number None y ≡ Some m = cc in
-    let tail : map (λ s. at number None s) ys ≡ map (λ m. Some m) ns = cc in
+    let head : number_at y ≡ Some m = cc in
+    let tail : map number_at ys ≡ map (λ m. Some m) ns = cc in
     (apart_numbers x y n m ex head all.0, apart_from x n ys ns ex tail all.1)
 
 different_numbers : (xs : List Place) (ns : List ℕ)
-    → map (λ s. at number None s) xs ≡ map (λ m. Some m) ns
-    → Pairwise (λ a b. same_number (at number None a) (at number None b) ≡ false) xs
+    → map number_at xs ≡ map (λ m. Some m) ns
+    → Pairwise (λ a b. same_number (number_at a) (number_at b) ≡ false) xs
     → Pairwise (λ a b. a ≢ b) ns
 different_numbers [] [] e pairs = tt
 different_numbers [] (n ∷ ns) e pairs = cc
 different_numbers (x ∷ xs) [] e pairs = cc
 different_numbers (x ∷ xs) (n ∷ ns) e pairs =
-    let head : at number None x ≡ Some n = cc in
-    let tail : map (λ s. at number None s) xs ≡ map (λ m. Some m) ns = cc in
+    let head : number_at x ≡ Some n = cc in
+    let tail : map number_at xs ≡ map (λ m. Some m) ns = cc in
     (apart_from x n xs ns head tail pairs.0, different_numbers xs ns tail pairs.1)
 
 -- So of two observations in order, the set or the target differs.
@@ -230,7 +230,7 @@ once limits h st s clean placed surveyed =
     }
 
     sets_long : length (reverse (sets_of st h)) ≡ length s.station.sets
-    sets_long = sym (length-map (reverse (sets_of st h)) (λ s. at number None s))
+    sets_long = sym (length-map (reverse (sets_of st h)) number_at)
         ∙ ap length surveyed.sets ∙ length-map s.station.sets (λ (n : ℕ). Some n)
 
     inside : AllByRecursion (Inside s.station.sets s.station.targets) (couples_of st h)

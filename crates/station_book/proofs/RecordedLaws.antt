@@ -9,8 +9,8 @@ use Rattle.station_book.specs.declared.face.Face.TheVariants.{One, Two}
 use Rattle.station_book.specs.declared.faces.Faces.{Faces}
 use Rattle.station_book.specs.Limits.{FaceLimits, AreLimits}
 use Rattle.station_book.specs.Sights.{Sight, IsTwoC, IsTwoI, IsTwoFace}
-use Rattle.station_book.specs.Blocks.{opens_station, number}
-use Rattle.station_book.specs.Places.{History, Place, places, at, last, before, station, is_same, is_set, target_at, sets_of, station_readings, targets_of}
+use Rattle.station_book.specs.Blocks.{opens_station}
+use Rattle.station_book.specs.Places.{number_at, History, Place, places, at, last, before, station, is_same, is_set, target_at, sets_of, station_readings, targets_of}
 use Rattle.station_book.specs.Faults.{name_at, sight_at, IsWithoutFault}
 use Rattle.station_book.specs.Stations.{Couple, SurveyedStation, IsObserved, HasFaces, IsSurveyed, AreStations, stations_of, couples_of}
 use Rattle.station_book.specs.Recorded.{IsReadingOf, IsRecorded, IsRecordedWith, HasSet}
@@ -47,7 +47,7 @@ recorded_couple : (limits : FaceLimits) (h : History) (st : Place) (s : Surveyed
 recorded_couple limits h st s c o p surveyed is = record {
   recorded = record {
     set = p.set;
-    numbered = matched (λ set. at number None set)
+    numbered = matched number_at
         (reverse (sets_of st h)) s.station.sets surveyed.sets o.set p.set set_place 0;
     first = p.first;
     second = p.second;
@@ -93,7 +93,7 @@ pub record IsPairObserved (limits : FaceLimits) (s : SurveyedStation) (set : Pla
     (target : List ℕ) (first second : Place) : Type 0 where
   pub obs : Obs
   pub listed : In obs s.station.obs
-  pub of_set : at number None set ≡ Some (get_or s.station.sets obs.set 0)
+  pub of_set : number_at set ≡ Some (get_or s.station.sets obs.set 0)
   pub of_target : get_or s.station.targets obs.target [] ≡ target
   pub direction : IsTwoFace limits.two_c (sight_at first) (sight_at second) obs.value
 
@@ -108,7 +108,7 @@ pair_observed limits h st s set target first second clean listed surveyed set_pl
     set_station_is one two = record {
       obs = o.0;
       listed = o.1;
-      of_set = matched (λ set. at number None set)
+      of_set = matched number_at
           (reverse (sets_of st h)) s.station.sets surveyed.sets i.0 set i.1 0
           ∙ ap (λ (n : ℕ). Some (get_or s.station.sets n 0)) (sym o.2.set);
       of_target = ap (λ (n : ℕ). get_or s.station.targets n []) o.2.target
@@ -136,8 +136,8 @@ pair_observed limits h st s set target first second clean listed surveyed set_pl
 
       o : (o : Obs) × In o s.station.obs × IsObserved limits couple o
       o = zip_right (IsObserved limits) (couples_of st h) s.station.obs surveyed.directions couple
-          (couple_of_pair limits h st set target i.0 j.0 first second clean
-          (station_placed h st listed) (inr set_placed) i.1 j.1 one two)
+          (couple_of_pair limits h st set target i.0 j.0 first second clean (inr set_placed) i.1 j.1
+          one two)
 
 -- what was recorded at a station was observed
 observed_key : (limits : FaceLimits) (h : History) (st : Place) (s : SurveyedStation) (k : Key)

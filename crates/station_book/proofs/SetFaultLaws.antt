@@ -19,8 +19,8 @@ use Rattle.station_book.specs.Shelves.{ShelfValue, last_of, is_known, first_set_
 use Rattle.station_book.specs.Kept as kept
 use Rattle.gsi_word.specs.Blocks.{GsiBlock}
 use Rattle.station_book.specs.Blocks.{opens_station, opens_set, has_two, number}
-use Rattle.station_book.specs.Places.{History, Place, before, station, is_empty, first_sets, sets_of, station_readings}
-use Rattle.station_book.specs.Keeps.{numbers_in, IsEntryWith, Stand, IsStage, stations_in, number_at}
+use Rattle.station_book.specs.Places.{number_at, History, Place, before, station, is_empty, first_sets, sets_of, station_readings}
+use Rattle.station_book.specs.Keeps.{numbers_in, IsEntryWith, Stand, IsStage, stations_in}
 use Rattle.station_book.specs.Standing.{StandsFor}
 use Rattle.station_book.proofs.Elements.{same_bytes}
 use Rattle.station_book.proofs.StepLaws.{sets-other}

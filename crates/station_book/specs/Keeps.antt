@@ -1,6 +1,6 @@
 -- What is kept of the stations, and where the book stands, by the blocks before: station by
 -- station, from the sets and the readings that are the station's.
-use Rattle.std.specs.Prelude.{◌≡◌, ℕ, true, false, List, [], ◌∷◌, ◌++◌, length, map, Option, Some, None}
+use Rattle.std.specs.Prelude.{◌≡◌, ℕ, true, false, List, [], ◌∷◌, ◌++◌, length, filter, map, Option, Some, None}
 use Rattle.std.specs.Option.{option_map}
 use Rattle.adjust_kernel.specs.declared.obs.Obs.{Obs}
 use Rattle.station_book.specs.declared.face.Face.TheVariants.{One, Two}
@@ -12,14 +12,9 @@ use Rattle.station_book.specs.declared.stage.Stage.TheVariants.{Outside, Station
 use Rattle.station_book.specs.Slots.{obs_of, faces_of}
 use Rattle.station_book.specs.Entries.{EntryValue}
 use Rattle.station_book.specs.Shelves.{ShelfValue}
-use Rattle.station_book.specs.Blocks.{number}
-use Rattle.station_book.specs.Places.{History, Place, before, station, is_empty, is_open, sets_of, station_readings, first_sets, distinct, reading_in, target_at, at}
-use Rattle.station_book.specs.Stations.{SurveyedStation, in_set}
+use Rattle.station_book.specs.Places.{History, Place, number_at, before, opening, station, is_same, is_empty, is_open, sets_of, station_readings, first_sets, distinct, reading_in, target_at}
+use Rattle.station_book.specs.Stations.{SurveyedStation}
 use Rattle.station_book.specs.Faults.{open_sets, name_at, sight_at}
-
--- the number of the set that opens at a place
-abbrev pub number_at : Place → Option ℕ
-number_at place = at number None place
 
 abbrev pub sighted : Option Place → Option Sight
 sighted o = option_map sight_at o
@@ -37,6 +32,10 @@ slots_of targets rs = map (slot_of rs) targets
 -- the names of the targets of these readings, in the order of their first
 abbrev pub targets_in : List Place → List (List ℕ)
 targets_in readings = distinct (map target_at readings)
+
+-- those of a station's readings that are of this set
+abbrev pub in_set : Place → List Place → List Place
+in_set set rs = filter (λ r. is_same (opening (before r)) set) rs
 
 -- the observations of these sets, which come the newest first; their places are counted from the
 -- oldest

@@ -1,13 +1,13 @@
 -- What a field file recorded, in the words of its blocks alone.
-use Rattle.std.specs.Prelude.{◌≡◌, ℕ, IsTrue, List, Contains, Some, None, ◌⊎◌}
+use Rattle.std.specs.Prelude.{◌≡◌, ℕ, IsTrue, List, Contains, Some, ◌⊎◌}
 use Rattle.adjust_kernel.specs.Matching.{Key, observed}
 use Rattle.station_book.specs.declared.face.Face.{Face}
 use Rattle.station_book.specs.declared.face.Face.TheVariants.{One, Two}
 use Rattle.station_book.specs.declared.faces.Faces.{Faces}
 use Rattle.station_book.specs.Limits.{FaceLimits}
 use Rattle.station_book.specs.Sights.{IsTwoC, IsTwoI, IsTwoFace}
-use Rattle.station_book.specs.Blocks.{number, is_of_face}
-use Rattle.station_book.specs.Places.{History, Place, places, at, before, opening, station, is_set, is_reading, target_at, stands}
+use Rattle.station_book.specs.Blocks.{is_of_face}
+use Rattle.station_book.specs.Places.{History, Place, places, number_at, before, opening, station, is_set, is_reading, target_at, stands}
 use Rattle.station_book.specs.Faults.{name_at, sight_at}
 use Rattle.station_book.specs.Stations.{SurveyedStation}
 
@@ -34,7 +34,7 @@ pub record HasSet (h : History) (name : List ℕ) : Type 0 where
 -- direction within the limit.
 pub record IsRecorded (limits : FaceLimits) (h : History) (name : List ℕ) (k : Key) : Type 0 where
   pub set : Place
-  pub numbered : at number None set ≡ Some k.set
+  pub numbered : number_at set ≡ Some k.set
   pub first : Place
   pub second : Place
   pub face_one : IsReadingOf h name set k.target One first
@@ -57,7 +57,7 @@ pub record IsListed (limits : FaceLimits) (h : History) (stations : List Surveye
   pub of_station : name_at (station (before r)) ≡ Some surveyed.station.name
   pub key : Key
   pub listed : Contains (observed surveyed.station) key
-  pub of_set : at number None (opening (before r)) ≡ Some key.set
+  pub of_set : number_at (opening (before r)) ≡ Some key.set
   pub of_target : target_at r ≡ key.target
   pub recorded : IsRecorded limits h surveyed.station.name key
   pub is_one : (recorded.first ≡ r) ⊎ (recorded.second ≡ r)
