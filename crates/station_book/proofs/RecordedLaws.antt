@@ -1,5 +1,6 @@
 -- What is listed at a station is what the file recorded there: none is missing, none is added.
 use Rattle.std.proofs.Common.{◌≡◌, ◌↔◌, ℕ, Bool, true, false, ◌&&◌, List, [], ◌∷◌, length, map, reverse, get_or, Some, None, refl, sym, ap, ◌∙◌, inl, inr, subst}
+use Rattle.std.specs.Prelude.{ℤ}
 use Rattle.std.specs.List.{Contains, AllZip}
 use Rattle.std.proofs.lemmas.Bool.{and_from, eq-eqb}
 use Rattle.adjust_kernel.specs.declared.obs.Obs.{Obs}
@@ -41,10 +42,11 @@ record IsRecordedBy (limits : FaceLimits) (h : History) (name : List ℕ) (k : K
   pub second_is : recorded.second ≡ b
 
 recorded_couple : (limits : FaceLimits) (h : History) (st : Place) (s : SurveyedStation)
-    (c : Couple) (o : Obs) (p : IsPairOf h st c) → IsSurveyed limits h st s → IsObserved limits c o
+    (c : Couple) (o : Obs) (f : Faces) (p : IsPairOf h st c) → IsSurveyed limits h st s
+    → IsObserved limits c o → HasFaces limits c f
     → IsRecordedBy limits h s.station.name
     (key_of_obs s.station.sets s.station.targets o) p.first p.second
-recorded_couple limits h st s c o p surveyed is = record {
+recorded_couple limits h st s c o f p surveyed is differ = record {
   recorded = record {
     set = p.set;
     numbered = matched number_at
@@ -58,6 +60,10 @@ recorded_couple limits h st s c o p surveyed is = record {
     direction = subst (λ (a : Sight). IsTwoFace limits.two_c a (sight_at p.second) o.value)
         p.first_is
         (subst (λ (b : Sight). IsTwoFace limits.two_c c.first b o.value) p.second_is is.direction);
+    difference = f.two_i;
+    two_i = subst (λ (a : Sight). IsTwoI limits.two_i a (sight_at p.second) f.two_i)
+        p.first_is
+        (subst (λ (b : Sight). IsTwoI limits.two_i c.first b f.two_i) p.second_is differ.two_i);
   };
   first_is = refl;
   second_is = refl;
@@ -79,8 +85,9 @@ recorded_obs : (limits : FaceLimits) (h : History) (st : Place) (s : SurveyedSta
 recorded_obs limits h st s o listed surveyed own =
     let c = zip_left (IsObserved limits)
     (couples_of st h) s.station.obs surveyed.directions o own in
-    (recorded_couple limits h st s c.0 o
-    (pair_of_couple h st c.0 (station_placed h st listed) c.1) surveyed c.2).recorded
+    let f = zip_right (HasFaces limits) (couples_of st h) s.faces surveyed.differences c.0 c.1 in
+    (recorded_couple limits h st s c.0 o f.0
+    (pair_of_couple h st c.0 (station_placed h st listed) c.1) surveyed c.2 f.2).recorded
 
 same_key : (a b : Key) → a.set ≡ b.set → a.target ≡ b.target → a.value ≡ b.value → a ≡ b
 same_key a b s t v = λ i. record { set = s i; target = t i; value = v i }
@@ -96,6 +103,8 @@ pub record IsPairObserved (limits : FaceLimits) (s : SurveyedStation) (set : Pla
   pub of_set : number_at set ≡ Some (get_or s.station.sets obs.set 0)
   pub of_target : get_or s.station.targets obs.target [] ≡ target
   pub direction : IsTwoFace limits.two_c (sight_at first) (sight_at second) obs.value
+  pub difference : ℤ
+  pub two_i : IsTwoI limits.two_i (sight_at first) (sight_at second) difference
 
 -- In a file without fault two readings, one of each face, are observed.
 pub pair_observed : (limits : FaceLimits) (h : History) (st : Place) (s : SurveyedStation)
@@ -114,6 +123,8 @@ pair_observed limits h st s set target first second clean listed surveyed set_pl
       of_target = ap (λ (n : ℕ). get_or s.station.targets n []) o.2.target
           ∙ ap (λ (ts : List (List ℕ)). get_or ts j.0 []) surveyed.targets ∙ j.1.value [];
       direction = o.2.direction;
+      difference = f.0.two_i;
+      two_i = f.2.two_i;
     } where
       -- its place among the sets, and that of the target among the targets
       i : (i : ℕ) × IsAt (reverse (sets_of st h)) i set
@@ -134,10 +145,16 @@ pair_observed limits h st s set target first second clean listed surveyed set_pl
       couple : Couple
       couple = record { set = i.0; target = j.0; first = sight_at first; second = sight_at second }
 
+      own : In couple (couples_of st h)
+      own = couple_of_pair limits h st set target i.0 j.0 first second clean (inr set_placed) i.1 j.1
+          one two
+
       o : (o : Obs) × In o s.station.obs × IsObserved limits couple o
       o = zip_right (IsObserved limits) (couples_of st h) s.station.obs surveyed.directions couple
-          (couple_of_pair limits h st set target i.0 j.0 first second clean (inr set_placed) i.1 j.1
-          one two)
+          own
+
+      f : (f : Faces) × In f s.faces × HasFaces limits couple f
+      f = zip_right (HasFaces limits) (couples_of st h) s.faces surveyed.differences couple own
 
 -- what was recorded at a station was observed
 observed_key : (limits : FaceLimits) (h : History) (st : Place) (s : SurveyedStation) (k : Key)
@@ -271,7 +288,7 @@ with_faces limits h st s placed surveyed (c ∷ cs) (o ∷ os) (f ∷ fs) inside
     head : IsPairOf h st c
         → IsRecordedWith limits h s.station.name (key_of_obs s.station.sets s.station.targets o) f
     head p =
-        let r = recorded_couple limits h st s c o p surveyed one.0 in
+        let r = recorded_couple limits h st s c o f p surveyed one.0 two.0 in
         let first : c.first ≡ sight_at r.recorded.first = p.first_is
         ∙ sym (ap sight_at r.first_is) in
         let second : c.second ≡ sight_at r.recorded.second = p.second_is

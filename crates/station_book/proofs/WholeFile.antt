@@ -192,6 +192,8 @@ list_pair limits h stations s r first second clean among listed surveyed set one
         face_one = reading_as One first one;
         face_two = reading_as Two second two;
         direction = pair.direction;
+        difference = pair.difference;
+        two_i = pair.two_i;
       };
       is_one = is_one;
     } where

@@ -1,5 +1,5 @@
 -- What a field file recorded, in the words of its blocks alone.
-use Rattle.std.specs.Prelude.{◌≡◌, ℕ, IsTrue, List, Contains, Some, ◌⊎◌}
+use Rattle.std.specs.Prelude.{◌≡◌, ℕ, ℤ, IsTrue, List, Contains, Some, ◌⊎◌}
 use Rattle.adjust_kernel.specs.Matching.{Key, observed}
 use Rattle.station_book.specs.declared.face.Face.{Face}
 use Rattle.station_book.specs.declared.face.Face.TheVariants.{One, Two}
@@ -30,8 +30,8 @@ pub record HasSet (h : History) (name : List ℕ) : Type 0 where
   pub of_station : name_at (station (before set)) ≡ Some name
 
 -- The file recorded this two-face direction of a target, in a set of this number, of the station of
--- this name: the set has a reading of the target in face I and one in face II, and the two give the
--- direction within the limit.
+-- this name: the set has a reading of the target in face I and one in face II, the two give the
+-- direction within the limit of 2c, and their 2i is within its limit.
 pub record IsRecorded (limits : FaceLimits) (h : History) (name : List ℕ) (k : Key) : Type 0 where
   pub set : Place
   pub numbered : number_at set ≡ Some k.set
@@ -40,6 +40,8 @@ pub record IsRecorded (limits : FaceLimits) (h : History) (name : List ℕ) (k :
   pub face_one : IsReadingOf h name set k.target One first
   pub face_two : IsReadingOf h name set k.target Two second
   pub direction : IsTwoFace limits.two_c (sight_at first) (sight_at second) k.value
+  pub difference : ℤ
+  pub two_i : IsTwoI limits.two_i (sight_at first) (sight_at second) difference
 
 -- The same, with the face differences of the same two readings, each within its limit.
 pub record IsRecordedWith (limits : FaceLimits) (h : History) (name : List ℕ) (k : Key) (f : Faces)
