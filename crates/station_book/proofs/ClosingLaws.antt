@@ -8,11 +8,12 @@ use Rattle.std.proofs.lemmas.List.{append-nil, append_assoc, length-append, map-
 use Rattle.std.proofs.lemmas.List.Elements.{All-append, All-cons, All-nil}
 use Rattle.std.proofs.lemmas.Map.Made.{AllPairs-from_IsDistinct}
 use Rattle.std.proofs.lemmas.Slice.Eq.{bytes_eq-Decides}
+use Rattle.indexmap.specs.IndexMap.{insert_entry}
 use Rattle.adjust_kernel.specs.Names.{IsName}
 use Rattle.station_book.specs.Stations.{SurveyedStation}
 use Rattle.station_book.specs.Entries.{EntryValue, MayEnd}
 use Rattle.station_book.specs.Shelves.{ShelfValue, LastMayEnd, OlderMayEnd, AreByName, survey_of, surveys_of}
-use Rattle.station_book.proofs.ShelfLaws.{name_eq, name_eq-same, same-name_eq}
+use Rattle.station_book.proofs.ShelfLaws.{name_eq, name_eq-same, same-name_eq, inserted}
 use Rattle.station_book.proofs.NewestLaws.{all_in_map}
 use Rattle.std.proofs.lemmas.Bool.{or_from, false_from_ne_true}
 
@@ -68,13 +69,13 @@ module _ (es : List (List ℕ × EntryValue)) (closed : List (List ℕ × Survey
   next_may = subst (All (λ e. MayEnd e.1)) is h.may 0 x (omega (arith, ap length is))
 
   -- and its name is new
-  pub next_new : list_any (λ e. bytes_eq x.0 e.0) closed ≡ false
+  next_new : list_any (λ e. bytes_eq x.0 e.0) closed ≡ false
   next_new = any_key x.0 closed ∙ not_among (keys_of closed) (keys_of later) x.0
       (subst (λ (r : List (List ℕ × EntryValue)). AllPairs (λ a b. a ≢ b)
       (keys_of closed ++ keys_of r)) is h.names)
 
   -- after the next one is closed
-  pub next_closed : (more : List (List ℕ × SurveyedStation)) (s : SurveyedStation)
+  next_closed : (more : List (List ℕ × SurveyedStation)) (s : SurveyedStation)
       → s ≡ survey_of x → IsName s.station.name → more ≡ closed ++ (x.0, s) ∷ []
       → IsClosing es more later
   next_closed more s made valid e =
@@ -95,6 +96,12 @@ module _ (es : List (List ℕ × EntryValue)) (closed : List (List ℕ × Survey
             (subst (λ (t : SurveyedStation). IsName t.station.name) made valid, refl)
             (All-nil (λ c. IsName c.0 × (c.0 ≡ c.1.station.name))));
       })
+
+  pub next_inserted : (s : SurveyedStation) (more : List (List ℕ × SurveyedStation))
+      → s ≡ survey_of x → IsName s.station.name → more ≡ insert_entry name_eq closed x.0 s
+      → IsClosing es more later
+  next_inserted s more made valid e =
+      next_closed more s made valid (e ∙ inserted closed x.0 s next_new)
 
 values_surveyed : (es : List (List ℕ × EntryValue)) → values_of (map surveyed es) ≡ map survey_of es
 values_surveyed [] = refl

@@ -59,13 +59,6 @@ module _ {V : Type 0} where
       ∙ ap (λ r. (x.0, w) ∷ r) (reverse-reverse older)
 
   -- what the map has in its last place is the newest
-  pub last_is : (es older : List (List ℕ × V)) (x e : List ℕ × V) → reverse es ≡ x ∷ older
-      → slice_get es (length es - 1) ≡ Some e → e ≡ x
-  last_is es older x e is at =
-      sym (get_or_from_slice_get es (length es - 1) e x at)
-      ∙ (λ i. get_or (stands_last es older x is i) (last_place es older x is i) x)
-      ∙ get_or-append_seam (reverse older) x [] x
-
   pub last_value_is : (es older : List (List ℕ × V)) (x : List ℕ × V) (v : V)
       → reverse es ≡ x ∷ older → slice_get (values_of es) (length es - 1) ≡ Some v → v ≡ x.1
   last_value_is es older x v is at =
@@ -107,44 +100,40 @@ module _ {V : Type 0} where
       (all_reverse P es (λ k d lt. all (suc k) d (omega (arith, lt))))
       (All-cons P e [] (all 0 e (omega arith)) (All-nil P)))
 
--- what the map has in its last place, by the shelf
-pub last_entry : (es s : ShelfValue) (k : List ℕ) (v : EntryValue) → reverse es ≡ s → 0 < length s
-    → slice_get es (length es - 1) ≡ Some (k, v) → v ≡ last_of s
-last_entry es s k v view some at =
-    let n = some_newest s some in
-    ap (λ (e : List ℕ × EntryValue). e.1) (last_is es n.older n.newest (k, v) (view ∙ n.is) at)
-    ∙ ap last_of (sym n.is)
+-- a map of this size, and the shelf that it is
+module _ (es s : ShelfValue) (size : ℕ) (sized : size ≡ length es) (view : reverse es ≡ s)
+    (some : 0 < length s) where
+  n : HasNewest s
+  n = some_newest s some
 
-pub last_value : (es s : ShelfValue) (v : EntryValue) → reverse es ≡ s → 0 < length s
-    → slice_get (values_of es) (length es - 1) ≡ Some v → v ≡ last_of s
-last_value es s v view some at =
-    let n = some_newest s some in
-    last_value_is es n.older n.newest v (view ∙ n.is) at ∙ ap last_of (sym n.is)
+  -- its last value
+  pub last_value : (v : EntryValue) → slice_get (values_of es) (size - 1) ≡ Some v → v ≡ last_of s
+  last_value v at =
+      last_value_is es n.older n.newest v (view ∙ n.is)
+      (ap (λ (k : ℕ). slice_get (values_of es) (k - 1)) (sym sized) ∙ at) ∙ ap last_of (sym n.is)
 
--- a shelf whose last value is changed, and one whose last value is written back
-pub changed_last : (f : EntryValue → EntryValue) (es s : ShelfValue) (w : EntryValue)
-    → reverse es ≡ s → 0 < length s → w ≡ f (last_of s)
-    → reverse (set_value_at es (length es - 1) w) ≡ change_last f s
-changed_last f es s w view some is =
-    let n = some_newest s some in
-    changed_newest es n.older n.newest w (view ∙ n.is)
-    ∙ ap (λ (v : EntryValue). (n.newest.0, v) ∷ n.older) (is ∙ ap (λ (t : ShelfValue). f (last_of t)) n.is)
-    ∙ ap (change_last f) (sym n.is)
+  changed : (w : EntryValue)
+      → reverse (set_value_at es (size - 1) w) ≡ (n.newest.0, w) ∷ n.older
+  changed w = ap (λ (k : ℕ). reverse (set_value_at es (k - 1) w)) sized
+      ∙ changed_newest es n.older n.newest w (view ∙ n.is)
 
-pub unchanged_last : (es s : ShelfValue) (w : EntryValue) → reverse es ≡ s → 0 < length s
-    → w ≡ last_of s → reverse (set_value_at es (length es - 1) w) ≡ s
-unchanged_last es s w view some is =
-    let n = some_newest s some in
-    changed_newest es n.older n.newest w (view ∙ n.is)
-    ∙ ap (λ (v : EntryValue). (n.newest.0, v) ∷ n.older) (is ∙ ap last_of n.is) ∙ sym n.is
+  -- a shelf whose last value is changed, and one whose last value is written back
+  pub changed_last : (f : EntryValue → EntryValue) (w : EntryValue) → w ≡ f (last_of s)
+      → reverse (set_value_at es (size - 1) w) ≡ change_last f s
+  changed_last f w is =
+      changed w ∙ ap (λ (v : EntryValue). (n.newest.0, v) ∷ n.older)
+      (is ∙ ap (λ (t : ShelfValue). f (last_of t)) n.is) ∙ ap (change_last f) (sym n.is)
 
--- The older ones stay as they are.
-pub older_may : (es s : ShelfValue) (w : EntryValue) → reverse es ≡ s → 0 < length s
-    → OlderMayEnd (reverse es) → OlderMayEnd (reverse (set_value_at es (length es - 1) w))
-older_may es s w view some h =
-    let n = some_newest s some in
-    subst OlderMayEnd (sym (changed_newest es n.older n.newest w (view ∙ n.is)))
-    (subst OlderMayEnd (view ∙ n.is) h)
+  pub unchanged_last : (w : EntryValue) → w ≡ last_of s
+      → reverse (set_value_at es (size - 1) w) ≡ s
+  unchanged_last w is =
+      changed w ∙ ap (λ (v : EntryValue). (n.newest.0, v) ∷ n.older) (is ∙ ap last_of n.is)
+      ∙ sym n.is
+
+  -- The older ones stay as they are.
+  pub older_may : (w : EntryValue) → OlderMayEnd (reverse es)
+      → OlderMayEnd (reverse (set_value_at es (size - 1) w))
+  older_may w h = subst OlderMayEnd (sym (changed w)) (subst OlderMayEnd (view ∙ n.is) h)
 
 -- Where the newest may end too, all may.
 pub all_may : (s : ShelfValue) → LastMayEnd s → OlderMayEnd s → All (λ e. MayEnd e.1) s

@@ -85,13 +85,9 @@ fn face_of(zenith: u32) -> Option<Face>
 /// The target of a reading.
 #[tactic(auto, unfolding(crate::specs::Blocks::target))]
 fn target(block: &Block<'_>) -> Name
-    requires { 0 < length (block_of block.now).words }
     ensures { result ≡ target (block_of block.now) }
 {
-    match block.word(0) {
-        Some(word) => name_in(&word),
-        None => unreachable!(),
-    }
+    name_in(&block.first())
 }
 
 /// What a measurement block says: nothing where it has no direction.

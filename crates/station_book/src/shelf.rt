@@ -3,7 +3,6 @@
 ghost use Rattle.std.specs.Prelude.{◌≡◌, ◌<◌, ◌≤◌, ◌+◌, ◌++◌, ◌∷◌, [], false, length, None, IfErr, IfOk, OnOk, OnErr, ◌==◌};
 ghost use Rattle.std.specs.List.{list_any};
 ghost use Rattle.std.specs.Str.{bytes_eq};
-ghost use Rattle.indexmap.specs.IndexMap.{spare};
 ghost use Rattle.adjust_kernel.specs.Sheets.{IsSetNumber};
 ghost use Rattle.station_book.specs.Shelves.{empty_shelf, surveys_of, with_station, LastMayEnd, first_set_faults, last_of, change_last, is_known, more_set_faults};
 ghost use Rattle.station_book.specs.Faults.{first_of};
@@ -42,19 +41,6 @@ impl Model for Shelf {
     ghost invariant = { λ s. OlderMayEnd (reverse s.stations.entries) };
 }
 
-/// Keeps what a station more gave. There is room for it.
-fn keep(kept: &mut IndexMap<Name, Surveyed>, name: Name, surveyed: Surveyed)
-    requires room { 0 < spare kept.old }
-    requires new { list_any (λ e. bytes_eq name e.0) kept.old.entries ≡ false }
-    ensures entries { kept.new.entries ≡ kept.old.entries ++ (name, surveyed) ∷ [] }
-    ensures room { spare kept.old ≤ spare kept.new + 1 }
-{
-    match kept.insert(name, surveyed) {
-        Ok(_) => {}
-        Err(_) => unreachable!(),
-    }
-}
-
 impl Shelf {
     /// No station.
     pub(crate) fn new(alloc: Global) -> Shelf
@@ -86,10 +72,7 @@ impl Shelf {
         requires { 0 < length self.now }
         ensures { result.now ≡ last_of self.now }
     {
-        match self.stations.last() {
-            Some((_, entry)) => entry,
-            None => unreachable!(),
-        }
+        &self.stations[self.stations.len() - 1]
     }
 
     /// The fault of the last set, if it ends here.
@@ -123,10 +106,8 @@ impl Shelf {
         ensures ok { OnOk result (self.new ≡ change_last (with_set number) self.old) }
         ensures err { OnErr result (self.new ≡ self.old) }
     {
-        match self.stations.last_mut() {
-            Some(entry) => entry.add_set(number),
-            None => unreachable!(),
-        }
+        let last = self.stations.len() - 1;
+        self.stations[last].add_set(number)
     }
 
     /// Opens the first set of a station.
@@ -178,10 +159,8 @@ impl Shelf {
         ensures memory { IfErr result (WantsOnly (is_new_to (last_of self.old) reading)) }
         ensures err { OnErr result (self.new ≡ self.old) }
     {
-        match self.stations.last_mut() {
-            Some(entry) => entry.take_reading(limits, reading),
-            None => unreachable!(),
-        }
+        let last = self.stations.len() - 1;
+        self.stations[last].take_reading(limits, reading)
     }
 
     /// The stations, with the observations of all sets.
@@ -194,7 +173,7 @@ impl Shelf {
         let mut rest = stations.into_iter();
         'stations: while let Some((name, entry)) = rest.next() {
             let station = entry.close(alloc, name)?;
-            keep(&mut surveyed, name, station);
+            surveyed.insert(name, station)?;
         }
         Ok(Stations { surveyed })
     }

@@ -1,13 +1,9 @@
-use Rattle.std.proofs.Common.{◌≤◌, length, reverse}
-use Rattle.indexmap.specs.IndexMap.{spare}
+use Rattle.std.proofs.Common.{length, reverse}
 use Rattle.station_book.proofs.ClosingLaws.{IsClosing}
 use Rattle.station_book.proofs.shelf.Shelf.finish.Given as goal
 
 abbrev pub invariant-stations : goal.invariant-stations
-invariant-stations l = record {
-  closing : IsClosing (reverse l.fn.self) l.surveyed.entries l.rest;
-  room : length l.rest ≤ spare l.surveyed;
-}
+invariant-stations l = IsClosing (reverse l.fn.self) l.surveyed.entries l.rest
 
 abbrev pub decreases-stations : goal.decreases-stations
 decreases-stations l = length l.rest
