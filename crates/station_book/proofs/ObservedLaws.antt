@@ -11,6 +11,7 @@ use Rattle.station_book.specs.Blocks.{opens_station, opens_set, closes_set, is_o
 use Rattle.station_book.specs.Places.{History, Place, places, last, before, opening, station, is_open, is_empty, is_set, is_reading, stands}
 use Rattle.station_book.specs.Faults.{first_of, end_faults, IsWithoutFault, IsWholeFile, fault_at_end, open_readings, name_at}
 use Rattle.station_book.specs.Stations.{SurveyedStation, IsSurveyed, AreStations, stations_of}
+use Rattle.station_book.specs.Recorded.{IsListed}
 use Rattle.station_book.proofs.Elements.{In, in_contains, contains_in, zip_left}
 use Rattle.station_book.proofs.KeptLaws.{none_stands, none_when}
 use Rattle.station_book.proofs.FilePlaces.{listed_station, set_of_reading}
@@ -85,6 +86,17 @@ set_has_reading limits h set whole placed s = elim
 some_length : {X : Type 0} (xs : List X) (x : X) → Contains xs x → 1 ≤ length xs
 some_length xs x c = let inside = c.1 in omega arith
 
+-- the station at which a reading is listed has the name of the reading's own
+listed_name : (limits : FaceLimits) (h : History) (stations : List SurveyedStation) (r : Place)
+    (l : IsListed limits h stations r)
+    → name_at (station (before r)) ≡ Some l.surveyed.station.name
+listed_name limits h stations r l = elim l.is_one [
+  | inl e ↦ ap (λ (p : Place). name_at (station (before p))) (sym e)
+      ∙ l.recorded.face_one.of_station
+  | inr e ↦ ap (λ (p : Place). name_at (station (before p))) (sym e)
+      ∙ l.recorded.face_two.of_station
+]
+
 -- THE LAW: a station has an observation
 pub some_observation : (limits : FaceLimits) (h : History) (stations : List SurveyedStation)
     (s : SurveyedStation) → IsWholeFile limits h → AreStations limits h stations
@@ -101,7 +113,7 @@ some_observation limits h stations s whole are among =
     sym (set_of_reading h r.read r.placed r.reading).of_station
     ∙ ap (λ (p : Place). station (before p)) r.of_set ∙ set.of_station in
     let names : Some l.surveyed.station.name ≡ Some s.station.name =
-    sym l.of_station ∙ ap name_at its ∙ st.2.name in
+    sym (listed_name limits h stations r.read l) ∙ ap name_at its ∙ st.2.name in
     let name : l.surveyed.station.name ≡ s.station.name = cc in
     let its_name = s.station.name in
     let one = (its_station limits h stations its_name s whole.blocks are).1 (among, refl) in

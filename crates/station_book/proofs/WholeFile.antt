@@ -177,13 +177,10 @@ list_pair limits h stations s r first second clean among listed surveyed set one
     record {
       surveyed = s;
       among = contains_in s stations among;
-      of_station = surveyed.name;
       key = key_of_obs s.station.sets s.station.targets pair.obs;
       listed = contains_in (key_of_obs s.station.sets s.station.targets pair.obs)
           (observed s.station)
           (in_map (key_of_obs s.station.sets s.station.targets) pair.obs s.station.obs pair.listed);
-      of_set = pair.of_set;
-      of_target = sym pair.of_target;
       recorded = record {
         set = opening (before r);
         numbered = pair.of_set;

@@ -56,10 +56,7 @@ pub record IsListed (limits : FaceLimits) (h : History) (stations : List Surveye
     (r : Place) : Type 0 where
   pub surveyed : SurveyedStation
   pub among : Contains stations surveyed
-  pub of_station : name_at (station (before r)) ≡ Some surveyed.station.name
   pub key : Key
   pub listed : Contains (observed surveyed.station) key
-  pub of_set : number_at (opening (before r)) ≡ Some key.set
-  pub of_target : target_at r ≡ key.target
   pub recorded : IsRecorded limits h surveyed.station.name key
   pub is_one : (recorded.first ≡ r) ⊎ (recorded.second ≡ r)
