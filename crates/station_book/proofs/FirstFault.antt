@@ -29,63 +29,64 @@ in_order (c ∷ past) a b (inr pa) (inl eb) = inr
 in_order (c ∷ past) a b (inr pa) (inr pb) = in_order past a b pa pb
 
 pub fault_or_none : (limits : FaceLimits) (h : History)
-    → IsWithoutFault limits h ⊎ ((r : Place) × (kind : BookKind) × IsFirstFault limits h r kind)
+    → IsWithoutFault limits h
+    ⊎ ((past : History) × (b : GsiBlock) × (kind : BookKind) × IsFirstFault limits h past b kind)
 fault_or_none limits [] = inl tt
 fault_or_none limits (b ∷ past) = elim (fault_or_none limits past) [
   | inl clean ↦ elim (none_or_some (fault_after limits past b)) [
     | inl e ↦ inl (e, clean)
     | inr f ↦ inr (
-      b ∷ past,
+      past,
+      b,
       f.0,
       record {
         placed = contains_in (b ∷ past) (places (b ∷ past)) (inl refl);
         clean = clean;
-        block = b;
-        stands = refl;
         fault = f.1;
       },
     )
   ]
   | inr f ↦
-      let first = f.2 in inr (
+      let first = f.3 in inr (
         f.0,
         f.1,
+        f.2,
         record {
-          placed = contains_in f.0 (places (b ∷ past))
-              (inr (in_contains f.0 (places past) first.placed));
+          placed = contains_in (f.1 ∷ f.0) (places (b ∷ past))
+              (inr (in_contains (f.1 ∷ f.0) (places past) first.placed));
           clean = first.clean;
-          block = first.block;
-          stands = first.stands;
           fault = first.fault;
         },
       )
 ]
 
--- where a fault stands, what comes after isn't without fault
-not_clean : (limits : FaceLimits) (h p : History) (r : Place) (kind : BookKind)
-    → IsFirstFault limits h r kind → IsWithoutFault limits p → In r (places p) → ⊥
-not_clean limits h p r kind f clean placed =
-    let none = (clean_at limits p f.block (before r) clean
-    (subst (λ (q : Place). In q (places p)) f.stands placed)).0 in
+-- where a block has a fault, what comes after isn't without fault
+not_clean : (limits : FaceLimits) (h later past : History) (b : GsiBlock) (kind : BookKind)
+    → IsFirstFault limits h past b kind → IsWithoutFault limits later
+    → In (b ∷ past) (places later) → ⊥
+not_clean limits h later past b kind f clean placed =
+    let none = (clean_at limits later b past clean placed).0 in
     let bad : Some kind ≡ None = sym f.fault ∙ none in cc
 
-pub no_first_fault : (limits : FaceLimits) (h : History) (r : Place) (kind : BookKind)
-    → IsWithoutFault limits h → ¬ IsFirstFault limits h r kind
-no_first_fault limits h r kind clean f = not_clean limits h h r kind f clean
-    (in_contains r (places h) f.placed)
+pub no_first_fault : (limits : FaceLimits) (h past : History) (b : GsiBlock) (kind : BookKind)
+    → IsWithoutFault limits h → ¬ IsFirstFault limits h past b kind
+no_first_fault limits h past b kind clean f = not_clean limits h h past b kind f clean
+    (in_contains (b ∷ past) (places h) f.placed)
 
-pub one_first_fault : (limits : FaceLimits) (h : History) (r s : Place) (kind other : BookKind)
-    → IsFirstFault limits h r kind → IsFirstFault limits h s other → (r ≡ s) × (kind ≡ other)
-one_first_fault limits h r s kind other f g = split
-    (in_order h r s (in_contains r (places h) f.placed) (in_contains s (places h) g.placed)) where
-      split : (r ≡ s) ⊎ (In r (places (before s)) ⊎ In s (places (before r)))
-          → (r ≡ s) × (kind ≡ other)
+pub one_first_fault : (limits : FaceLimits) (h past older : History) (b c : GsiBlock)
+    (kind other : BookKind)
+    → IsFirstFault limits h past b kind → IsFirstFault limits h older c other
+    → (b ∷ past ≡ c ∷ older) × (kind ≡ other)
+one_first_fault limits h past older b c kind other f g = split
+    (in_order h (b ∷ past) (c ∷ older) (in_contains (b ∷ past) (places h) f.placed)
+    (in_contains (c ∷ older) (places h) g.placed)) where
+      split : (b ∷ past ≡ c ∷ older) ⊎ (In (b ∷ past) (places older) ⊎ In (c ∷ older) (places past))
+          → (b ∷ past ≡ c ∷ older) × (kind ≡ other)
       split (inl e) =
-          let blocks : f.block ∷ before r ≡ g.block ∷ before s = sym f.stands ∙ e ∙ g.stands in
-          let heads : f.block ≡ g.block = cc in
-          let tails : before r ≡ before s = ap before e in
+          let heads : b ≡ c = cc in
+          let tails : past ≡ older = ap before e in
           let faults : Some kind ≡ Some other = sym f.fault
           ∙ (λ i. fault_after limits (tails i) (heads i)) ∙ g.fault in
           (e, cc)
-      split (inr (inl k)) = absurd (not_clean limits h (before s) r kind f g.clean k)
-      split (inr (inr k)) = absurd (not_clean limits h (before r) s other g f.clean k)
+      split (inr (inl k)) = absurd (not_clean limits h older past b kind f g.clean k)
+      split (inr (inr k)) = absurd (not_clean limits h past older c other g f.clean k)

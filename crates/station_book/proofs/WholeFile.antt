@@ -272,29 +272,30 @@ no_reading_lost limits h stations r whole are contained reading = by (face_at r)
 pub whole_or_fault : (limits : FaceLimits) (h : History)
     → IsWholeFile limits h ⊎ ((number : ℕ) × (kind : BookKind) × IsFileFault limits h number kind)
 whole_or_fault limits h = split (fault_or_none limits h) (fault_at_end h) refl where
-  split : IsWithoutFault limits h ⊎ ((r : Place) × (kind : BookKind) × IsFirstFault limits h r kind)
+  split : IsWithoutFault limits h
+      ⊎ ((past : History) × (b : GsiBlock) × (kind : BookKind) × IsFirstFault limits h past b kind)
       → (o : Option BookKind) → fault_at_end h ≡ o
       → IsWholeFile limits h ⊎ ((number : ℕ) × (kind : BookKind) × IsFileFault limits h number kind)
   split (inl clean) None e = inl (record { blocks = clean; ending = e })
   split (inl clean) (Some kind) e = inr (length h + 1, kind, inr (clean, e, refl))
-  split (inr f) o e = inr (length f.0, f.1, inl (f.0, f.2, refl))
+  split (inr f) o e = inr (length f.0 + 1, f.2, inl (f.0, f.1, f.3, refl))
 
 pub whole_has_none : (limits : FaceLimits) (h : History) (number : ℕ) (kind : BookKind)
     → IsWholeFile limits h → ¬ IsFileFault limits h number kind
 whole_has_none limits h number kind whole
-    (inl f) = no_first_fault limits h f.0 kind whole.blocks f.1
+    (inl f) = no_first_fault limits h f.0 f.1 kind whole.blocks f.2
 whole_has_none limits h number kind whole (inr f) = let bad : Some kind ≡ None = sym f.1
     ∙ whole.ending in cc
 
 pub one_file_fault : (limits : FaceLimits) (h : History) (m n : ℕ) (kind other : BookKind)
     → IsFileFault limits h m kind → IsFileFault limits h n other → (m ≡ n) × (kind ≡ other)
 one_file_fault limits h m n kind other (inl f) (inl g) =
-    let same = one_first_fault limits h f.0 g.0 kind other f.1 g.1 in
-    (f.2 ∙ ap length same.0 ∙ sym g.2, same.1)
+    let same = one_first_fault limits h f.0 g.0 f.1 g.1 kind other f.2 g.2 in
+    (f.3 ∙ ap (λ (p : Place). length (before p) + 1) same.0 ∙ sym g.3, same.1)
 one_file_fault limits h m n kind other (inl f) (inr g) = absurd
-    (no_first_fault limits h f.0 kind g.0 f.1)
+    (no_first_fault limits h f.0 f.1 kind g.0 f.2)
 one_file_fault limits h m n kind other (inr f) (inl g) = absurd
-    (no_first_fault limits h g.0 other f.0 g.1)
+    (no_first_fault limits h g.0 g.1 other f.0 g.2)
 one_file_fault limits h m n kind other (inr f) (inr g) =
     let kinds : Some kind ≡ Some other = sym f.1 ∙ g.1 in
     (f.2 ∙ sym g.2, cc)
