@@ -1,6 +1,6 @@
 -- The end of a set and of the file: the faults and the stations by what is kept are those by the
 -- blocks.
-use Rattle.std.proofs.Common.{◌≡◌, ℕ, Bool, true, false, ◌&&◌, ◌||◌, List, [], ◌∷◌, map, reverse, Option, Some, None, is_some, is_none, refl, sym, ap, ◌∙◌, inl, inr, subst}
+use Rattle.std.proofs.Common.{◌≡◌, ℕ, true, false, ◌&&◌, ◌||◌, List, [], ◌∷◌, map, reverse, Option, Some, None, is_some, is_none, refl, sym, ap, ◌∙◌, inl, inr, subst}
 use Rattle.std.specs.List.{list_any, list_all, AllByRecursion}
 use Rattle.std.specs.Str.{bytes_eq}
 use Rattle.std.proofs.lemmas.List.{reverse-reverse}

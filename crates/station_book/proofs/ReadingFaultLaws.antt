@@ -12,7 +12,6 @@ use Rattle.station_book.specs.declared.fault.BookKind.{BookKind}
 use Rattle.station_book.specs.declared.fault.BookKind.TheVariants as kinds
 use Rattle.station_book.specs.Limits.{FaceLimits}
 use Rattle.station_book.specs.declared.role.Role.TheVariants as roles
-use Rattle.station_book.specs.Sights.{Sight}
 use Rattle.station_book.specs.declared.sight.Sighting.{Sighting}
 use Rattle.station_book.specs.declared.stage.Stage.{Stage}
 use Rattle.station_book.specs.declared.stage.Stage.TheVariants.{Outside, Station, BetweenSets, InSet}
@@ -171,15 +170,15 @@ same_later limits targets rs b e kept ts ss = split (place_of (target b) e.targe
       ∷ when (is_apart (has_no_two_c limits.two_c) (sight b) (other i)) kinds.TwoC
       ∷ when (is_apart (has_no_two_i limits.two_i) (sight b) (other i)) kinds.TwoI ∷ [])) ∙ old_target_tests (is_some (reading_in (face b) (target b) rs))
       (is_apart (has_no_two_c limits.two_c) (sight b)
-    (sighted (reading_in (other_face (face b)) (target b) rs)))
+      (sighted (reading_in (other_face (face b)) (target b) rs)))
       (is_apart (has_no_two_i limits.two_i) (sight b)
-    (sighted (reading_in (other_face (face b)) (target b) rs)))
+      (sighted (reading_in (other_face (face b)) (target b) rs)))
       ∙ sym (λ i. first_of (tests (is_some (reading_in (face b) (target b) rs))
       (not (among i) && leb 100 (length targets))
       (is_apart (has_no_two_c limits.two_c) (sight b)
-    (sighted (reading_in (other_face (face b)) (target b) rs)))
+      (sighted (reading_in (other_face (face b)) (target b) rs)))
       (is_apart (has_no_two_i limits.two_i) (sight b)
-    (sighted (reading_in (other_face (face b)) (target b) rs)))))
+      (sighted (reading_in (other_face (face b)) (target b) rs)))))
 
 -- the same, in the open set
 same_later_open : (limits : FaceLimits) (shelf : ShelfValue) (past : History) (b : GsiBlock)

@@ -1,5 +1,5 @@
 -- What is listed at a station is what the file recorded there: none is missing, none is added.
-use Rattle.std.proofs.Common.{◌≡◌, ◌↔◌, ℕ, Bool, true, false, ◌&&◌, List, [], ◌∷◌, length, map, reverse, get_or, Some, None, refl, sym, ap, ◌∙◌, inl, inr, subst}
+use Rattle.std.proofs.Common.{◌≡◌, ◌↔◌, ℕ, true, ◌&&◌, List, [], ◌∷◌, length, map, reverse, get_or, Some, refl, sym, ap, ◌∙◌, inl, inr, subst}
 use Rattle.std.specs.Prelude.{ℤ}
 use Rattle.std.specs.List.{Contains, AllZip}
 use Rattle.std.proofs.lemmas.Bool.{and_from, eq-eqb}
@@ -11,7 +11,7 @@ use Rattle.station_book.specs.declared.faces.Faces.{Faces}
 use Rattle.station_book.specs.Limits.{FaceLimits, AreLimits}
 use Rattle.station_book.specs.Sights.{Sight, IsTwoC, IsTwoI, IsTwoFace}
 use Rattle.station_book.specs.Blocks.{opens_station}
-use Rattle.station_book.specs.Places.{number_at, History, Place, places, at, last, before, station, is_same, is_set, target_at, sets_of, station_readings, targets_of}
+use Rattle.station_book.specs.Places.{number_at, History, Place, places, last, before, station, is_same, is_set, target_at, sets_of, station_readings, targets_of}
 use Rattle.station_book.specs.Faults.{name_at, sight_at, IsWithoutFault}
 use Rattle.station_book.specs.Stations.{Couple, SurveyedStation, IsObserved, HasFaces, IsSurveyed, AreStations, stations_of, couples_of}
 use Rattle.station_book.specs.Recorded.{IsReadingOf, IsRecorded, IsRecordedWith, HasSet}

@@ -1,6 +1,6 @@
 -- What is kept of the stations, and where the book stands, by the blocks before: station by
 -- station, from the sets and the readings that are the station's.
-use Rattle.std.specs.Prelude.{◌≡◌, ℕ, true, false, List, [], ◌∷◌, ◌++◌, length, filter, map, Option, Some, None}
+use Rattle.std.specs.Prelude.{◌≡◌, ℕ, true, false, List, [], ◌∷◌, ◌++◌, length, filter, map, Option, Some}
 use Rattle.std.specs.Option.{option_map}
 use Rattle.adjust_kernel.specs.declared.obs.Obs.{Obs}
 use Rattle.station_book.specs.declared.face.Face.TheVariants.{One, Two}
