@@ -1,6 +1,7 @@
 //! Why a field file gives no more lines.
 
-ghost use Rattle.std.specs.Prelude.{◌≡◌};
+ghost use Rattle.std.specs.Prelude.{◌≡◌, ◌≤◌, length};
+ghost use Rattle.gsi_file.specs.FaultNames.{file_kind_name, file_kind_number, file_fault_name};
 ghost use Rattle.gsi_file.specs.ToCome.{kind_of};
 
 use crate::limits::{LONGEST_FILE, LONGEST_LINE};
@@ -34,6 +35,35 @@ pub enum FileKind {
     FirstWord,
 }
 
+impl FileKind {
+    /// Its name, as the line of a refusal has it.
+    pub fn name(self) -> &'static str
+        ensures name { result.now ≡ file_kind_name self }
+        ensures short { length result.now ≤ 16 }
+    {
+        match self {
+            FileKind::Read => "Read",
+            FileKind::FileTooLong => "FileTooLong",
+            FileKind::LineTooLong => "LineTooLong",
+            FileKind::Byte(_) => "Byte",
+            FileKind::Word(_) => "Word",
+            FileKind::FirstWord => "FirstWord",
+        }
+    }
+
+    /// The place in the line that it carries, from 1.
+    pub fn number(self) -> Option<usize>
+        ensures { result ≡ file_kind_number self }
+    {
+        match self {
+            FileKind::Byte(at) => Some(at),
+            FileKind::Word(nth) => Some(nth),
+            FileKind::Read | FileKind::FileTooLong | FileKind::LineTooLong | FileKind::FirstWord =>
+                None,
+        }
+    }
+}
+
 impl From<LineFault> for FileKind {
     fn from(fault: LineFault) -> FileKind
         ensures { result ≡ kind_of fault }
@@ -55,4 +85,17 @@ pub enum FileFault {
     /// There was no memory. No call answers it. Run it again with more.
     #[error("out of memory: run it again with more")]
     Memory,
+}
+
+impl FileFault {
+    /// Its name, as the line of a refusal has it.
+    pub fn name(self) -> &'static str
+        ensures name { result.now ≡ file_fault_name self }
+        ensures short { length result.now ≤ 16 }
+    {
+        match self {
+            FileFault::At(_, kind) => kind.name(),
+            FileFault::Memory => "out of memory",
+        }
+    }
 }

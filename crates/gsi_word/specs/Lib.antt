@@ -3,6 +3,7 @@ pub mod Blocks
 pub mod LineFaults
 pub mod Names
 pub mod Angles
+pub mod FaultNames
 pub mod FoundWords
 pub mod Layout
 pub mod BlockViews

@@ -1,5 +1,8 @@
 //! The angle that a word holds: its faults, and the bytes that say how it is written.
 
+ghost use Rattle.std.specs.Prelude.{◌≡◌, ◌≤◌, length};
+ghost use Rattle.gsi_word.specs.FaultNames.{angle_fault_name};
+
 use thiserror::Error;
 
 /// Why a word holds no angle in gon: the first of these that stands, in this order.
@@ -21,6 +24,22 @@ pub enum AngleFault {
     /// The number is a full turn or more: set the instrument to angles from 0 to 400 gon.
     #[error("the angle is a full turn or more: set the instrument to angles from 0 to 400 gon")]
     Range,
+}
+
+impl AngleFault {
+    /// Its name, as the line of a refusal has it.
+    pub fn name(self) -> &'static str
+        ensures name { result.now ≡ angle_fault_name self }
+        ensures short { length result.now ≤ 16 }
+    {
+        match self {
+            AngleFault::Unit => "Unit",
+            AngleFault::InputMode => "InputMode",
+            AngleFault::Sign => "Sign",
+            AngleFault::Digits => "Digits",
+            AngleFault::Range => "Range",
+        }
+    }
 }
 
 /// The byte of the information that says gon with five decimals.
