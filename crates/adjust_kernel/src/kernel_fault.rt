@@ -1,5 +1,8 @@
 //! Why a sheet is refused.
 
+ghost use Rattle.std.specs.Prelude.{◌≡◌, ◌≤◌, length};
+ghost use Rattle.adjust_kernel.specs.FaultNames.{kernel_fault_name, kernel_fault_number};
+
 use thiserror::Error;
 
 /// The first fault of a sheet against its station: the kinds are looked for from the top, and the
@@ -39,4 +42,39 @@ pub enum KernelFault {
     /// of its target and set first, and then at the observation.
     #[error("the residual of row {0} is above the residual limit")]
     Residual(u32),
+}
+
+impl KernelFault {
+    /// Its name, as the line of a refusal has it.
+    pub fn name(self) -> &'static str
+        ensures name { result.now ≡ kernel_fault_name self }
+        ensures short { length result.now ≤ 16 }
+    {
+        match self {
+            KernelFault::Name => "Name",
+            KernelFault::TargetRow(_) => "TargetRow",
+            KernelFault::SetRow(_) => "SetRow",
+            KernelFault::ObsRow(_) => "ObsRow",
+            KernelFault::Datum => "Datum",
+            KernelFault::TargetSum(_) => "TargetSum",
+            KernelFault::SetSum(_) => "SetSum",
+            KernelFault::NotConnected => "NotConnected",
+            KernelFault::Residual(_) => "Residual",
+        }
+    }
+
+    /// The number that it carries, from 1.
+    pub fn number(self) -> Option<u32>
+        ensures { result ≡ kernel_fault_number self }
+    {
+        match self {
+            KernelFault::TargetRow(n)
+            | KernelFault::SetRow(n)
+            | KernelFault::ObsRow(n)
+            | KernelFault::TargetSum(n)
+            | KernelFault::SetSum(n)
+            | KernelFault::Residual(n) => Some(n),
+            KernelFault::Name | KernelFault::Datum | KernelFault::NotConnected => None,
+        }
+    }
 }

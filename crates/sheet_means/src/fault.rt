@@ -1,5 +1,6 @@
 //! Why there is no sheet of means.
-ghost use Rattle.std.specs.Prelude.{◌≡◌};
+ghost use Rattle.std.specs.Prelude.{◌≡◌, ◌≤◌, length};
+ghost use Rattle.sheet_means.specs.FaultNames.{means_fault_name};
 ghost use Rattle.sheet_means.specs.declared.fault.MeansFault.TheVariants.{Memory};
 
 use std::alloc::AllocError;
@@ -15,6 +16,19 @@ pub enum MeansFault {
     /// There was no memory for the sheet: run it again with more.
     #[error("out of memory: run it again with more")]
     Memory,
+}
+
+impl MeansFault {
+    /// Its name, as the line of a refusal has it.
+    pub fn name(self) -> &'static str
+        ensures name { result.now ≡ means_fault_name self }
+        ensures short { length result.now ≤ 16 }
+    {
+        match self {
+            MeansFault::Incomplete => "Incomplete",
+            MeansFault::Memory => "out of memory",
+        }
+    }
 }
 
 impl From<AllocError> for MeansFault {
