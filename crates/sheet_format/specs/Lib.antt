@@ -4,5 +4,6 @@ pub mod Kinds
 pub mod Columns
 pub mod Rows
 pub mod Faults
+pub mod FaultNames
 pub mod Drafts
 pub mod Texts

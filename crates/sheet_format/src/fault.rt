@@ -1,5 +1,8 @@
 //! Why bytes are no sheet, and why a sheet was not written.
 
+ghost use Rattle.std.specs.Prelude.{◌≡◌, ◌≤◌, length};
+ghost use Rattle.sheet_format.specs.FaultNames.{row_kind_name, sheet_fault_name};
+
 use crate::reading::LONGEST_SHEET;
 use adjust_kernel::{LONGEST_NAME, MOST_ROWS, MOST_SETS, MOST_TARGETS};
 use thiserror::Error;
@@ -39,6 +42,26 @@ pub enum RowKind {
     Unfinished,
 }
 
+impl RowKind {
+    /// Its name, as the line of a refusal has it.
+    pub fn name(self) -> &'static str
+        ensures name { result.now ≡ row_kind_name self }
+        ensures short { length result.now ≤ 16 }
+    {
+        match self {
+            RowKind::Fields => "Fields",
+            RowKind::Kind => "Kind",
+            RowKind::Version => "Version",
+            RowKind::NotEmpty => "NotEmpty",
+            RowKind::Name => "Name",
+            RowKind::Number => "Number",
+            RowKind::Range => "Range",
+            RowKind::TooMany => "TooMany",
+            RowKind::Unfinished => "Unfinished",
+        }
+    }
+}
+
 /// Why bytes are no sheet.
 #[derive(Clone, Copy, Debug, PartialEq, Eq, Error)]
 pub enum SheetFault {
@@ -54,6 +77,20 @@ pub enum SheetFault {
     /// Memory was refused. This is no fault of the sheet: with more memory it may be read.
     #[error("out of memory: read the sheet again with more")]
     Memory,
+}
+
+impl SheetFault {
+    /// Its name, as the line of a refusal has it.
+    pub fn name(self) -> &'static str
+        ensures name { result.now ≡ sheet_fault_name self }
+        ensures short { length result.now ≤ 16 }
+    {
+        match self {
+            SheetFault::TooLong => "TooLong",
+            SheetFault::Row(_, kind) => kind.name(),
+            SheetFault::Memory => "out of memory",
+        }
+    }
 }
 
 /// Why a sheet was not written.

@@ -1,3 +1,4 @@
 pub mod LeastOf
 pub mod Told
 pub mod Faults
+pub mod FaultNames

@@ -1,5 +1,6 @@
 //! Why a station's least-squares directions are not told.
-ghost use Rattle.std.specs.Prelude.{◌≡◌};
+ghost use Rattle.std.specs.Prelude.{◌≡◌, ◌≤◌, length};
+ghost use Rattle.stated_directions.specs.FaultNames.{adjust_fault_name};
 ghost use Rattle.stated_directions.specs.Faults.{of_kernel, of_near};
 ghost use Rattle.stated_directions.specs.declared.fault.AdjustFault.TheVariants as adjust;
 
@@ -21,6 +22,20 @@ pub enum AdjustFault {
     /// Memory ran out.
     #[error("out of memory")]
     Memory,
+}
+
+impl AdjustFault {
+    /// Its name, as the line of a refusal has it.
+    pub fn name(self) -> &'static str
+        ensures name { result.now ≡ adjust_fault_name self }
+        ensures short { length result.now ≤ 16 }
+    {
+        match self {
+            AdjustFault::Kernel(fault) => fault.name(),
+            AdjustFault::Unclear => "Unclear",
+            AdjustFault::Memory => "out of memory",
+        }
+    }
 }
 
 impl From<KernelFault> for AdjustFault {
