@@ -1,6 +1,7 @@
 //! Why bytes are no table of directions.
 
-ghost use Rattle.std.specs.Prelude.{◌≡◌};
+ghost use Rattle.std.specs.Prelude.{◌≡◌, ◌≤◌, length};
+ghost use Rattle.direction_table.specs.FaultNames.{row_kind_name, table_fault_name};
 ghost use Rattle.direction_table.specs.declared.fault.TableFault.TheVariants.{Memory};
 
 use crate::reading::LONGEST_TABLE;
@@ -33,6 +34,23 @@ pub enum RowKind {
     Twice,
 }
 
+impl RowKind {
+    /// Its name, as the line of a refusal has it.
+    pub fn name(self) -> &'static str
+        ensures name { result.now ≡ row_kind_name self }
+        ensures short { length result.now ≤ 16 }
+    {
+        match self {
+            RowKind::Fields => "Fields",
+            RowKind::Name => "Name",
+            RowKind::Number => "Number",
+            RowKind::Range => "Range",
+            RowKind::Unknown => "Unknown",
+            RowKind::Twice => "Twice",
+        }
+    }
+}
+
 /// Why bytes are no table of directions.
 #[derive(Clone, Copy, Debug, PartialEq, Eq, Drop, Error)]
 pub enum TableFault {
@@ -48,6 +66,21 @@ pub enum TableFault {
     /// Memory ran out. This is no fault of the table: with more memory it may be read.
     #[error("out of memory: read the table again with more")]
     Memory,
+}
+
+impl TableFault {
+    /// Its name, as the line of a refusal has it.
+    pub fn name(self) -> &'static str
+        ensures name { result.now ≡ table_fault_name self }
+        ensures short { length result.now ≤ 16 }
+    {
+        match self {
+            TableFault::TooLong => "TooLong",
+            TableFault::Row(_, kind) => kind.name(),
+            TableFault::Missing(_) => "Missing",
+            TableFault::Memory => "out of memory",
+        }
+    }
 }
 
 impl From<AllocError> for TableFault {
