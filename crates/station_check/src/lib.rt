@@ -52,7 +52,10 @@ pub use check::{check_bytes, check_slices, handed_in};
 pub use fault::Fault;
 pub use list::write_list;
 pub use means::write_means;
-pub use refused::{LONGEST_FAULT, LONGEST_KERNEL_FAULT, add_fault, add_kernel_fault, refusal_line};
+pub use refused::{
+    LONGEST_CARRIED, LONGEST_PLACE, add_carried, add_number, add_numbered_place, add_place,
+    refusal_line,
+};
 pub use runs::{DONE, REFUSED, refuse, run_check, run_list, run_means, run_words};
 pub use survey::survey as stations_of_file;
 pub use verdict_line::{LONGEST_U32, LONGEST_VERDICT_LINE, VerdictLine, add, add_numbered};

@@ -4,5 +4,6 @@ pub mod Agreeing
 pub mod Answers
 pub mod Directions
 pub mod OwnDirections
+pub mod FaultNames
 pub mod FaultTexts
 pub mod Runs

@@ -1,5 +1,6 @@
 //! Why stated directions don't agree, or aren't compared.
-ghost use Rattle.std.specs.Prelude.{◌≡◌};
+ghost use Rattle.std.specs.Prelude.{◌≡◌, ◌≤◌, length};
+ghost use Rattle.station_compare.specs.FaultNames.{compare_fault_name};
 ghost use Rattle.station_compare.specs.Faults.{of_adjust, of_file, of_input, of_table};
 ghost use Rattle.station_compare.specs.declared.fault.CompareFault.TheVariants.{Memory, Write};
 
@@ -36,6 +37,24 @@ pub enum CompareFault {
     /// Memory ran out: run it again with more.
     #[error("out of memory: run it again with more")]
     Memory,
+}
+
+impl CompareFault {
+    /// Its name, as the line of a refusal has it.
+    pub fn name(self) -> &'static str
+        ensures name { result.now ≡ compare_fault_name self }
+        ensures short { length result.now ≤ 16 }
+    {
+        match self {
+            CompareFault::File(fault) => fault.name(),
+            CompareFault::TableRead => "Read",
+            CompareFault::Table(fault) => fault.name(),
+            CompareFault::Adjust(fault) => fault.name(),
+            CompareFault::Apart(_) => "Apart",
+            CompareFault::Write => "write failed",
+            CompareFault::Memory => "out of memory",
+        }
+    }
 }
 
 impl From<Fault> for CompareFault {

@@ -1,28 +1,16 @@
-//! The line of a refusal: it names the fault, and where it stands.
+//! The line of a refusal: where the fault is, its name, and what it carries.
 
 ghost use Rattle.std.specs.Prelude.{◌≡◌, ◌≤◌, ◌+◌, ◌++◌};
 ghost use Rattle.arrayvec.specs.ArrayVec.{array_vec_len};
 ghost use Rattle.station_compare.specs.FaultTexts as spec;
 
 use crate::fault::CompareFault;
-use direction_table::{RowKind, TableFault};
+use direction_table::TableFault;
 use stated_directions::AdjustFault;
 use station_check::{
-    LONGEST_FAULT, LONGEST_KERNEL_FAULT, LONGEST_U32, LONGEST_VERDICT_LINE, VerdictLine, add,
-    add_fault, add_kernel_fault, add_numbered,
+    LONGEST_CARRIED, LONGEST_PLACE, LONGEST_VERDICT_LINE, VerdictLine, add, add_carried,
+    add_number, add_numbered_place, add_place,
 };
-
-/// Bytes of the name of a fault of a table's row, at most.
-const ROW_KIND: usize = 7;
-
-/// Bytes of a fault of a table, at most: its row, with the words around it, and its name.
-const TABLE_FAULT: usize = 10 + LONGEST_U32 + 2 + ROW_KIND;
-
-/// Bytes of why a station's least-squares directions are not told, at most.
-const ADJUST_FAULT: usize = 8 + LONGEST_KERNEL_FAULT;
-
-/// Bytes of the text of a fault, at most. The longest is that of the field file.
-const COMPARE_FAULT: usize = LONGEST_FAULT;
 
 /// The line of a refusal, with its line feed.
 pub fn refusal_line(fault: CompareFault) -> VerdictLine
@@ -30,74 +18,47 @@ pub fn refusal_line(fault: CompareFault) -> VerdictLine
 {
     let mut line = VerdictLine::new();
     add(&mut line, b"refused: ");
-    add_compare_fault(&mut line, fault);
+    add_compare_place(&mut line, fault);
+    add(&mut line, fault.name().as_bytes());
+    add_compare_carried(&mut line, fault);
     add(&mut line, b"\n");
     line
 }
 
-/// Adds the text of a fault.
-fn add_compare_fault(line: &mut VerdictLine, fault: CompareFault)
-    requires { array_vec_len line.old + COMPARE_FAULT ≤ LONGEST_VERDICT_LINE }
-    ensures items { line.new.items ≡ line.old.items ++ spec.compare_fault_text fault }
-    ensures len { array_vec_len line.new ≤ array_vec_len line.old + COMPARE_FAULT }
+/// Adds where a fault is.
+fn add_compare_place(line: &mut VerdictLine, fault: CompareFault)
+    requires { array_vec_len line.old + LONGEST_PLACE ≤ LONGEST_VERDICT_LINE }
+    ensures items { line.new.items ≡ line.old.items ++ spec.compare_place_text fault }
+    ensures len { array_vec_len line.new ≤ array_vec_len line.old + LONGEST_PLACE }
 {
     match fault {
-        CompareFault::File(fault) => add_fault(line, fault),
-        CompareFault::TableRead => add(line, b"table: Read"),
-        CompareFault::Table(fault) => add_table_fault(line, fault),
-        CompareFault::Adjust(fault) => add_adjust_fault(line, fault),
-        CompareFault::Apart(apart) => add_numbered(line, b"compare: Apart ", apart),
-        CompareFault::Write => add(line, b"write failed"),
-        CompareFault::Memory => add(line, b"out of memory"),
-    }
-}
-
-/// Adds the name of a fault of a table's row.
-fn add_row_kind(line: &mut VerdictLine, kind: RowKind)
-    requires { array_vec_len line.old + ROW_KIND ≤ LONGEST_VERDICT_LINE }
-    ensures items { line.new.items ≡ line.old.items ++ spec.row_kind_text kind }
-    ensures len { array_vec_len line.new ≤ array_vec_len line.old + ROW_KIND }
-{
-    match kind {
-        RowKind::Fields => add(line, b"Fields"),
-        RowKind::Name => add(line, b"Name"),
-        RowKind::Number => add(line, b"Number"),
-        RowKind::Range => add(line, b"Range"),
-        RowKind::Unknown => add(line, b"Unknown"),
-        RowKind::Twice => add(line, b"Twice"),
-    }
-}
-
-/// Adds a fault of a table, after its row or with its target.
-fn add_table_fault(line: &mut VerdictLine, fault: TableFault)
-    requires { array_vec_len line.old + TABLE_FAULT ≤ LONGEST_VERDICT_LINE }
-    ensures items { line.new.items ≡ line.old.items ++ spec.table_fault_text fault }
-    ensures len { array_vec_len line.new ≤ array_vec_len line.old + TABLE_FAULT }
-{
-    match fault {
-        TableFault::TooLong => add(line, b"table: TooLong"),
-        TableFault::Row(number, kind) => {
-            add_numbered(line, b"table row ", number);
-            add(line, b": ");
-            add_row_kind(line, kind);
+        CompareFault::File(fault) => add_place(line, fault),
+        CompareFault::Table(TableFault::Row(number, _)) => {
+            add_numbered_place(line, b"table row ", number);
         }
-        TableFault::Missing(target) => add_numbered(line, b"table: Missing ", target),
-        TableFault::Memory => add(line, b"out of memory"),
-    }
-}
-
-/// Adds why a station's least-squares directions are not told.
-fn add_adjust_fault(line: &mut VerdictLine, fault: AdjustFault)
-    requires { array_vec_len line.old + ADJUST_FAULT ≤ LONGEST_VERDICT_LINE }
-    ensures items { line.new.items ≡ line.old.items ++ spec.adjust_fault_text fault }
-    ensures len { array_vec_len line.new ≤ array_vec_len line.old + ADJUST_FAULT }
-{
-    match fault {
-        AdjustFault::Kernel(fault) => {
+        CompareFault::TableRead
+        | CompareFault::Table(TableFault::TooLong | TableFault::Missing(_)) => {
+            add(line, b"table: ");
+        }
+        CompareFault::Adjust(AdjustFault::Kernel(_) | AdjustFault::Unclear) => {
             add(line, b"adjust: ");
-            add_kernel_fault(line, fault);
         }
-        AdjustFault::Unclear => add(line, b"adjust: Unclear"),
-        AdjustFault::Memory => add(line, b"out of memory"),
+        CompareFault::Apart(_) => add(line, b"compare: "),
+        _ => {}
+    }
+}
+
+/// Adds what a fault carries.
+fn add_compare_carried(line: &mut VerdictLine, fault: CompareFault)
+    requires { array_vec_len line.old + LONGEST_CARRIED ≤ LONGEST_VERDICT_LINE }
+    ensures items { line.new.items ≡ line.old.items ++ spec.compare_carried_text fault }
+    ensures len { array_vec_len line.new ≤ array_vec_len line.old + LONGEST_CARRIED }
+{
+    match fault {
+        CompareFault::File(fault) => add_carried(line, fault),
+        CompareFault::Table(TableFault::Missing(target)) => add_number(line, Some(target)),
+        CompareFault::Adjust(AdjustFault::Kernel(fault)) => add_number(line, fault.number()),
+        CompareFault::Apart(apart) => add_number(line, Some(apart)),
+        _ => {}
     }
 }
