@@ -14,7 +14,7 @@ use Rattle.station_book.specs.declared.sight.Sighting.{Sighting}
 use Rattle.station_book.specs.declared.stage.Stage.{Stage}
 use Rattle.station_book.specs.declared.stage.Stage.TheVariants.{Outside, Station, BetweenSets, InSet}
 use Rattle.station_book.specs.Limits.{FaceLimits}
-use Rattle.station_book.specs.Roles.{role_of}
+use Rattle.station_book.specs.Blocks.{role_of}
 use Rattle.station_book.specs.Readings as said
 use Rattle.station_book.specs.Entries.{place_of}
 use Rattle.station_book.specs.Shelves.{ShelfValue, last_of}
@@ -22,27 +22,31 @@ use Rattle.station_book.specs.Kept as kept
 use Rattle.station_book.specs.Refusals.{ExplainsFault, WantsOnlyAt}
 use Rattle.station_book.specs.Blocks.{opens_set, is_sight, target}
 use Rattle.station_book.specs.Places.{History, is_open, is_reading}
-use Rattle.station_book.specs.Faults.{fault_after, is_new_target}
+use Rattle.station_book.specs.Faults.{first_of, end_faults, station_faults, faults_as, fault_after, fault_at_end, is_new_target}
+use Rattle.station_book.specs.Kept.{then_fault}
 use Rattle.station_book.specs.Keeps.{IsStage, Stand, stations_in}
 use Rattle.station_book.specs.Standing.{StandsFor, ExplainsBlock}
 use Rattle.station_book.proofs.ListLaws.{absent}
 use Rattle.station_book.proofs.StepLaws.{open_targets}
 use Rattle.station_book.proofs.StandLaws.{open_has_set, open_entry}
+use Rattle.station_book.proofs.EndLaws.{same_end}
 use Rattle.station_book.proofs.TakeLaws.{set_as, sight_as, was_read, at_own, taken_stands}
-use Rattle.station_book.proofs.FaultLaws.{same_station_fault, same_close_fault, same_other_fault}
+use Rattle.station_book.proofs.FaultLaws.{first_append}
 use Rattle.station_book.proofs.SetFaultLaws.{same_set_fault}
 use Rattle.station_book.proofs.ReadingFaultLaws.{same_measurement_fault}
 
 -- THE LAW of faults: a block's fault by what is kept is its fault by the blocks before
 own_fault : (k : kept.Kept) (b : GsiBlock) (past : History) → StandsFor k.limits k past
     → kept.fault_of k b ≡ fault_after k.limits past b
-own_fault k b past h = by (role_of b) refl where
-  by : (r : Role) → role_of b ≡ r → kept.fault_as r k b ≡ fault_after k.limits past b
-  by roles.Station e = same_station_fault k b past e h
-  by roles.Set e = same_set_fault k b past e h
-  by roles.Close e = same_close_fault k b past e h
-  by roles.Measurement e = same_measurement_fault k b past e h
-  by roles.Other e = same_other_fault k b past e
+unfolding fault_after fault_at_end
+own_fault k b past h = by (role_of b) where
+  by : (r : Role) → kept.fault_as r k b ≡ first_of (faults_as r k.limits past b)
+  by roles.Station = (λ i. then_fault (same_end k past h i) (first_of (station_faults b)))
+      ∙ sym (first_append (end_faults past) (station_faults b))
+  by roles.Set = same_set_fault k b past h
+  by roles.Close = same_end k past h
+  by roles.Measurement = same_measurement_fault k b past h
+  by roles.Other = refl
 
 pub same_fault : (limits : FaceLimits) (k : kept.Kept) (b : GsiBlock) (past : History)
     → StandsFor limits k past → kept.fault_of k b ≡ fault_after limits past b

@@ -3,19 +3,19 @@
 use Rattle.std.proofs.Common.{◌≡◌, ℕ, Bool, true, false, ◌||◌, not, List, [], ◌∷◌, ◌++◌, Option, Some, None, refl, sym, ap, ◌∙◌, inl, inr}
 use Rattle.std.specs.List.{AllByRecursion}
 use Rattle.std.specs.Str.{bytes_eq}
-use Rattle.std.proofs.lemmas.Bool.{cases_Bool, or_cases, false≢true, or_parts, and_parts, true_from_ne_false}
+use Rattle.std.proofs.lemmas.Bool.{cases_Bool, or_cases, false≢true, and_parts, true_from_ne_false}
 use Rattle.std.proofs.lemmas.Slice.Eq.{bytes_eq-Decides}
 use Rattle.station_book.specs.declared.face.Face.TheVariants.{One, Two}
 use Rattle.station_book.specs.declared.fault.BookKind.{BookKind}
 use Rattle.station_book.specs.declared.fault.BookKind.TheVariants as kinds
 use Rattle.gsi_word.specs.Blocks.{GsiBlock}
-use Rattle.station_book.specs.Blocks.{number, target, is_of_face, opens_station, opens_set, closes_set, is_opening, is_sight}
+use Rattle.station_book.specs.Blocks.{number, target, is_of_face, role_of, is_measurement, lacks, opens_set, is_opening, is_sight}
 use Rattle.station_book.specs.Places.{History, Place, is_among, with_new, is_open, is_empty, is_reading, station}
 use Rattle.station_book.specs.Faults.{face, reading_faults, fault_after, IsWithoutFault, open_readings, when, first_of, end_faults, is_face_taken, set_faults, is_beyond, had_sets, has_no_two_c, has_set_number, has_no_two_i}
 use Rattle.station_book.specs.Limits.{FaceLimits}
 use Rattle.station_book.proofs.Elements.{any_from, any_to, in_left, in_right}
 use Rattle.station_book.proofs.FaceLaws.{IsKept}
-use Rattle.station_book.proofs.StepLaws.{open_targets, readings-opening, readings-more, readings-other, targets-more, targets-other, sight_opens_no_station, sight_opens_nothing, no_station_at_set}
+use Rattle.station_book.proofs.StepLaws.{open_targets, readings-opening, readings-more, readings-other, targets-more, targets-other, sight_opens_no_station, set_role, sight_role}
 
 -- where none is the first, none stands
 pub none_stands : {X : Type 0} (os : List (Option X)) → first_of os ≡ None
@@ -73,7 +73,7 @@ pub clean_set : (limits : FaceLimits) (past : History) (b : GsiBlock) → opens_
 unfolding fault_after
 clean_set limits past b e clean =
     let none = (none_stands (end_faults past ++ set_faults past b)
-    (rw (no_station_at_set b e, e) at clean)).1.1.1 in
+    (rw (set_role b e) at clean)).1.1.1 in
     record {
       of_station = none_when (is_empty (station past)) kinds.SetOutside none.0;
       first_time = none_when (had_sets past) kinds.StationTwice none.1.1.0;
@@ -91,10 +91,10 @@ pub clean_reading : (limits : FaceLimits) (past : History) (b : GsiBlock)
     → is_reading (b ∷ past) ≡ true → fault_after limits past b ≡ None → IsCleanReading limits past b
 unfolding fault_after
 clean_reading limits past b e clean =
-    let o = sight_opens_nothing b (and_parts (is_sight b) (is_open past) e).0 in
-    let other = or_parts (opens_set b) (closes_set b) (or_parts (opens_station b) _ o).1 in
+    let (sees, now) = and_parts (is_sight b) (is_open past) e in
+    let direction = (and_parts (is_measurement (role_of b)) (not (lacks 21 b)) sees).1 in
     let none = (none_stands (reading_faults limits past b)
-    (rw (sight_opens_no_station b o, other.0, other.1, e) at clean)).1.1.1.1.1 in
+    (rw (sight_role b sees, direction, now) at clean)).1.1.1.1.1 in
     let faced = is_of_face One b || is_of_face Two b in
     record {
       faced = face_is b (true_from_ne_false faced (λ f. false≢true

@@ -15,9 +15,8 @@ use Rattle.station_book.specs.declared.role.Role.TheVariants as roles
 use Rattle.station_book.specs.declared.sight.Sighting.{Sighting}
 use Rattle.station_book.specs.declared.stage.Stage.{Stage}
 use Rattle.station_book.specs.declared.stage.Stage.TheVariants.{Outside, Station, BetweenSets, InSet}
-use Rattle.station_book.specs.Faults.{when, first_of, has_no_two_c, has_no_two_i, open_readings, face, is_apart, reading_faults, fault_after, IsWithoutFault}
+use Rattle.station_book.specs.Faults.{when, first_of, has_no_two_c, has_no_two_i, open_readings, face, is_apart, reading_faults, faults_as, IsWithoutFault}
 use Rattle.station_book.specs.Kept.{then_fault}
-use Rattle.station_book.specs.Roles.{role_of}
 use Rattle.station_book.specs.Readings as said
 use Rattle.station_book.specs.Slots.{face_reading, slot_at}
 use Rattle.station_book.specs.Entries as entries
@@ -37,7 +36,7 @@ use Rattle.station_book.proofs.ReadingLaws.{slot_get}
 use Rattle.station_book.proofs.StandLaws.{open_has_set}
 use Rattle.station_book.proofs.TakeLaws.{first_face, second_face}
 use Rattle.station_book.proofs.EndLaws.{slots_kept, some_sighted}
-use Rattle.station_book.proofs.FaultLaws.{first_append, fault_by_role}
+use Rattle.station_book.proofs.FaultLaws.{first_append}
 use Rattle.station_book.proofs.StandLaws.{open_entry}
 use Rattle.std.proofs.lemmas.Bool.{and_right}
 
@@ -237,8 +236,7 @@ by_stage limits InSet shelf past b w g h = by (lacks 21 b) where
 
 -- THE LAW of a measurement: the fault by what is kept is the fault by the blocks before
 pub same_measurement_fault : (k : kept.Kept) (b : GsiBlock) (past : History)
-    → role_of b ≡ roles.Measurement → StandsFor k.limits k past
-    → kept.fault_as roles.Measurement k b ≡ fault_after k.limits past b
-same_measurement_fault k b past r h =
+    → StandsFor k.limits k past → kept.fault_as roles.Measurement k b
+    ≡ first_of (faults_as roles.Measurement k.limits past b)
+same_measurement_fault k b past h =
     by_stage k.limits k.stage k.shelf past b h.clean h.stage h.stations
-    ∙ sym (fault_by_role k.limits b past roles.Measurement r)

@@ -11,9 +11,8 @@ use Rattle.station_book.specs.Limits.{FaceLimits}
 use Rattle.station_book.specs.declared.role.Role.TheVariants as roles
 use Rattle.station_book.specs.declared.stage.Stage.{Stage}
 use Rattle.station_book.specs.declared.stage.Stage.TheVariants.{Outside, Station, BetweenSets, InSet}
-use Rattle.station_book.specs.Faults.{when, first_of, open_sets, had_sets, same_name, same_number, has_set_number, end_faults, set_faults, fault_after, fault_at_end, IsWithoutFault, name_at}
+use Rattle.station_book.specs.Faults.{when, first_of, open_sets, had_sets, same_name, same_number, has_set_number, end_faults, set_faults, fault_at_end, IsWithoutFault, name_at}
 use Rattle.station_book.specs.Kept.{then_fault}
-use Rattle.station_book.specs.Roles.{role_of}
 use Rattle.station_book.specs.Entries.{EntryValue}
 use Rattle.station_book.specs.Shelves.{ShelfValue, last_of, is_known, first_set_faults, more_set_faults}
 use Rattle.station_book.specs.Kept as kept
@@ -29,7 +28,7 @@ use Rattle.station_book.proofs.StationLaws.{had_sets_by_names}
 use Rattle.station_book.proofs.StandLaws.{open_has_set, length_numbers, HasOpenEntry, open_entry}
 use Rattle.station_book.proofs.OnceLaws.{no_had_sets}
 use Rattle.station_book.proofs.EndLaws.{same_end}
-use Rattle.station_book.proofs.FaultLaws.{first_append, fault_by_role}
+use Rattle.station_book.proofs.FaultLaws.{first_append}
 use Rattle.station_book.proofs.NewestLaws.{or_turned}
 
 -- In a file without fault a set has a station.
@@ -220,13 +219,12 @@ set_tests past b = first_append (when (has_two 42 b) (kinds.WordTwice 42) ∷ []
       one (Some k) = refl
 
 -- THE LAW of code 20: the fault by what is kept is the fault by the blocks before
-pub same_set_fault : (k : kept.Kept) (b : GsiBlock) (past : History) → role_of b ≡ roles.Set
-    → StandsFor k.limits k past → kept.fault_as roles.Set k b ≡ fault_after k.limits past b
+pub same_set_fault : (k : kept.Kept) (b : GsiBlock) (past : History) → StandsFor k.limits k past
+    → kept.fault_as roles.Set k b ≡ first_of (end_faults past ++ set_faults past b)
 unfolding fault_at_end
-same_set_fault k b past r h =
+same_set_fault k b past h =
     let opens = same_opening k.limits k.stage k.shelf past (number b) h.clean h.stage h.stations in
     (λ i. then_fault (same_end k past h i) (then_fault
     (when (has_two 42 b) (kinds.WordTwice 42)) (opens i)))
     ∙ (λ i. then_fault (fault_at_end past) (sym (set_tests past b) i))
-    ∙ sym (fault_by_role k.limits b past roles.Set r
-    ∙ first_append (end_faults past) (set_faults past b))
+    ∙ sym (first_append (end_faults past) (set_faults past b))

@@ -1,16 +1,13 @@
 -- What a block does to the open set, its readings, the station, its sets and targets.
-use Rattle.std.proofs.Common.{◌≡◌, ℕ, true, false, cond, eqb, ◌&&◌, not, List, [], ◌∷◌, map, refl, ap, ◌∙◌}
-use Rattle.std.specs.Prelude.{codes, ◌==◌}
-use Rattle.std.proofs.lemmas.Bool.{and_parts, or_from, eqb-true, or_parts, and_right}
-use Rattle.std.specs.Str.{bytes_eq}
+use Rattle.std.proofs.Common.{◌≡◌, ℕ, true, false, cond, ◌||◌, not, List, [], ◌∷◌, map, refl, ap}
+use Rattle.std.proofs.lemmas.Bool.{and_parts, or_parts}
 use Rattle.gsi_word.specs.Blocks.{GsiBlock}
-use Rattle.gsi_word.specs.Words.{GsiWord}
-use Rattle.gsi_word.specs.Names.{name_of}
-use Rattle.station_book.specs.Blocks.{opens_station, opens_set, closes_set, is_opening, is_sight, target, found, is_absent, begins}
+use Rattle.station_book.specs.Blocks.{role_of, is_station, is_set_code, is_close, is_measurement, opens_station, opens_set, is_opening, is_sight, target, lacks}
+use Rattle.station_book.specs.declared.role.Role.{Role}
+use Rattle.station_book.specs.declared.role.Role.TheVariants as roles
 use Rattle.station_book.specs.Places.{History, last, stands, is_open, is_set, is_reading, station, targets_of, distinct, with_new, target_at}
 use Rattle.station_book.specs.Faults.{open_readings, open_sets}
 use Rattle.station_book.proofs.PlaceLaws.{belonging-fresh, belonging-more, belonging-same}
-use Rattle.std.proofs.lemmas.Slice.Eq.{bytes_eq-Decides}
 
 -- a set is open after a block
 pub is_open-opening : (b : GsiBlock) (past : History) → is_opening b ≡ true
@@ -67,20 +64,17 @@ pub targets-other : (b : GsiBlock) (past : History) → opens_station b ≡ fals
 targets-other b past e r = ap (λ rs. distinct (map (λ r. target_at r) rs))
     (belonging-same opens_station is_reading b past e r)
 
--- a block that begins with word 11 has no code
-measures_alone : (ws : List GsiWord) (code : List ℕ) → begins (λ w. w.index == 11) ws ≡ true
-    → begins (λ w. w.index == 41 && bytes_eq (name_of w.content) code) ws ≡ false
-measures_alone [] code e = refl
-measures_alone (w ∷ ws) code e =
-    let n : w.index ≡ 11 = eqb-true w.index 11 e in
-    ap (λ (k : ℕ). eqb k 41 && bytes_eq (name_of w.content) code) n
-
+-- a measurement opens and closes nothing
 pub sight_opens_nothing : (b : GsiBlock) → is_sight b ≡ true → is_opening b ≡ false
-unfolding is_sight opens_station opens_set closes_set
-sight_opens_nothing b e =
-    let m = (and_parts (begins (λ w. w.index == 11) b.words) (not (is_absent (found 21 b))) e).0 in
-    or_from _ _ (measures_alone b.words (codes "10") m)
-    (or_from _ _ (measures_alone b.words (codes "20") m) (measures_alone b.words (codes "30") m))
+sight_opens_nothing b e = by (role_of b)
+    (and_parts (is_measurement (role_of b)) (not (lacks 21 b)) e).0 where
+      by : (r : Role) → is_measurement r ≡ true
+          → (is_station r || (is_set_code r || is_close r)) ≡ false
+      by roles.Measurement t = refl
+      by roles.Station t = cc
+      by roles.Set t = cc
+      by roles.Close t = cc
+      by roles.Other t = refl
 
 pub sight_opens_no_station : (b : GsiBlock) → is_opening b ≡ false → opens_station b ≡ false
 sight_opens_no_station b e = (or_parts (opens_station b) _ e).0
@@ -88,20 +82,34 @@ sight_opens_no_station b e = (or_parts (opens_station b) _ e).0
 pub sight_opens_no_set : (b : GsiBlock) → is_opening b ≡ false → opens_set b ≡ false
 sight_opens_no_set b e = (or_parts (opens_set b) _ (or_parts (opens_station b) _ e).1).0
 
-code_alone : (code other : List ℕ) → bytes_eq code other ≡ false → (ws : List GsiWord)
-    → begins (λ w. w.index == 41 && bytes_eq (name_of w.content) code) ws ≡ true
-    → begins (λ w. w.index == 41 && bytes_eq (name_of w.content) other) ws ≡ false
-code_alone code other different [] e = refl
-code_alone code other different (w ∷ ws) e =
-    let same : name_of w.content ≡ code = (bytes_eq-Decides (name_of w.content) code).0
-    (and_parts (w.index == 41) (bytes_eq (name_of w.content) code) e).1 in
-    and_right (w.index == 41) (bytes_eq (name_of w.content) other)
-    (ap (λ (name : List ℕ). bytes_eq name other) same ∙ different)
+-- a block has one role
+pub set_role : (b : GsiBlock) → opens_set b ≡ true → role_of b ≡ roles.Set
+set_role b e = by (role_of b) e where
+  by : (r : Role) → is_set_code r ≡ true → r ≡ roles.Set
+  by roles.Set t = refl
+  by roles.Station t = cc
+  by roles.Close t = cc
+  by roles.Measurement t = cc
+  by roles.Other t = cc
 
-pub no_set_at_station : (b : GsiBlock) → opens_station b ≡ true → opens_set b ≡ false
-unfolding opens_station opens_set
-no_set_at_station b e = code_alone (codes "10") (codes "20") refl b.words e
+pub sight_role : (b : GsiBlock) → is_sight b ≡ true → role_of b ≡ roles.Measurement
+sight_role b e = by (role_of b)
+    (and_parts (is_measurement (role_of b)) (not (lacks 21 b)) e).0 where
+      by : (r : Role) → is_measurement r ≡ true → r ≡ roles.Measurement
+      by roles.Measurement t = refl
+      by roles.Station t = cc
+      by roles.Set t = cc
+      by roles.Close t = cc
+      by roles.Other t = cc
 
 pub no_station_at_set : (b : GsiBlock) → opens_set b ≡ true → opens_station b ≡ false
-unfolding opens_station opens_set
-no_station_at_set b e = code_alone (codes "20") (codes "10") refl b.words e
+no_station_at_set b e = ap is_station (set_role b e)
+
+pub no_set_at_station : (b : GsiBlock) → opens_station b ≡ true → opens_set b ≡ false
+no_set_at_station b e = by (role_of b) e where
+  by : (r : Role) → is_station r ≡ true → is_set_code r ≡ false
+  by roles.Station t = refl
+  by roles.Set t = cc
+  by roles.Close t = refl
+  by roles.Measurement t = refl
+  by roles.Other t = refl

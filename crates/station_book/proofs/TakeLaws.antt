@@ -14,17 +14,16 @@ use Rattle.station_book.specs.declared.stage.Stage.{Stage}
 use Rattle.station_book.specs.declared.stage.Stage.TheVariants.{Outside, Station, BetweenSets, InSet}
 use Rattle.station_book.specs.Faults.{station_faults, when, first_of, open_sets, fault_after, name_at}
 use Rattle.station_book.specs.Kept.{then_fault}
-use Rattle.station_book.specs.Roles.{role_of, is_station, is_set_code, is_close, is_measurement}
+use Rattle.station_book.specs.Blocks.{role_of, is_station, is_set_code, is_close, is_measurement}
 use Rattle.station_book.specs.Entries.{with_set, with_reading}
 use Rattle.station_book.specs.Shelves.{ShelfValue, change_last}
 use Rattle.station_book.specs.Kept as kept
 use Rattle.gsi_word.specs.Blocks.{GsiBlock}
-use Rattle.station_book.specs.Blocks.{opens_station, opens_set, closes_set, is_opening, is_sight, named, number, sight, is_of_face, other_face, found, is_absent, is_twice, name_found, has_two, lacks}
+use Rattle.station_book.specs.Blocks.{opens_station, opens_set, is_opening, is_sight, named, number, sight, is_of_face, other_face, found, is_absent, is_twice, name_found, has_two, lacks}
 use Rattle.station_book.specs.Places.{History, last, station, is_empty, is_open, is_reading}
 use Rattle.station_book.specs.Keeps.{IsStage, Stand, stations_in}
 use Rattle.station_book.specs.Readings as said
 use Rattle.station_book.specs.Standing.{StandsFor}
-use Rattle.station_book.proofs.RoleLaws.{station_is, set_is, close_is, sight_is}
 use Rattle.station_book.proofs.StepLaws.{is_open-opening, is_open-other, sets-station, sets-other, same_station}
 use Rattle.station_book.specs.Limits.{FaceLimits}
 use Rattle.station_book.proofs.FaceLaws.{one_face}
@@ -35,21 +34,18 @@ use Rattle.std.proofs.lemmas.Bool.{and_right}
 
 -- what a role says of the tests
 pub station_as : (b : GsiBlock) (r : Role) → role_of b ≡ r → opens_station b ≡ is_station r
-station_as b r e = station_is b ∙ ap is_station e
+station_as b r e = ap is_station e
 
 pub set_as : (b : GsiBlock) (r : Role) → role_of b ≡ r → opens_set b ≡ is_set_code r
-set_as b r e = set_is b ∙ ap is_set_code e
-
-pub close_as : (b : GsiBlock) (r : Role) → role_of b ≡ r → closes_set b ≡ is_close r
-close_as b r e = close_is b ∙ ap is_close e
+set_as b r e = ap is_set_code e
 
 pub sight_as : (b : GsiBlock) (r : Role) → role_of b ≡ r
     → is_sight b ≡ (is_measurement r && not (lacks 21 b))
-sight_as b r e = sight_is b ∙ ap (λ q. is_measurement q && not (lacks 21 b)) e
+sight_as b r e = ap (λ q. is_measurement q && not (lacks 21 b)) e
 
 opening_as : (b : GsiBlock) (r : Role) → role_of b ≡ r
     → is_opening b ≡ (is_station r || (is_set_code r || is_close r))
-opening_as b r e = λ i. station_as b r e i || (set_as b r e i || close_as b r e i)
+opening_as b r e = ap (λ q. is_station q || (is_set_code q || is_close q)) e
 
 no_reading : (b : GsiBlock) (past : History) → is_sight b ≡ false → is_reading (b ∷ past) ≡ false
 no_reading b past e = ap (λ v. v && is_open past) e

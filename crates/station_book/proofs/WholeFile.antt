@@ -1,6 +1,6 @@
 -- In a whole file no reading is lost: each has one of the other face beside it, and the two are
 -- listed.
-use Rattle.std.proofs.Common.{◌≡◌, ℕ, ◌+◌, true, false, ◌&&◌, List, [], ◌∷◌, ◌++◌, length, get_or, Option, Some, None, is_none, refl, sym, ap, ◌∙◌, inl, inr, ◌⊎◌, subst}
+use Rattle.std.proofs.Common.{◌≡◌, ℕ, ◌+◌, true, false, ◌&&◌, ◌||◌, List, [], ◌∷◌, ◌++◌, length, get_or, Option, Some, None, is_none, refl, sym, ap, ◌∙◌, inl, inr, ◌⊎◌, subst}
 use Rattle.std.specs.List.{Contains}
 use Rattle.std.specs.Str.{bytes_eq}
 use Rattle.std.proofs.lemmas.Bool.{cases_Bool, and_parts, eqb-true, false≢true}
@@ -11,10 +11,12 @@ use Rattle.station_book.specs.declared.face.Face.{Face}
 use Rattle.station_book.specs.declared.face.Face.TheVariants.{One, Two}
 use Rattle.station_book.specs.declared.fault.BookKind.{BookKind}
 use Rattle.station_book.specs.declared.fault.BookKind.TheVariants as kinds
+use Rattle.station_book.specs.declared.role.Role.{Role}
+use Rattle.station_book.specs.declared.role.Role.TheVariants as roles
 use Rattle.station_book.specs.Limits.{FaceLimits}
-use Rattle.station_book.specs.Blocks.{opens_station, opens_set, closes_set, is_opening, is_sight, is_of_face, other_face}
+use Rattle.station_book.specs.Blocks.{role_of, is_station, is_set_code, is_close, opens_set, is_opening, is_sight, is_of_face, other_face}
 use Rattle.station_book.specs.Places.{History, Place, places, last, before, opening, station, is_open, is_same, is_reading, target_at, stands, reading_in}
-use Rattle.station_book.specs.Faults.{first_of, end_faults, station_faults, set_faults, fault_after, fault_at_end, IsWithoutFault, IsFirstFault, IsWholeFile, IsFileFault, open_readings, face_at, has_one_face, name_at}
+use Rattle.station_book.specs.Faults.{first_of, faults_as, end_faults, station_faults, set_faults, fault_after, fault_at_end, IsWithoutFault, IsFirstFault, IsWholeFile, IsFileFault, open_readings, face_at, has_one_face, name_at}
 use Rattle.station_book.specs.Stations.{SurveyedStation, IsSurveyed, AreStations, stations_of}
 use Rattle.station_book.specs.Recorded.{IsReadingOf, IsListed}
 use Rattle.station_book.proofs.Elements.{In, any_from, find_some, in_contains, contains_in, in_map, of_filter, zip_right}
@@ -115,13 +117,14 @@ first_left (Some x ∷ xs) ys e = cc
 pub may_end : (limits : FaceLimits) (past : History) (b : GsiBlock) → is_opening b ≡ true
     → fault_after limits past b ≡ None → first_of (end_faults past) ≡ None
 unfolding fault_after
-may_end limits past b o clean = elim (cases_Bool (opens_station b)) [
-  | inl s ↦ first_left (end_faults past) (station_faults b) (rw s at clean)
-  | inr s ↦ elim (cases_Bool (opens_set b)) [
-    | inl n ↦ first_left (end_faults past) (set_faults past b) (rw (s, n) at clean)
-    | inr n ↦ let z : closes_set b ≡ true = rw (s, n) at o in rw (s, n, z) at clean
-  ]
-]
+may_end limits past b o clean = by (role_of b) o clean where
+  by : (r : Role) → (is_station r || (is_set_code r || is_close r)) ≡ true
+      → first_of (faults_as r limits past b) ≡ None → first_of (end_faults past) ≡ None
+  by roles.Station t e = first_left (end_faults past) (station_faults b) e
+  by roles.Set t e = first_left (end_faults past) (set_faults past b) e
+  by roles.Close t e = e
+  by roles.Measurement t e = cc
+  by roles.Other t e = cc
 
 -- a reading is of the open set, or has one of the other face
 open_or_paired : (limits : FaceLimits) (h : History) (r : Place) → IsWithoutFault limits h

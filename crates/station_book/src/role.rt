@@ -2,7 +2,7 @@
 
 ghost use Rattle.std.specs.Prelude.{◌≡◌};
 ghost use Rattle.gsi_word.specs.BlockViews.{block_of};
-ghost use Rattle.station_book.specs.Roles.{code_role, role_of};
+ghost use Rattle.station_book.specs.Blocks.{code_role, role_of};
 
 use gsi_word::{Block, CODE_NUMBER, POINT_NUMBER};
 
@@ -38,6 +38,7 @@ fn code_role(name: &[u8]) -> Role
 }
 
 /// What a block is.
+#[tactic(auto, unfolding(crate::specs::Blocks::role_of))]
 pub(crate) fn role_of(block: &Block<'_>) -> Role
     ensures { result ≡ role_of (block_of block.now) }
 {
