@@ -13,7 +13,7 @@ use Rattle.station_book.specs.declared.stage.Stage.TheVariants.{Outside}
 use Rattle.station_book.specs.Limits.{FaceLimits}
 use Rattle.station_book.specs.Places.{number_at, History, Place, before, station, reading_in, readings_of, sets_of, first_sets, station_readings, targets_of}
 use Rattle.station_book.specs.Faults.{fault_at_end, sight_at, IsWithoutFault}
-use Rattle.station_book.specs.Stations.{Couple, joined, couples_in, SurveyedStation, IsObserved, HasFaces, IsSurveyed, AreStations}
+use Rattle.station_book.specs.Stations.{Pair, pair_of, pairs_in, SurveyedStation, IsObserved, HasFaces, IsSurveyed, AreStations}
 use Rattle.station_book.specs.Slots as slots
 use Rattle.station_book.specs.Slots.{obs_at, obs_of, faces_at, faces_of}
 use Rattle.station_book.specs.Shelves.{empty_shelf, surveys_of}
@@ -51,9 +51,9 @@ module _ (limits : FaceLimits) where
   abbrev Beside : Option Place → Option Place → Type 0
   Beside o p = (a b : Place) → o ≡ Some a → p ≡ Some b → AreWithin limits (sight_at a) (sight_at b)
 
-  one_observed : (s n : ℕ) (o p : Option Place) (cs : List Couple) (os : List Obs) → Beside o p
+  one_observed : (s n : ℕ) (o p : Option Place) (cs : List Pair) (os : List Obs) → Beside o p
       → AllZip (IsObserved limits) cs os
-      → AllZip (IsObserved limits) (cons_option (joined s n o p) cs)
+      → AllZip (IsObserved limits) (cons_option (pair_of s n o p) cs)
       (cons_option (slots.observation_of s n (sighted o) (sighted p)) os)
   one_observed s n (Some a) (Some b) cs os w h = (
     record {
@@ -69,14 +69,14 @@ module _ (limits : FaceLimits) where
 
   set_observed : (s n : ℕ) (targets : List (List ℕ)) (rs : List Place) → AllWithin limits rs
       → AllZip (IsObserved limits)
-      (filter_map (λ t. joined s t.0 (reading_in One t.1 rs) (reading_in Two t.1 rs))
+      (filter_map (λ t. pair_of s t.0 (reading_in One t.1 rs) (reading_in Two t.1 rs))
       (enumerate_from n targets)) (filter_map (obs_at s) (enumerate_from n (slots_of targets rs)))
   set_observed s n [] rs w = tt
   set_observed s n (t ∷ ts) rs w = one_observed s n (reading_in One t rs)
       (reading_in Two t rs) _ _ (w t) (set_observed s (n + 1) ts rs w)
 
-  one_compared : (s n : ℕ) (o p : Option Place) (cs : List Couple) (fs : List Faces) → Beside o p
-      → AllZip (HasFaces limits) cs fs → AllZip (HasFaces limits) (cons_option (joined s n o p) cs)
+  one_compared : (s n : ℕ) (o p : Option Place) (cs : List Pair) (fs : List Faces) → Beside o p
+      → AllZip (HasFaces limits) cs fs → AllZip (HasFaces limits) (cons_option (pair_of s n o p) cs)
       (cons_option (slots.compared (sighted o) (sighted p)) fs)
   one_compared s n (Some a) (Some b) cs fs w h =
       let within = w a b refl refl in (
@@ -92,43 +92,43 @@ module _ (limits : FaceLimits) where
 
   set_compared : (s n : ℕ) (targets : List (List ℕ)) (rs : List Place) → AllWithin limits rs
       → AllZip (HasFaces limits)
-      (filter_map (λ t. joined s t.0 (reading_in One t.1 rs) (reading_in Two t.1 rs))
+      (filter_map (λ t. pair_of s t.0 (reading_in One t.1 rs) (reading_in Two t.1 rs))
       (enumerate_from n targets)) (filter_map faces_at (slots_of targets rs))
   set_compared s n [] rs w = tt
   set_compared s n (t ∷ ts) rs w = one_compared s n (reading_in One t rs)
       (reading_in Two t rs) _ _ (w t) (set_compared s (n + 1) ts rs w)
 
-  -- the couples of these sets, which come the newest first
-  abbrev couples_over : List (List ℕ) → List Place → List Place → List Couple
-  couples_over targets readings [] = []
-  couples_over targets readings (s ∷ older) = couples_over targets readings older ++ couples_in
+  -- the pairs of these sets, which come the newest first
+  abbrev pairs_over : List (List ℕ) → List Place → List Place → List Pair
+  pairs_over targets readings [] = []
+  pairs_over targets readings (s ∷ older) = pairs_over targets readings older ++ pairs_in
       (length older) targets (in_set s readings)
 
   all_observed : (targets : List (List ℕ)) (readings sets : List Place)
       → ((s : Place) → AllWithin limits (in_set s readings))
-      → AllZip (IsObserved limits) (couples_over targets readings sets)
+      → AllZip (IsObserved limits) (pairs_over targets readings sets)
       (obs_in targets readings sets)
   all_observed targets readings [] w = tt
   all_observed targets readings (s ∷ older) w = zip_append (IsObserved limits)
-      (couples_over targets readings older) _ (obs_in targets readings older) _
+      (pairs_over targets readings older) _ (obs_in targets readings older) _
       (all_observed targets readings older w)
       (set_observed (length older) 0 targets (in_set s readings) (w s))
 
   all_compared : (targets : List (List ℕ)) (readings sets : List Place)
       → ((s : Place) → AllWithin limits (in_set s readings))
-      → AllZip (HasFaces limits) (couples_over targets readings sets)
+      → AllZip (HasFaces limits) (pairs_over targets readings sets)
       (faces_in targets readings sets)
   all_compared targets readings [] w = tt
   all_compared targets readings (s ∷ older) w = zip_append (HasFaces limits)
-      (couples_over targets readings older) _ (faces_in targets readings older) _
+      (pairs_over targets readings older) _ (faces_in targets readings older) _
       (all_compared targets readings older w)
       (set_compared (length older) 0 targets (in_set s readings) (w s))
 
   -- by set from the oldest, each with its place
   over_sets : (h : History) (targets : List (List ℕ)) (readings sets : List Place)
       → AllByRecursion (λ s. readings_of s h ≡ in_set s readings) sets
-      → flat_map (λ s. couples_in s.0 targets (readings_of s.1 h))
-      (enumerate_from 0 (reverse sets)) ≡ couples_over targets readings sets
+      → flat_map (λ s. pairs_in s.0 targets (readings_of s.1 h))
+      (enumerate_from 0 (reverse sets)) ≡ pairs_over targets readings sets
   over_sets h targets readings [] same = refl
   over_sets h targets readings (s ∷ older) same =
       let l = length-reverse older in
@@ -138,12 +138,12 @@ module _ (limits : FaceLimits) where
       ∙ flat_map-append each (enumerate_from 0 (reverse older))
       (enumerate_from (0 + length (reverse older)) (s ∷ []))
       ∙ (λ i. over_sets h targets readings older same.1 i ++ append-nil
-      (couples_in (0 + length (reverse older)) targets (same.0 i)) i)
-      ∙ ap (λ (n : ℕ). couples_over targets readings older ++ couples_in n targets
+      (pairs_in (0 + length (reverse older)) targets (same.0 i)) i)
+      ∙ ap (λ (n : ℕ). pairs_over targets readings older ++ pairs_in n targets
       (in_set s readings)) place
     where
-      each : ℕ × Place → List Couple
-      each p = couples_in p.0 targets (readings_of p.1 h)
+      each : ℕ × Place → List Pair
+      each p = pairs_in p.0 targets (readings_of p.1 h)
 
   numbers_are : (sets : List Place) → numbers_in sets ≡ map number_at (reverse sets)
   numbers_are [] = refl

@@ -23,7 +23,7 @@ use Rattle.station_book.proofs.StepLaws.{open_targets}
 use Rattle.station_book.proofs.FaceLaws as faces
 use Rattle.station_book.proofs.FaceLaws.{IsKept, some_there}
 use Rattle.station_book.proofs.KeptLaws.{open_kept}
-use Rattle.station_book.proofs.CoupleLaws.{open_in_set}
+use Rattle.station_book.proofs.SetReadings.{open_in_set}
 use Rattle.station_book.proofs.StandLaws.{open_set, open_has_set, survey_is, open_entry}
 use Rattle.indexmap.proofs.ReorderLemmas.{map-reverse}
 use Rattle.std.proofs.lemmas.Bool.{and_left, and_right}

@@ -10,12 +10,12 @@ use Rattle.station_book.specs.Limits.{FaceLimits}
 use Rattle.station_book.specs.Blocks.{opens_set, number}
 use Rattle.station_book.specs.Places.{History, Place, places, number_at, before, station, is_same, is_set, target_at, sets_of, station_readings, readings_of, targets_of, reading_in}
 use Rattle.station_book.specs.Faults.{same_number, sight_at, open_sets, IsWithoutFault}
-use Rattle.station_book.specs.Stations.{Couple, SurveyedStation, joined, couples_in, IsObserved, IsSurveyed, AreStations, stations_of, couples_of}
+use Rattle.station_book.specs.Stations.{Pair, SurveyedStation, pair_of, pairs_in, IsObserved, IsSurveyed, AreStations, stations_of, pairs_of}
 use Rattle.station_book.proofs.Elements.{In, in_contains, zip_left}
 use Rattle.station_book.proofs.KeptLaws.{clean_set}
-use Rattle.station_book.proofs.NameLaws.{Pairwise, all_reverse, pairwise_snoc, each_false, pairs_of}
+use Rattle.station_book.proofs.NameLaws.{Pairwise, all_reverse, pairwise_snoc, each_false, all_pairs}
 use Rattle.station_book.proofs.FilePlaces.{OfFile, station_placed}
-use Rattle.station_book.proofs.CoupleReadings.{pair_of_couple}
+use Rattle.station_book.proofs.PairReadings.{readings_of_pair}
 use Rattle.station_book.proofs.ReadingLaws.{distinct_different}
 
 module _ {X : Type 0} where
@@ -43,31 +43,31 @@ module _ {X : Type 0} where
       (pairwise_snoc (λ a b. R b a) (reverse xs) x (pairwise_reverse R xs pairs.1)
       (all_reverse (R x) xs pairs.0))
 
--- The couples stand by set, then by target.
-abbrev Before : Couple → Couple → Type 0
+-- The pairs stand by set, then by target.
+abbrev Before : Pair → Pair → Type 0
 Before a b = (a.set < b.set) ⊎ ((a.set ≡ b.set) × (a.target < b.target))
 
-abbrev InSet : ℕ → ℕ → Couple → Type 0
+abbrev InSet : ℕ → ℕ → Pair → Type 0
 InSet i n c = (c.set ≡ i) × (n ≤ c.target)
 
 by_target : (i n : ℕ) (targets : List (List ℕ)) (rs : List Place) → Pairwise Before (filter_map
-    (λ t. joined i t.0 (reading_in One t.1 rs) (reading_in Two t.1 rs))
+    (λ t. pair_of i t.0 (reading_in One t.1 rs) (reading_in Two t.1 rs))
     (enumerate_from n targets)) × AllByRecursion (InSet i n)
-    (filter_map (λ t. joined i t.0 (reading_in One t.1 rs) (reading_in Two t.1 rs))
+    (filter_map (λ t. pair_of i t.0 (reading_in One t.1 rs) (reading_in Two t.1 rs))
     (enumerate_from n targets))
 by_target i n [] rs = (tt, tt)
 by_target i n (t ∷ ts) rs = split (reading_in One t rs) (reading_in Two t rs)
     (by_target i (n + 1) ts rs) where
-      rest : List Couple
-      rest = filter_map (λ t. joined i t.0 (reading_in One t.1 rs) (reading_in Two t.1 rs))
+      rest : List Pair
+      rest = filter_map (λ t. pair_of i t.0 (reading_in One t.1 rs) (reading_in Two t.1 rs))
           (enumerate_from (n + 1) ts)
 
-      weaker : (c : Couple) → InSet i (n + 1) c → InSet i n c
+      weaker : (c : Pair) → InSet i (n + 1) c → InSet i n c
       weaker c h = (h.0, (let l = h.1 in omega arith))
 
       split : (a b : Option Place) → Pairwise Before rest × AllByRecursion (InSet i (n + 1)) rest
-          → Pairwise Before (cons_option (joined i n a b) rest)
-          × AllByRecursion (InSet i n) (cons_option (joined i n a b) rest)
+          → Pairwise Before (cons_option (pair_of i n a b) rest)
+          × AllByRecursion (InSet i n) (cons_option (pair_of i n a b) rest)
       split (Some a) (Some b) ih = (
         (
           all_weaker (InSet i (n + 1))
@@ -81,18 +81,18 @@ by_target i n (t ∷ ts) rs = split (reading_in One t rs) (reading_in Two t rs)
       split None b ih = (ih.0, all_weaker (InSet i (n + 1)) (InSet i n) weaker rest ih.1)
 
 by_set : (h : History) (st : Place) (n : ℕ) (sets : List Place) →
-    Pairwise Before (flat_map (λ s. couples_in s.0 (targets_of st h) (readings_of s.1 h))
+    Pairwise Before (flat_map (λ s. pairs_in s.0 (targets_of st h) (readings_of s.1 h))
     (enumerate_from n sets)) × AllByRecursion (λ c. n ≤ c.set)
-    (flat_map (λ s. couples_in s.0 (targets_of st h) (readings_of s.1 h))
+    (flat_map (λ s. pairs_in s.0 (targets_of st h) (readings_of s.1 h))
     (enumerate_from n sets))
 by_set h st n [] = (tt, tt)
 by_set h st n (s ∷ ss) = both (by_target n 0 (targets_of st h) (readings_of s h))
     (by_set h st (n + 1) ss) where
-      own : List Couple
-      own = couples_in n (targets_of st h) (readings_of s h)
+      own : List Pair
+      own = pairs_in n (targets_of st h) (readings_of s h)
 
-      rest : List Couple
-      rest = flat_map (λ s. couples_in s.0 (targets_of st h) (readings_of s.1 h))
+      rest : List Pair
+      rest = flat_map (λ s. pairs_in s.0 (targets_of st h) (readings_of s.1 h))
           (enumerate_from (n + 1) ss)
 
       both : Pairwise Before own × AllByRecursion (InSet n 0) own
@@ -166,10 +166,10 @@ record AreLists (sets : List ℕ) (targets : List (List ℕ)) : Type 0 where
   pub sets_differ : AllPairs (λ a b. a ≢ b) sets
   pub targets_differ : AllPairs (λ a b. a ≢ b) targets
 
-abbrev Inside : List ℕ → List (List ℕ) → Couple → Type 0
+abbrev Inside : List ℕ → List (List ℕ) → Pair → Type 0
 Inside sets targets c = (c.set < length sets) × (c.target < length targets)
 
-are_two : (limits : FaceLimits) (sets : List ℕ) (targets : List (List ℕ)) (c d : Couple) (o p : Obs)
+are_two : (limits : FaceLimits) (sets : List ℕ) (targets : List (List ℕ)) (c d : Pair) (o p : Obs)
     → AreLists sets targets → Before c d → Inside sets targets d
     → IsObserved limits c o → IsObserved limits d p
     → AreTwo (key_of_obs sets targets o) (key_of_obs sets targets p)
@@ -182,8 +182,8 @@ are_two limits sets targets c d o p lists (inr (same, lt)) inside io ip =
     (let x = io.target in let y = ip.target in omega (arith, lt))
     (let y = ip.target in let l = inside.1 in omega arith)
 
-two_from : (limits : FaceLimits) (sets : List ℕ) (targets : List (List ℕ)) (c : Couple) (o : Obs)
-    (cs : List Couple) (os : List Obs) → AreLists sets targets
+two_from : (limits : FaceLimits) (sets : List ℕ) (targets : List (List ℕ)) (c : Pair) (o : Obs)
+    (cs : List Pair) (os : List Obs) → AreLists sets targets
     → AllByRecursion (Before c) cs → AllByRecursion (Inside sets targets) cs → IsObserved limits c o
     → AllZip (IsObserved limits) cs os
     → AllByRecursion (AreTwo (key_of_obs sets targets o)) (map (key_of_obs sets targets) os)
@@ -195,7 +195,7 @@ two_from limits sets targets c o (d ∷ cs) (p ∷ os) lists before inside own z
   two_from limits sets targets c o cs os lists before.1 inside.1 own zip.1,
 )
 
-all_two : (limits : FaceLimits) (sets : List ℕ) (targets : List (List ℕ)) (cs : List Couple)
+all_two : (limits : FaceLimits) (sets : List ℕ) (targets : List (List ℕ)) (cs : List Pair)
     (os : List Obs) → AreLists sets targets
     → Pairwise Before cs → AllByRecursion (Inside sets targets) cs
     → AllZip (IsObserved limits) cs os → Pairwise AreTwo (map (key_of_obs sets targets) os)
@@ -216,13 +216,13 @@ once : (limits : FaceLimits) (h : History) (st : Place) (s : SurveyedStation)
     → IsWithoutFault limits h → OfFile h st → IsSurveyed limits h st s
     → AllPairs AreTwo (observed s.station)
 once limits h st s clean placed surveyed =
-    pairs_of AreTwo (observed s.station)
-    (all_two limits s.station.sets s.station.targets (couples_of st h) s.station.obs lists
+    all_pairs AreTwo (observed s.station)
+    (all_two limits s.station.sets s.station.targets (pairs_of st h) s.station.obs lists
     (by_set h st 0 (reverse (sets_of st h))).0 inside surveyed.directions)
   where
     lists : AreLists s.station.sets s.station.targets
     lists = record {
-      sets_differ = pairs_of (λ a b. a ≢ b) s.station.sets
+      sets_differ = all_pairs (λ a b. a ≢ b) s.station.sets
           (different_numbers (reverse (sets_of st h)) s.station.sets surveyed.sets
           (pairwise_reverse NumbersDiffer (sets_of st h) (numbers_apart limits h st clean)));
       targets_differ = subst (AllPairs (λ a b. a ≢ b)) (sym surveyed.targets)
@@ -233,9 +233,9 @@ once limits h st s clean placed surveyed =
     sets_long = sym (length-map (reverse (sets_of st h)) number_at)
         ∙ ap length surveyed.sets ∙ length-map s.station.sets (λ (n : ℕ). Some n)
 
-    inside : AllByRecursion (Inside s.station.sets s.station.targets) (couples_of st h)
-    inside = all_of (Inside s.station.sets s.station.targets) (couples_of st h) (λ c k.
-        let p = pair_of_couple h st c placed k in (
+    inside : AllByRecursion (Inside s.station.sets s.station.targets) (pairs_of st h)
+    inside = all_of (Inside s.station.sets s.station.targets) (pairs_of st h) (λ c k.
+        let p = readings_of_pair h st c placed k in (
           (let l = p.set_place.inside in omega (arith, sets_long)),
           subst (λ (ts : List (List ℕ)). c.target < length ts)
               (sym surveyed.targets) p.name_place.inside,

@@ -118,10 +118,10 @@ two_names limits h (x ∷ xs) [] pairs zip = absurd zip
 two_names limits h (x ∷ xs) (y ∷ ys) pairs zip =
     (apart_from limits h x y xs ys zip.0 pairs.0 zip.1, two_names limits h xs ys pairs.1 zip.1)
 
-pub pairs_of : {X : Type 0} (R : X → X → Type 0) (xs : List X) → Pairwise R xs → AllPairs R xs
-pairs_of R [] pairs = λ i j d before inside. absurd (omega arith)
-pairs_of R (x ∷ xs) pairs = AllPairs-cons R x xs (All-from_recursion (R x) xs pairs.0)
-    (pairs_of R xs pairs.1)
+pub all_pairs : {X : Type 0} (R : X → X → Type 0) (xs : List X) → Pairwise R xs → AllPairs R xs
+all_pairs R [] pairs = λ i j d before inside. absurd (omega arith)
+all_pairs R (x ∷ xs) pairs = AllPairs-cons R x xs (All-from_recursion (R x) xs pairs.0)
+    (all_pairs R xs pairs.1)
 
 pub different_stations : (limits : FaceLimits) (h : History) (stations : List SurveyedStation)
     → IsWithoutFault limits h → AreStations limits h stations → Pairwise HaveTwoNames stations
@@ -132,7 +132,7 @@ different_stations limits h stations clean are =
 pub different_names : (limits : FaceLimits) (h : History) (stations : List SurveyedStation)
     → IsWithoutFault limits h → AreStations limits h stations → AllPairs HaveTwoNames stations
 different_names limits h stations clean are =
-    pairs_of HaveTwoNames stations (different_stations limits h stations clean are)
+    all_pairs HaveTwoNames stations (different_stations limits h stations clean are)
 
 -- Of stations with different names, the one that is found by its name is the one that has it.
 named_only : (name : List ℕ) (s : SurveyedStation) (ss : List SurveyedStation)

@@ -13,14 +13,14 @@ use Rattle.station_book.specs.Sights.{Sight, IsTwoC, IsTwoI, IsTwoFace}
 use Rattle.station_book.specs.Blocks.{opens_station}
 use Rattle.station_book.specs.Places.{number_at, History, Place, places, last, before, station, is_same, is_set, target_at, sets_of, station_readings, targets_of}
 use Rattle.station_book.specs.Faults.{name_at, sight_at, IsWithoutFault}
-use Rattle.station_book.specs.Stations.{Couple, SurveyedStation, IsObserved, HasFaces, IsSurveyed, AreStations, stations_of, couples_of}
+use Rattle.station_book.specs.Stations.{Pair, SurveyedStation, IsObserved, HasFaces, IsSurveyed, AreStations, stations_of, pairs_of}
 use Rattle.station_book.specs.Recorded.{IsReadingOf, IsRecorded, IsRecordedWith, HasSet}
 use Rattle.station_book.proofs.Elements.{In, in_contains, contains_in, IsAt, place_in, in_map, of_map, in_filter, in_reverse, zip_left, zip_right, matched}
 use Rattle.station_book.proofs.PairLaws.{one_two_face}
 use Rattle.station_book.proofs.NameLaws.{apart}
 use Rattle.station_book.proofs.OneReading.{is_of}
 use Rattle.station_book.proofs.FilePlaces.{OfFile, station_placed, set_station, set_of_reading, listed_station, one_named}
-use Rattle.station_book.proofs.CoupleReadings.{IsRead, IsPairOf, pair_of_couple, couple_of_pair, of_station_readings, in_distinct}
+use Rattle.station_book.proofs.PairReadings.{IsRead, HasItsReadings, readings_of_pair, pair_of_readings, of_station_readings, in_distinct}
 
 reading_of : (h : History) (st set : Place) (station target name : List ℕ) (f : Face) (r : Place)
     → name_at st ≡ Some station → name ≡ target
@@ -34,19 +34,19 @@ reading_of h st set station target name f r named same read = record {
   of_face = read.is.of_face;
 }
 
--- what two readings of a couple recorded
+-- what two readings of a pair recorded
 record IsRecordedBy (limits : FaceLimits) (h : History) (name : List ℕ) (k : Key)
     (a b : Place) : Type 0 where
   pub recorded : IsRecorded limits h name k
   pub first_is : recorded.first ≡ a
   pub second_is : recorded.second ≡ b
 
-recorded_couple : (limits : FaceLimits) (h : History) (st : Place) (s : SurveyedStation)
-    (c : Couple) (o : Obs) (f : Faces) (p : IsPairOf h st c) → IsSurveyed limits h st s
+recorded_pair : (limits : FaceLimits) (h : History) (st : Place) (s : SurveyedStation)
+    (c : Pair) (o : Obs) (f : Faces) (p : HasItsReadings h st c) → IsSurveyed limits h st s
     → IsObserved limits c o → HasFaces limits c f
     → IsRecordedBy limits h s.station.name
     (key_of_obs s.station.sets s.station.targets o) p.first p.second
-recorded_couple limits h st s c o f p surveyed is differ = record {
+recorded_pair limits h st s c o f p surveyed is differ = record {
   recorded = record {
     set = p.set;
     numbered = matched number_at
@@ -84,10 +84,10 @@ recorded_obs : (limits : FaceLimits) (h : History) (st : Place) (s : SurveyedSta
     → IsRecorded limits h s.station.name (key_of_obs s.station.sets s.station.targets o)
 recorded_obs limits h st s o listed surveyed own =
     let c = zip_left (IsObserved limits)
-    (couples_of st h) s.station.obs surveyed.directions o own in
-    let f = zip_right (HasFaces limits) (couples_of st h) s.faces surveyed.differences c.0 c.1 in
-    (recorded_couple limits h st s c.0 o f.0
-    (pair_of_couple h st c.0 (station_placed h st listed) c.1) surveyed c.2 f.2).recorded
+    (pairs_of st h) s.station.obs surveyed.directions o own in
+    let f = zip_right (HasFaces limits) (pairs_of st h) s.faces surveyed.differences c.0 c.1 in
+    (recorded_pair limits h st s c.0 o f.0
+    (readings_of_pair h st c.0 (station_placed h st listed) c.1) surveyed c.2 f.2).recorded
 
 same_key : (a b : Key) → a.set ≡ b.set → a.target ≡ b.target → a.value ≡ b.value → a ≡ b
 same_key a b s t v = λ i. record { set = s i; target = t i; value = v i }
@@ -142,19 +142,19 @@ pair_observed limits h st s set target first second clean listed surveyed set_pl
           (in_map target_at first (station_readings st h)
           (of_station_readings h st set target One first one))))
 
-      couple : Couple
-      couple = record { set = i.0; target = j.0; first = sight_at first; second = sight_at second }
+      pair : Pair
+      pair = record { set = i.0; target = j.0; first = sight_at first; second = sight_at second }
 
-      own : In couple (couples_of st h)
-      own = couple_of_pair limits h st set target i.0 j.0 first second clean (inr set_placed) i.1 j.1
+      own : In pair (pairs_of st h)
+      own = pair_of_readings limits h st set target i.0 j.0 first second clean (inr set_placed) i.1 j.1
           one two
 
-      o : (o : Obs) × In o s.station.obs × IsObserved limits couple o
-      o = zip_right (IsObserved limits) (couples_of st h) s.station.obs surveyed.directions couple
+      o : (o : Obs) × In o s.station.obs × IsObserved limits pair o
+      o = zip_right (IsObserved limits) (pairs_of st h) s.station.obs surveyed.directions pair
           own
 
-      f : (f : Faces) × In f s.faces × HasFaces limits couple f
-      f = zip_right (HasFaces limits) (couples_of st h) s.faces surveyed.differences couple own
+      f : (f : Faces) × In f s.faces × HasFaces limits pair f
+      f = zip_right (HasFaces limits) (pairs_of st h) s.faces surveyed.differences pair own
 
 -- what was recorded at a station was observed
 observed_key : (limits : FaceLimits) (h : History) (st : Place) (s : SurveyedStation) (k : Key)
@@ -271,8 +271,8 @@ stations_with_sets limits h stations name are = (there, back) where
       same_text a b e = cc
 
 with_faces : (limits : FaceLimits) (h : History) (st : Place) (s : SurveyedStation) → OfFile h st
-    → IsSurveyed limits h st s → (cs : List Couple) (os : List Obs) (fs : List Faces)
-    → ((c : Couple) → In c cs → In c (couples_of st h)) → AllZip (IsObserved limits) cs os
+    → IsSurveyed limits h st s → (cs : List Pair) (os : List Obs) (fs : List Faces)
+    → ((c : Pair) → In c cs → In c (pairs_of st h)) → AllZip (IsObserved limits) cs os
     → AllZip (HasFaces limits) cs fs → AllZip (IsRecordedWith limits h s.station.name)
     (map (key_of_obs s.station.sets s.station.targets) os) fs
 with_faces limits h st s placed surveyed [] [] [] inside one two = tt
@@ -281,14 +281,14 @@ with_faces limits h st s placed surveyed [] (o ∷ os) fs inside one two = absur
 with_faces limits h st s placed surveyed (c ∷ cs) [] fs inside one two = absurd one
 with_faces limits h st s placed surveyed (c ∷ cs) (o ∷ os) [] inside one two = absurd two
 with_faces limits h st s placed surveyed (c ∷ cs) (o ∷ os) (f ∷ fs) inside one two = (
-  head (pair_of_couple h st c placed (inside c (inl refl))),
+  head (readings_of_pair h st c placed (inside c (inl refl))),
   with_faces limits h st s placed surveyed cs os fs (λ d k. inside d (inr k)) one.1 two.1,
 )
   where
-    head : IsPairOf h st c
+    head : HasItsReadings h st c
         → IsRecordedWith limits h s.station.name (key_of_obs s.station.sets s.station.targets o) f
     head p =
-        let r = recorded_couple limits h st s c o f p surveyed one.0 two.0 in
+        let r = recorded_pair limits h st s c o f p surveyed one.0 two.0 in
         let first : c.first ≡ sight_at r.recorded.first = p.first_is
         ∙ sym (ap sight_at r.first_is) in
         let second : c.second ≡ sight_at r.recorded.second = p.second_is
@@ -312,4 +312,4 @@ recorded_faces limits h stations s are listed =
     let own = zip_left (IsSurveyed limits h) (stations_of h) stations are s
     (in_contains s stations listed) in
     with_faces limits h own.0 s (station_placed h own.0 own.1) own.2
-    (couples_of own.0 h) s.station.obs s.faces (λ c k. k) own.2.directions own.2.differences
+    (pairs_of own.0 h) s.station.obs s.faces (λ c k. k) own.2.directions own.2.differences

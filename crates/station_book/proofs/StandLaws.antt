@@ -9,7 +9,7 @@ use Rattle.station_book.specs.Entries.{EntryValue, first_entry, with_set, with_r
 use Rattle.station_book.specs.declared.sight.Sighting.{Sighting}
 use Rattle.station_book.proofs.ReadingLaws.{Says, IsInNone, reading_stands, all_filter}
 use Rattle.station_book.specs.Shelves.{ShelfValue, survey_of, with_station, last_of}
-use Rattle.station_book.proofs.CoupleLaws.{none_in_later}
+use Rattle.station_book.proofs.SetReadings.{none_in_later}
 use Rattle.station_book.proofs.NewestLaws.{HasNewest}
 use Rattle.gsi_word.specs.Blocks.{GsiBlock}
 use Rattle.station_book.specs.Blocks.{number, opens_station, opens_set, is_opening, is_sight}

@@ -25,7 +25,7 @@ use Rattle.station_book.proofs.KeptLaws.{none_stands, none_when}
 use Rattle.station_book.proofs.KeptLaws.{clean_reading}
 use Rattle.station_book.proofs.FirstFault.{fault_or_none, no_first_fault, one_first_fault}
 use Rattle.station_book.proofs.FilePlaces.{HasItsSet, last_placed, owner_placed, same_of_file, set_of_reading, set_station}
-use Rattle.station_book.proofs.CoupleReadings.{IsRead}
+use Rattle.station_book.proofs.PairReadings.{IsRead}
 use Rattle.station_book.proofs.RecordedLaws.{IsPairObserved, pair_observed}
 use Rattle.station_book.proofs.StationLaws.{right_false}
 use Rattle.station_book.proofs.FaceLaws.{none_or_some}

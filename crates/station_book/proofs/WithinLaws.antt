@@ -18,7 +18,7 @@ use Rattle.station_book.specs.Places.{History, Place, places, before, station, o
 use Rattle.station_book.specs.Faults.{face, has_no_two_c, has_no_two_i, open_readings, sight_at, IsWithoutFault}
 use Rattle.station_book.proofs.FaceLaws.{one_face, face_of}
 use Rattle.station_book.proofs.KeptLaws.{IsCleanReading, clean_reading}
-use Rattle.station_book.proofs.CoupleLaws.{open_in_set}
+use Rattle.station_book.proofs.SetReadings.{open_in_set}
 
 -- the angle of a word is below a circle
 units_below : (o : Option ℕ) → angle_or_zero (Some (angle_within_turn o)) < 40_000_000

@@ -1,4 +1,4 @@
--- The couples of a station are its readings of one set and target, one of each face.
+-- The pairs of a station are its readings of one set and target, one of each face.
 use Rattle.std.proofs.Common.{◌≡◌, ℕ, true, ◌&&◌, List, [], ◌∷◌, length, reverse, Option, Some, None, refl, sym, ap, ◌∙◌, inl, inr, subst}
 use Rattle.std.specs.Str.{bytes_eq}
 use Rattle.std.specs.List.{enumerate_from}
@@ -10,7 +10,7 @@ use Rattle.station_book.specs.Limits.{FaceLimits}
 use Rattle.station_book.specs.Blocks.{opens_station, is_opening, is_of_face}
 use Rattle.station_book.specs.Places.{History, Place, places, last, before, opening, station, is_same, is_set, is_reading, target_at, stands, reading_in, readings_of, sets_of, station_readings, targets_of, is_among, distinct}
 use Rattle.station_book.specs.Faults.{sight_at, IsWithoutFault}
-use Rattle.station_book.specs.Stations.{Couple, joined, couples_in, couples_of}
+use Rattle.station_book.specs.Stations.{Pair, pair_of, pairs_in, pairs_of}
 use Rattle.station_book.proofs.Elements.{In, any_to, find_some, find_found, IsAt, in_filter, of_filter, of_reverse, in_places, of_places, in_filter_map, of_filter_map, in_flat_map, of_flat_map}
 use Rattle.station_book.proofs.KeptLaws.{among_new, among_more}
 use Rattle.station_book.proofs.OneReading.{IsOf, one_place}
@@ -99,23 +99,23 @@ in_distinct name names listed =
         ∙ among_new (distinct older) m
     among name (m ∷ older) (inr h) = among_more (distinct older) m name (among name older h)
 
--- what is joined
-record IsJoined (s t : ℕ) (one two : Option Place) (c : Couple) : Type 0 where
+-- what a pair is made of
+record IsPairOf (s t : ℕ) (one two : Option Place) (c : Pair) : Type 0 where
   pub first : Place
   pub second : Place
   pub one_is : one ≡ Some first
   pub two_is : two ≡ Some second
-  pub couple : record { set = s; target = t; first = sight_at first; second = sight_at second } ≡ c
+  pub pair : record { set = s; target = t; first = sight_at first; second = sight_at second } ≡ c
 
-join_parts : (s t : ℕ) (one two : Option Place) (c : Couple) → joined s t one two ≡ Some c
-    → IsJoined s t one two c
-join_parts s t (Some a)
-    (Some b) c e = record { first = a; second = b; one_is = refl; two_is = refl; couple = (cc) }
-join_parts s t (Some a) None c e = cc
-join_parts s t None two c e = cc
+pair_parts : (s t : ℕ) (one two : Option Place) (c : Pair) → pair_of s t one two ≡ Some c
+    → IsPairOf s t one two c
+pair_parts s t (Some a)
+    (Some b) c e = record { first = a; second = b; one_is = refl; two_is = refl; pair = (cc) }
+pair_parts s t (Some a) None c e = cc
+pair_parts s t None two c e = cc
 
--- the readings of a couple
-pub record IsPairOf (h : History) (st : Place) (c : Couple) : Type 0 where
+-- the readings of a pair
+pub record HasItsReadings (h : History) (st : Place) (c : Pair) : Type 0 where
   pub set : Place
   pub set_place : IsAt (reverse (sets_of st h)) c.set set
   pub name : List ℕ
@@ -127,22 +127,22 @@ pub record IsPairOf (h : History) (st : Place) (c : Couple) : Type 0 where
   pub first_is : c.first ≡ sight_at first
   pub second_is : c.second ≡ sight_at second
 
-pair_at : (h : History) (st : Place) (c : Couple) (e : ℕ × Place) (t : ℕ × List ℕ) → OfFile h st
+pair_at : (h : History) (st : Place) (c : Pair) (e : ℕ × Place) (t : ℕ × List ℕ) → OfFile h st
     → In e (enumerate_from 0 (reverse (sets_of st h))) → In t (enumerate_from 0 (targets_of st h))
-    → IsJoined e.0 t.0 (reading_in One t.1 (readings_of e.1 h))
-    (reading_in Two t.1 (readings_of e.1 h)) c → IsPairOf h st c
+    → IsPairOf e.0 t.0 (reading_in One t.1 (readings_of e.1 h))
+    (reading_in Two t.1 (readings_of e.1 h)) c → HasItsReadings h st c
 pair_at h st c e t st_placed e_in t_in j =
     at (of_places (reverse (sets_of st h)) e e_in) (of_places (targets_of st h) t t_in)
   where
     set_is : (k : ℕ) → e.0 ≡ k → k ≡ c.set
-    set_is k same = sym same ∙ ap (λ (c : Couple). c.set) j.couple
+    set_is k same = sym same ∙ ap (λ (c : Pair). c.set) j.pair
 
     target_is : (k : ℕ) → t.0 ≡ k → k ≡ c.target
-    target_is k same = sym same ∙ ap (λ (c : Couple). c.target) j.couple
+    target_is k same = sym same ∙ ap (λ (c : Pair). c.target) j.pair
 
     at : (k : ℕ) × (e.0 ≡ k) × IsAt (reverse (sets_of st h)) k e.1 × In e.1 (reverse (sets_of st h))
         → (k : ℕ) × (t.0 ≡ k) × IsAt (targets_of st h) k t.1 × In t.1 (targets_of st h)
-        → IsPairOf h st c
+        → HasItsReadings h st c
     at (i, i_is, i_at, set_in) (k, k_is, k_at, name_in) =
         let set = of_filter
         (λ place. is_set place && is_same (last opens_station (before place)) st) e.1 (places h)
@@ -160,48 +160,48 @@ pair_at h st c e t st_placed e_in t_in j =
           second = j.second;
           one = reading_found h st e.1 t.1 One j.first (inr set.0) set_station j.one_is;
           two = reading_found h st e.1 t.1 Two j.second (inr set.0) set_station j.two_is;
-          first_is = sym (ap (λ (c : Couple). c.first) j.couple);
-          second_is = sym (ap (λ (c : Couple). c.second) j.couple);
+          first_is = sym (ap (λ (c : Pair). c.first) j.pair);
+          second_is = sym (ap (λ (c : Pair). c.second) j.pair);
         }
 
-pub pair_of_couple : (h : History) (st : Place) (c : Couple) → OfFile h st → In c (couples_of st h)
-    → IsPairOf h st c
-pair_of_couple h st c st_placed listed =
-    of_set (of_flat_map (λ s. couples_in s.0 (targets_of st h) (readings_of s.1 h)) c
+pub readings_of_pair : (h : History) (st : Place) (c : Pair) → OfFile h st → In c (pairs_of st h)
+    → HasItsReadings h st c
+readings_of_pair h st c st_placed listed =
+    of_set (of_flat_map (λ s. pairs_in s.0 (targets_of st h) (readings_of s.1 h)) c
     (enumerate_from 0 (reverse (sets_of st h))) listed)
   where
     of_target : (e : ℕ × Place) → In e (enumerate_from 0 (reverse (sets_of st h)))
         → (t : ℕ × List ℕ) × In t (enumerate_from 0 (targets_of st h))
-        × (joined e.0 t.0 (reading_in One t.1 (readings_of e.1 h))
-        (reading_in Two t.1 (readings_of e.1 h)) ≡ Some c) → IsPairOf h st c
+        × (pair_of e.0 t.0 (reading_in One t.1 (readings_of e.1 h))
+        (reading_in Two t.1 (readings_of e.1 h)) ≡ Some c) → HasItsReadings h st c
     of_target e e_in (t, t_in, is) =
         pair_at h st c e t st_placed e_in t_in
-        (join_parts e.0 t.0 (reading_in One t.1 (readings_of e.1 h))
+        (pair_parts e.0 t.0 (reading_in One t.1 (readings_of e.1 h))
         (reading_in Two t.1 (readings_of e.1 h)) c is)
 
     of_set : (e : ℕ × Place) × In e (enumerate_from 0 (reverse (sets_of st h)))
-        × In c (couples_in e.0 (targets_of st h) (readings_of e.1 h)) → IsPairOf h st c
+        × In c (pairs_in e.0 (targets_of st h) (readings_of e.1 h)) → HasItsReadings h st c
     of_set (e, e_in, own) =
         of_target e e_in (of_filter_map
-        (λ t. joined e.0 t.0 (reading_in One t.1 (readings_of e.1 h))
+        (λ t. pair_of e.0 t.0 (reading_in One t.1 (readings_of e.1 h))
         (reading_in Two t.1 (readings_of e.1 h))) c (enumerate_from 0 (targets_of st h)) own)
 
--- In a file without fault two such readings are a couple.
-pub couple_of_pair : (limits : FaceLimits) (h : History) (st set : Place) (name : List ℕ) (i j : ℕ)
+-- In a file without fault two such readings are a pair.
+pub pair_of_readings : (limits : FaceLimits) (h : History) (st set : Place) (name : List ℕ) (i j : ℕ)
     (first second : Place) → IsWithoutFault limits h → OfFile h set
     → IsAt (reverse (sets_of st h)) i set
     → IsAt (targets_of st h) j name
     → IsRead h st set name One first → IsRead h st set name Two second
     → In (record { set = i; target = j; first = sight_at first; second = sight_at second })
-    (couples_of st h)
-couple_of_pair limits h st set name i j first second clean set_placed iat jat one two =
-    in_flat_map (λ s. couples_in s.0 (targets_of st h) (readings_of s.1 h)) (i, set) couple
+    (pairs_of st h)
+pair_of_readings limits h st set name i j first second clean set_placed iat jat one two =
+    in_flat_map (λ s. pairs_in s.0 (targets_of st h) (readings_of s.1 h)) (i, set) pair
     (enumerate_from 0 (reverse (sets_of st h))) (in_places (reverse (sets_of st h)) i set iat)
-    (in_filter_map (λ t. joined i t.0 (reading_in One t.1 (readings_of set h))
-    (reading_in Two t.1 (readings_of set h))) (j, name) couple
+    (in_filter_map (λ t. pair_of i t.0 (reading_in One t.1 (readings_of set h))
+    (reading_in Two t.1 (readings_of set h))) (j, name) pair
     (enumerate_from 0 (targets_of st h)) (in_places (targets_of st h) j name jat)
-    (λ x. joined i j (reading_listed limits h st set name One first clean set_placed one
+    (λ x. pair_of i j (reading_listed limits h st set name One first clean set_placed one
     x) (reading_listed limits h st set name Two second clean set_placed two x)))
   where
-    couple : Couple
-    couple = record { set = i; target = j; first = sight_at first; second = sight_at second }
+    pair : Pair
+    pair = record { set = i; target = j; first = sight_at first; second = sight_at second }
