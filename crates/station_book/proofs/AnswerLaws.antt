@@ -18,9 +18,9 @@ use Rattle.station_book.specs.Slots as slots
 use Rattle.station_book.specs.Slots.{obs_at, obs_of, faces_at, faces_of}
 use Rattle.station_book.specs.Shelves.{empty_shelf, surveys_of}
 use Rattle.station_book.specs.Refusals.{ExplainsFault}
-use Rattle.station_book.specs.Kept.{Kept, ending}
-use Rattle.station_book.specs.Keeps.{in_set, sighted, slots_of, obs_in, faces_in, numbers_in, IsComputed, stations_in}
-use Rattle.station_book.specs.Standing.{StandsFor, ExplainsEnd}
+use Rattle.station_book.specs.State.{State, ending}
+use Rattle.station_book.specs.StateOfHistory.{in_set, sighted, slots_of, obs_in, faces_in, numbers_in, IsComputed, stations_in}
+use Rattle.station_book.specs.StandsFor.{StandsFor, ExplainsEnd}
 use Rattle.station_book.proofs.SlotLaws.{enumerate-append}
 use Rattle.station_book.proofs.ComputedLaws.{computed_two_c, computed_two_i, computed_direction}
 use Rattle.station_book.proofs.WithinLaws.{AreWithin, AllWithin, within_limits, place_on_circle}
@@ -200,17 +200,17 @@ stands_empty limits =
     record { limited = refl; counted = refl; clean = tt; stage = (refl, refl); stations = tt }
 
 -- the fault of the end by the blocks, under any limits
-end_same : (limits : FaceLimits) (k : Kept) (h : History) → StandsFor limits k h
+end_same : (limits : FaceLimits) (k : State) (h : History) → StandsFor limits k h
     → ending k.stage k.shelf ≡ fault_at_end h
 end_same limits k h stands = same_end k h (at_own limits k h stands)
 
 -- the clauses of `finish`, by the blocks
-pub end_clean : {X E : Type 0} (k : Kept) (r : Result X E) → OnOk r (ending k.stage k.shelf ≡ None)
+pub end_clean : {X E : Type 0} (k : State) (r : Result X E) → OnOk r (ending k.stage k.shelf ≡ None)
     → OnOk r ((limits : FaceLimits) (h : History) → StandsFor limits k h → fault_at_end h ≡ None)
 end_clean k (Ok x) clean = λ limits h stands. sym (end_same limits k h stands) ∙ clean
 end_clean k (Err e) clean = clean
 
-pub end_stations : {E : Type 0} (k : Kept) (r : Result (List SurveyedStation) E)
+pub end_stations : {E : Type 0} (k : State) (r : Result (List SurveyedStation) E)
     → IfOk r (λ s. s ≡ surveys_of k.shelf)
     → IfOk r (λ s. (limits : FaceLimits) (h : History) → StandsFor limits k h
     → AreStations limits h s)
@@ -219,7 +219,7 @@ end_stations k (Ok s) same = λ limits h stands. are_stations limits h s stands.
     (same_stations k h (at_own limits k h stands)))
 end_stations k (Err e) same = same
 
-pub end_fault : {X : Type 0} (k : Kept) (r : Result X BookFault)
+pub end_fault : {X : Type 0} (k : State) (r : Result X BookFault)
     → IfErr r (ExplainsFault (k.taken + 1) (ending k.stage k.shelf))
     → IfErr r (λ e. (limits : FaceLimits) (h : History) → StandsFor limits k h → ExplainsEnd h e)
 end_fault k (Ok x) why = why

@@ -18,14 +18,14 @@ use Rattle.station_book.specs.Blocks.{role_of}
 use Rattle.station_book.specs.Readings as said
 use Rattle.station_book.specs.Entries.{place_of}
 use Rattle.station_book.specs.Shelves.{ShelfValue, last_of}
-use Rattle.station_book.specs.Kept as kept
+use Rattle.station_book.specs.State as states
 use Rattle.station_book.specs.Refusals.{ExplainsFault, WantsOnlyAt}
 use Rattle.station_book.specs.Blocks.{opens_set, is_sight, target}
 use Rattle.station_book.specs.Places.{History, is_open, is_reading}
 use Rattle.station_book.specs.Faults.{first_of, end_faults, station_faults, faults_as, fault_after, fault_at_end, is_new_target}
-use Rattle.station_book.specs.Kept.{then_fault}
-use Rattle.station_book.specs.Keeps.{IsStage, Stand, stations_in}
-use Rattle.station_book.specs.Standing.{StandsFor, ExplainsBlock}
+use Rattle.station_book.specs.State.{then_fault}
+use Rattle.station_book.specs.StateOfHistory.{IsStage, Stand, stations_in}
+use Rattle.station_book.specs.StandsFor.{StandsFor, ExplainsBlock}
 use Rattle.station_book.proofs.ListLaws.{absent}
 use Rattle.station_book.proofs.StepLaws.{open_targets}
 use Rattle.station_book.proofs.StandLaws.{open_has_set, open_entry}
@@ -36,11 +36,11 @@ use Rattle.station_book.proofs.SetFaultLaws.{same_set_fault}
 use Rattle.station_book.proofs.ReadingFaultLaws.{same_measurement_fault}
 
 -- THE LAW of faults: a block's fault by what is kept is its fault by the blocks before
-own_fault : (k : kept.Kept) (b : GsiBlock) (past : History) → StandsFor k.limits k past
-    → kept.fault_of k b ≡ fault_after k.limits past b
+own_fault : (k : states.State) (b : GsiBlock) (past : History) → StandsFor k.limits k past
+    → states.fault_of k b ≡ fault_after k.limits past b
 unfolding fault_after fault_at_end
 own_fault k b past h = by (role_of b) where
-  by : (r : Role) → kept.fault_as r k b ≡ first_of (faults_as r k.limits past b)
+  by : (r : Role) → states.fault_as r k b ≡ first_of (faults_as r k.limits past b)
   by roles.Station = (λ i. then_fault (same_end k past h i) (first_of (station_faults b)))
       ∙ sym (first_append (end_faults past) (station_faults b))
   by roles.Set = same_set_fault k b past h
@@ -48,13 +48,13 @@ own_fault k b past h = by (role_of b) where
   by roles.Measurement = same_measurement_fault k b past h
   by roles.Other = refl
 
-pub same_fault : (limits : FaceLimits) (k : kept.Kept) (b : GsiBlock) (past : History)
-    → StandsFor limits k past → kept.fault_of k b ≡ fault_after limits past b
+pub same_fault : (limits : FaceLimits) (k : states.State) (b : GsiBlock) (past : History)
+    → StandsFor limits k past → states.fault_of k b ≡ fault_after limits past b
 same_fault limits k b past h = own_fault k b past (at_own limits k past h)
     ∙ ap (λ (l : FaceLimits). fault_after l past b) h.limited
 
 -- A set is open where the stage says so.
-open_stage : (stage : Stage) (past : History) → IsStage stage past → kept.has_open_set stage ≡ true
+open_stage : (stage : Stage) (past : History) → IsStage stage past → states.has_open_set stage ≡ true
     → is_open past ≡ true
 open_stage Outside past g e = absurd (false≢true e)
 open_stage (Station name) past g e = absurd (false≢true e)
@@ -74,7 +74,7 @@ new_target : (shelf : ShelfValue) (b : GsiBlock) (past : History)
     (o : Result (Option Sighting) BookKind)
     → role_of b ≡ roles.Measurement → said.read b ≡ o → is_open past ≡ true
     → Stand past (stations_in past) shelf
-    → kept.is_first_of_target shelf o ≡ true → IsFirstOfTarget b past
+    → states.is_first_of_target shelf o ≡ true → IsFirstOfTarget b past
 new_target shelf b past (Err k) r e now h t = absurd (false≢true t)
 new_target shelf b past (Ok None) r e now h t = absurd (false≢true t)
 new_target shelf b past (Ok (Some s)) r e now h t =
@@ -89,45 +89,45 @@ new_target shelf b past (Ok (Some s)) r e now h t =
     ((λ i. seen i && now i), ap not (absent (λ x. bytes_eq x (target b)) (open_targets past) none))
 
 -- Memory is wanted by sets and by first readings of a target alone.
-pub may_grow : (limits : FaceLimits) (k : kept.Kept) (b : GsiBlock) (past : History)
-    → StandsFor limits k past → kept.grows k b ≡ true
+pub may_grow : (limits : FaceLimits) (k : states.State) (b : GsiBlock) (past : History)
+    → StandsFor limits k past → states.grows k b ≡ true
     → (opens_set b ≡ true) ⊎ IsFirstOfTarget b past
 may_grow limits k b past h = by (role_of b) refl where
-  by : (r : Role) → role_of b ≡ r → kept.grows_as r k b ≡ true
+  by : (r : Role) → role_of b ≡ r → states.grows_as r k b ≡ true
       → (opens_set b ≡ true) ⊎ IsFirstOfTarget b past
   by roles.Station e t = absurd (false≢true t)
   by roles.Set e t = inl (set_as b roles.Set e)
   by roles.Close e t = absurd (false≢true t)
   by roles.Measurement e t =
-      let p = and_parts (kept.has_open_set k.stage)
-      (kept.is_first_of_target k.shelf (said.read b)) t in
+      let p = and_parts (states.has_open_set k.stage)
+      (states.is_first_of_target k.shelf (said.read b)) t in
       inr (new_target k.shelf b past (said.read b) e refl
       (open_stage k.stage past h.stage p.0) h.stations p.1)
   by roles.Other e t = absurd (false≢true t)
 
 -- the clauses of `take`, by the blocks
-pub take_clean : {X E : Type 0} (k : kept.Kept) (b : GsiBlock) (r : Result X E)
-    → OnOk r (kept.fault_of k b ≡ None)
+pub take_clean : {X E : Type 0} (k : states.State) (b : GsiBlock) (r : Result X E)
+    → OnOk r (states.fault_of k b ≡ None)
     → OnOk r ((limits : FaceLimits) (h : History) → StandsFor limits k h
     → fault_after limits h b ≡ None)
 take_clean k b (Ok x) clean = λ limits h stands. sym (same_fault limits k b h stands) ∙ clean
 take_clean k b (Err e) clean = clean
 
-pub take_taken : {X E : Type 0} (k new : kept.Kept) (b : GsiBlock) (r : Result X E)
-    → OnOk r (kept.fault_of k b ≡ None) → OnOk r (new ≡ kept.after b k)
+pub take_taken : {X E : Type 0} (k new : states.State) (b : GsiBlock) (r : Result X E)
+    → OnOk r (states.fault_of k b ≡ None) → OnOk r (new ≡ states.after b k)
     → OnOk r ((limits : FaceLimits) (h : History) → StandsFor limits k h
     → StandsFor limits new (b ∷ h))
 take_taken k new b (Ok x) clean same = λ limits h stands.
     let own = at_own limits k h stands in
     subst (λ (l : FaceLimits). StandsFor l new (b ∷ h)) stands.limited
-    (subst (λ (w : kept.Kept). StandsFor k.limits w (b ∷ h)) (sym same)
+    (subst (λ (w : states.State). StandsFor k.limits w (b ∷ h)) (sym same)
     (taken_stands k.limits k.taken k.stage k.shelf b h (role_of b) refl clean
     (sym (own_fault k b h own) ∙ clean) own))
 take_taken k new b (Err e) clean same = same
 
-pub take_fault : {X : Type 0} (k : kept.Kept) (b : GsiBlock) (r : Result X BookFault)
-    → IfErr r (ExplainsFault (k.taken + 1) (kept.fault_of k b))
-    → IfErr r (WantsOnlyAt (kept.grows k b))
+pub take_fault : {X : Type 0} (k : states.State) (b : GsiBlock) (r : Result X BookFault)
+    → IfErr r (ExplainsFault (k.taken + 1) (states.fault_of k b))
+    → IfErr r (WantsOnlyAt (states.grows k b))
     → IfErr r (λ e. (limits : FaceLimits) (h : History) → StandsFor limits k h
     → ExplainsBlock limits h b e)
 take_fault k b (Ok x) why only = why

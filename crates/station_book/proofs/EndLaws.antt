@@ -14,10 +14,10 @@ use Rattle.station_book.specs.Faults.{when, first_of, open_readings, has_one_fac
 use Rattle.station_book.specs.Slots.{is_unread, is_single}
 use Rattle.station_book.specs.Shelves.{ShelfValue, last_of, survey_of, surveys_of}
 use Rattle.station_book.specs.Stations.{SurveyedStation}
-use Rattle.station_book.specs.Kept.{Kept, ending}
+use Rattle.station_book.specs.State.{State, ending}
 use Rattle.station_book.specs.Places.{History, Place, station, opening, is_empty, is_open, reading_in, sets_of, station_readings, target_at}
-use Rattle.station_book.specs.Keeps.{in_set, sighted, slot_of, slots_of, IsComputed, Stand, stations_in, IsStage}
-use Rattle.station_book.specs.Standing.{StandsFor}
+use Rattle.station_book.specs.StateOfHistory.{in_set, sighted, slot_of, slots_of, IsComputed, Stand, stations_in, IsStage}
+use Rattle.station_book.specs.StandsFor.{StandsFor}
 use Rattle.station_book.proofs.Elements.{In, any_to}
 use Rattle.station_book.proofs.StepLaws.{open_targets}
 use Rattle.station_book.proofs.FaceLaws as faces
@@ -102,7 +102,7 @@ closed_end past e = λ i. first_of
     (e i && has_one_face (open_readings past)) kinds.OneFace ∷ [])
 
 -- THE LAW of the end: the fault by what is kept is the fault by the blocks
-pub same_end : (k : Kept) (past : History) → StandsFor k.limits k past
+pub same_end : (k : State) (past : History) → StandsFor k.limits k past
     → ending k.stage k.shelf ≡ fault_at_end past
 unfolding fault_at_end
 same_end k past h = by k.stage h.stage where
@@ -138,7 +138,7 @@ answers h (st ∷ sts) [] k = k
 answers h (st ∷ sts) (e ∷ es) k = (survey_is h st e k.0, answers h sts es k.1)
 
 -- THE LAW of the answer: what is kept gives the stations of the blocks
-pub same_stations : (k : Kept) (past : History) → StandsFor k.limits k past
+pub same_stations : (k : State) (past : History) → StandsFor k.limits k past
     → AreComputed past (stations_in past) (reverse (surveys_of k.shelf))
 same_stations k past h =
     subst (λ (ss : List SurveyedStation). AreComputed past (stations_in past) ss)

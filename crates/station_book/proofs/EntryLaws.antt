@@ -20,7 +20,7 @@ use Rattle.station_book.specs.declared.sight.Sighting.{Sighting}
 use Rattle.station_book.specs.declared.slot.Slot.{Slot}
 use Rattle.station_book.specs.Faults.{when, first_of}
 use Rattle.station_book.specs.Slots.{slot_at, empty_slot, with_face_reading, is_unread, is_single, obs_of, faces_of, IsKeptSlot}
-use Rattle.station_book.specs.Sound.{AreSoFar}
+use Rattle.station_book.specs.SoFar.{AreSoFar}
 use Rattle.station_book.specs.Entries.{EntryValue, closed, with_set, place_of, is_new_to, new_target_fault, entry_faults_at, entry_faults, with_reading_at, IsEntry, MayEnd}
 use Rattle.std.specs.Prelude.{IfErr, IfNone}
 use Rattle.station_book.specs.Limits.{FaceLimits}
@@ -28,7 +28,7 @@ use Rattle.station_book.specs.declared.faces.Faces.{Faces}
 use Rattle.station_book.specs.declared.fault.Refusal.{Refusal}
 use Rattle.station_book.specs.declared.fault.Refusal.TheVariants as refusals
 use Rattle.station_book.specs.Refusals.{ExplainsRefusal, WantsOnly}
-use Rattle.station_book.proofs.SoundLaws.{closes}
+use Rattle.station_book.proofs.SoFarLaws.{closes}
 use Rattle.station_book.proofs.SlotLaws.{pairs_match}
 use Rattle.std.proofs.lemmas.List.Folds.{list_any_at}
 use Rattle.station_book.specs.Targets.{TargetsValue, with_first}

@@ -8,7 +8,7 @@ use Rattle.station_book.specs.Blocks.{opens_station, opens_set, is_opening, is_s
 use Rattle.station_book.specs.Places.{History, Place, places, last, before, opening, station, is_open, is_set, is_reading, is_same, is_empty, first_sets, readings_of, sets_of, station_readings, stands}
 use Rattle.station_book.specs.Faults.{name_at, same_name}
 use Rattle.station_book.specs.Stations.{stations_of}
-use Rattle.station_book.specs.Keeps.{in_set}
+use Rattle.station_book.specs.StateOfHistory.{in_set}
 use Rattle.station_book.proofs.Elements.{In, any_from, any_to, all_in, all_from, in_map, of_map, in_reverse, of_reverse, of_filter}
 use Rattle.station_book.proofs.StepLaws.{no_station_at_set, is_open-opening, is_open-other, sight_opens_no_station, same_station}
 use Rattle.station_book.proofs.StationLaws.{any_station}

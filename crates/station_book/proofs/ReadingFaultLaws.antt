@@ -16,18 +16,18 @@ use Rattle.station_book.specs.declared.sight.Sighting.{Sighting}
 use Rattle.station_book.specs.declared.stage.Stage.{Stage}
 use Rattle.station_book.specs.declared.stage.Stage.TheVariants.{Outside, Station, BetweenSets, InSet}
 use Rattle.station_book.specs.Faults.{when, first_of, has_no_two_c, has_no_two_i, open_readings, face, is_apart, reading_faults, faults_as, IsWithoutFault}
-use Rattle.station_book.specs.Kept.{then_fault}
+use Rattle.station_book.specs.State.{then_fault}
 use Rattle.station_book.specs.Readings as said
 use Rattle.station_book.specs.Slots.{face_reading, slot_at}
 use Rattle.station_book.specs.Entries as entries
 use Rattle.station_book.specs.Entries.{EntryValue, place_of}
 use Rattle.station_book.specs.Shelves.{ShelfValue, last_of}
-use Rattle.station_book.specs.Kept as kept
+use Rattle.station_book.specs.State as states
 use Rattle.gsi_word.specs.Blocks.{GsiBlock}
 use Rattle.station_book.specs.Blocks.{has_two, lacks, angle_fault, is_of_face, other_face, sight, target}
 use Rattle.station_book.specs.Places.{History, Place, is_among, is_open, reading_in}
-use Rattle.station_book.specs.Keeps.{sighted, slot_of, slots_of, Stand, IsStage, stations_in}
-use Rattle.station_book.specs.Standing.{StandsFor}
+use Rattle.station_book.specs.StateOfHistory.{sighted, slot_of, slots_of, Stand, IsStage, stations_in}
+use Rattle.station_book.specs.StandsFor.{StandsFor}
 use Rattle.station_book.proofs.ListLaws.{absent}
 use Rattle.station_book.proofs.StepLaws.{open_targets}
 use Rattle.station_book.proofs.FaceLaws.{IsKept, one_face, unseen}
@@ -191,7 +191,7 @@ same_later_open limits shelf past b w now h =
     (open_kept limits past w) e.is.targets (slots_kept shelf past now h)
 
 measured_parts : (limits : FaceLimits) (shelf : ShelfValue) (o : Option BookKind) (s : Sighting)
-    → kept.measured limits shelf (said.unless_fault o s) ≡ then_fault o
+    → states.measured limits shelf (said.unless_fault o s) ≡ then_fault o
     (first_of (entries.entry_faults limits (last_of shelf) s))
 measured_parts limits shelf None s = refl
 measured_parts limits shelf (Some k) s = refl
@@ -199,7 +199,7 @@ measured_parts limits shelf (Some k) s = refl
 -- a reading in the open set
 same_measured : (limits : FaceLimits) (shelf : ShelfValue) (past : History) (b : GsiBlock)
     → IsWithoutFault limits past → is_open past ≡ true → Stand past (stations_in past) shelf
-    → kept.measured limits shelf
+    → states.measured limits shelf
     (said.unless_fault (first_of (said.sighting_faults b)) (said.sighting b)) ≡ first_of
     (reading_faults limits past b)
 same_measured limits shelf past b w now h =
@@ -217,7 +217,7 @@ not_open sees now os e = rw (and_right sees now e)
 by_stage : (limits : FaceLimits) (stage : Stage) (shelf : ShelfValue) (past : History)
     (b : GsiBlock) → IsWithoutFault limits past → IsStage stage past
     → Stand past (stations_in past) shelf
-    → cond (kept.has_open_set stage) (kept.measured limits shelf (said.read b)) None ≡ first_of
+    → cond (states.has_open_set stage) (states.measured limits shelf (said.read b)) None ≡ first_of
     (cond (not (lacks 21 b) && is_open past) (reading_faults limits past b) [])
 by_stage limits Outside shelf past b w g h = not_open (not (lacks 21 b)) (is_open past)
     (reading_faults limits past b) g.1
@@ -226,7 +226,7 @@ by_stage limits (Station name) shelf past b w g h = not_open (not (lacks 21 b)) 
 by_stage limits BetweenSets shelf past b w g h = not_open (not (lacks 21 b)) (is_open past)
     (reading_faults limits past b) g.1
 by_stage limits InSet shelf past b w g h = by (lacks 21 b) where
-  by : (none : Bool) → kept.measured limits shelf
+  by : (none : Bool) → states.measured limits shelf
       (cond none (Ok None) (said.unless_fault (first_of (said.sighting_faults b))
       (said.sighting b))) ≡ first_of
       (cond (not none && is_open past) (reading_faults limits past b) [])
@@ -235,8 +235,8 @@ by_stage limits InSet shelf past b w g h = by (lacks 21 b) where
       ∙ sym (ap (λ v. first_of (cond v (reading_faults limits past b) [])) g)
 
 -- THE LAW of a measurement: the fault by what is kept is the fault by the blocks before
-pub same_measurement_fault : (k : kept.Kept) (b : GsiBlock) (past : History)
-    → StandsFor k.limits k past → kept.fault_as roles.Measurement k b
+pub same_measurement_fault : (k : states.State) (b : GsiBlock) (past : History)
+    → StandsFor k.limits k past → states.fault_as roles.Measurement k b
     ≡ first_of (faults_as roles.Measurement k.limits past b)
 same_measurement_fault k b past h =
     by_stage k.limits k.stage k.shelf past b h.clean h.stage h.stations

@@ -17,7 +17,7 @@ use Rattle.station_book.specs.Slots.{empty_slot, slot_at, with_face_reading, obs
 use Rattle.station_book.specs.Entries.{EntryValue, place_of, with_reading, with_reading_at}
 use Rattle.station_book.specs.Blocks.{is_of_face, other_face}
 use Rattle.station_book.specs.Places.{Place, opening, before, is_same, is_among, distinct, reading_in, target_at, stands}
-use Rattle.station_book.specs.Keeps.{in_set, sighted, slot_of, slots_of, targets_in, obs_in, faces_in, IsEntryOf}
+use Rattle.station_book.specs.StateOfHistory.{in_set, sighted, slot_of, slots_of, targets_in, obs_in, faces_in, IsEntryOf}
 use Rattle.station_book.proofs.SetReadings.{found_other, found_here, found_not}
 use Rattle.station_book.proofs.SlotLaws.{enumerate-append}
 use Rattle.station_book.proofs.EntryLaws.{absent_name}

@@ -12,15 +12,15 @@ use Rattle.station_book.specs.declared.role.Role.TheVariants as roles
 use Rattle.station_book.specs.declared.stage.Stage.{Stage}
 use Rattle.station_book.specs.declared.stage.Stage.TheVariants.{Outside, Station, BetweenSets, InSet}
 use Rattle.station_book.specs.Faults.{when, first_of, open_sets, had_sets, same_name, same_number, has_set_number, end_faults, set_faults, fault_at_end, IsWithoutFault, name_at}
-use Rattle.station_book.specs.Kept.{then_fault}
+use Rattle.station_book.specs.State.{then_fault}
 use Rattle.station_book.specs.Entries.{EntryValue}
 use Rattle.station_book.specs.Shelves.{ShelfValue, last_of, is_known, first_set_faults, more_set_faults}
-use Rattle.station_book.specs.Kept as kept
+use Rattle.station_book.specs.State as states
 use Rattle.gsi_word.specs.Blocks.{GsiBlock}
 use Rattle.station_book.specs.Blocks.{opens_station, opens_set, has_two, number}
 use Rattle.station_book.specs.Places.{number_at, History, Place, before, station, is_empty, first_sets, sets_of, station_readings}
-use Rattle.station_book.specs.Keeps.{numbers_in, IsEntryWith, Stand, IsStage, stations_in}
-use Rattle.station_book.specs.Standing.{StandsFor}
+use Rattle.station_book.specs.StateOfHistory.{numbers_in, IsEntryWith, Stand, IsStage, stations_in}
+use Rattle.station_book.specs.StandsFor.{StandsFor}
 use Rattle.station_book.proofs.Elements.{same_bytes}
 use Rattle.station_book.proofs.StepLaws.{sets-other}
 use Rattle.station_book.proofs.KeptLaws.{clean_set}
@@ -189,7 +189,7 @@ no_number past inside =
 same_opening : (limits : FaceLimits) (stage : Stage) (shelf : ShelfValue) (past : History)
     (n : Option ℕ) → IsWithoutFault limits past → IsStage stage past
     → Stand past (stations_in past) shelf
-    → kept.opening_fault stage shelf n ≡ first_of (opening_tests n past)
+    → states.opening_fault stage shelf n ≡ first_of (opening_tests n past)
 same_opening limits Outside shelf past n w g h =
     sym (λ i. first_of (tests (is_empty (g.0 i)) (is_none n) (had_sets past) (has_set_number n past)
     (is_empty (open_sets past) && leb 1000 (length (first_sets past)))
@@ -219,8 +219,8 @@ set_tests past b = first_append (when (has_two 42 b) (kinds.WordTwice 42) ∷ []
       one (Some k) = refl
 
 -- THE LAW of code 20: the fault by what is kept is the fault by the blocks before
-pub same_set_fault : (k : kept.Kept) (b : GsiBlock) (past : History) → StandsFor k.limits k past
-    → kept.fault_as roles.Set k b ≡ first_of (end_faults past ++ set_faults past b)
+pub same_set_fault : (k : states.State) (b : GsiBlock) (past : History) → StandsFor k.limits k past
+    → states.fault_as roles.Set k b ≡ first_of (end_faults past ++ set_faults past b)
 unfolding fault_at_end
 same_set_fault k b past h =
     let opens = same_opening k.limits k.stage k.shelf past (number b) h.clean h.stage h.stations in

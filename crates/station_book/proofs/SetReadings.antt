@@ -4,7 +4,7 @@ use Rattle.std.specs.Str.{bytes_eq}
 use Rattle.std.proofs.lemmas.Bool.{cases_Bool, eq-eqb, ne_eqb, and_right}
 use Rattle.station_book.specs.declared.face.Face.{Face}
 use Rattle.station_book.specs.Blocks.{is_of_face, opens_station, is_opening}
-use Rattle.station_book.specs.Keeps.{in_set}
+use Rattle.station_book.specs.StateOfHistory.{in_set}
 use Rattle.station_book.specs.Places.{History, Place, places, last, before, reading_in, is_same, is_reading, opening, station, station_readings, target_at, stands}
 use Rattle.station_book.specs.Faults.{open_readings}
 use Rattle.station_book.proofs.PlaceLaws.{length-last, belonging-more, belonging-same}

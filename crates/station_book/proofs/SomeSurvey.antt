@@ -7,15 +7,15 @@ use Rattle.station_book.specs.Places.{History}
 use Rattle.station_book.specs.Faults.{IsWithoutFault}
 use Rattle.station_book.specs.Stations.{SurveyedStation, AreStations}
 use Rattle.station_book.specs.Shelves.{empty_shelf, surveys_of}
-use Rattle.station_book.specs.Kept.{Kept, after}
-use Rattle.station_book.specs.Standing.{StandsFor}
+use Rattle.station_book.specs.State.{State, after}
+use Rattle.station_book.specs.StandsFor.{StandsFor}
 use Rattle.station_book.proofs.TakeLaws.{at_own}
 use Rattle.station_book.proofs.EndLaws.{same_stations}
 use Rattle.station_book.proofs.BlockFaultLaws.{same_fault, take_taken}
 use Rattle.station_book.proofs.AnswerLaws.{are_stations, stands_empty}
 
 -- what a book keeps that has taken these blocks
-abbrev kept_of : FaceLimits → History → Kept
+abbrev kept_of : FaceLimits → History → State
 kept_of limits [] = record { limits = limits; taken = 0; stage = Outside; shelf = empty_shelf }
 kept_of limits (b ∷ past) = after b (kept_of limits past)
 

@@ -15,7 +15,7 @@ use Rattle.gsi_word.specs.Blocks.{GsiBlock}
 use Rattle.station_book.specs.Blocks.{number, opens_station, opens_set, is_opening, is_sight}
 use Rattle.station_book.specs.Places.{number_at, History, Place, places, last, before, station, opening, is_empty, is_open, is_set, is_reading, is_same, sets_of, station_readings, first_sets}
 use Rattle.station_book.specs.Faults.{open_sets, name_at}
-use Rattle.station_book.specs.Keeps.{in_set, slots_of, targets_in, obs_in, faces_in, numbers_in, IsEntryOf, IsEntryWith, StandsAt, IsComputed, stations_in, Stand}
+use Rattle.station_book.specs.StateOfHistory.{in_set, slots_of, targets_in, obs_in, faces_in, numbers_in, IsEntryOf, IsEntryWith, StandsAt, IsComputed, stations_in, Stand}
 use Rattle.station_book.proofs.PlaceLaws.{length-last, belonging-more, belonging-same, belonging-fresh, belonging-older, owners_in_order}
 use Rattle.station_book.proofs.StepLaws.{no_set_at_station, no_station_at_set, sight_opens_nothing, sight_opens_no_station, is_open-opening, is_open-other, sets-station, sets-more, sets-other, same_station, sight_opens_no_set}
 

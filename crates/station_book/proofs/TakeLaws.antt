@@ -13,17 +13,17 @@ use Rattle.station_book.specs.declared.sight.Sighting.{Sighting}
 use Rattle.station_book.specs.declared.stage.Stage.{Stage}
 use Rattle.station_book.specs.declared.stage.Stage.TheVariants.{Outside, Station, BetweenSets, InSet}
 use Rattle.station_book.specs.Faults.{station_faults, when, first_of, open_sets, fault_after, name_at}
-use Rattle.station_book.specs.Kept.{then_fault}
+use Rattle.station_book.specs.State.{then_fault}
 use Rattle.station_book.specs.Blocks.{role_of, is_station, is_set_code, is_close, is_measurement}
 use Rattle.station_book.specs.Entries.{with_set, with_reading}
 use Rattle.station_book.specs.Shelves.{ShelfValue, change_last}
-use Rattle.station_book.specs.Kept as kept
+use Rattle.station_book.specs.State as states
 use Rattle.gsi_word.specs.Blocks.{GsiBlock}
 use Rattle.station_book.specs.Blocks.{opens_station, opens_set, is_opening, is_sight, named, number, sight, is_of_face, other_face, found, is_absent, is_twice, name_found, has_two, lacks}
 use Rattle.station_book.specs.Places.{History, last, station, is_empty, is_open, is_reading}
-use Rattle.station_book.specs.Keeps.{IsStage, Stand, stations_in}
+use Rattle.station_book.specs.StateOfHistory.{IsStage, Stand, stations_in}
 use Rattle.station_book.specs.Readings as said
-use Rattle.station_book.specs.Standing.{StandsFor}
+use Rattle.station_book.specs.StandsFor.{StandsFor}
 use Rattle.station_book.proofs.StepLaws.{is_open-opening, is_open-other, sets-station, sets-other, same_station}
 use Rattle.station_book.specs.Limits.{FaceLimits}
 use Rattle.station_book.proofs.FaceLaws.{one_face}
@@ -67,7 +67,7 @@ stage_stays InSet b past s n o h = is_open-other b past o ∙ h
 -- a closing code
 stage_closes : (stage : Stage) (b : GsiBlock) (past : History) → opens_station b ≡ false
     → opens_set b ≡ false → is_opening b ≡ true → IsStage stage past
-    → IsStage (kept.closed_stage stage) (b ∷ past)
+    → IsStage (states.closed_stage stage) (b ∷ past)
 stage_closes Outside b past s n o h = (same_station b past s ∙ h.0, is_open-opening b past o ∙ n)
 stage_closes (Station name) b past s n o h = (
   ap is_empty (same_station b past s) ∙ h.0,
@@ -115,9 +115,9 @@ further_taken shelf b past n r e some h =
 
 -- a block of code 20
 pub set_taken : (shelf : ShelfValue) (b : GsiBlock) (past : History) (stage : Stage) (n : Option ℕ)
-    → role_of b ≡ roles.Set → number b ≡ n → kept.opening_fault stage shelf n ≡ None
+    → role_of b ≡ roles.Set → number b ≡ n → states.opening_fault stage shelf n ≡ None
     → IsStage stage past → Stand past (stations_in past) shelf
-    → Stand (b ∷ past) (stations_in (b ∷ past)) (kept.opened stage n shelf)
+    → Stand (b ∷ past) (stations_in (b ∷ past)) (states.opened stage n shelf)
 set_taken shelf b past Outside n r e f g h = absurd cc
 set_taken shelf b past (Station name) None r e f g h = absurd cc
 set_taken shelf b past (Station name)
@@ -202,7 +202,7 @@ in_set_taken : (shelf : ShelfValue) (b : GsiBlock) (past : History)
     (o : Result (Option Sighting) BookKind) → role_of b ≡ roles.Measurement → said.read b ≡ o
     → is_open past ≡ true → (kind : (k : BookKind) → o ≡ Err k → ⊥)
     → Stand past (stations_in past) shelf
-    → Stand (b ∷ past) (stations_in (b ∷ past)) (kept.with_measured o shelf)
+    → Stand (b ∷ past) (stations_in (b ∷ past)) (states.with_measured o shelf)
 in_set_taken shelf b past (Err k) r e now kind h = absurd (kind k refl)
 in_set_taken shelf b past (Ok None) r e now kind h =
     let absent : lacks 21 b ≡ true = none_cases (lacks 21 b) (first_of (said.sighting_faults b))
@@ -220,7 +220,7 @@ in_set_taken shelf b past (Ok (Some s)) r e now kind h =
     (says b past s w) (subst (λ (o : ShelfValue). Stand past (stations_in past) o) x.is h))
 
 no_err : (limits : FaceLimits) (shelf : ShelfValue) (o : Result (Option Sighting) BookKind)
-    → kept.measured limits shelf o ≡ None → (k : BookKind) → o ≡ Err k → ⊥
+    → states.measured limits shelf o ≡ None → (k : BookKind) → o ≡ Err k → ⊥
 no_err limits shelf (Err j) f k e = absurd cc
 no_err limits shelf (Ok o) f k e = cc
 
@@ -231,10 +231,10 @@ closed_no_reading b past e = and_right (is_sight b) (is_open past) e
 -- a measurement
 pub measurement_taken : (limits : FaceLimits) (shelf : ShelfValue) (stage : Stage) (b : GsiBlock)
     (past : History) → role_of b ≡ roles.Measurement
-    → cond (kept.has_open_set stage) (kept.measured limits shelf (said.read b)) None ≡ None
+    → cond (states.has_open_set stage) (states.measured limits shelf (said.read b)) None ≡ None
     → IsStage stage past → Stand past (stations_in past) shelf
     → Stand (b ∷ past) (stations_in (b ∷ past))
-    (cond (kept.has_open_set stage) (kept.with_measured (said.read b) shelf) shelf)
+    (cond (states.has_open_set stage) (states.with_measured (said.read b) shelf) shelf)
 measurement_taken limits shelf Outside b past r f g h = stand_idle shelf b past
     (set_as b roles.Measurement r) (closed_no_reading b past g.1) h
 measurement_taken limits shelf (Station name) b past r f g h = stand_idle shelf b past
@@ -247,11 +247,11 @@ measurement_taken limits shelf InSet b past r f g h = in_set_taken shelf b past
 -- THE LAW: after a block without fault, what is kept stands for the blocks with it
 pub taken_stands : (limits : FaceLimits) (taken : ℕ) (stage : Stage) (shelf : ShelfValue)
     (b : GsiBlock) (past : History) (r : Role) → role_of b ≡ r
-    → kept.fault_as r (record { limits = limits; taken = taken; stage = stage; shelf = shelf }) b
+    → states.fault_as r (record { limits = limits; taken = taken; stage = stage; shelf = shelf }) b
     ≡ None → fault_after limits past b ≡ None
     → StandsFor limits (record { limits = limits; taken = taken; stage = stage; shelf = shelf })
     past → StandsFor limits
-    (kept.after_as r b (record {
+    (states.after_as r b (record {
       limits = limits;
       taken = taken + 1;
       stage = stage;
@@ -259,7 +259,7 @@ pub taken_stands : (limits : FaceLimits) (taken : ℕ) (stage : Stage) (shelf : 
     })) (b ∷ past)
 taken_stands limits taken stage shelf b past roles.Station r f clean h =
     let (name, is) = name_of_station b
-    (then_second (kept.ending stage shelf) (first_of (station_faults b)) f) in
+    (then_second (states.ending stage shelf) (first_of (station_faults b)) f) in
     let s = station_as b roles.Station r in
     let here : station (b ∷ past) ≡ b ∷ past = ap
     (λ v. cond v (b ∷ past) (last opens_station past)) s in
@@ -267,7 +267,7 @@ taken_stands limits taken stage shelf b past roles.Station r f clean h =
       limited = refl;
       clean = (clean, h.clean);
       counted = (let t = h.counted in omega (arith, t));
-      stage = subst (λ (o : Option (List ℕ)). IsStage (kept.at_station o stage) (b ∷ past))
+      stage = subst (λ (o : Option (List ℕ)). IsStage (states.at_station o stage) (b ∷ past))
           (sym is) (
             ap is_empty here,
             ap (λ p. name_at p) here ∙ is,
@@ -284,7 +284,7 @@ taken_stands limits taken stage shelf b past roles.Set r f clean h = record {
   stage = is_open-opening b past (opening_as b roles.Set r) ∙ set_as b roles.Set r;
   stations = set_taken shelf b past stage (number b) r refl
       (then_second (when (has_two 42 b) (kinds.WordTwice 42))
-      (kept.opening_fault stage shelf (number b)) (then_second (kept.ending stage shelf) _ f))
+      (states.opening_fault stage shelf (number b)) (then_second (states.ending stage shelf) _ f))
       h.stage h.stations;
 }
 taken_stands limits taken stage shelf b past roles.Close r f clean h = record {
@@ -316,6 +316,6 @@ taken_stands limits taken stage shelf b past roles.Other r f clean h = record {
 }
 
 -- the same book under its own limits
-pub at_own : (limits : FaceLimits) (k : kept.Kept) (h : History) → StandsFor limits k h
+pub at_own : (limits : FaceLimits) (k : states.State) (h : History) → StandsFor limits k h
     → StandsFor k.limits k h
 at_own limits k h s = subst (λ (l : FaceLimits). StandsFor l k h) (sym s.limited) s

@@ -13,7 +13,7 @@ use Rattle.station_book.specs.declared.face.Face.TheVariants as faces
 use Rattle.station_book.specs.Limits.{FaceLimits}
 use Rattle.station_book.specs.Sights.{Sight, AreOnCircle}
 use Rattle.station_book.specs.Blocks.{found, angle_found, angle_or_zero, sight, target, is_of_face}
-use Rattle.station_book.specs.Keeps.{in_set}
+use Rattle.station_book.specs.StateOfHistory.{in_set}
 use Rattle.station_book.specs.Places.{History, Place, places, before, station, opening, is_same, is_reading, reading_in, station_readings}
 use Rattle.station_book.specs.Faults.{face, has_no_two_c, has_no_two_i, open_readings, sight_at, IsWithoutFault}
 use Rattle.station_book.proofs.FaceLaws.{one_face, face_of}

@@ -12,7 +12,7 @@ use Rattle.station_book.specs.declared.slot.Slot.{Slot}
 use Rattle.station_book.specs.Faults.{when, first_of}
 use Rattle.adjust_kernel.specs.Names.{IsName}
 use Rattle.adjust_kernel.specs.Sheets.{IsSetNumber}
-use Rattle.station_book.specs.Sound.{AreSoFar}
+use Rattle.station_book.specs.SoFar.{AreSoFar}
 use Rattle.station_book.specs.Slots.{slot_at, with_face_reading, empty_slot, slot_faults, closing_faults, IsKeptSlot, obs_of, faces_of}
 
 -- the names of its targets, their readings in its last set, the numbers of its sets, and what all

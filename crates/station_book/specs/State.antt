@@ -19,7 +19,7 @@ use Rattle.station_book.specs.Shelves.{ShelfValue, last_of, LastMayEnd, change_l
 
 -- what a book keeps: its limits, how many blocks it took, where it stands, and its stations with
 -- sets
-pub record Kept : Type 0 where
+pub record State : Type 0 where
   pub limits : FaceLimits
   pub taken : ℕ
   pub stage : Stage
@@ -87,7 +87,7 @@ with_measured (Ok None) shelf = shelf
 with_measured (Ok (Some s)) shelf = change_last (with_reading s) shelf
 
 -- the fault of a block with this role
-abbrev pub fault_as : Role → Kept → GsiBlock → Option BookKind
+abbrev pub fault_as : Role → State → GsiBlock → Option BookKind
 fault_as AsStation k b = then_fault (ending k.stage k.shelf) (first_of (station_faults b))
 fault_as Set k b = then_fault (ending k.stage k.shelf)
     (then_fault (when (has_two 42 b) (kinds.WordTwice 42))
@@ -97,7 +97,7 @@ fault_as Measurement k b = if has_open_set k.stage then measured k.limits k.shel
 fault_as Other k b = None
 
 -- the fault of a block
-abbrev pub fault_of : Kept → GsiBlock → Option BookKind
+abbrev pub fault_of : State → GsiBlock → Option BookKind
 fault_of k b = fault_as (role_of b) k b
 
 -- whether a book may need memory for a measurement that says this, in an open set: its target is
@@ -108,7 +108,7 @@ is_first_of_target shelf (Ok None) = false
 is_first_of_target shelf (Ok (Some s)) = is_new_to (last_of shelf) s
 
 -- whether a book may need memory for a block of this role: a set, or the first reading of a target
-abbrev pub grows_as : Role → Kept → GsiBlock → Bool
+abbrev pub grows_as : Role → State → GsiBlock → Bool
 grows_as AsStation k b = false
 grows_as Set k b = true
 grows_as Close k b = false
@@ -116,11 +116,11 @@ grows_as Measurement k b = has_open_set k.stage && is_first_of_target k.shelf (r
 grows_as Other k b = false
 
 -- whether a book may need memory for a block
-abbrev pub grows : Kept → GsiBlock → Bool
+abbrev pub grows : State → GsiBlock → Bool
 grows k b = grows_as (role_of b) k b
 
 -- what is kept after a block with this role
-abbrev pub after_as : Role → GsiBlock → Kept → Kept
+abbrev pub after_as : Role → GsiBlock → State → State
 after_as AsStation b k = record k { stage = at_station (named b) k.stage }
 after_as Set b k = record k { stage = InSet; shelf = opened k.stage (number b) k.shelf }
 after_as Close b k = record k { stage = closed_stage k.stage }
@@ -129,7 +129,7 @@ after_as Measurement b k = record
 after_as Other b k = k
 
 -- what is kept after a block
-abbrev pub after : GsiBlock → Kept → Kept
+abbrev pub after : GsiBlock → State → State
 after b k = after_as (role_of b) b (record k { taken = k.taken + 1 })
 
 -- Where the open station has a set, there is a station.

@@ -9,7 +9,7 @@ use Rattle.station_book.specs.Sights.{Sight}
 use Rattle.station_book.specs.declared.slot.Slot.{Slot}
 use Rattle.station_book.specs.Pairs.{direction}
 use Rattle.station_book.specs.Slots.{observation_of, obs_at, obs_of, is_unread, is_single, slot_at}
-use Rattle.station_book.specs.Sound.{AreSoFar}
+use Rattle.station_book.specs.SoFar.{AreSoFar}
 use Rattle.station_book.proofs.ListLaws.{pairs_cons, pairs_append, any_left, any_right, any_head, any_tail, any_weaker}
 
 -- an observation of this set and of one of the targets from `low` up to `high`
