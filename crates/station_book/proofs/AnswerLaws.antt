@@ -193,36 +193,36 @@ module _ (limits : FaceLimits) where
       (reverse (stations_in h)) zs) (reverse-reverse ss) zip)
 
 -- a new book stands for no block
-pub stands_empty : (limits : FaceLimits)
+pub empty_state : (limits : FaceLimits)
     → StandsFor limits (record { limits = limits; taken = 0; stage = Outside; shelf = empty_shelf })
     []
-stands_empty limits =
+empty_state limits =
     record { limited = refl; counted = refl; clean = tt; stage = (refl, refl); stations = tt }
 
 -- the fault of the end by the blocks, under any limits
 end_same : (limits : FaceLimits) (k : State) (h : History) → StandsFor limits k h
     → ending k.stage k.shelf ≡ fault_at_end h
-end_same limits k h stands = same_end k h (at_own limits k h stands)
+end_same limits k h it = same_end k h (at_own limits k h it)
 
 -- the clauses of `finish`, by the blocks
 pub end_clean : {X E : Type 0} (k : State) (r : Result X E) → OnOk r (ending k.stage k.shelf ≡ None)
     → OnOk r ((limits : FaceLimits) (h : History) → StandsFor limits k h → fault_at_end h ≡ None)
-end_clean k (Ok x) clean = λ limits h stands. sym (end_same limits k h stands) ∙ clean
+end_clean k (Ok x) clean = λ limits h it. sym (end_same limits k h it) ∙ clean
 end_clean k (Err e) clean = clean
 
 pub end_stations : {E : Type 0} (k : State) (r : Result (List SurveyedStation) E)
     → IfOk r (λ s. s ≡ surveys_of k.shelf)
     → IfOk r (λ s. (limits : FaceLimits) (h : History) → StandsFor limits k h
     → AreStations limits h s)
-end_stations k (Ok s) same = λ limits h stands. are_stations limits h s stands.clean
+end_stations k (Ok s) same = λ limits h it. are_stations limits h s it.clean
     (subst (λ (ss : List SurveyedStation). AreComputed h (stations_in h) (reverse ss)) (sym same)
-    (same_stations k h (at_own limits k h stands)))
+    (same_stations k h (at_own limits k h it)))
 end_stations k (Err e) same = same
 
 pub end_fault : {X : Type 0} (k : State) (r : Result X BookFault)
     → IfErr r (ExplainsFault (k.taken + 1) (ending k.stage k.shelf))
     → IfErr r (λ e. (limits : FaceLimits) (h : History) → StandsFor limits k h → ExplainsEnd h e)
 end_fault k (Ok x) why = why
-end_fault k (Err (At n kind)) why = λ limits h stands.
-    (why.0 ∙ ap (λ (m : ℕ). m + 1) stands.counted, sym (end_same limits k h stands) ∙ why.1)
-end_fault k (Err Memory) why = λ limits h stands. sym (end_same limits k h stands) ∙ why
+end_fault k (Err (At n kind)) why = λ limits h it.
+    (why.0 ∙ ap (λ (m : ℕ). m + 1) it.counted, sym (end_same limits k h it) ∙ why.1)
+end_fault k (Err Memory) why = λ limits h it. sym (end_same limits k h it) ∙ why

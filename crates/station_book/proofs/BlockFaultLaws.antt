@@ -24,13 +24,13 @@ use Rattle.station_book.specs.Blocks.{opens_set, is_sight, target}
 use Rattle.station_book.specs.Places.{History, is_open, is_reading}
 use Rattle.station_book.specs.Faults.{first_of, end_faults, station_faults, faults_as, fault_after, fault_at_end, is_new_target}
 use Rattle.station_book.specs.State.{then_fault}
-use Rattle.station_book.specs.StateOfHistory.{IsStage, Stand, stations_in}
+use Rattle.station_book.specs.StateOfHistory.{IsStage, AreStates, stations_in}
 use Rattle.station_book.specs.StandsFor.{StandsFor, ExplainsBlock}
 use Rattle.station_book.proofs.ListLaws.{absent}
 use Rattle.station_book.proofs.StepLaws.{open_targets}
-use Rattle.station_book.proofs.StandLaws.{open_has_set, open_entry}
+use Rattle.station_book.proofs.StateLaws.{open_has_set, open_entry}
 use Rattle.station_book.proofs.EndLaws.{same_end}
-use Rattle.station_book.proofs.TakeLaws.{set_as, sight_as, was_read, at_own, taken_stands}
+use Rattle.station_book.proofs.TakeLaws.{set_as, sight_as, was_read, at_own, taken_state}
 use Rattle.station_book.proofs.FaultLaws.{first_append}
 use Rattle.station_book.proofs.SetFaultLaws.{same_set_fault}
 use Rattle.station_book.proofs.ReadingFaultLaws.{same_measurement_fault}
@@ -73,7 +73,7 @@ IsFirstOfTarget b past = (is_reading (b ∷ past) ≡ true) × (is_new_target b 
 new_target : (shelf : ShelfValue) (b : GsiBlock) (past : History)
     (o : Result (Option Sighting) BookKind)
     → role_of b ≡ roles.Measurement → said.read b ≡ o → is_open past ≡ true
-    → Stand past (stations_in past) shelf
+    → AreStates past (stations_in past) shelf
     → states.is_first_of_target shelf o ≡ true → IsFirstOfTarget b past
 new_target shelf b past (Err k) r e now h t = absurd (false≢true t)
 new_target shelf b past (Ok None) r e now h t = absurd (false≢true t)
@@ -110,18 +110,18 @@ pub take_clean : {X E : Type 0} (k : states.State) (b : GsiBlock) (r : Result X 
     → OnOk r (states.fault_of k b ≡ None)
     → OnOk r ((limits : FaceLimits) (h : History) → StandsFor limits k h
     → fault_after limits h b ≡ None)
-take_clean k b (Ok x) clean = λ limits h stands. sym (same_fault limits k b h stands) ∙ clean
+take_clean k b (Ok x) clean = λ limits h it. sym (same_fault limits k b h it) ∙ clean
 take_clean k b (Err e) clean = clean
 
 pub take_taken : {X E : Type 0} (k new : states.State) (b : GsiBlock) (r : Result X E)
     → OnOk r (states.fault_of k b ≡ None) → OnOk r (new ≡ states.after b k)
     → OnOk r ((limits : FaceLimits) (h : History) → StandsFor limits k h
     → StandsFor limits new (b ∷ h))
-take_taken k new b (Ok x) clean same = λ limits h stands.
-    let own = at_own limits k h stands in
-    subst (λ (l : FaceLimits). StandsFor l new (b ∷ h)) stands.limited
+take_taken k new b (Ok x) clean same = λ limits h it.
+    let own = at_own limits k h it in
+    subst (λ (l : FaceLimits). StandsFor l new (b ∷ h)) it.limited
     (subst (λ (w : states.State). StandsFor k.limits w (b ∷ h)) (sym same)
-    (taken_stands k.limits k.taken k.stage k.shelf b h (role_of b) refl clean
+    (taken_state k.limits k.taken k.stage k.shelf b h (role_of b) refl clean
     (sym (own_fault k b h own) ∙ clean) own))
 take_taken k new b (Err e) clean same = same
 
@@ -131,7 +131,7 @@ pub take_fault : {X : Type 0} (k : states.State) (b : GsiBlock) (r : Result X Bo
     → IfErr r (λ e. (limits : FaceLimits) (h : History) → StandsFor limits k h
     → ExplainsBlock limits h b e)
 take_fault k b (Ok x) why only = why
-take_fault k b (Err (At n kind)) why only = λ limits h stands.
-    (why.0 ∙ ap (λ (m : ℕ). m + 1) stands.counted, sym (same_fault limits k b h stands) ∙ why.1)
-take_fault k b (Err Memory) why only = λ limits h stands.
-    (sym (same_fault limits k b h stands) ∙ why, may_grow limits k b h stands only)
+take_fault k b (Err (At n kind)) why only = λ limits h it.
+    (why.0 ∙ ap (λ (m : ℕ). m + 1) it.counted, sym (same_fault limits k b h it) ∙ why.1)
+take_fault k b (Err Memory) why only = λ limits h it.
+    (sym (same_fault limits k b h it) ∙ why, may_grow limits k b h it only)

@@ -16,7 +16,7 @@ use Rattle.station_book.specs.Shelves.{ShelfValue, last_of, survey_of, surveys_o
 use Rattle.station_book.specs.Stations.{SurveyedStation}
 use Rattle.station_book.specs.State.{State, ending}
 use Rattle.station_book.specs.Places.{History, Place, station, opening, is_empty, is_open, reading_in, sets_of, station_readings, target_at}
-use Rattle.station_book.specs.StateOfHistory.{in_set, sighted, slot_of, slots_of, IsComputed, Stand, stations_in, IsStage}
+use Rattle.station_book.specs.StateOfHistory.{in_set, sighted, slot_of, slots_of, IsComputed, AreStates, stations_in, IsStage}
 use Rattle.station_book.specs.StandsFor.{StandsFor}
 use Rattle.station_book.proofs.Elements.{In, any_to}
 use Rattle.station_book.proofs.StepLaws.{open_targets}
@@ -24,7 +24,7 @@ use Rattle.station_book.proofs.FaceLaws as faces
 use Rattle.station_book.proofs.FaceLaws.{IsKept, some_there}
 use Rattle.station_book.proofs.KeptLaws.{open_kept}
 use Rattle.station_book.proofs.SetReadings.{open_in_set}
-use Rattle.station_book.proofs.StandLaws.{open_set, open_has_set, survey_is, open_entry}
+use Rattle.station_book.proofs.StateLaws.{open_set, open_has_set, survey_is, open_entry}
 use Rattle.indexmap.proofs.ReorderLemmas.{map-reverse}
 use Rattle.std.proofs.lemmas.Bool.{and_left, and_right}
 
@@ -83,7 +83,7 @@ empty_by_slots targets (r ∷ rs) kept =
 
 -- the slots of the set that is open
 pub slots_kept : (shelf : ShelfValue) (past : History) → is_open past ≡ true
-    → Stand past (stations_in past) shelf
+    → AreStates past (stations_in past) shelf
     → (last_of shelf).slots ≡ slots_of (open_targets past) (open_readings past)
 slots_kept shelf past now h =
     let e = open_entry shelf past (open_has_set past now) h in
@@ -130,7 +130,7 @@ AreComputed h (st ∷ sts) [] = ⊥
 AreComputed h (st ∷ sts) (s ∷ ss) = IsComputed st (sets_of st h) (station_readings st h) s
     × AreComputed h sts ss
 
-answers : (h : History) (sts : List Place) (es : ShelfValue) → Stand h sts es
+answers : (h : History) (sts : List Place) (es : ShelfValue) → AreStates h sts es
     → AreComputed h sts (map survey_of es)
 answers h [] [] k = tt
 answers h [] (e ∷ es) k = k

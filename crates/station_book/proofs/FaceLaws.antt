@@ -8,7 +8,7 @@ use Rattle.gsi_word.specs.Blocks.{GsiBlock}
 use Rattle.station_book.specs.declared.face.Face.{Face}
 use Rattle.station_book.specs.declared.face.Face.TheVariants.{One, Two}
 use Rattle.station_book.specs.Blocks.{is_of_face, other_face, sight}
-use Rattle.station_book.specs.Places.{Place, reading_in, is_among, target_at, stands}
+use Rattle.station_book.specs.Places.{Place, reading_in, is_among, target_at, passes_at}
 use Rattle.station_book.specs.Faults.{has_one_face, face, face_at}
 use Rattle.station_book.proofs.Elements.{In, any_from, any_to, find_some, find_found, all_in, same_test, in_map, of_map}
 
@@ -31,7 +31,7 @@ is_single s = (is_some s.first && is_none s.second) || (is_none s.first && is_so
 -- each reading has a face, and its target is one of these
 pub record IsKept (targets : List (List ℕ)) (r : Place) : Type 0 where
   pub in_targets : is_among targets (target_at r) ≡ true
-  pub has_face : stands (is_of_face (face_at r)) r ≡ true
+  pub has_face : passes_at (is_of_face (face_at r)) r ≡ true
 
 below_half : (z : ℕ) → (ltb 0 z && ltb z 20_000_000) ≡ true
     → (ltb 20_000_000 z && ltb z 40_000_000) ≡ false
@@ -60,9 +60,9 @@ none_or_some None = inl refl
 none_or_some (Some x) = inr (x, refl)
 
 pub some_there : (f : Face) (name : List ℕ) (r : Place) (rs : List Place) → In r rs
-    → target_at r ≡ name → stands (is_of_face f) r ≡ true → is_some (reading_in f name rs) ≡ true
+    → target_at r ≡ name → passes_at (is_of_face f) r ≡ true → is_some (reading_in f name rs) ≡ true
 some_there f name r rs h e g = elim (none_or_some (reading_in f name rs)) [
-  | inl n ↦ absurd (find_found (λ r. bytes_eq (target_at r) name && stands (is_of_face f) r) r rs
+  | inl n ↦ absurd (find_found (λ r. bytes_eq (target_at r) name && passes_at (is_of_face f) r) r rs
       h (and_from _ _ ((bytes_eq-Decides (target_at r) name).1 e) g) n)
   | inr s ↦ ap is_some s.1
 ]
@@ -75,7 +75,7 @@ single_second s e g = or_right (is_some s.first && is_none s.second)
     (is_none s.first && is_some s.second) (and_from _ _ e g)
 
 -- a reading alone makes a single slot
-alone : (rs : List Place) (r : Place) → In r rs → stands (is_of_face (face_at r)) r ≡ true
+alone : (rs : List Place) (r : Place) → In r rs → passes_at (is_of_face (face_at r)) r ≡ true
     → is_none (reading_in (other_face (face_at r)) (target_at r) rs) ≡ true
     → is_single (slot rs (target_at r)) ≡ true
 alone rs r h g n = elim (cases_face (face_at r)) [
@@ -85,7 +85,7 @@ alone rs r h g n = elim (cases_face (face_at r)) [
       (some_there Two (target_at r) r rs h refl (rw e at g))
 ]
 
-face_at_is : (f : Face) (a : Place) → stands (is_of_face f) a ≡ true → face_at a ≡ f
+face_at_is : (f : Face) (a : Place) → passes_at (is_of_face f) a ≡ true → face_at a ≡ f
 face_at_is f [] e = cc
 face_at_is f (b ∷ past) e = face_of f b e
 
@@ -112,8 +112,8 @@ lonely rs name e = elim (or_cases
         → has_one_face rs ≡ true
     at f a s n =
         let (inside, test) = find_some
-        (λ r. bytes_eq (target_at r) name && stands (is_of_face f) r) a rs s in
-        let parts = and_parts (bytes_eq (target_at a) name) (stands (is_of_face f) a) test in
+        (λ r. bytes_eq (target_at r) name && passes_at (is_of_face f) r) a rs s in
+        let parts = and_parts (bytes_eq (target_at a) name) (passes_at (is_of_face f) a) test in
         let same : target_at a ≡ name = (bytes_eq-Decides (target_at a) name).0 parts.0 in
         any_from (λ r. is_none (reading_in (other_face (face_at r)) (target_at r) rs)) a rs inside
         (ap (λ v. is_none (reading_in (other_face v) (target_at a) rs)) (face_at_is f a parts.1)
@@ -150,9 +150,9 @@ unseen targets rs name f kept out = elim (none_or_some (reading_in f name rs)) [
   | inl n ↦ n
   | inr s ↦
       let (inside, test) = find_some
-      (λ r. bytes_eq (target_at r) name && stands (is_of_face f) r) s.0 rs s.1 in
+      (λ r. bytes_eq (target_at r) name && passes_at (is_of_face f) r) s.0 rs s.1 in
       let same : target_at s.0 ≡ name = (bytes_eq-Decides (target_at s.0) name).0
-      (and_parts (bytes_eq (target_at s.0) name) (stands (is_of_face f) s.0) test).0 in
+      (and_parts (bytes_eq (target_at s.0) name) (passes_at (is_of_face f) s.0) test).0 in
       absurd (false≢true (sym out ∙ ap (is_among targets) (sym same)
       ∙ (all_in (IsKept targets) s.0 rs kept inside).in_targets))
 ]

@@ -5,7 +5,7 @@ use Rattle.std.proofs.lemmas.Bool.{cases_Bool, and_parts, and_from, eq-eqb, eqb-
 use Rattle.std.proofs.lemmas.Slice.Eq.{bytes_eq-Decides}
 use Rattle.gsi_word.specs.Blocks.{GsiBlock}
 use Rattle.station_book.specs.Blocks.{opens_station, opens_set, is_opening, is_sight}
-use Rattle.station_book.specs.Places.{History, Place, places, last, before, opening, station, is_open, is_set, is_reading, is_same, is_empty, first_sets, readings_of, sets_of, station_readings, stands}
+use Rattle.station_book.specs.Places.{History, Place, places, last, before, opening, station, is_open, is_set, is_reading, is_same, is_empty, first_sets, readings_of, sets_of, station_readings, passes_at}
 use Rattle.station_book.specs.Faults.{name_at, same_name}
 use Rattle.station_book.specs.Stations.{stations_of}
 use Rattle.station_book.specs.StateOfHistory.{in_set}
@@ -92,7 +92,7 @@ pub set_of_reading : (h : History) (r : Place) → In r (places h) → is_readin
     → HasItsSet h r
 set_of_reading h r placed reading =
     let now : is_open (before r) ≡ true =
-    (and_parts (stands is_sight r) (is_open (before r)) reading).1 in
+    (and_parts (passes_at is_sight r) (is_open (before r)) reading).1 in
     record {
       placed = split now (owner_placed is_opening h r placed);
       is_set = now;
@@ -101,7 +101,7 @@ set_of_reading h r placed reading =
   where
     split : is_open (before r) ≡ true → OfFile h (opening (before r))
         → In (opening (before r)) (places h)
-    split now (inl e) = let bad : false ≡ true = sym (ap (λ (p : Place). stands opens_set p) e)
+    split now (inl e) = let bad : false ≡ true = sym (ap (λ (p : Place). passes_at opens_set p) e)
         ∙ now in cc
     split now (inr k) = k
 

@@ -18,11 +18,11 @@ use Rattle.station_book.proofs.FaceLaws.{IsKept}
 use Rattle.station_book.proofs.StepLaws.{open_targets, readings-opening, readings-more, readings-other, targets-more, targets-other, sight_opens_no_station, set_role, sight_role}
 
 -- where none is the first, none stands
-pub none_stands : {X : Type 0} (os : List (Option X)) → first_of os ≡ None
+pub all_none : {X : Type 0} (os : List (Option X)) → first_of os ≡ None
     → AllByRecursion (λ o. o ≡ None) os
-none_stands [] e = tt
-none_stands (None ∷ rest) e = (refl, none_stands rest e)
-none_stands (Some x ∷ rest) e = cc
+all_none [] e = tt
+all_none (None ∷ rest) e = (refl, all_none rest e)
+all_none (Some x ∷ rest) e = cc
 
 pub none_when : (b : Bool) (k : BookKind) → when b k ≡ None → b ≡ false
 none_when true k e = cc
@@ -72,7 +72,7 @@ pub clean_set : (limits : FaceLimits) (past : History) (b : GsiBlock) → opens_
     → fault_after limits past b ≡ None → IsCleanSet past b
 unfolding fault_after
 clean_set limits past b e clean =
-    let none = (none_stands (end_faults past ++ set_faults past b)
+    let none = (all_none (end_faults past ++ set_faults past b)
     (rw (set_role b e) at clean)).1.1.1 in
     record {
       of_station = none_when (is_empty (station past)) kinds.SetOutside none.0;
@@ -93,7 +93,7 @@ unfolding fault_after
 clean_reading limits past b e clean =
     let (sees, now) = and_parts (is_sight b) (is_open past) e in
     let direction = (and_parts (is_measurement (role_of b)) (not (lacks 21 b)) sees).1 in
-    let none = (none_stands (reading_faults limits past b)
+    let none = (all_none (reading_faults limits past b)
     (rw (sight_role b sees, direction, now) at clean)).1.1.1.1.1 in
     let faced = is_of_face One b || is_of_face Two b in
     record {

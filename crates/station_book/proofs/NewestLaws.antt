@@ -38,15 +38,15 @@ module _ {V : Type 0} where
   set_last (e ∷ es) x w = ap (λ r. e ∷ r) (set_last es x w)
 
   -- the newest stands last in the map
-  stands_last : (es older : List (List ℕ × V)) (x : List ℕ × V) → reverse es ≡ x ∷ older
+  placed_last : (es older : List (List ℕ × V)) (x : List ℕ × V) → reverse es ≡ x ∷ older
       → es ≡ reverse older ++ x ∷ []
-  stands_last es older x is = sym (reverse-reverse es) ∙ ap reverse is
+  placed_last es older x is = sym (reverse-reverse es) ∙ ap reverse is
       ∙ reverse-append (x ∷ []) older
 
   last_place : (es older : List (List ℕ × V)) (x : List ℕ × V) → reverse es ≡ x ∷ older
       → length es - 1 ≡ length (reverse older)
   last_place es older x is =
-      let l : length es ≡ length (reverse older ++ x ∷ []) = ap length (stands_last es older x is) in
+      let l : length es ≡ length (reverse older ++ x ∷ []) = ap length (placed_last es older x is) in
       let m = length-append (reverse older) (x ∷ []) in
       omega (arith, l, m)
 
@@ -54,7 +54,7 @@ module _ {V : Type 0} where
   pub changed_newest : (es older : List (List ℕ × V)) (x : List ℕ × V) (w : V)
       → reverse es ≡ x ∷ older → reverse (set_value_at es (length es - 1) w) ≡ (x.0, w) ∷ older
   changed_newest es older x w is =
-      (λ i. reverse (set_value_at (stands_last es older x is i) (last_place es older x is i) w))
+      (λ i. reverse (set_value_at (placed_last es older x is i) (last_place es older x is i) w))
       ∙ ap reverse (set_last (reverse older) x w) ∙ reverse-append (reverse older) ((x.0, w) ∷ [])
       ∙ ap (λ r. (x.0, w) ∷ r) (reverse-reverse older)
 
@@ -65,7 +65,7 @@ module _ {V : Type 0} where
       let size : length (reverse older) ≡ length (values_of (reverse older)) = sym
       (length_values (reverse older)) in
       sym (get_or_from_slice_get (values_of es) (length es - 1) v x.1 at)
-      ∙ (λ i. get_or (values_of (stands_last es older x is i)) (last_place es older x is i) x.1)
+      ∙ (λ i. get_or (values_of (placed_last es older x is i)) (last_place es older x is i) x.1)
       ∙ (λ i. get_or (map-append (λ (e : List ℕ × V). e.1) (reverse older) (x ∷ []) i) (size i) x.1)
       ∙ get_or-append_seam (values_of (reverse older)) x.1 [] x.1
     where

@@ -8,12 +8,12 @@ use Rattle.adjust_kernel.specs.Matching.{key_of_obs, observed}
 use Rattle.station_book.specs.declared.fault.BookKind.TheVariants as kinds
 use Rattle.station_book.specs.Limits.{FaceLimits}
 use Rattle.station_book.specs.Blocks.{opens_station, opens_set, closes_set, is_opening}
-use Rattle.station_book.specs.Places.{History, Place, places, last, before, opening, station, is_open, is_empty, is_set, is_reading, stands}
+use Rattle.station_book.specs.Places.{History, Place, places, last, before, opening, station, is_open, is_empty, is_set, is_reading, passes_at}
 use Rattle.station_book.specs.Faults.{first_of, end_faults, IsWithoutFault, IsWholeFile, fault_at_end, open_readings, name_at}
 use Rattle.station_book.specs.Stations.{SurveyedStation, IsSurveyed, AreStations, stations_of}
 use Rattle.station_book.specs.Recorded.{IsListed}
 use Rattle.station_book.proofs.Elements.{In, in_contains, contains_in, zip_left}
-use Rattle.station_book.proofs.KeptLaws.{none_stands, none_when}
+use Rattle.station_book.proofs.KeptLaws.{all_none, none_when}
 use Rattle.station_book.proofs.FilePlaces.{listed_station, set_of_reading}
 use Rattle.station_book.proofs.NameLaws.{its_station}
 use Rattle.station_book.proofs.WholeFile.{may_end, open_reading, no_reading_lost}
@@ -43,11 +43,11 @@ some_in (r ∷ rs) e = (r, inl refl)
 open_has_reading : (past : History) (set : Place) → opening past ≡ set → is_set set ≡ true
     → first_of (end_faults past) ≡ None → HasReading past set
 open_has_reading past set e s clean =
-    let now : is_open past ≡ true = ap (λ (p : Place). stands opens_set p) e ∙ s in
+    let now : is_open past ≡ true = ap (λ (p : Place). passes_at opens_set p) e ∙ s in
     let some : is_empty (open_readings past) ≡ false =
     right_false (is_open past) (is_empty (open_readings past)) now
     (none_when (is_open past && is_empty (open_readings past)) kinds.EmptySet
-    (none_stands (end_faults past) clean).0) in
+    (all_none (end_faults past) clean).0) in
     let r = some_in (open_readings past) some in
     let own = open_reading past r.0 r.1 in
     record { read = r.0; placed = own.placed; reading = own.reading; of_set = own.of_set ∙ e }
@@ -61,7 +61,7 @@ open_or_read : (limits : FaceLimits) (h : History) (set : Place) → IsWithoutFa
     → In set (places h) → is_set set ≡ true → (opening h ≡ set) ⊎ HasReading h set
 open_or_read limits [] set clean placed s = absurd placed
 open_or_read limits (b ∷ past) set clean (inl e) s =
-    let opens : opens_set b ≡ true = ap (λ (p : Place). stands opens_set p) (sym e) ∙ s in
+    let opens : opens_set b ≡ true = ap (λ (p : Place). passes_at opens_set p) (sym e) ∙ s in
     inl (opening_here b past true
     (or_right (opens_station b) _ (or_left (opens_set b) (closes_set b) opens)) ∙ sym e)
 open_or_read limits (b ∷ past) set clean (inr placed) s =

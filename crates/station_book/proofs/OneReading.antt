@@ -7,7 +7,7 @@ use Rattle.gsi_word.specs.Blocks.{GsiBlock}
 use Rattle.station_book.specs.declared.face.Face.{Face}
 use Rattle.station_book.specs.Limits.{FaceLimits}
 use Rattle.station_book.specs.Blocks.{target, is_of_face, is_opening}
-use Rattle.station_book.specs.Places.{History, Place, places, last, before, opening, is_same, is_reading, target_at, stands, reading_in}
+use Rattle.station_book.specs.Places.{History, Place, places, last, before, opening, is_same, is_reading, target_at, passes_at, reading_in}
 use Rattle.station_book.specs.Faults.{face, open_readings, fault_after, IsWithoutFault}
 use Rattle.station_book.specs.Recorded.{IsReadingOf}
 use Rattle.station_book.proofs.KeptLaws.{clean_reading}
@@ -26,7 +26,7 @@ pub record IsOf (set : Place) (name : List ℕ) (f : Face) (r : Place) : Type 0 
   pub reading : is_reading r ≡ true
   pub of_set : opening (before r) ≡ set
   pub of_target : target_at r ≡ name
-  pub of_face : stands (is_of_face f) r ≡ true
+  pub of_face : passes_at (is_of_face f) r ≡ true
 
 none_there : (o : Option Place) → is_some o ≡ false → o ≡ None
 none_there None e = refl
@@ -46,11 +46,11 @@ first_time limits past b set name f q clean new placed old =
     (and_from (is_reading q) (is_same (opening (before q)) (opening past)) old.reading
     (eq-eqb (length (opening (before q))) (length (opening past))
     (ap length (old.of_set ∙ sym new.of_set)))) in
-    find_found (λ r. bytes_eq (target_at r) (target b) && stands (is_of_face (face b)) r) q
+    find_found (λ r. bytes_eq (target_at r) (target b) && passes_at (is_of_face (face b)) r) q
     (open_readings past) own
-    (and_from (bytes_eq (target_at q) (target b)) (stands (is_of_face (face b)) q)
+    (and_from (bytes_eq (target_at q) (target b)) (passes_at (is_of_face (face b)) q)
     ((bytes_eq-Decides (target_at q) (target b)).1 (old.of_target ∙ sym new.of_target))
-    (ap (λ v. stands (is_of_face v) q) faced ∙ old.of_face))
+    (ap (λ v. passes_at (is_of_face v) q) faced ∙ old.of_face))
     (none_there (reading_in (face b) (target b) (open_readings past)) free)
 
 pub one_place : (limits : FaceLimits) (h : History) (set : Place) (name : List ℕ) (f : Face)

@@ -8,7 +8,7 @@ use Rattle.station_book.specs.declared.face.Face.{Face}
 use Rattle.station_book.specs.declared.face.Face.TheVariants.{One, Two}
 use Rattle.station_book.specs.Limits.{FaceLimits}
 use Rattle.station_book.specs.Blocks.{opens_station, is_opening, is_of_face}
-use Rattle.station_book.specs.Places.{History, Place, places, last, before, opening, station, is_same, is_set, is_reading, target_at, stands, reading_in, readings_of, sets_of, station_readings, targets_of, is_among, distinct}
+use Rattle.station_book.specs.Places.{History, Place, places, last, before, opening, station, is_same, is_set, is_reading, target_at, passes_at, reading_in, readings_of, sets_of, station_readings, targets_of, is_among, distinct}
 use Rattle.station_book.specs.Faults.{sight_at, IsWithoutFault}
 use Rattle.station_book.specs.Stations.{Pair, pair_of, pairs_in, pairs_of}
 use Rattle.station_book.proofs.Elements.{In, any_to, find_some, find_found, IsAt, in_filter, of_filter, of_reverse, in_places, of_places, in_filter_map, of_filter_map, in_flat_map, of_flat_map}
@@ -28,9 +28,9 @@ pub reading_found : (h : History) (st set : Place) (name : List ℕ) (f : Face) 
     → OfFile h set → station (before set) ≡ st
     → reading_in f name (readings_of set h) ≡ Some r → IsRead h st set name f r
 reading_found h st set name f r set_placed set_station e =
-    let found = find_some (λ r. bytes_eq (target_at r) name && stands (is_of_face f) r) r
+    let found = find_some (λ r. bytes_eq (target_at r) name && passes_at (is_of_face f) r) r
     (readings_of set h) e in
-    let tests = and_parts (bytes_eq (target_at r) name) (stands (is_of_face f) r) found.1 in
+    let tests = and_parts (bytes_eq (target_at r) name) (passes_at (is_of_face f) r) found.1 in
     let own = of_filter (λ place. is_reading place && is_same (last is_opening (before place)) set) r
     (places h) found.0 in
     let parts = and_parts (is_reading r) (is_same (opening (before r)) set) own.1 in
@@ -76,9 +76,9 @@ reading_listed limits h st set name f r clean set_placed read = split
       split : (o : Option Place) → reading_in f name (readings_of set h) ≡ o
           → reading_in f name (readings_of set h) ≡ Some r
       split None e =
-          absurd (find_found (λ r. bytes_eq (target_at r) name && stands (is_of_face f) r) r
+          absurd (find_found (λ r. bytes_eq (target_at r) name && passes_at (is_of_face f) r) r
           (readings_of set h) own
-          (and_from (bytes_eq (target_at r) name) (stands (is_of_face f) r)
+          (and_from (bytes_eq (target_at r) name) (passes_at (is_of_face f) r)
           ((bytes_eq-Decides (target_at r) name).1 read.is.of_target) read.is.of_face) e)
       split (Some q) e =
           let other = reading_found h st set name f q set_placed set_station e in

@@ -26,18 +26,18 @@ use Rattle.station_book.specs.State as states
 use Rattle.gsi_word.specs.Blocks.{GsiBlock}
 use Rattle.station_book.specs.Blocks.{has_two, lacks, angle_fault, is_of_face, other_face, sight, target}
 use Rattle.station_book.specs.Places.{History, Place, is_among, is_open, reading_in}
-use Rattle.station_book.specs.StateOfHistory.{sighted, slot_of, slots_of, Stand, IsStage, stations_in}
+use Rattle.station_book.specs.StateOfHistory.{sighted, slot_of, slots_of, AreStates, IsStage, stations_in}
 use Rattle.station_book.specs.StandsFor.{StandsFor}
 use Rattle.station_book.proofs.ListLaws.{absent}
 use Rattle.station_book.proofs.StepLaws.{open_targets}
 use Rattle.station_book.proofs.FaceLaws.{IsKept, one_face, unseen}
 use Rattle.station_book.proofs.KeptLaws.{open_kept}
 use Rattle.station_book.proofs.ReadingLaws.{slot_get}
-use Rattle.station_book.proofs.StandLaws.{open_has_set}
+use Rattle.station_book.proofs.StateLaws.{open_has_set}
 use Rattle.station_book.proofs.TakeLaws.{first_face, second_face}
 use Rattle.station_book.proofs.EndLaws.{slots_kept, some_sighted}
 use Rattle.station_book.proofs.FaultLaws.{first_append}
-use Rattle.station_book.proofs.StandLaws.{open_entry}
+use Rattle.station_book.proofs.StateLaws.{open_entry}
 use Rattle.std.proofs.lemmas.Bool.{and_right}
 
 -- the faults of a reading in itself
@@ -181,7 +181,7 @@ same_later limits targets rs b e kept ts ss = split (place_of (target b) e.targe
 
 -- the same, in the open set
 same_later_open : (limits : FaceLimits) (shelf : ShelfValue) (past : History) (b : GsiBlock)
-    → IsWithoutFault limits past → is_open past ≡ true → Stand past (stations_in past) shelf
+    → IsWithoutFault limits past → is_open past ≡ true → AreStates past (stations_in past) shelf
     → first_of (entries.entry_faults limits (last_of shelf) (said.sighting b)) ≡ first_of
     (later_faults limits (open_targets past) (open_readings past) b)
 same_later_open limits shelf past b w now h =
@@ -198,7 +198,7 @@ measured_parts limits shelf (Some k) s = refl
 
 -- a reading in the open set
 same_measured : (limits : FaceLimits) (shelf : ShelfValue) (past : History) (b : GsiBlock)
-    → IsWithoutFault limits past → is_open past ≡ true → Stand past (stations_in past) shelf
+    → IsWithoutFault limits past → is_open past ≡ true → AreStates past (stations_in past) shelf
     → states.measured limits shelf
     (said.unless_fault (first_of (said.sighting_faults b)) (said.sighting b)) ≡ first_of
     (reading_faults limits past b)
@@ -216,7 +216,7 @@ not_open sees now os e = rw (and_right sees now e)
 -- a measurement, by where it stands
 by_stage : (limits : FaceLimits) (stage : Stage) (shelf : ShelfValue) (past : History)
     (b : GsiBlock) → IsWithoutFault limits past → IsStage stage past
-    → Stand past (stations_in past) shelf
+    → AreStates past (stations_in past) shelf
     → cond (states.has_open_set stage) (states.measured limits shelf (said.read b)) None ≡ first_of
     (cond (not (lacks 21 b) && is_open past) (reading_faults limits past b) [])
 by_stage limits Outside shelf past b w g h = not_open (not (lacks 21 b)) (is_open past)

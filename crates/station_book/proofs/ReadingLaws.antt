@@ -16,7 +16,7 @@ use Rattle.station_book.specs.declared.slot.Slot.{Slot}
 use Rattle.station_book.specs.Slots.{empty_slot, slot_at, with_face_reading, obs_at, obs_of, faces_at, faces_of}
 use Rattle.station_book.specs.Entries.{EntryValue, place_of, with_reading, with_reading_at}
 use Rattle.station_book.specs.Blocks.{is_of_face, other_face}
-use Rattle.station_book.specs.Places.{Place, opening, before, is_same, is_among, distinct, reading_in, target_at, stands}
+use Rattle.station_book.specs.Places.{Place, opening, before, is_same, is_among, distinct, reading_in, target_at, passes_at}
 use Rattle.station_book.specs.StateOfHistory.{in_set, sighted, slot_of, slots_of, targets_in, obs_in, faces_in, IsEntryOf}
 use Rattle.station_book.proofs.SetReadings.{found_other, found_here, found_not}
 use Rattle.station_book.proofs.SlotLaws.{enumerate-append}
@@ -28,8 +28,8 @@ use Rattle.station_book.specs.Faults.{sight_at}
 pub record Says (s : Sighting) (r : Place) : Type 0 where
   pub target_is : s.target ≡ target_at r
   pub sight_is : s.sight ≡ sight_at r
-  pub face_is : stands (is_of_face s.face) r ≡ true
-  pub face_not : stands (is_of_face (other_face s.face)) r ≡ false
+  pub face_is : passes_at (is_of_face s.face) r ≡ true
+  pub face_not : passes_at (is_of_face (other_face s.face)) r ≡ false
 
 -- the slots of other targets stay
 slot_other : (r : Place) (name : List ℕ) (rs : List Place) → bytes_eq (target_at r) name ≡ false
@@ -41,7 +41,7 @@ slot_other r name rs e = λ i. record {
 
 -- its own takes the reading of the face
 slot_own : (f : Face) (v : Sight) (r : Place) (name : List ℕ) (rs : List Place) → v ≡ sight_at r
-    → stands (is_of_face f) r ≡ true → stands (is_of_face (other_face f)) r ≡ false
+    → passes_at (is_of_face f) r ≡ true → passes_at (is_of_face (other_face f)) r ≡ false
     → bytes_eq (target_at r) name ≡ true
     → slot_of (r ∷ rs) name ≡ with_face_reading f v (slot_of rs name)
 slot_own One v r name rs s f g e = λ i. record {
@@ -177,7 +177,7 @@ length_slots (t ∷ ts) rs = ap suc (length_slots ts rs)
 -- a further reading of the target at place i
 existing : (targets : List (List ℕ)) (i : ℕ) (f : Face) (v : Sight) (r : Place) (rs : List Place)
     → i < length targets → get_or targets i [] ≡ target_at r → AllPairs (λ a b. a ≢ b) targets
-    → v ≡ sight_at r → stands (is_of_face f) r ≡ true → stands (is_of_face (other_face f)) r ≡ false
+    → v ≡ sight_at r → passes_at (is_of_face f) r ≡ true → passes_at (is_of_face (other_face f)) r ≡ false
     → set (slots_of targets rs) i (with_face_reading f v (slot_at (slots_of targets rs) i))
     ≡ slots_of targets (r ∷ rs)
 existing targets i f v r rs inside here different s g n = ext_get_or empty_slot
@@ -228,12 +228,12 @@ others_stay (t ∷ ts) r rs e =
     λ i. slot_other r t rs q i ∷ others_stay ts r rs p.1 i
 
 -- after a reading
-pub reading_stands : (st newest : Place) (older readings : List Place) (r : Place) (name : List ℕ)
+pub reading_state : (st newest : Place) (older readings : List Place) (r : Place) (name : List ℕ)
     (e : EntryValue) (s : Sighting) → Says s r
     → in_set newest (r ∷ readings) ≡ r ∷ in_set newest readings → IsInNone r readings older
     → IsEntryOf st newest older readings name e
     → IsEntryOf st newest older (r ∷ readings) name (with_reading s e)
-reading_stands st newest older readings r name e s says mine none h = split
+reading_state st newest older readings r name e s says mine none h = split
     (place_of s.target e.targets) refl where
       place : place_of s.target e.targets ≡ place_of (target_at r) (targets_in readings)
       place = λ j. place_of (says.target_is j) (h.targets j)

@@ -19,13 +19,13 @@ use Rattle.station_book.specs.State as states
 use Rattle.gsi_word.specs.Blocks.{GsiBlock}
 use Rattle.station_book.specs.Blocks.{opens_station, opens_set, has_two, number}
 use Rattle.station_book.specs.Places.{number_at, History, Place, before, station, is_empty, first_sets, sets_of, station_readings}
-use Rattle.station_book.specs.StateOfHistory.{numbers_in, IsEntryWith, Stand, IsStage, stations_in}
+use Rattle.station_book.specs.StateOfHistory.{numbers_in, IsEntryWith, AreStates, IsStage, stations_in}
 use Rattle.station_book.specs.StandsFor.{StandsFor}
 use Rattle.station_book.proofs.Elements.{same_bytes}
 use Rattle.station_book.proofs.StepLaws.{sets-other}
 use Rattle.station_book.proofs.KeptLaws.{clean_set}
 use Rattle.station_book.proofs.StationLaws.{had_sets_by_names}
-use Rattle.station_book.proofs.StandLaws.{open_has_set, length_numbers, HasOpenEntry, open_entry}
+use Rattle.station_book.proofs.StateLaws.{open_has_set, length_numbers, HasOpenEntry, open_entry}
 use Rattle.station_book.proofs.OnceLaws.{no_had_sets}
 use Rattle.station_book.proofs.EndLaws.{same_end}
 use Rattle.station_book.proofs.FaultLaws.{first_append}
@@ -60,7 +60,7 @@ kept_name st (set ∷ rest) readings e k = k.named_so
 
 -- a station with sets has a name exactly where one that is kept has it
 known_names : (past : History) (name : List ℕ) (sts : List Place) (es : ShelfValue)
-    → Stand past sts es
+    → AreStates past sts es
     → list_any (λ st. same_name (name_at st) (Some name)) sts ≡ list_any (λ e. bytes_eq name e.0) es
 known_names past name [] [] h = refl
 known_names past name [] (e ∷ es) h = absurd h
@@ -70,7 +70,7 @@ known_names past name (st ∷ sts) (e ∷ es) h =
     (kept_name st (sets_of st past) (station_readings st past) e h.0)
     ∙ same_bytes e.0 name) i || known_names past name sts es h.1 i
 
-one_each : (past : History) (sts : List Place) (es : ShelfValue) → Stand past sts es
+one_each : (past : History) (sts : List Place) (es : ShelfValue) → AreStates past sts es
     → length sts ≡ length es
 one_each past [] [] h = refl
 one_each past [] (e ∷ es) h = absurd h
@@ -78,14 +78,14 @@ one_each past (st ∷ sts) [] h = absurd h
 one_each past (st ∷ sts) (e ∷ es) h = ap suc (one_each past sts es h.1)
 
 -- as many stations have sets as are kept
-count_stations : (shelf : ShelfValue) (past : History) → Stand past (stations_in past) shelf
+count_stations : (shelf : ShelfValue) (past : History) → AreStates past (stations_in past) shelf
     → length (first_sets past) ≡ length shelf
 count_stations shelf past h = sym (length-map (first_sets past) (λ s. station (before s)))
     ∙ one_each past (stations_in past) shelf h
 
 -- StationTwice before the first set of a station
 known_station : (shelf : ShelfValue) (past : History) (name : List ℕ) → open_sets past ≡ []
-    → name_at (station past) ≡ Some name → Stand past (stations_in past) shelf
+    → name_at (station past) ≡ Some name → AreStates past (stations_in past) shelf
     → had_sets past ≡ is_known name shelf
 known_station shelf past name none is h =
     had_sets_by_names past none
@@ -151,7 +151,7 @@ opening_tests n past =
 -- the first set of a station
 first_opening : (shelf : ShelfValue) (past : History) (name : List ℕ) (n : ℕ)
     → is_empty (station past) ≡ false → name_at (station past) ≡ Some name → open_sets past ≡ []
-    → Stand past (stations_in past) shelf
+    → AreStates past (stations_in past) shelf
     → first_of (first_set_faults name shelf) ≡ first_of (opening_tests (Some n) past)
 first_opening shelf past name n inside is none h =
     let had = known_station shelf past name none is h in
@@ -164,7 +164,7 @@ first_opening shelf past name n inside is none h =
 -- a further set of a station
 further_opening : (limits : FaceLimits) (shelf : ShelfValue) (past : History) (n : ℕ)
     → IsWithoutFault limits past → is_empty (open_sets past) ≡ false
-    → Stand past (stations_in past) shelf
+    → AreStates past (stations_in past) shelf
     → first_of (more_set_faults (last_of shelf) n) ≡ first_of (opening_tests (Some n) past)
 further_opening limits shelf past n w some h =
     let e = open_entry shelf past some h in
@@ -188,7 +188,7 @@ no_number past inside =
 -- a set, by where it opens
 same_opening : (limits : FaceLimits) (stage : Stage) (shelf : ShelfValue) (past : History)
     (n : Option ℕ) → IsWithoutFault limits past → IsStage stage past
-    → Stand past (stations_in past) shelf
+    → AreStates past (stations_in past) shelf
     → states.opening_fault stage shelf n ≡ first_of (opening_tests n past)
 same_opening limits Outside shelf past n w g h =
     sym (λ i. first_of (tests (is_empty (g.0 i)) (is_none n) (had_sets past) (has_set_number n past)

@@ -5,7 +5,7 @@ use Rattle.std.proofs.lemmas.Bool.{cases_Bool, eq-eqb, ne_eqb, and_right}
 use Rattle.station_book.specs.declared.face.Face.{Face}
 use Rattle.station_book.specs.Blocks.{is_of_face, opens_station, is_opening}
 use Rattle.station_book.specs.StateOfHistory.{in_set}
-use Rattle.station_book.specs.Places.{History, Place, places, last, before, reading_in, is_same, is_reading, opening, station, station_readings, target_at, stands}
+use Rattle.station_book.specs.Places.{History, Place, places, last, before, reading_in, is_same, is_reading, opening, station, station_readings, target_at, passes_at}
 use Rattle.station_book.specs.Faults.{open_readings}
 use Rattle.station_book.proofs.PlaceLaws.{length-last, belonging-more, belonging-same}
 use Rattle.station_book.proofs.StepLaws.{readings-opening, readings-more, readings-other, sight_opens_no_station}
@@ -17,12 +17,12 @@ found_other f r name rs e = rw e
 
 -- and at its own target it is found
 pub found_here : (f : Face) (r : Place) (name : List ℕ) (rs : List Place)
-    → bytes_eq (target_at r) name ≡ true → stands (is_of_face f) r ≡ true
+    → bytes_eq (target_at r) name ≡ true → passes_at (is_of_face f) r ≡ true
     → reading_in f name (r ∷ rs) ≡ Some r
 found_here f r name rs e g = rw (e, g)
 
 pub found_not : (f : Face) (r : Place) (name : List ℕ) (rs : List Place)
-    → stands (is_of_face f) r ≡ false → reading_in f name (r ∷ rs) ≡ reading_in f name rs
+    → passes_at (is_of_face f) r ≡ false → reading_in f name (r ∷ rs) ≡ reading_in f name rs
 found_not f r name rs g = rw (and_right (bytes_eq (target_at r) name) _ g)
 
 -- of these readings none is of a set that is still to come

@@ -12,19 +12,19 @@ use Rattle.station_book.specs.StandsFor.{StandsFor}
 use Rattle.station_book.proofs.TakeLaws.{at_own}
 use Rattle.station_book.proofs.EndLaws.{same_stations}
 use Rattle.station_book.proofs.BlockFaultLaws.{same_fault, take_taken}
-use Rattle.station_book.proofs.AnswerLaws.{are_stations, stands_empty}
+use Rattle.station_book.proofs.AnswerLaws.{are_stations, empty_state}
 
 -- what a book keeps that has taken these blocks
 abbrev kept_of : FaceLimits → History → State
 kept_of limits [] = record { limits = limits; taken = 0; stage = Outside; shelf = empty_shelf }
 kept_of limits (b ∷ past) = after b (kept_of limits past)
 
-stands : (limits : FaceLimits) (h : History) → IsWithoutFault limits h
+state_of : (limits : FaceLimits) (h : History) → IsWithoutFault limits h
     → StandsFor limits (kept_of limits h) h
-stands limits [] w = stands_empty limits
-stands limits (b ∷ past) w =
+state_of limits [] w = empty_state limits
+state_of limits (b ∷ past) w =
     let k = kept_of limits past in
-    let s : StandsFor limits k past = stands limits past w.1 in
+    let s : StandsFor limits k past = state_of limits past w.1 in
     take_taken {X = ℕ} {E = ℕ} k (after b k) b (Ok 0) (same_fault limits k b past s ∙ w.0) refl limits past s
 
 pub some_survey : (limits : FaceLimits) (h : History) → AreLimits limits → IsWithoutFault limits h
@@ -33,5 +33,5 @@ some_survey limits h valid w =
     let k = kept_of limits h in (
       surveys_of k.shelf,
       are_stations limits h (surveys_of k.shelf) w
-          (same_stations k h (at_own limits k h (stands limits h w))),
+          (same_stations k h (at_own limits k h (state_of limits h w))),
     )

@@ -5,18 +5,18 @@ use Rattle.gsi_word.specs.Blocks.{GsiBlock}
 use Rattle.station_book.specs.Blocks.{role_of, is_station, is_set_code, is_close, is_measurement, opens_station, opens_set, is_opening, is_sight, target, lacks}
 use Rattle.station_book.specs.declared.role.Role.{Role}
 use Rattle.station_book.specs.declared.role.Role.TheVariants as roles
-use Rattle.station_book.specs.Places.{History, last, stands, is_open, is_set, is_reading, station, targets_of, distinct, with_new, target_at}
+use Rattle.station_book.specs.Places.{History, last, passes_at, is_open, is_set, is_reading, station, targets_of, distinct, with_new, target_at}
 use Rattle.station_book.specs.Faults.{open_readings, open_sets}
 use Rattle.station_book.proofs.PlaceLaws.{belonging-fresh, belonging-more, belonging-same}
 
 -- a set is open after a block
 pub is_open-opening : (b : GsiBlock) (past : History) → is_opening b ≡ true
     → is_open (b ∷ past) ≡ opens_set b
-is_open-opening b past e = ap (λ v. stands opens_set (cond v (b ∷ past) (last is_opening past))) e
+is_open-opening b past e = ap (λ v. passes_at opens_set (cond v (b ∷ past) (last is_opening past))) e
 
 pub is_open-other : (b : GsiBlock) (past : History) → is_opening b ≡ false
     → is_open (b ∷ past) ≡ is_open past
-is_open-other b past e = ap (λ v. stands opens_set (cond v (b ∷ past) (last is_opening past))) e
+is_open-other b past e = ap (λ v. passes_at opens_set (cond v (b ∷ past) (last is_opening past))) e
 
 -- the readings of the open set after a block
 pub readings-opening : (b : GsiBlock) (past : History) → is_opening b ≡ true

@@ -21,15 +21,15 @@ use Rattle.station_book.specs.State as states
 use Rattle.gsi_word.specs.Blocks.{GsiBlock}
 use Rattle.station_book.specs.Blocks.{opens_station, opens_set, is_opening, is_sight, named, number, sight, is_of_face, other_face, found, is_absent, is_twice, name_found, has_two, lacks}
 use Rattle.station_book.specs.Places.{History, last, station, is_empty, is_open, is_reading}
-use Rattle.station_book.specs.StateOfHistory.{IsStage, Stand, stations_in}
+use Rattle.station_book.specs.StateOfHistory.{IsStage, AreStates, stations_in}
 use Rattle.station_book.specs.Readings as said
 use Rattle.station_book.specs.StandsFor.{StandsFor}
 use Rattle.station_book.proofs.StepLaws.{is_open-opening, is_open-other, sets-station, sets-other, same_station}
 use Rattle.station_book.specs.Limits.{FaceLimits}
 use Rattle.station_book.proofs.FaceLaws.{one_face}
-use Rattle.station_book.proofs.KeptLaws.{none_stands, none_when}
+use Rattle.station_book.proofs.KeptLaws.{all_none, none_when}
 use Rattle.station_book.proofs.ReadingLaws.{Says}
-use Rattle.station_book.proofs.StandLaws.{stand_idle, stand_first, stand_further, stand_reading, open_has_set, newest_there}
+use Rattle.station_book.proofs.StateLaws.{states_idle, states_first, states_further, states_reading, open_has_set, newest_there}
 use Rattle.std.proofs.lemmas.Bool.{and_right}
 
 -- what a role says of the tests
@@ -103,25 +103,25 @@ is_set_block b e = (station_as b roles.Set e, set_as b roles.Set e)
 
 -- a further set of the last station
 further_taken : (shelf : ShelfValue) (b : GsiBlock) (past : History) (n : ℕ) → role_of b ≡ roles.Set
-    → number b ≡ Some n → is_empty (open_sets past) ≡ false → Stand past (stations_in past) shelf
-    → Stand (b ∷ past) (stations_in (b ∷ past)) (change_last (with_set n) shelf)
+    → number b ≡ Some n → is_empty (open_sets past) ≡ false → AreStates past (stations_in past) shelf
+    → AreStates (b ∷ past) (stations_in (b ∷ past)) (change_last (with_set n) shelf)
 further_taken shelf b past n r e some h =
     let k = is_set_block b r in
     let x = newest_there shelf past some h in
-    subst (λ (s : ShelfValue). Stand (b ∷ past) (stations_in (b ∷ past))
+    subst (λ (s : ShelfValue). AreStates (b ∷ past) (stations_in (b ∷ past))
     (change_last (with_set n) s)) (sym x.is)
-    (stand_further x.newest x.older b past n k.0 k.1 some e
-    (subst (λ (s : ShelfValue). Stand past (stations_in past) s) x.is h))
+    (states_further x.newest x.older b past n k.0 k.1 some e
+    (subst (λ (s : ShelfValue). AreStates past (stations_in past) s) x.is h))
 
 -- a block of code 20
 pub set_taken : (shelf : ShelfValue) (b : GsiBlock) (past : History) (stage : Stage) (n : Option ℕ)
     → role_of b ≡ roles.Set → number b ≡ n → states.opening_fault stage shelf n ≡ None
-    → IsStage stage past → Stand past (stations_in past) shelf
-    → Stand (b ∷ past) (stations_in (b ∷ past)) (states.opened stage n shelf)
+    → IsStage stage past → AreStates past (stations_in past) shelf
+    → AreStates (b ∷ past) (stations_in (b ∷ past)) (states.opened stage n shelf)
 set_taken shelf b past Outside n r e f g h = absurd cc
 set_taken shelf b past (Station name) None r e f g h = absurd cc
 set_taken shelf b past (Station name)
-    (Some n) r e f g h = let k = is_set_block b r in stand_first shelf b past name n k.0 k.1 g.2 g.1
+    (Some n) r e f g h = let k = is_set_block b r in states_first shelf b past name n k.0 k.1 g.2 g.1
     e h
 set_taken shelf b past BetweenSets None r e f g h = absurd cc
 set_taken shelf b past BetweenSets (Some n) r e f g h = further_taken shelf b past n r e g.0 h
@@ -176,7 +176,7 @@ face_cases b false false e f g = absurd cc
 says : (b : GsiBlock) (past : History) (s : Sighting) → WasRead b s → Says s (b ∷ past)
 says b past s w =
     let clear = none_when (is_none (said.face_of ((sight b).zenith))) kinds.FaceUnclear
-    (none_stands (said.sighting_faults b) w.clean).1.1.1.1.1.0 in
+    (all_none (said.sighting_faults b) w.clean).1.1.1.1.1.0 in
     let face : HasFace b (unwrap_or (said.face_of ((sight b).zenith)) faces.One) = face_cases b
     (ltb 0 ((sight b).zenith) && ltb ((sight b).zenith) 20_000_000)
     (ltb 20_000_000 ((sight b).zenith) && ltb ((sight b).zenith) 40_000_000) (first_face b)
@@ -201,23 +201,23 @@ measures_nothing b r = (
 in_set_taken : (shelf : ShelfValue) (b : GsiBlock) (past : History)
     (o : Result (Option Sighting) BookKind) → role_of b ≡ roles.Measurement → said.read b ≡ o
     → is_open past ≡ true → (kind : (k : BookKind) → o ≡ Err k → ⊥)
-    → Stand past (stations_in past) shelf
-    → Stand (b ∷ past) (stations_in (b ∷ past)) (states.with_measured o shelf)
+    → AreStates past (stations_in past) shelf
+    → AreStates (b ∷ past) (stations_in (b ∷ past)) (states.with_measured o shelf)
 in_set_taken shelf b past (Err k) r e now kind h = absurd (kind k refl)
 in_set_taken shelf b past (Ok None) r e now kind h =
     let absent : lacks 21 b ≡ true = none_cases (lacks 21 b) (first_of (said.sighting_faults b))
     (said.sighting b) e in
     let blind : is_sight b ≡ false = sight_as b roles.Measurement r ∙ ap not absent in
-    stand_idle shelf b past (set_as b roles.Measurement r) (no_reading b past blind) h
+    states_idle shelf b past (set_as b roles.Measurement r) (no_reading b past blind) h
 in_set_taken shelf b past (Ok (Some s)) r e now kind h =
     let w = was_read b s e in
     let seen : is_sight b ≡ true = sight_as b roles.Measurement r ∙ ap not w.has_direction in
     let reading : is_reading (b ∷ past) ≡ true = (λ i. seen i && now i) in
     let x = newest_there shelf past (open_has_set past now) h in
-    subst (λ (o : ShelfValue). Stand (b ∷ past) (stations_in (b ∷ past))
+    subst (λ (o : ShelfValue). AreStates (b ∷ past) (stations_in (b ∷ past))
     (change_last (with_reading s) o)) (sym x.is)
-    (stand_reading x.newest x.older b past s (opening_as b roles.Measurement r) reading now
-    (says b past s w) (subst (λ (o : ShelfValue). Stand past (stations_in past) o) x.is h))
+    (states_reading x.newest x.older b past s (opening_as b roles.Measurement r) reading now
+    (says b past s w) (subst (λ (o : ShelfValue). AreStates past (stations_in past) o) x.is h))
 
 no_err : (limits : FaceLimits) (shelf : ShelfValue) (o : Result (Option Sighting) BookKind)
     → states.measured limits shelf o ≡ None → (k : BookKind) → o ≡ Err k → ⊥
@@ -232,20 +232,20 @@ closed_no_reading b past e = and_right (is_sight b) (is_open past) e
 pub measurement_taken : (limits : FaceLimits) (shelf : ShelfValue) (stage : Stage) (b : GsiBlock)
     (past : History) → role_of b ≡ roles.Measurement
     → cond (states.has_open_set stage) (states.measured limits shelf (said.read b)) None ≡ None
-    → IsStage stage past → Stand past (stations_in past) shelf
-    → Stand (b ∷ past) (stations_in (b ∷ past))
+    → IsStage stage past → AreStates past (stations_in past) shelf
+    → AreStates (b ∷ past) (stations_in (b ∷ past))
     (cond (states.has_open_set stage) (states.with_measured (said.read b) shelf) shelf)
-measurement_taken limits shelf Outside b past r f g h = stand_idle shelf b past
+measurement_taken limits shelf Outside b past r f g h = states_idle shelf b past
     (set_as b roles.Measurement r) (closed_no_reading b past g.1) h
-measurement_taken limits shelf (Station name) b past r f g h = stand_idle shelf b past
+measurement_taken limits shelf (Station name) b past r f g h = states_idle shelf b past
     (set_as b roles.Measurement r) (closed_no_reading b past g.3) h
-measurement_taken limits shelf BetweenSets b past r f g h = stand_idle shelf b past
+measurement_taken limits shelf BetweenSets b past r f g h = states_idle shelf b past
     (set_as b roles.Measurement r) (closed_no_reading b past g.1) h
 measurement_taken limits shelf InSet b past r f g h = in_set_taken shelf b past
     (said.read b) r refl g (no_err limits shelf (said.read b) f) h
 
 -- THE LAW: after a block without fault, what is kept stands for the blocks with it
-pub taken_stands : (limits : FaceLimits) (taken : ℕ) (stage : Stage) (shelf : ShelfValue)
+pub taken_state : (limits : FaceLimits) (taken : ℕ) (stage : Stage) (shelf : ShelfValue)
     (b : GsiBlock) (past : History) (r : Role) → role_of b ≡ r
     → states.fault_as r (record { limits = limits; taken = taken; stage = stage; shelf = shelf }) b
     ≡ None → fault_after limits past b ≡ None
@@ -257,7 +257,7 @@ pub taken_stands : (limits : FaceLimits) (taken : ℕ) (stage : Stage) (shelf : 
       stage = stage;
       shelf = shelf;
     })) (b ∷ past)
-taken_stands limits taken stage shelf b past roles.Station r f clean h =
+taken_state limits taken stage shelf b past roles.Station r f clean h =
     let (name, is) = name_of_station b
     (then_second (states.ending stage shelf) (first_of (station_faults b)) f) in
     let s = station_as b roles.Station r in
@@ -274,10 +274,10 @@ taken_stands limits taken stage shelf b past roles.Station r f clean h =
             sets-station b past s,
             is_open-opening b past (opening_as b roles.Station r) ∙ set_as b roles.Station r,
           );
-      stations = stand_idle shelf b past (set_as b roles.Station r)
+      stations = states_idle shelf b past (set_as b roles.Station r)
           (no_reading b past (sight_as b roles.Station r)) h.stations;
     }
-taken_stands limits taken stage shelf b past roles.Set r f clean h = record {
+taken_state limits taken stage shelf b past roles.Set r f clean h = record {
   limited = refl;
   clean = (clean, h.clean);
   counted = (let t = h.counted in omega (arith, t));
@@ -287,16 +287,16 @@ taken_stands limits taken stage shelf b past roles.Set r f clean h = record {
       (states.opening_fault stage shelf (number b)) (then_second (states.ending stage shelf) _ f))
       h.stage h.stations;
 }
-taken_stands limits taken stage shelf b past roles.Close r f clean h = record {
+taken_state limits taken stage shelf b past roles.Close r f clean h = record {
   limited = refl;
   clean = (clean, h.clean);
   counted = (let t = h.counted in omega (arith, t));
   stage = stage_closes stage b past (station_as b roles.Close r) (set_as b roles.Close r)
       (opening_as b roles.Close r) h.stage;
-  stations = stand_idle shelf b past (set_as b roles.Close r)
+  stations = states_idle shelf b past (set_as b roles.Close r)
       (no_reading b past (sight_as b roles.Close r)) h.stations;
 }
-taken_stands limits taken stage shelf b past roles.Measurement r f clean h =
+taken_state limits taken stage shelf b past roles.Measurement r f clean h =
     let m = measures_nothing b r in
     record {
       limited = refl;
@@ -305,13 +305,13 @@ taken_stands limits taken stage shelf b past roles.Measurement r f clean h =
       stage = stage_stays stage b past m.0 m.1 m.2 h.stage;
       stations = measurement_taken limits shelf stage b past r f h.stage h.stations;
     }
-taken_stands limits taken stage shelf b past roles.Other r f clean h = record {
+taken_state limits taken stage shelf b past roles.Other r f clean h = record {
   limited = refl;
   clean = (clean, h.clean);
   counted = (let t = h.counted in omega (arith, t));
   stage = stage_stays stage b past (station_as b roles.Other r) (set_as b roles.Other r)
       (opening_as b roles.Other r) h.stage;
-  stations = stand_idle shelf b past (set_as b roles.Other r)
+  stations = states_idle shelf b past (set_as b roles.Other r)
       (no_reading b past (sight_as b roles.Other r)) h.stations;
 }
 

@@ -15,13 +15,13 @@ use Rattle.station_book.specs.declared.role.Role.{Role}
 use Rattle.station_book.specs.declared.role.Role.TheVariants as roles
 use Rattle.station_book.specs.Limits.{FaceLimits}
 use Rattle.station_book.specs.Blocks.{role_of, is_station, is_set_code, is_close, opens_set, is_opening, is_sight, is_of_face, other_face}
-use Rattle.station_book.specs.Places.{History, Place, places, last, before, opening, station, is_open, is_same, is_reading, target_at, stands, reading_in}
+use Rattle.station_book.specs.Places.{History, Place, places, last, before, opening, station, is_open, is_same, is_reading, target_at, passes_at, reading_in}
 use Rattle.station_book.specs.Faults.{first_of, faults_as, end_faults, station_faults, set_faults, fault_after, fault_at_end, IsWithoutFault, IsFirstFault, IsWholeFile, IsFileFault, open_readings, face_at, has_one_face, name_at}
 use Rattle.station_book.specs.Stations.{SurveyedStation, IsSurveyed, AreStations, stations_of}
 use Rattle.station_book.specs.Recorded.{IsReadingOf, IsListed}
 use Rattle.station_book.proofs.Elements.{In, any_from, find_some, in_contains, contains_in, in_map, of_filter, zip_right}
 use Rattle.station_book.proofs.StepLaws.{readings-more, readings-other, sight_opens_nothing}
-use Rattle.station_book.proofs.KeptLaws.{none_stands, none_when}
+use Rattle.station_book.proofs.KeptLaws.{all_none, none_when}
 use Rattle.station_book.proofs.KeptLaws.{clean_reading}
 use Rattle.station_book.proofs.FirstFault.{fault_or_none, no_first_fault, one_first_fault}
 use Rattle.station_book.proofs.FilePlaces.{HasItsSet, last_placed, owner_placed, same_of_file, set_of_reading, set_station}
@@ -37,7 +37,7 @@ record HasOther (h : History) (r : Place) : Type 0 where
   pub reading : is_reading other ≡ true
   pub of_set : opening (before other) ≡ opening (before r)
   pub of_target : target_at other ≡ target_at r
-  pub of_face : stands (is_of_face (other_face (face_at r))) other ≡ true
+  pub of_face : passes_at (is_of_face (other_face (face_at r))) other ≡ true
 
 other_later : (b : GsiBlock) (past : History) (r : Place) → HasOther past r → HasOther (b ∷ past) r
 other_later b past r o = record {
@@ -80,10 +80,10 @@ other_in_open past r listed clean = elim
           let q = s.0 in
           let found = find_some
           (λ p. bytes_eq (target_at p) (target_at r)
-          && stands (is_of_face (other_face (face_at r))) p) q
+          && passes_at (is_of_face (other_face (face_at r))) p) q
           (open_readings past) s.1 in
           let tests = and_parts (bytes_eq (target_at q) (target_at r))
-          (stands (is_of_face (other_face (face_at r))) q) found.1 in
+          (passes_at (is_of_face (other_face (face_at r))) q) found.1 in
           let other = open_reading past q found.0 in
           record {
             other = q;
@@ -99,13 +99,13 @@ other_in_open past r listed clean = elim
     own = open_reading past r listed
 
     now : is_open past ≡ true
-    now = sym (ap (stands opens_set) own.of_set)
-        ∙ (and_parts (stands is_sight r) (is_open (before r)) own.reading).1
+    now = sym (ap (passes_at opens_set) own.of_set)
+        ∙ (and_parts (passes_at is_sight r) (is_open (before r)) own.reading).1
 
     paired : has_one_face (open_readings past) ≡ false
     paired = right_false (is_open past) (has_one_face (open_readings past)) now
         (none_when (is_open past && has_one_face (open_readings past)) kinds.OneFace
-        (none_stands (end_faults past) clean).1.0)
+        (all_none (end_faults past) clean).1.0)
 
 first_left : {X : Type 0} (xs ys : List (Option X)) → first_of (xs ++ ys) ≡ None
     → first_of xs ≡ None
@@ -159,11 +159,11 @@ has_other limits h r whole placed reading = elim
 
 -- each reading has a face
 has_face : (limits : FaceLimits) (h : History) (r : Place) → IsWithoutFault limits h
-    → In r (places h) → is_reading r ≡ true → stands (is_of_face (face_at r)) r ≡ true
+    → In r (places h) → is_reading r ≡ true → passes_at (is_of_face (face_at r)) r ≡ true
 has_face limits [] r clean placed reading = absurd placed
 has_face limits (b ∷ past) r clean (inl e) reading =
     let here : is_reading (b ∷ past) ≡ true = sym (ap is_reading e) ∙ reading in
-    subst (λ (q : Place). stands (is_of_face (face_at q)) q ≡ true) (sym e)
+    subst (λ (q : Place). passes_at (is_of_face (face_at q)) q ≡ true) (sym e)
     (clean_reading limits past b here clean.0).faced
 has_face limits (b ∷ past) r clean
     (inr placed) reading = has_face limits past r clean.1 placed reading
@@ -247,7 +247,7 @@ no_reading_lost limits h stations r whole are contained reading = by (face_at r)
       of_set = refl;
       of_target = refl;
       of_face = ap
-          (λ v. stands (is_of_face v) r) (sym e) ∙ has_face limits h r whole.blocks placed reading;
+          (λ v. passes_at (is_of_face v) r) (sym e) ∙ has_face limits h r whole.blocks placed reading;
     };
   }
 
@@ -261,7 +261,7 @@ no_reading_lost limits h stations r whole are contained reading = by (face_at r)
       reading = other.reading;
       of_set = other.of_set;
       of_target = other.of_target;
-      of_face = sym (ap (λ v. stands (is_of_face (other_face v)) other.other) e) ∙ other.of_face;
+      of_face = sym (ap (λ v. passes_at (is_of_face (other_face v)) other.other) e) ∙ other.of_face;
     };
   }
 

@@ -7,7 +7,7 @@ use Rattle.station_book.specs.declared.faces.Faces.{Faces}
 use Rattle.station_book.specs.Limits.{FaceLimits}
 use Rattle.station_book.specs.Sights.{IsTwoC, IsTwoI, IsTwoFace}
 use Rattle.station_book.specs.Blocks.{is_of_face}
-use Rattle.station_book.specs.Places.{History, Place, places, number_at, before, opening, station, is_set, is_reading, target_at, stands}
+use Rattle.station_book.specs.Places.{History, Place, places, number_at, before, opening, station, is_set, is_reading, target_at, passes_at}
 use Rattle.station_book.specs.Faults.{name_at, sight_at}
 use Rattle.station_book.specs.Stations.{SurveyedStation}
 
@@ -20,7 +20,7 @@ pub record IsReadingOf (h : History) (name : List ℕ) (set : Place) (target : L
   pub of_station : name_at (station (before r)) ≡ Some name
   pub of_set : opening (before r) ≡ set
   pub of_target : target_at r ≡ target
-  pub of_face : IsTrue (stands (is_of_face face) r)
+  pub of_face : IsTrue (passes_at (is_of_face face) r)
 
 -- The file has a set of the station of this name.
 pub record HasSet (h : History) (name : List ℕ) : Type 0 where

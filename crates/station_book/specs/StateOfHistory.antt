@@ -69,8 +69,8 @@ IsEntryWith st [] readings e = ⊥
 IsEntryWith st (s ∷ older) readings e = IsEntryOf st s older readings e.0 e.1
 
 -- what is kept of the station that this block with code 10 opens
-abbrev pub StandsAt : History → Place → List ℕ × EntryValue → Type 0
-StandsAt h st e = IsEntryWith st (sets_of st h) (station_readings st h) e
+abbrev pub IsStateAt : History → Place → List ℕ × EntryValue → Type 0
+IsStateAt h st e = IsEntryWith st (sets_of st h) (station_readings st h) e
 
 -- the stations that have sets, the newest first
 abbrev pub stations_in : History → List Place
@@ -85,11 +85,11 @@ pub record IsComputed (st : Place) (sets readings : List Place) (s : SurveyedSta
   pub faces : s.faces ≡ faces_in (targets_in readings) readings sets
 
 -- Each station that has sets is kept; both lists come the newest first.
-abbrev pub Stand : History → List Place → ShelfValue → Type 0
-Stand h [] [] = Unit {0}
-Stand h [] (e ∷ es) = ⊥
-Stand h (st ∷ sts) [] = ⊥
-Stand h (st ∷ sts) (e ∷ es) = StandsAt h st e × Stand h sts es
+abbrev pub AreStates : History → List Place → ShelfValue → Type 0
+AreStates h [] [] = Unit {0}
+AreStates h [] (e ∷ es) = ⊥
+AreStates h (st ∷ sts) [] = ⊥
+AreStates h (st ∷ sts) (e ∷ es) = IsStateAt h st e × AreStates h sts es
 
 -- where the book stands in the file
 abbrev pub IsStage : Stage → History → Type 0

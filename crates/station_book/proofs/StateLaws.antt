@@ -7,7 +7,7 @@ use Rattle.std.proofs.lemmas.List.{length-append, map-append, length-map}
 use Rattle.station_book.specs.Slots.{empty_slot, obs_of, faces_of}
 use Rattle.station_book.specs.Entries.{EntryValue, first_entry, with_set, with_reading}
 use Rattle.station_book.specs.declared.sight.Sighting.{Sighting}
-use Rattle.station_book.proofs.ReadingLaws.{Says, IsInNone, reading_stands, all_filter}
+use Rattle.station_book.proofs.ReadingLaws.{Says, IsInNone, reading_state, all_filter}
 use Rattle.station_book.specs.Shelves.{ShelfValue, survey_of, with_station, last_of}
 use Rattle.station_book.proofs.SetReadings.{none_in_later}
 use Rattle.station_book.proofs.NewestLaws.{HasNewest}
@@ -15,7 +15,7 @@ use Rattle.gsi_word.specs.Blocks.{GsiBlock}
 use Rattle.station_book.specs.Blocks.{number, opens_station, opens_set, is_opening, is_sight}
 use Rattle.station_book.specs.Places.{number_at, History, Place, places, last, before, station, opening, is_empty, is_open, is_set, is_reading, is_same, sets_of, station_readings, first_sets}
 use Rattle.station_book.specs.Faults.{open_sets, name_at}
-use Rattle.station_book.specs.StateOfHistory.{in_set, slots_of, targets_in, obs_in, faces_in, numbers_in, IsEntryOf, IsEntryWith, StandsAt, IsComputed, stations_in, Stand}
+use Rattle.station_book.specs.StateOfHistory.{in_set, slots_of, targets_in, obs_in, faces_in, numbers_in, IsEntryOf, IsEntryWith, IsStateAt, IsComputed, stations_in, AreStates}
 use Rattle.station_book.proofs.PlaceLaws.{length-last, belonging-more, belonging-same, belonging-fresh, belonging-older, owners_in_order}
 use Rattle.station_book.proofs.StepLaws.{no_set_at_station, no_station_at_set, sight_opens_nothing, sight_opens_no_station, is_open-opening, is_open-other, sets-station, sets-more, sets-other, same_station, sight_opens_no_set}
 
@@ -35,9 +35,9 @@ length_numbers (s ∷ older) = let l = length-append (numbers_in older)
     (number_at s ∷ []) in let m = length_numbers older in omega (arith, l, m)
 
 -- after the first set
-pub first_stands : (st set : Place) (name : List ℕ) (n : ℕ) → name_at st ≡ Some name
+pub first_state : (st set : Place) (name : List ℕ) (n : ℕ) → name_at st ≡ Some name
     → number_at set ≡ Some n → IsEntryOf st set [] [] name (first_entry n)
-first_stands st set name n named_so numbered = record {
+first_state st set name n named_so numbered = record {
   named_so = named_so;
   targets = refl;
   numbers = ap (λ o. o ∷ []) (sym numbered);
@@ -47,11 +47,11 @@ first_stands st set name n named_so numbered = record {
 }
 
 -- after a further set
-pub set_stands : (st set newest : Place) (older readings : List Place) (name : List ℕ) (n : ℕ)
+pub set_state : (st set newest : Place) (older readings : List Place) (name : List ℕ) (n : ℕ)
     (e : EntryValue) → number_at set ≡ Some n → in_set set readings ≡ []
     → IsEntryOf st newest older readings name e
     → IsEntryOf st set (newest ∷ older) readings name (with_set n e)
-set_stands st set newest older readings name n e numbered none h = record {
+set_state st set newest older readings name n e numbered none h = record {
   named_so = h.named_so;
   targets = h.targets;
   numbers = map-append (λ m. Some m) e.sets (n ∷ []) ∙ (λ i. h.numbers i ++ sym numbered i ∷ []);
@@ -74,7 +74,7 @@ set_stands st set newest older readings name n e numbered none h = record {
       ∙ sym (no_readings (targets_in readings)) ∙ ap (slots_of (targets_in readings)) (sym none)
 
 -- what a station gives once its last set is closed
-pub survey_is : (h : History) (st : Place) (e : List ℕ × EntryValue) → StandsAt h st e
+pub survey_is : (h : History) (st : Place) (e : List ℕ × EntryValue) → IsStateAt h st e
     → IsComputed st (sets_of st h) (station_readings st h) (survey_of e)
 survey_is h st e k = by (sets_of st h) refl k where
   by : (sets : List Place) → sets_of st h ≡ sets → IsEntryWith st sets (station_readings st h) e
@@ -96,14 +96,14 @@ survey_is h st e k = by (sets_of st h) refl k where
 -- A block by which the sets and readings of a station stay as they are changes nothing of it.
 stays : (st : Place) (e : List ℕ × EntryValue) (b : GsiBlock) (past : History)
     → sets_of st (b ∷ past) ≡ sets_of st past
-    → station_readings st (b ∷ past) ≡ station_readings st past → StandsAt past st e
-    → StandsAt (b ∷ past) st e
+    → station_readings st (b ∷ past) ≡ station_readings st past → IsStateAt past st e
+    → IsStateAt (b ∷ past) st e
 stays st e b past sets readings h = rw (sets, readings) h
 
 -- Whatever block comes, what is kept of the stations before the open one stays as it is.
 pub older_stay : (sts : List Place) (es : ShelfValue) (b : GsiBlock) (past : History)
-    → AllBefore (station past) sts → Stand past sts es
-    → Stand (b ∷ past) sts es
+    → AllBefore (station past) sts → AreStates past sts es
+    → AreStates (b ∷ past) sts es
 older_stay [] [] b past all h = tt
 older_stay [] (e ∷ es) b past all h = h
 older_stay (st ∷ sts) [] b past all h = h
@@ -179,8 +179,8 @@ idle : (p : GsiBlock → Bool) (kind : Place → Bool) (owner : Place) (b : GsiB
 idle p kind owner b past e = rw e
 
 all_idle : (sts : List Place) (es : ShelfValue) (b : GsiBlock) (past : History)
-    → opens_set b ≡ false → is_reading (b ∷ past) ≡ false → Stand past sts es
-    → Stand (b ∷ past) sts es
+    → opens_set b ≡ false → is_reading (b ∷ past) ≡ false → AreStates past sts es
+    → AreStates (b ∷ past) sts es
 all_idle [] [] b past n r h = tt
 all_idle [] (e ∷ es) b past n r h = h
 all_idle (st ∷ sts) [] b past n r h = h
@@ -197,10 +197,10 @@ same_stations b past n = ap (map (λ s. station (before s)))
     (first_sets past)) n)
 
 -- all stations after a block of code 10 or 30, another code, or a measurement that is no reading
-pub stand_idle : (s : ShelfValue) (b : GsiBlock) (past : History) → opens_set b ≡ false
-    → is_reading (b ∷ past) ≡ false → Stand past (stations_in past) s
-    → Stand (b ∷ past) (stations_in (b ∷ past)) s
-stand_idle s b past n r h = subst (λ (sts : List Place). Stand (b ∷ past) sts s)
+pub states_idle : (s : ShelfValue) (b : GsiBlock) (past : History) → opens_set b ≡ false
+    → is_reading (b ∷ past) ≡ false → AreStates past (stations_in past) s
+    → AreStates (b ∷ past) (stations_in (b ∷ past)) s
+states_idle s b past n r h = subst (λ (sts : List Place). AreStates (b ∷ past) sts s)
     (sym (same_stations b past n)) (all_idle (stations_in past) s b past n r h)
 
 -- the stations with sets: those before the open one, and the open one where it has a set
@@ -286,12 +286,12 @@ open_last past some = elim (parted past) [
 ]
 
 -- all stations after the first set of the open one
-pub stand_first : (shelf : ShelfValue) (b : GsiBlock) (past : History) (name : List ℕ) (n : ℕ)
+pub states_first : (shelf : ShelfValue) (b : GsiBlock) (past : History) (name : List ℕ) (n : ℕ)
     → opens_station b ≡ false → opens_set b ≡ true → open_sets past ≡ []
-    → name_at (station past) ≡ Some name → number b ≡ Some n → Stand past (stations_in past) shelf
-    → Stand (b ∷ past) (stations_in (b ∷ past)) (with_station name n shelf)
-stand_first shelf b past name n s set none named_so numbered h =
-    subst (λ (sts : List Place). Stand (b ∷ past) sts (with_station name n shelf)) (sym stations) (
+    → name_at (station past) ≡ Some name → number b ≡ Some n → AreStates past (stations_in past) shelf
+    → AreStates (b ∷ past) (stations_in (b ∷ past)) (with_station name n shelf)
+states_first shelf b past name n s set none named_so numbered h =
+    subst (λ (sts : List Place). AreStates (b ∷ past) sts (with_station name n shelf)) (sym stations) (
       head,
       older_stay (stations_in past) shelf b past older h,
     )
@@ -314,9 +314,9 @@ stand_first shelf b past name n s set none named_so numbered h =
     readings = idle opens_station is_reading (station past) b past (set_is_no_reading b past set)
         ∙ no_set_no_reading past none
 
-    head : StandsAt (b ∷ past) (station past) (name, first_entry n)
+    head : IsStateAt (b ∷ past) (station past) (name, first_entry n)
     head = rw (sets, readings)
-        (first_stands (station past) (b ∷ past) name n named_so numbered)
+        (first_state (station past) (b ∷ past) name n named_so numbered)
 
 -- a set that is still to come has no readings among those of any station
 none_to_come : (b : GsiBlock) (past : History) (st : Place)
@@ -325,17 +325,17 @@ none_to_come b past st = none_in_later
     (λ place. is_reading place && is_same (station (before place)) st) (b ∷ past) past (omega arith)
 
 -- all stations after a further set of the open one
-pub stand_further : (x : List ℕ × EntryValue) (es : ShelfValue) (b : GsiBlock) (past : History) (n : ℕ)
+pub states_further : (x : List ℕ × EntryValue) (es : ShelfValue) (b : GsiBlock) (past : History) (n : ℕ)
     → opens_station b ≡ false → opens_set b ≡ true → is_empty (open_sets past) ≡ false
-    → number b ≡ Some n → Stand past (stations_in past) (x ∷ es)
-    → Stand (b ∷ past) (stations_in (b ∷ past)) ((x.0, with_set n x.1) ∷ es)
-stand_further x es b past n s set some numbered h =
+    → number b ≡ Some n → AreStates past (stations_in past) (x ∷ es)
+    → AreStates (b ∷ past) (stations_in (b ∷ past)) ((x.0, with_set n x.1) ∷ es)
+states_further x es b past n s set some numbered h =
     let p = open_last past some in
     let same : stations_in (b ∷ past) ≡ stations_in past = ap
     (λ v. map (λ t. station (before t))
     (cond v ((b ∷ past) ∷ first_sets past) (first_sets past))) (λ i. set i && some i) in
-    let k = subst (λ (sts : List Place). Stand past sts (x ∷ es)) p.stations h in
-    subst (λ (sts : List Place). Stand (b ∷ past) sts ((x.0, with_set n x.1) ∷ es))
+    let k = subst (λ (sts : List Place). AreStates past sts (x ∷ es)) p.stations h in
+    subst (λ (sts : List Place). AreStates (b ∷ past) sts ((x.0, with_set n x.1) ∷ es))
     (sym (same ∙ p.stations)) (head k.0, older_stay p.rest es b past p.older k.1)
   where
     further : (sets : List Place)
@@ -343,11 +343,11 @@ stand_further x es b past n s set some numbered h =
         → IsEntryWith (station past) ((b ∷ past) ∷ sets) (station_readings (station past) past)
         (x.0, with_set n x.1)
     further [] k = absurd k
-    further (newest ∷ older) k = set_stands (station past) (b ∷ past) newest older
+    further (newest ∷ older) k = set_state (station past) (b ∷ past) newest older
         (station_readings (station past) past) x.0 n x.1 numbered
         (none_to_come b past (station past)) k
 
-    head : StandsAt past (station past) x → StandsAt (b ∷ past) (station past) (x.0, with_set n x.1)
+    head : IsStateAt past (station past) x → IsStateAt (b ∷ past) (station past) (x.0, with_set n x.1)
     head k =
         let sets : sets_of (station past) (b ∷ past) ≡ (b ∷ past) ∷ open_sets past = ap
         (λ (st : Place). sets_of st (b ∷ past)) (sym (same_station b past s))
@@ -360,12 +360,12 @@ stand_further x es b past n s set some numbered h =
 
 -- Where the open station has a set, a station is kept.
 pub newest_there : (s : ShelfValue) (past : History) → is_empty (open_sets past) ≡ false
-    → Stand past (stations_in past) s → HasNewest s
+    → AreStates past (stations_in past) s → HasNewest s
 newest_there s past some h =
     let p = open_last past some in
-    of_first p.rest s (subst (λ (sts : List Place). Stand past sts s) p.stations h)
+    of_first p.rest s (subst (λ (sts : List Place). AreStates past sts s) p.stations h)
   where
-    of_first : (sts : List Place) (es : ShelfValue) → Stand past (station past ∷ sts) es
+    of_first : (sts : List Place) (es : ShelfValue) → AreStates past (station past ∷ sts) es
         → HasNewest es
     of_first sts [] k = absurd k
     of_first sts (x ∷ es) k = record { newest = x; older = es; is = refl }
@@ -382,14 +382,14 @@ in_none b past readings (s ∷ older) all = (
 )
 
 -- all stations after a reading
-pub stand_reading : (x : List ℕ × EntryValue) (es : ShelfValue) (b : GsiBlock) (past : History)
+pub states_reading : (x : List ℕ × EntryValue) (es : ShelfValue) (b : GsiBlock) (past : History)
     (s : Sighting) → is_opening b ≡ false → is_reading (b ∷ past) ≡ true → is_open past ≡ true
-    → Says s (b ∷ past) → Stand past (stations_in past) (x ∷ es)
-    → Stand (b ∷ past) (stations_in (b ∷ past)) ((x.0, with_reading s x.1) ∷ es)
-stand_reading x es b past s o reading now says h =
+    → Says s (b ∷ past) → AreStates past (stations_in past) (x ∷ es)
+    → AreStates (b ∷ past) (stations_in (b ∷ past)) ((x.0, with_reading s x.1) ∷ es)
+states_reading x es b past s o reading now says h =
     let p = open_last past (open_has_set past now) in
-    let k = subst (λ (sts : List Place). Stand past sts (x ∷ es)) p.stations h in
-    subst (λ (sts : List Place). Stand (b ∷ past) sts ((x.0, with_reading s x.1) ∷ es))
+    let k = subst (λ (sts : List Place). AreStates past sts (x ∷ es)) p.stations h in
+    subst (λ (sts : List Place). AreStates (b ∷ past) sts ((x.0, with_reading s x.1) ∷ es))
     (sym (same_stations b past no_set ∙ p.stations))
     (head k.0, older_stay p.rest es b past p.older k.1)
   where
@@ -408,8 +408,8 @@ stand_reading x es b past s o reading now says h =
         (in_set (opening past) readings))
         (eq-eqb (length (opening past)) (length (opening past)) refl)
 
-    head : StandsAt past (station past) x
-        → StandsAt (b ∷ past) (station past) (x.0, with_reading s x.1)
+    head : IsStateAt past (station past) x
+        → IsStateAt (b ∷ past) (station past) (x.0, with_reading s x.1)
     head k =
         let sets : sets_of (station past) (b ∷ past) ≡ opening past ∷ set.older = ap
         (λ (st : Place). sets_of st (b ∷ past)) (sym (same_station b past no_station))
@@ -419,7 +419,7 @@ stand_reading x es b past s o reading now says h =
         (sym (same_station b past no_station))
         ∙ belonging-more opens_station is_reading b past no_station reading in
         rw (sets, readings)
-        (reading_stands (station past) (opening past) set.older (station_readings (station past) past)
+        (reading_state (station past) (opening past) set.older (station_readings (station past) past)
         (b ∷ past) x.0 x.1 s says (mine (station_readings (station past) past))
         (in_none b past (station_readings (station past) past) set.older set.before_it)
         (rw set.sets at k))
@@ -435,10 +435,10 @@ pub record HasOpenEntry (past : History) (shelf : ShelfValue) : Type 0 where
 
 -- Where the open station has a set, the last entry is its own.
 pub open_entry : (shelf : ShelfValue) (past : History) → is_empty (open_sets past) ≡ false
-    → Stand past (stations_in past) shelf → HasOpenEntry past shelf
+    → AreStates past (stations_in past) shelf → HasOpenEntry past shelf
 open_entry shelf past some h =
     let p = open_last past some in
-    of_newest p.rest shelf (subst (λ (sts : List Place). Stand past sts shelf) p.stations h)
+    of_newest p.rest shelf (subst (λ (sts : List Place). AreStates past sts shelf) p.stations h)
   where
     of_sets : (x : List ℕ × EntryValue) (es : ShelfValue) (sets : List Place)
         → open_sets past ≡ sets
@@ -448,7 +448,7 @@ open_entry shelf past some h =
     of_sets x es (set ∷ rest) s k =
         record { newest = set; older = rest; sets = s; name = x.0; is = k }
 
-    of_newest : (sts : List Place) (es : ShelfValue) → Stand past (station past ∷ sts) es
+    of_newest : (sts : List Place) (es : ShelfValue) → AreStates past (station past ∷ sts) es
         → HasOpenEntry past es
     of_newest sts [] k = absurd k
     of_newest sts (y ∷ es) k = of_sets y es (open_sets past) refl k.0
