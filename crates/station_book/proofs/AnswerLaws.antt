@@ -12,14 +12,14 @@ use Rattle.station_book.specs.declared.fault.BookFault.TheVariants.{At, Memory}
 use Rattle.station_book.specs.declared.stage.Stage.TheVariants.{Outside}
 use Rattle.station_book.specs.Limits.{FaceLimits}
 use Rattle.station_book.specs.Places.{number_at, History, Place, before, station, reading_in, readings_of, sets_of, first_sets, station_readings, targets_of}
-use Rattle.station_book.specs.Faults.{fault_at_end, sight_at, IsWithoutFault}
+use Rattle.station_book.specs.Faults.{fault_at_end, angles_at, IsWithoutFault}
 use Rattle.station_book.specs.Stations.{Pair, pair_of, pairs_in, SurveyedStation, IsObserved, HasFaces, IsSurveyed, AreStations}
 use Rattle.station_book.specs.Slots as slots
 use Rattle.station_book.specs.Slots.{obs_at, obs_of, faces_at, faces_of}
 use Rattle.station_book.specs.Shelves.{empty_shelf, surveys_of}
 use Rattle.station_book.specs.Refusals.{ExplainsFault}
 use Rattle.station_book.specs.State.{State, ending}
-use Rattle.station_book.specs.StateOfHistory.{in_set, sighted, slots_of, obs_in, faces_in, numbers_in, IsComputed, stations_in}
+use Rattle.station_book.specs.StateOfHistory.{in_set, angles_of, slots_of, obs_in, faces_in, numbers_in, IsComputed, stations_in}
 use Rattle.station_book.specs.StandsFor.{StandsFor, ExplainsEnd}
 use Rattle.station_book.proofs.SlotLaws.{enumerate-append}
 use Rattle.station_book.proofs.ComputedLaws.{computed_two_c, computed_two_i, computed_direction}
@@ -49,18 +49,18 @@ zip_reverse R (x ∷ xs) (y ∷ ys) h =
 module _ (limits : FaceLimits) where
   -- both readings of a target, where it has both
   abbrev Beside : Option Place → Option Place → Type 0
-  Beside o p = (a b : Place) → o ≡ Some a → p ≡ Some b → AreWithin limits (sight_at a) (sight_at b)
+  Beside o p = (a b : Place) → o ≡ Some a → p ≡ Some b → AreWithin limits (angles_at a) (angles_at b)
 
   one_observed : (s n : ℕ) (o p : Option Place) (cs : List Pair) (os : List Obs) → Beside o p
       → AllZip (IsObserved limits) cs os
       → AllZip (IsObserved limits) (cons_option (pair_of s n o p) cs)
-      (cons_option (slots.observation_of s n (sighted o) (sighted p)) os)
+      (cons_option (slots.observation_of s n (angles_of o) (angles_of p)) os)
   one_observed s n (Some a) (Some b) cs os w h = (
     record {
       set = refl;
       target = refl;
-      direction = computed_direction limits.two_c (sight_at a)
-          (sight_at b) (place_on_circle a) (place_on_circle b) (w a b refl refl).two_c;
+      direction = computed_direction limits.two_c (angles_at a)
+          (angles_at b) (place_on_circle a) (place_on_circle b) (w a b refl refl).two_c;
     },
     h,
   )
@@ -77,13 +77,13 @@ module _ (limits : FaceLimits) where
 
   one_compared : (s n : ℕ) (o p : Option Place) (cs : List Pair) (fs : List Faces) → Beside o p
       → AllZip (HasFaces limits) cs fs → AllZip (HasFaces limits) (cons_option (pair_of s n o p) cs)
-      (cons_option (slots.compared (sighted o) (sighted p)) fs)
+      (cons_option (slots.compared (angles_of o) (angles_of p)) fs)
   one_compared s n (Some a) (Some b) cs fs w h =
       let within = w a b refl refl in (
         record {
-          two_c = computed_two_c limits.two_c (sight_at a) (sight_at b) (place_on_circle a)
+          two_c = computed_two_c limits.two_c (angles_at a) (angles_at b) (place_on_circle a)
               (place_on_circle b) within.two_c;
-          two_i = computed_two_i limits.two_i (sight_at a) (sight_at b) within.two_i;
+          two_i = computed_two_i limits.two_i (angles_at a) (angles_at b) within.two_i;
         },
         h,
       )

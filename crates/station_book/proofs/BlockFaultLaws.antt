@@ -10,7 +10,7 @@ use Rattle.station_book.specs.declared.fault.BookFault.TheVariants.{At, Memory}
 use Rattle.station_book.specs.declared.fault.BookKind.{BookKind}
 use Rattle.station_book.specs.declared.role.Role.{Role}
 use Rattle.station_book.specs.declared.role.Role.TheVariants as roles
-use Rattle.station_book.specs.declared.sight.Sighting.{Sighting}
+use Rattle.station_book.specs.declared.angles.Reading.{Reading}
 use Rattle.station_book.specs.declared.stage.Stage.{Stage}
 use Rattle.station_book.specs.declared.stage.Stage.TheVariants.{Outside, Station, BetweenSets, InSet}
 use Rattle.station_book.specs.Limits.{FaceLimits}
@@ -20,7 +20,7 @@ use Rattle.station_book.specs.Entries.{place_of}
 use Rattle.station_book.specs.Shelves.{ShelfValue, last_of}
 use Rattle.station_book.specs.State as states
 use Rattle.station_book.specs.Refusals.{ExplainsFault, WantsOnlyAt}
-use Rattle.station_book.specs.Blocks.{opens_set, is_sight, target}
+use Rattle.station_book.specs.Blocks.{opens_set, has_direction, target}
 use Rattle.station_book.specs.Places.{History, is_open, is_reading}
 use Rattle.station_book.specs.Faults.{first_of, end_faults, station_faults, faults_as, fault_after, fault_at_end, is_new_target}
 use Rattle.station_book.specs.State.{then_fault}
@@ -30,7 +30,7 @@ use Rattle.station_book.proofs.ListLaws.{absent}
 use Rattle.station_book.proofs.StepLaws.{open_targets}
 use Rattle.station_book.proofs.StateLaws.{open_has_set, open_entry}
 use Rattle.station_book.proofs.EndLaws.{same_end}
-use Rattle.station_book.proofs.TakeLaws.{set_as, sight_as, was_read, at_own, taken_state}
+use Rattle.station_book.proofs.TakeLaws.{set_as, direction_as, was_read, at_own, taken_state}
 use Rattle.station_book.proofs.FaultLaws.{first_append}
 use Rattle.station_book.proofs.SetFaultLaws.{same_set_fault}
 use Rattle.station_book.proofs.ReadingFaultLaws.{same_measurement_fault}
@@ -71,7 +71,7 @@ IsFirstOfTarget b past = (is_reading (b ∷ past) ≡ true) × (is_new_target b 
 
 -- A target that is new to what is kept is new to the station.
 new_target : (shelf : ShelfValue) (b : GsiBlock) (past : History)
-    (o : Result (Option Sighting) BookKind)
+    (o : Result (Option Reading) BookKind)
     → role_of b ≡ roles.Measurement → said.read b ≡ o → is_open past ≡ true
     → AreStates past (stations_in past) shelf
     → states.is_first_of_target shelf o ≡ true → IsFirstOfTarget b past
@@ -79,8 +79,8 @@ new_target shelf b past (Err k) r e now h t = absurd (false≢true t)
 new_target shelf b past (Ok None) r e now h t = absurd (false≢true t)
 new_target shelf b past (Ok (Some s)) r e now h t =
     let w = was_read b s e in
-    let seen : is_sight b ≡ true = sight_as b roles.Measurement r ∙ ap not w.has_direction in
-    let own : target b ≡ s.target = ap (λ (q : Sighting). q.target) w.is in
+    let seen : has_direction b ≡ true = direction_as b roles.Measurement r ∙ ap not w.directed in
+    let own : target b ≡ s.target = ap (λ (q : Reading). q.target) w.is in
     let targets : (last_of shelf).targets ≡ open_targets past =
     (open_entry shelf past (open_has_set past now) h).is.targets in
     let none : place_of (target b) (open_targets past) ≡ None =

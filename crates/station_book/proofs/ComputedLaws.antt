@@ -4,7 +4,7 @@ use Rattle.std.proofs.Common.{◌≡◌, ℕ, ◌+◌, ◌-◌, ◌*◌, ◌/◌
 use Rattle.std.specs.Prelude.{ℤ, pos, ◌+ℤ◌, ◌-ℤ◌, ◌*ℤ◌}
 use Rattle.std.proofs.lemmas.Int.{ints}
 use Rattle.std.proofs.lemmas.Bool.{and_cases, ltb-false}
-use Rattle.station_book.specs.Sights.{Sight, IsAtMost, AreCongruent, AreNear, AreOnCircle, IsTwoC, IsTwoI, IsTwoFace}
+use Rattle.station_book.specs.TwoFaces.{Angles, IsAtMost, AreCongruent, AreNear, AreOnCircle, IsTwoC, IsTwoI, IsTwoFace}
 use Rattle.station_book.specs.Faults.{has_no_two_c, has_no_two_i}
 use Rattle.station_book.specs.Pairs.{half_turned, two_c, two_i, direction}
 
@@ -30,7 +30,7 @@ congruent_c f s hf hs = record {
   equal = omega (arith, ints);
 }
 
-pub computed_two_c : (limit : ℕ) (a b : Sight) → AreOnCircle a → AreOnCircle b
+pub computed_two_c : (limit : ℕ) (a b : Angles) → AreOnCircle a → AreOnCircle b
     → has_no_two_c limit a b ≡ false → IsTwoC limit a b (two_c a b)
 unfolding has_no_two_c
 computed_two_c limit a b ha hb e = record {
@@ -54,7 +54,7 @@ within_i limit a b e =
 sum_i : (a b : ℕ) → pos (a + b) -ℤ pos 40_000_000 ≡ pos a +ℤ pos b -ℤ pos 40_000_000
 sum_i a b = omega (arith, ints)
 
-pub computed_two_i : (limit : ℕ) (a b : Sight) → has_no_two_i limit a b ≡ false
+pub computed_two_i : (limit : ℕ) (a b : Angles) → has_no_two_i limit a b ≡ false
     → IsTwoI limit a b (two_i a b)
 unfolding has_no_two_i
 computed_two_i limit a b e =
@@ -79,7 +79,7 @@ beside limit f h w =
       within = record { low = omega (arith, ints); high = omega (arith, ints) };
     }
 
-pub computed_direction : (limit : ℕ) (a b : Sight) → AreOnCircle a → AreOnCircle b
+pub computed_direction : (limit : ℕ) (a b : Angles) → AreOnCircle a → AreOnCircle b
     → has_no_two_c limit a b ≡ false → IsTwoFace limit a b (direction a b)
 computed_direction limit a b ha hb e =
     let c = computed_two_c limit a b ha hb e in

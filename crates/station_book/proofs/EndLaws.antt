@@ -16,7 +16,7 @@ use Rattle.station_book.specs.Shelves.{ShelfValue, last_of, survey_of, surveys_o
 use Rattle.station_book.specs.Stations.{SurveyedStation}
 use Rattle.station_book.specs.State.{State, ending}
 use Rattle.station_book.specs.Places.{History, Place, station, opening, is_empty, is_open, reading_in, sets_of, station_readings, target_at}
-use Rattle.station_book.specs.StateOfHistory.{in_set, sighted, slot_of, slots_of, IsComputed, AreStates, stations_in, IsStage}
+use Rattle.station_book.specs.StateOfHistory.{in_set, angles_of, slot_of, slots_of, IsComputed, AreStates, stations_in, IsStage}
 use Rattle.station_book.specs.StandsFor.{StandsFor}
 use Rattle.station_book.proofs.Elements.{In, any_to}
 use Rattle.station_book.proofs.StepLaws.{open_targets}
@@ -28,19 +28,19 @@ use Rattle.station_book.proofs.StateLaws.{open_set, open_has_set, survey_is, ope
 use Rattle.indexmap.proofs.ReorderLemmas.{map-reverse}
 use Rattle.std.proofs.lemmas.Bool.{and_left, and_right}
 
-pub some_sighted : (o : Option Place) → is_some (sighted o) ≡ is_some o
-some_sighted None = refl
-some_sighted (Some p) = refl
+pub some_angles : (o : Option Place) → is_some (angles_of o) ≡ is_some o
+some_angles None = refl
+some_angles (Some p) = refl
 
-none_sighted : (o : Option Place) → is_none (sighted o) ≡ is_none o
-none_sighted None = refl
-none_sighted (Some p) = refl
+none_angles : (o : Option Place) → is_none (angles_of o) ≡ is_none o
+none_angles None = refl
+none_angles (Some p) = refl
 
 single_same : (rs : List Place) (name : List ℕ)
     → is_single (slot_of rs name) ≡ faces.is_single (faces.slot rs name)
 single_same rs name = λ i.
-    (some_sighted (reading_in One name rs) i && none_sighted (reading_in Two name rs) i) ||
-    (none_sighted (reading_in One name rs) i && some_sighted (reading_in Two name rs) i)
+    (some_angles (reading_in One name rs) i && none_angles (reading_in Two name rs) i) ||
+    (none_angles (reading_in One name rs) i && some_angles (reading_in Two name rs) i)
 
 singles_same : (targets : List (List ℕ)) (rs : List Place)
     → list_any is_single (slots_of targets rs) ≡ list_any faces.is_single (faces.slots targets rs)
@@ -58,15 +58,15 @@ not_all rs name (t ∷ ts) (inl h) e = and_left (is_unread (slot_of rs t)) _
     (ap (λ (n : List ℕ). is_unread (slot_of rs n)) (sym h) ∙ e)
 not_all rs name (t ∷ ts) (inr h) e = and_right (is_unread (slot_of rs t)) _ (not_all rs name ts h e)
 
-no_none : (o : Option Place) → is_some o ≡ true → is_none (sighted o) ≡ false
+no_none : (o : Option Place) → is_some o ≡ true → is_none (angles_of o) ≡ false
 no_none None e = cc
 no_none (Some p) e = refl
 
 seen : (f : Face) (rs : List Place) (name : List ℕ) → is_some (reading_in f name rs) ≡ true
     → is_unread (slot_of rs name) ≡ false
-seen One rs name e = and_left (is_none (sighted (reading_in One name rs))) _
+seen One rs name e = and_left (is_none (angles_of (reading_in One name rs))) _
     (no_none (reading_in One name rs) e)
-seen Two rs name e = and_right (is_none (sighted (reading_in One name rs))) _
+seen Two rs name e = and_right (is_none (angles_of (reading_in One name rs))) _
     (no_none (reading_in Two name rs) e)
 
 -- no slot is read exactly where there is no reading

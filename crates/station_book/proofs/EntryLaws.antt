@@ -15,8 +15,8 @@ use Rattle.adjust_kernel.specs.declared.obs.Obs.{Obs}
 use Rattle.station_book.specs.declared.face.Face.{Face}
 use Rattle.station_book.specs.declared.face.Face.TheVariants.{One, Two}
 use Rattle.station_book.specs.declared.fault.BookKind.TheVariants as kinds
-use Rattle.station_book.specs.Sights.{Sight, AreOnCircle}
-use Rattle.station_book.specs.declared.sight.Sighting.{Sighting}
+use Rattle.station_book.specs.TwoFaces.{Angles, AreOnCircle}
+use Rattle.station_book.specs.declared.angles.Reading.{Reading}
 use Rattle.station_book.specs.declared.slot.Slot.{Slot}
 use Rattle.station_book.specs.Faults.{when, first_of}
 use Rattle.station_book.specs.Slots.{slot_at, empty_slot, with_face_reading, is_unread, is_single, obs_of, faces_of, IsKeptSlot}
@@ -139,18 +139,18 @@ set_is_entry n e h may new few number = record {
     each_target = λ t lt. inl (obs.each_target t (let l = targets in omega (arith, l, lt)));
   }
 
-read_now : (f : Face) (v : Sight) (s : Slot) → is_unread (with_face_reading f v s) ≡ false
+read_now : (f : Face) (v : Angles) (s : Slot) → is_unread (with_face_reading f v s) ≡ false
 read_now One v s = refl
 read_now Two v s = and_right (is_none s.first) false refl
 
-kept_reading : (f : Face) (v : Sight) (s : Slot) → AreOnCircle v → IsKeptSlot s
+kept_reading : (f : Face) (v : Angles) (s : Slot) → AreOnCircle v → IsKeptSlot s
     → IsKeptSlot (with_face_reading f v s)
 kept_reading One v s lt h = (lt, h.1)
 kept_reading Two v s lt h = (h.0, lt)
 
 -- after a further reading of a target
-pub reading_is_entry : (s : Sighting) (e : EntryValue) (i : ℕ) → IsEntry e → i < length e.slots
-    → AreOnCircle s.sight → IsEntry (with_reading_at s e (Some i))
+pub reading_is_entry : (s : Reading) (e : EntryValue) (i : ℕ) → IsEntry e → i < length e.slots
+    → AreOnCircle s.angles → IsEntry (with_reading_at s e (Some i))
 reading_is_entry s e i h inside low = record {
   same_length = length-set e.slots i new ∙ h.same_length;
   paired = h.paired;
@@ -158,7 +158,7 @@ reading_is_entry s e i h inside low = record {
   some_set = h.some_set;
   few_sets = h.few_sets;
   angles = All-set IsKeptSlot e.slots i new
-      (kept_reading s.face s.sight (slot_at e.slots i) low (h.angles i empty_slot inside))
+      (kept_reading s.face s.angles (slot_at e.slots i) low (h.angles i empty_slot inside))
       h.angles;
   names = h.names;
   different = h.different;
@@ -175,7 +175,7 @@ reading_is_entry s e i h inside low = record {
   };
 } where
   new : Slot
-  new = with_face_reading s.face s.sight (slot_at e.slots i)
+  new = with_face_reading s.face s.angles (slot_at e.slots i)
 
   apart : (t : ℕ) → (t ≡ i) ⊎ (t ≢ i)
   apart t = cases_eq t i
@@ -187,7 +187,7 @@ reading_is_entry s e i h inside low = record {
   by t (inr r) (inl c) = inr
       (ap (λ (k : ℕ). is_unread (slot_at (set e.slots i new) k)) c
       ∙ ap is_unread (get_or-set_same e.slots i new empty_slot inside)
-      ∙ read_now s.face s.sight (slot_at e.slots i))
+      ∙ read_now s.face s.angles (slot_at e.slots i))
   by t (inr r) (inr c) = inr (ap is_unread (get_or-set_other e.slots i t new empty_slot c) ∙ r)
 
 pub absent_name : (name : List ℕ) (targets : List (List ℕ))
@@ -198,9 +198,9 @@ absent_name name targets e k d lt = λ same. false≢true (sym e
     ((bytes_eq-Decides (get_or targets k d) name).1 same))
 
 -- after the first reading of a target
-pub target_is_entry : (s : Sighting) (e : EntryValue) → IsEntry e
+pub target_is_entry : (s : Reading) (e : EntryValue) → IsEntry e
     → list_any (λ t. bytes_eq t s.target) e.targets ≡ false → length e.targets < 100
-    → IsName s.target → AreOnCircle s.sight → IsEntry (with_reading_at s e None)
+    → IsName s.target → AreOnCircle s.angles → IsEntry (with_reading_at s e None)
 target_is_entry s e h new few named low = record {
   same_length = (let l = length_one e.slots slot in let m = length_one e.targets s.target in let n =
       h.same_length in omega (arith, l, m, n));
@@ -209,7 +209,7 @@ target_is_entry s e h new few named low = record {
   some_set = h.some_set;
   few_sets = h.few_sets;
   angles = All-push IsKeptSlot e.slots slot h.angles
-      (kept_reading s.face s.sight empty_slot low (tt, tt));
+      (kept_reading s.face s.angles empty_slot low (tt, tt));
   names = All-push IsName e.targets s.target h.names named;
   different = all_pairs_push (λ a b. a ≢ b) e.targets s.target h.different
       (absent_name s.target e.targets new);
@@ -229,7 +229,7 @@ target_is_entry s e h new few named low = record {
   };
 } where
   slot : Slot
-  slot = with_face_reading s.face s.sight empty_slot
+  slot = with_face_reading s.face s.angles empty_slot
 
   cases : (t : ℕ) → t < length e.slots + 1 → (t < length e.slots) ⊎ (t ≡ length e.slots + 0)
   cases t lt = elim (cases_lt t (length e.slots)) [ inl l ↦ inl l | inr l ↦ inr (omega arith) ]
@@ -245,13 +245,13 @@ target_is_entry s e h new few named low = record {
   by t (inl lt) = old t lt (h.sound.each_target t lt)
   by t (inr c) = inr (ap (λ (k : ℕ). is_unread (slot_at (e.slots ++ slot ∷ []) k)) c
       ∙ ap is_unread (get_or-append-add e.slots (slot ∷ []) 0 empty_slot)
-      ∙ read_now s.face s.sight empty_slot)
+      ∙ read_now s.face s.angles empty_slot)
 
 -- the same, where the target was added as the code adds it
-pub added_kept : (s : Sighting) (e : EntryValue) (t : TargetsValue) (place : Option ℕ)
+pub added_kept : (s : Reading) (e : EntryValue) (t : TargetsValue) (place : Option ℕ)
     → place ≡ None → place ≡ place_of s.target e.targets → IfNone place (length e.targets < 100)
-    → t ≡ with_first place s.target (with_face_reading s.face s.sight empty_slot) (targets_of e)
-    → IsEntry e → IsName s.target → AreOnCircle s.sight → IsEntry (entry_of t e.sets e.obs e.faces)
+    → t ≡ with_first place s.target (with_face_reading s.face s.angles empty_slot) (targets_of e)
+    → IsEntry e → IsName s.target → AreOnCircle s.angles → IsEntry (entry_of t e.sets e.obs e.faces)
 added_kept s e t (Some i) none place few is h named low = cc
 added_kept s e t None none place few is h named low = subst IsEntry
     (λ i. entry_of (sym is i) e.sets e.obs e.faces)
@@ -264,10 +264,10 @@ found_same name first old t None i found is = cc
 found_same name first old t (Some k) i found is = is
 
 -- a reading more of a target, as the code notes it
-pub read_kept : (s : Sighting) (e : EntryValue) (old t : TargetsValue) (i : ℕ) (new : Slot)
+pub read_kept : (s : Reading) (e : EntryValue) (old t : TargetsValue) (i : ℕ) (new : Slot)
     → old ≡ targets_of e → t.names ≡ old.names → t.slots ≡ set old.slots i new
-    → new ≡ with_face_reading s.face s.sight (slot_at old.slots i) → IsEntry e → i < length e.targets
-    → AreOnCircle s.sight → IsEntry (entry_of t e.sets e.obs e.faces)
+    → new ≡ with_face_reading s.face s.angles (slot_at old.slots i) → IsEntry e → i < length e.targets
+    → AreOnCircle s.angles → IsEntry (entry_of t e.sets e.obs e.faces)
 read_kept s e old t i new was names slots is h inside low =
     let here : i < length e.slots = let l = h.same_length in omega (arith, inside, l) in
     subst IsEntry
@@ -280,8 +280,8 @@ read_kept s e old t i new was names slots is h inside low =
     })
     (reading_is_entry s e i h here low)
   where
-    same : new ≡ with_face_reading s.face s.sight (slot_at e.slots i)
-    same = is ∙ ap (λ (w : TargetsValue). with_face_reading s.face s.sight (slot_at w.slots i)) was
+    same : new ≡ with_face_reading s.face s.angles (slot_at e.slots i)
+    same = is ∙ ap (λ (w : TargetsValue). with_face_reading s.face s.angles (slot_at w.slots i)) was
 
 pub set_kept : (n : ℕ) (e : EntryValue) (targets : List (List ℕ)) (slots : List Slot)
     (sets : List ℕ) (obs : List Obs) (faces : List Faces) → targets ≡ e.targets
@@ -300,7 +300,7 @@ set_kept n e targets slots sets obs faces et el es eo ef h may new few number = 
     }) (set_is_entry n e h may new few number)
 
 -- the fault of a new target, as that of a reading
-pub fault_moved : {X : Type 0} (limits : FaceLimits) (e now : EntryValue) (s : Sighting)
+pub fault_moved : {X : Type 0} (limits : FaceLimits) (e now : EntryValue) (s : Reading)
     (f : Refusal) (r : Result X Refusal) → Err f ≡ r → e ≡ now → place_of s.target e.targets ≡ None
     → ExplainsRefusal (new_target_fault e.targets) f
     → IfErr r (ExplainsRefusal (first_of (entry_faults limits now s)))
@@ -315,7 +315,7 @@ wanted needed (refusals.Kind k) e = tt
 wanted needed refusals.Memory e = e
 
 -- where the station has no target of this name, the reading is the first of its target
-pub new_moved : {X : Type 0} (e now : EntryValue) (s : Sighting) (f : Refusal)
+pub new_moved : {X : Type 0} (e now : EntryValue) (s : Reading) (f : Refusal)
     (r : Result X Refusal) → Err f ≡ r → e ≡ now → place_of s.target e.targets ≡ None
     → IfErr r (WantsOnly (is_new_to now s))
 new_moved e now s f r it v absent = subst (λ r. IfErr r (WantsOnly (is_new_to now s))) it

@@ -7,7 +7,7 @@ use Rattle.std.proofs.lemmas.Slice.Eq.{bytes_eq-Decides}
 use Rattle.gsi_word.specs.Blocks.{GsiBlock}
 use Rattle.station_book.specs.declared.face.Face.{Face}
 use Rattle.station_book.specs.declared.face.Face.TheVariants.{One, Two}
-use Rattle.station_book.specs.Blocks.{is_of_face, other_face, sight}
+use Rattle.station_book.specs.Blocks.{is_of_face, other_face, angles}
 use Rattle.station_book.specs.Places.{Place, reading_in, is_among, target_at, passes_at}
 use Rattle.station_book.specs.Faults.{has_one_face, face, face_at}
 use Rattle.station_book.proofs.Elements.{In, any_from, any_to, find_some, find_found, all_in, same_test, in_map, of_map}
@@ -43,8 +43,8 @@ below_half z e = elim (cases_Bool (ltb 20_000_000 z)) [
 ]
 
 pub one_face : (b : GsiBlock) → is_of_face One b ≡ true → is_of_face Two b ≡ false
-unfolding is_of_face sight
-one_face b e = below_half (sight b).zenith e
+unfolding is_of_face angles
+one_face b e = below_half (angles b).zenith e
 
 pub cases_face : (f : Face) → (f ≡ One) ⊎ (f ≡ Two)
 cases_face One = inl refl

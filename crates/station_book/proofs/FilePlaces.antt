@@ -4,13 +4,13 @@ use Rattle.std.specs.List.{list_any, AllByRecursion}
 use Rattle.std.proofs.lemmas.Bool.{cases_Bool, and_parts, and_from, eq-eqb, eqb-true, false≢true}
 use Rattle.std.proofs.lemmas.Slice.Eq.{bytes_eq-Decides}
 use Rattle.gsi_word.specs.Blocks.{GsiBlock}
-use Rattle.station_book.specs.Blocks.{opens_station, opens_set, is_opening, is_sight}
+use Rattle.station_book.specs.Blocks.{opens_station, opens_set, is_opening, has_direction}
 use Rattle.station_book.specs.Places.{History, Place, places, last, before, opening, station, is_open, is_set, is_reading, is_same, is_empty, first_sets, readings_of, sets_of, station_readings, passes_at}
 use Rattle.station_book.specs.Faults.{name_at, same_name}
 use Rattle.station_book.specs.Stations.{stations_of}
 use Rattle.station_book.specs.StateOfHistory.{in_set}
 use Rattle.station_book.proofs.Elements.{In, any_from, any_to, all_in, all_from, in_map, of_map, in_reverse, of_reverse, of_filter}
-use Rattle.station_book.proofs.StepLaws.{no_station_at_set, is_open-opening, is_open-other, sight_opens_no_station, same_station}
+use Rattle.station_book.proofs.StepLaws.{no_station_at_set, is_open-opening, is_open-other, opens_no_station, same_station}
 use Rattle.station_book.proofs.StationLaws.{any_station}
 use Rattle.station_book.proofs.NameLaws.{Pairwise, AreApart}
 use Rattle.station_book.proofs.OneReading.{length_place}
@@ -79,7 +79,7 @@ station_of_set (b ∷ past) e = elim (cases_Bool (is_opening b)) [
       let set : opens_set b ≡ true = sym (is_open-opening b past o) ∙ e in
       rw o (sym (same_station b past (no_station_at_set b set)))
   | inr o ↦ rw o (station_of_set past (sym (is_open-other b past o) ∙ e)
-      ∙ sym (same_station b past (sight_opens_no_station b o)))
+      ∙ sym (same_station b past (opens_no_station b o)))
 ]
 
 -- The set of a reading is a set of the file, and of the reading's station.
@@ -92,7 +92,7 @@ pub set_of_reading : (h : History) (r : Place) → In r (places h) → is_readin
     → HasItsSet h r
 set_of_reading h r placed reading =
     let now : is_open (before r) ≡ true =
-    (and_parts (passes_at is_sight r) (is_open (before r)) reading).1 in
+    (and_parts (passes_at has_direction r) (is_open (before r)) reading).1 in
     record {
       placed = split now (owner_placed is_opening h r placed);
       is_set = now;

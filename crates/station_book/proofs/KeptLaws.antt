@@ -9,13 +9,13 @@ use Rattle.station_book.specs.declared.face.Face.TheVariants.{One, Two}
 use Rattle.station_book.specs.declared.fault.BookKind.{BookKind}
 use Rattle.station_book.specs.declared.fault.BookKind.TheVariants as kinds
 use Rattle.gsi_word.specs.Blocks.{GsiBlock}
-use Rattle.station_book.specs.Blocks.{number, target, is_of_face, role_of, is_measurement, lacks, opens_set, is_opening, is_sight}
+use Rattle.station_book.specs.Blocks.{number, target, is_of_face, role_of, is_measurement, lacks, opens_set, is_opening, has_direction}
 use Rattle.station_book.specs.Places.{History, Place, is_among, with_new, is_open, is_empty, is_reading, station}
 use Rattle.station_book.specs.Faults.{face, reading_faults, fault_after, IsWithoutFault, open_readings, when, first_of, end_faults, is_face_taken, set_faults, is_beyond, had_sets, has_no_two_c, has_set_number, has_no_two_i}
 use Rattle.station_book.specs.Limits.{FaceLimits}
 use Rattle.station_book.proofs.Elements.{any_from, any_to, in_left, in_right}
 use Rattle.station_book.proofs.FaceLaws.{IsKept}
-use Rattle.station_book.proofs.StepLaws.{open_targets, readings-opening, readings-more, readings-other, targets-more, targets-other, sight_opens_no_station, set_role, sight_role}
+use Rattle.station_book.proofs.StepLaws.{open_targets, readings-opening, readings-more, readings-other, targets-more, targets-other, opens_no_station, set_role, measurement_role}
 
 -- where none is the first, none stands
 pub all_none : {X : Type 0} (os : List (Option X)) → first_of os ≡ None
@@ -91,10 +91,10 @@ pub clean_reading : (limits : FaceLimits) (past : History) (b : GsiBlock)
     → is_reading (b ∷ past) ≡ true → fault_after limits past b ≡ None → IsCleanReading limits past b
 unfolding fault_after
 clean_reading limits past b e clean =
-    let (sees, now) = and_parts (is_sight b) (is_open past) e in
+    let (sees, now) = and_parts (has_direction b) (is_open past) e in
     let direction = (and_parts (is_measurement (role_of b)) (not (lacks 21 b)) sees).1 in
     let none = (all_none (reading_faults limits past b)
-    (rw (sight_role b sees, direction, now) at clean)).1.1.1.1.1 in
+    (rw (measurement_role b sees, direction, now) at clean)).1.1.1.1.1 in
     let faced = is_of_face One b || is_of_face Two b in
     record {
       faced = face_is b (true_from_ne_false faced (λ f. false≢true
@@ -111,7 +111,7 @@ open_kept limits [] h = tt
 open_kept limits (b ∷ past) h = elim (cases_Bool (is_opening b)) [
   | inl o ↦ rw (readings-opening b past o) tt
   | inr o ↦
-      let s = sight_opens_no_station b o in elim (cases_Bool (is_reading (b ∷ past))) [
+      let s = opens_no_station b o in elim (cases_Bool (is_reading (b ∷ past))) [
         | inl r ↦ rw (targets-more b past s r, readings-more b past o r) (
           record {
             in_targets = among_new (open_targets past) (target b);

@@ -9,7 +9,7 @@ use Rattle.station_book.specs.declared.face.Face.TheVariants.{One, Two}
 use Rattle.station_book.specs.Limits.{FaceLimits}
 use Rattle.station_book.specs.Blocks.{opens_set, number}
 use Rattle.station_book.specs.Places.{History, Place, places, number_at, before, station, is_same, is_set, target_at, sets_of, station_readings, readings_of, targets_of, reading_in}
-use Rattle.station_book.specs.Faults.{same_number, sight_at, open_sets, IsWithoutFault}
+use Rattle.station_book.specs.Faults.{same_number, angles_at, open_sets, IsWithoutFault}
 use Rattle.station_book.specs.Stations.{Pair, SurveyedStation, pair_of, pairs_in, IsObserved, IsSurveyed, AreStations, stations_of, pairs_of}
 use Rattle.station_book.proofs.Elements.{In, in_contains, zip_left}
 use Rattle.station_book.proofs.KeptLaws.{clean_set}
@@ -71,7 +71,7 @@ by_target i n (t ∷ ts) rs = split (reading_in One t rs) (reading_in Two t rs)
       split (Some a) (Some b) ih = (
         (
           all_weaker (InSet i (n + 1))
-              (Before (record { set = i; target = n; first = sight_at a; second = sight_at b }))
+              (Before (record { set = i; target = n; first = angles_at a; second = angles_at b }))
               (λ c h. inr (sym h.0, (let l = h.1 in omega arith))) rest ih.1,
           ih.0,
         ),

@@ -9,7 +9,7 @@ use Rattle.station_book.specs.declared.face.Face.TheVariants.{One, Two}
 use Rattle.station_book.specs.Limits.{FaceLimits}
 use Rattle.station_book.specs.Blocks.{opens_station, is_opening, is_of_face}
 use Rattle.station_book.specs.Places.{History, Place, places, last, before, opening, station, is_same, is_set, is_reading, target_at, passes_at, reading_in, readings_of, sets_of, station_readings, targets_of, is_among, distinct}
-use Rattle.station_book.specs.Faults.{sight_at, IsWithoutFault}
+use Rattle.station_book.specs.Faults.{angles_at, IsWithoutFault}
 use Rattle.station_book.specs.Stations.{Pair, pair_of, pairs_in, pairs_of}
 use Rattle.station_book.proofs.Elements.{In, any_to, find_some, find_found, IsAt, in_filter, of_filter, of_reverse, in_places, of_places, in_filter_map, of_filter_map, in_flat_map, of_flat_map}
 use Rattle.station_book.proofs.KeptLaws.{among_new, among_more}
@@ -105,7 +105,7 @@ record IsPairOf (s t : ℕ) (one two : Option Place) (c : Pair) : Type 0 where
   pub second : Place
   pub one_is : one ≡ Some first
   pub two_is : two ≡ Some second
-  pub pair : record { set = s; target = t; first = sight_at first; second = sight_at second } ≡ c
+  pub pair : record { set = s; target = t; first = angles_at first; second = angles_at second } ≡ c
 
 pair_parts : (s t : ℕ) (one two : Option Place) (c : Pair) → pair_of s t one two ≡ Some c
     → IsPairOf s t one two c
@@ -124,8 +124,8 @@ pub record HasItsReadings (h : History) (st : Place) (c : Pair) : Type 0 where
   pub second : Place
   pub one : IsRead h st set name One first
   pub two : IsRead h st set name Two second
-  pub first_is : c.first ≡ sight_at first
-  pub second_is : c.second ≡ sight_at second
+  pub first_is : c.first ≡ angles_at first
+  pub second_is : c.second ≡ angles_at second
 
 pair_at : (h : History) (st : Place) (c : Pair) (e : ℕ × Place) (t : ℕ × List ℕ) → OfFile h st
     → In e (enumerate_from 0 (reverse (sets_of st h))) → In t (enumerate_from 0 (targets_of st h))
@@ -192,7 +192,7 @@ pub pair_of_readings : (limits : FaceLimits) (h : History) (st set : Place) (nam
     → IsAt (reverse (sets_of st h)) i set
     → IsAt (targets_of st h) j name
     → IsRead h st set name One first → IsRead h st set name Two second
-    → In (record { set = i; target = j; first = sight_at first; second = sight_at second })
+    → In (record { set = i; target = j; first = angles_at first; second = angles_at second })
     (pairs_of st h)
 pair_of_readings limits h st set name i j first second clean set_placed iat jat one two =
     in_flat_map (λ s. pairs_in s.0 (targets_of st h) (readings_of s.1 h)) (i, set) pair
@@ -204,4 +204,4 @@ pair_of_readings limits h st set name i j first second clean set_placed iat jat 
     x) (reading_listed limits h st set name Two second clean set_placed two x)))
   where
     pair : Pair
-    pair = record { set = i; target = j; first = sight_at first; second = sight_at second }
+    pair = record { set = i; target = j; first = angles_at first; second = angles_at second }

@@ -5,10 +5,10 @@ use Rattle.std.specs.Prelude.{ℤ, pos, negsuc, ◌-ℤ◌, ◌+ℤ◌}
 use Rattle.std.proofs.lemmas.Int.{ints}
 use Rattle.std.proofs.lemmas.Bool.{cases_Bool, and_parts, and_cases, ltb-true, ltb-false, or_cases}
 use Rattle.station_book.specs.Limits.{FaceLimits, AreLimits}
-use Rattle.station_book.specs.Sights.{Sight, IsAtMost, AreCongruent, IsTwoC, IsTwoI, IsTwoFace, AreOnCircle}
+use Rattle.station_book.specs.TwoFaces.{Angles, IsAtMost, AreCongruent, IsTwoC, IsTwoI, IsTwoFace, AreOnCircle}
 use Rattle.station_book.specs.Faults.{has_no_two_c, has_no_two_i}
 
-pub no_two_c : (limit : ℕ) (a b : Sight) → limit ≤ 1_000_000 → AreOnCircle a → AreOnCircle b
+pub no_two_c : (limit : ℕ) (a b : Angles) → limit ≤ 1_000_000 → AreOnCircle a → AreOnCircle b
     → has_no_two_c limit a b ≡ true → (d : ℤ) → ¬ IsTwoC limit a b d
 unfolding has_no_two_c
 no_two_c limit a b small ha hb e d t =
@@ -48,7 +48,7 @@ some_two_c limit first second small ha hb e = split
             record { low = omega (arith, ints); high = omega (arith, ints) },
           )
 
-pub a_two_c : (limit : ℕ) (a b : Sight) → limit ≤ 1_000_000 → AreOnCircle a → AreOnCircle b
+pub a_two_c : (limit : ℕ) (a b : Angles) → limit ≤ 1_000_000 → AreOnCircle a → AreOnCircle b
     → has_no_two_c limit a b ≡ false → (d : ℤ) × IsTwoC limit a b d
 unfolding has_no_two_c
 a_two_c limit a b small ha hb e = let r = some_two_c limit a.hz b.hz small ha.hz hb.hz e in
@@ -66,7 +66,7 @@ two_i_beyond limit a b e w = split
       split (inr f) = let lt = ltb-true
           ((a + b) + limit) 40_000_000 f in let l = w.low in let h = w.high in omega (arith, ints)
 
-pub no_two_i : (limit : ℕ) (a b : Sight) → has_no_two_i limit a b ≡ true → (d : ℤ)
+pub no_two_i : (limit : ℕ) (a b : Angles) → has_no_two_i limit a b ≡ true → (d : ℤ)
     → ¬ IsTwoI limit a b d
 unfolding has_no_two_i
 no_two_i limit a b e d t = two_i_beyond limit a.zenith b.zenith e
@@ -86,7 +86,7 @@ two_i_within limit a b e =
     neither true y f = cc
     neither false y f = (refl, f)
 
-pub a_two_i : (limit : ℕ) (a b : Sight) → has_no_two_i limit a b ≡ false
+pub a_two_i : (limit : ℕ) (a b : Angles) → has_no_two_i limit a b ≡ false
     → (e : ℤ) × IsTwoI limit a b e
 unfolding has_no_two_i
 a_two_i limit a b e = (
@@ -94,7 +94,7 @@ a_two_i limit a b e = (
   record { equal = refl; within = two_i_within limit a.zenith b.zenith e },
 )
 
-pub two_c_missing : (limits : FaceLimits) (a b : Sight) → AreLimits limits → AreOnCircle a
+pub two_c_missing : (limits : FaceLimits) (a b : Angles) → AreLimits limits → AreOnCircle a
     → AreOnCircle b
     → (has_no_two_c limits.two_c a b ≡ true) ↔ ((d : ℤ) → ¬ IsTwoC limits.two_c a b d)
 two_c_missing limits a b small ha hb = (
@@ -107,7 +107,7 @@ two_c_missing limits a b small ha hb = (
   back (inr f) none = let some = a_two_c limits.two_c a b small.two_c ha hb f in absurd
       (none some.0 some.1)
 
-pub two_i_missing : (limits : FaceLimits) (a b : Sight)
+pub two_i_missing : (limits : FaceLimits) (a b : Angles)
     → (has_no_two_i limits.two_i a b ≡ true) ↔ ((e : ℤ) → ¬ IsTwoI limits.two_i a b e)
 two_i_missing limits a b =
     (no_two_i limits.two_i a b, back (cases_Bool (has_no_two_i limits.two_i a b))) where
@@ -117,7 +117,7 @@ two_i_missing limits a b =
       back (inr f) none = let some = a_two_i limits.two_i a b f in absurd (none some.0 some.1)
 
 -- twice the direction of face I and 2c, on the circle of half units
-pub a_two_face : (limit : ℕ) → limit ≤ 1_000_000 → (a b : Sight) (d : ℤ) → IsTwoC limit a b d
+pub a_two_face : (limit : ℕ) → limit ≤ 1_000_000 → (a b : Angles) (d : ℤ) → IsTwoC limit a b d
     → (p : ℕ) × IsTwoFace limit a b p
 a_two_face limit small a b (pos n) t =
     let e = t.congruent.equal in let l = t.within.low in let h = t.within.high in (

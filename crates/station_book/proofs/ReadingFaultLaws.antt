@@ -12,7 +12,7 @@ use Rattle.station_book.specs.declared.fault.BookKind.{BookKind}
 use Rattle.station_book.specs.declared.fault.BookKind.TheVariants as kinds
 use Rattle.station_book.specs.Limits.{FaceLimits}
 use Rattle.station_book.specs.declared.role.Role.TheVariants as roles
-use Rattle.station_book.specs.declared.sight.Sighting.{Sighting}
+use Rattle.station_book.specs.declared.angles.Reading.{Reading}
 use Rattle.station_book.specs.declared.stage.Stage.{Stage}
 use Rattle.station_book.specs.declared.stage.Stage.TheVariants.{Outside, Station, BetweenSets, InSet}
 use Rattle.station_book.specs.Faults.{when, first_of, has_no_two_c, has_no_two_i, open_readings, face, is_apart, reading_faults, faults_as, IsWithoutFault}
@@ -24,9 +24,9 @@ use Rattle.station_book.specs.Entries.{EntryValue, place_of}
 use Rattle.station_book.specs.Shelves.{ShelfValue, last_of}
 use Rattle.station_book.specs.State as states
 use Rattle.gsi_word.specs.Blocks.{GsiBlock}
-use Rattle.station_book.specs.Blocks.{has_two, lacks, angle_fault, is_of_face, other_face, sight, target}
+use Rattle.station_book.specs.Blocks.{has_two, lacks, angle_fault, is_of_face, other_face, angles, target}
 use Rattle.station_book.specs.Places.{History, Place, is_among, is_open, reading_in}
-use Rattle.station_book.specs.StateOfHistory.{sighted, slot_of, slots_of, AreStates, IsStage, stations_in}
+use Rattle.station_book.specs.StateOfHistory.{angles_of, slot_of, slots_of, AreStates, IsStage, stations_in}
 use Rattle.station_book.specs.StandsFor.{StandsFor}
 use Rattle.station_book.proofs.ListLaws.{absent}
 use Rattle.station_book.proofs.StepLaws.{open_targets}
@@ -35,7 +35,7 @@ use Rattle.station_book.proofs.KeptLaws.{open_kept}
 use Rattle.station_book.proofs.ReadingLaws.{slot_get}
 use Rattle.station_book.proofs.StateLaws.{open_has_set}
 use Rattle.station_book.proofs.TakeLaws.{first_face, second_face}
-use Rattle.station_book.proofs.EndLaws.{slots_kept, some_sighted}
+use Rattle.station_book.proofs.EndLaws.{slots_kept, some_angles}
 use Rattle.station_book.proofs.FaultLaws.{first_append}
 use Rattle.station_book.proofs.StateLaws.{open_entry}
 use Rattle.std.proofs.lemmas.Bool.{and_right}
@@ -65,10 +65,10 @@ abbrev later_faults : FaceLimits → List (List ℕ) → List Place → GsiBlock
 later_faults limits targets rs b =
     tests (is_some (reading_in (face b) (target b) rs))
     (not (is_among targets (target b)) && leb 100 (length targets))
-    (is_apart (has_no_two_c limits.two_c) (sight b)
-    (sighted (reading_in (other_face (face b)) (target b) rs)))
-    (is_apart (has_no_two_i limits.two_i) (sight b)
-    (sighted (reading_in (other_face (face b)) (target b) rs)))
+    (is_apart (has_no_two_c limits.two_c) (angles b)
+    (angles_of (reading_in (other_face (face b)) (target b) rs)))
+    (is_apart (has_no_two_i limits.two_i) (angles b)
+    (angles_of (reading_in (other_face (face b)) (target b) rs)))
 
 two_faces : (f s : Bool) → not (f || s) ≡ is_none (cond f (Some One) (cond s (Some Two) None))
 two_faces true s = refl
@@ -76,13 +76,13 @@ two_faces false true = refl
 two_faces false false = refl
 
 unclear_as : (b : GsiBlock)
-    → not (is_of_face One b || is_of_face Two b) ≡ is_none (said.face_of ((sight b).zenith))
+    → not (is_of_face One b || is_of_face Two b) ≡ is_none (said.face_of ((angles b).zenith))
 unclear_as b =
     (λ i. not (first_face b i || second_face b i))
-    ∙ two_faces (ltb 0 ((sight b).zenith) && ltb ((sight b).zenith) 20_000_000)
-    (ltb 20_000_000 ((sight b).zenith) && ltb ((sight b).zenith) 40_000_000)
+    ∙ two_faces (ltb 0 ((angles b).zenith) && ltb ((angles b).zenith) 20_000_000)
+    (ltb 20_000_000 ((angles b).zenith) && ltb ((angles b).zenith) 40_000_000)
 
-own_same : (b : GsiBlock) → own_faults b ≡ said.sighting_faults b
+own_same : (b : GsiBlock) → own_faults b ≡ said.own_faults b
 own_same b = λ i. when (has_two 21 b) (kinds.WordTwice 21)
     ∷ when (has_two 22 b) (kinds.WordTwice 22)
     ∷ when (lacks 22 b) kinds.NoZenith
@@ -98,23 +98,23 @@ second_of true s one = sym (ap (λ v. cond v Two One) (one refl))
 second_of false true one = refl
 second_of false false one = refl
 
-face_as : (b : GsiBlock) → unwrap_or (said.face_of ((sight b).zenith)) One ≡ face b
+face_as : (b : GsiBlock) → unwrap_or (said.face_of ((angles b).zenith)) One ≡ face b
 face_as b =
-    second_of (ltb 0 ((sight b).zenith) && ltb ((sight b).zenith) 20_000_000)
-    (ltb 20_000_000 ((sight b).zenith) && ltb ((sight b).zenith) 40_000_000)
+    second_of (ltb 0 ((angles b).zenith) && ltb ((angles b).zenith) 20_000_000)
+    (ltb 20_000_000 ((angles b).zenith) && ltb ((angles b).zenith) 40_000_000)
     (λ e. sym (second_face b) ∙ one_face b (first_face b ∙ e)) ∙ ap (λ v. cond v Two One) (sym (second_face b))
 
 -- a reading as the definitions say it
-abbrev reading_of : GsiBlock → Sighting
-reading_of b = record { target = target b; sight = sight b; face = face b }
+abbrev reading_of : GsiBlock → Reading
+reading_of b = record { target = target b; angles = angles b; face = face b }
 
-sighting_as : (b : GsiBlock) → said.sighting b ≡ reading_of b
-sighting_as b = λ i. record { target = target b; sight = sight b; face = face_as b i }
+reading_as : (b : GsiBlock) → said.reading b ≡ reading_of b
+reading_as b = λ i. record { target = target b; angles = angles b; face = face_as b i }
 
-reading_sighted : (f : Face) (rs : List Place) (name : List ℕ)
-    → face_reading f (slot_of rs name) ≡ sighted (reading_in f name rs)
-reading_sighted One rs name = refl
-reading_sighted Two rs name = refl
+reading_angles : (f : Face) (rs : List Place) (name : List ℕ)
+    → face_reading f (slot_of rs name) ≡ angles_of (reading_in f name rs)
+reading_angles One rs name = refl
+reading_angles Two rs name = refl
 
 new_target_tests : (many : Bool)
     → first_of (when many kinds.TooManyTargets ∷ []) ≡ first_of (tests false many false false)
@@ -148,8 +148,8 @@ same_later limits targets rs b e kept ts ss = split (place_of (target b) e.targe
       new_target_tests (leb 100 (length e.targets))
       ∙ (λ i. first_of (tests false (leb 100 (length (ts i))) false false))
       ∙ sym (λ i. first_of (tests (is_some (one i)) (not (out i) && leb 100 (length targets))
-      (is_apart (has_no_two_c limits.two_c) (sight b) (sighted (other i)))
-      (is_apart (has_no_two_i limits.two_i) (sight b) (sighted (other i)))))
+      (is_apart (has_no_two_c limits.two_c) (angles b) (angles_of (other i)))
+      (is_apart (has_no_two_i limits.two_i) (angles b) (angles_of (other i)))))
   split (Some n) p =
       let at = position-Some (λ x. bytes_eq x (target b)) targets n [] (sym place ∙ p) in
       let here : get_or targets n [] ≡ target b =
@@ -160,37 +160,37 @@ same_later limits targets rs b e kept ts ss = split (place_of (target b) e.targe
       ∙ slot_get targets rs n [] at.0 ∙ ap (slot_of rs) here in
       let taken : is_some (face_reading (face b) (slot_at e.slots n)) ≡ is_some
       (reading_in (face b) (target b) rs) =
-      ap (λ s. is_some (face_reading (face b) s)) slot ∙ ap is_some (reading_sighted (face b) rs (target b))
-      ∙ some_sighted (reading_in (face b) (target b) rs) in
-      let other : face_reading (other_face (face b)) (slot_at e.slots n) ≡ sighted
+      ap (λ s. is_some (face_reading (face b) s)) slot ∙ ap is_some (reading_angles (face b) rs (target b))
+      ∙ some_angles (reading_in (face b) (target b) rs) in
+      let other : face_reading (other_face (face b)) (slot_at e.slots n) ≡ angles_of
       (reading_in (other_face (face b)) (target b) rs) = ap (face_reading (other_face (face b))) slot
-      ∙ reading_sighted (other_face (face b)) rs (target b) in
+      ∙ reading_angles (other_face (face b)) rs (target b) in
       (λ i. first_of (when (taken i) kinds.FaceTwice
-      ∷ when (is_apart (has_no_two_c limits.two_c) (sight b) (other i)) kinds.TwoC
-      ∷ when (is_apart (has_no_two_i limits.two_i) (sight b) (other i)) kinds.TwoI ∷ [])) ∙ old_target_tests (is_some (reading_in (face b) (target b) rs))
-      (is_apart (has_no_two_c limits.two_c) (sight b)
-      (sighted (reading_in (other_face (face b)) (target b) rs)))
-      (is_apart (has_no_two_i limits.two_i) (sight b)
-      (sighted (reading_in (other_face (face b)) (target b) rs)))
+      ∷ when (is_apart (has_no_two_c limits.two_c) (angles b) (other i)) kinds.TwoC
+      ∷ when (is_apart (has_no_two_i limits.two_i) (angles b) (other i)) kinds.TwoI ∷ [])) ∙ old_target_tests (is_some (reading_in (face b) (target b) rs))
+      (is_apart (has_no_two_c limits.two_c) (angles b)
+      (angles_of (reading_in (other_face (face b)) (target b) rs)))
+      (is_apart (has_no_two_i limits.two_i) (angles b)
+      (angles_of (reading_in (other_face (face b)) (target b) rs)))
       ∙ sym (λ i. first_of (tests (is_some (reading_in (face b) (target b) rs))
       (not (among i) && leb 100 (length targets))
-      (is_apart (has_no_two_c limits.two_c) (sight b)
-      (sighted (reading_in (other_face (face b)) (target b) rs)))
-      (is_apart (has_no_two_i limits.two_i) (sight b)
-      (sighted (reading_in (other_face (face b)) (target b) rs)))))
+      (is_apart (has_no_two_c limits.two_c) (angles b)
+      (angles_of (reading_in (other_face (face b)) (target b) rs)))
+      (is_apart (has_no_two_i limits.two_i) (angles b)
+      (angles_of (reading_in (other_face (face b)) (target b) rs)))))
 
 -- the same, in the open set
 same_later_open : (limits : FaceLimits) (shelf : ShelfValue) (past : History) (b : GsiBlock)
     → IsWithoutFault limits past → is_open past ≡ true → AreStates past (stations_in past) shelf
-    → first_of (entries.entry_faults limits (last_of shelf) (said.sighting b)) ≡ first_of
+    → first_of (entries.entry_faults limits (last_of shelf) (said.reading b)) ≡ first_of
     (later_faults limits (open_targets past) (open_readings past) b)
 same_later_open limits shelf past b w now h =
     let e = open_entry shelf past (open_has_set past now) h in
-    ap (λ s. first_of (entries.entry_faults limits (last_of shelf) s)) (sighting_as b)
+    ap (λ s. first_of (entries.entry_faults limits (last_of shelf) s)) (reading_as b)
     ∙ same_later limits (open_targets past) (open_readings past) b (last_of shelf)
     (open_kept limits past w) e.is.targets (slots_kept shelf past now h)
 
-measured_parts : (limits : FaceLimits) (shelf : ShelfValue) (o : Option BookKind) (s : Sighting)
+measured_parts : (limits : FaceLimits) (shelf : ShelfValue) (o : Option BookKind) (s : Reading)
     → states.measured limits shelf (said.unless_fault o s) ≡ then_fault o
     (first_of (entries.entry_faults limits (last_of shelf) s))
 measured_parts limits shelf None s = refl
@@ -200,10 +200,10 @@ measured_parts limits shelf (Some k) s = refl
 same_measured : (limits : FaceLimits) (shelf : ShelfValue) (past : History) (b : GsiBlock)
     → IsWithoutFault limits past → is_open past ≡ true → AreStates past (stations_in past) shelf
     → states.measured limits shelf
-    (said.unless_fault (first_of (said.sighting_faults b)) (said.sighting b)) ≡ first_of
+    (said.unless_fault (first_of (said.own_faults b)) (said.reading b)) ≡ first_of
     (reading_faults limits past b)
 same_measured limits shelf past b w now h =
-    measured_parts limits shelf (first_of (said.sighting_faults b)) (said.sighting b)
+    measured_parts limits shelf (first_of (said.own_faults b)) (said.reading b)
     ∙ (λ i. then_fault (first_of (sym (own_same b) i))
     (same_later_open limits shelf past b w now h i))
     ∙ sym (first_append (own_faults b)
@@ -227,8 +227,8 @@ by_stage limits BetweenSets shelf past b w g h = not_open (not (lacks 21 b)) (is
     (reading_faults limits past b) g.1
 by_stage limits InSet shelf past b w g h = by (lacks 21 b) where
   by : (none : Bool) → states.measured limits shelf
-      (cond none (Ok None) (said.unless_fault (first_of (said.sighting_faults b))
-      (said.sighting b))) ≡ first_of
+      (cond none (Ok None) (said.unless_fault (first_of (said.own_faults b))
+      (said.reading b))) ≡ first_of
       (cond (not none && is_open past) (reading_faults limits past b) [])
   by true = refl
   by false = same_measured limits shelf past b w g h

@@ -10,24 +10,24 @@ use Rattle.std.proofs.lemmas.List.Quantifiers.{all_pairs_push, position-Some}
 use Rattle.std.proofs.lemmas.Slice.Eq.{bytes_eq-Decides}
 use Rattle.station_book.specs.declared.face.Face.{Face}
 use Rattle.station_book.specs.declared.face.Face.TheVariants.{One, Two}
-use Rattle.station_book.specs.Sights.{Sight}
-use Rattle.station_book.specs.declared.sight.Sighting.{Sighting}
+use Rattle.station_book.specs.TwoFaces.{Angles}
+use Rattle.station_book.specs.declared.angles.Reading.{Reading}
 use Rattle.station_book.specs.declared.slot.Slot.{Slot}
 use Rattle.station_book.specs.Slots.{empty_slot, slot_at, with_face_reading, obs_at, obs_of, faces_at, faces_of}
 use Rattle.station_book.specs.Entries.{EntryValue, place_of, with_reading, with_reading_at}
 use Rattle.station_book.specs.Blocks.{is_of_face, other_face}
 use Rattle.station_book.specs.Places.{Place, opening, before, is_same, is_among, distinct, reading_in, target_at, passes_at}
-use Rattle.station_book.specs.StateOfHistory.{in_set, sighted, slot_of, slots_of, targets_in, obs_in, faces_in, IsEntryOf}
+use Rattle.station_book.specs.StateOfHistory.{in_set, angles_of, slot_of, slots_of, targets_in, obs_in, faces_in, IsEntryOf}
 use Rattle.station_book.proofs.SetReadings.{found_other, found_here, found_not}
 use Rattle.station_book.proofs.SlotLaws.{enumerate-append}
 use Rattle.station_book.proofs.EntryLaws.{absent_name}
 use Rattle.station_book.proofs.ListLaws.{absent}
-use Rattle.station_book.specs.Faults.{sight_at}
+use Rattle.station_book.specs.Faults.{angles_at}
 
--- what a sighting says of the reading at a place
-pub record Says (s : Sighting) (r : Place) : Type 0 where
+-- what was read says of the reading at a place
+pub record Says (s : Reading) (r : Place) : Type 0 where
   pub target_is : s.target ≡ target_at r
-  pub sight_is : s.sight ≡ sight_at r
+  pub angles_are : s.angles ≡ angles_at r
   pub face_is : passes_at (is_of_face s.face) r ≡ true
   pub face_not : passes_at (is_of_face (other_face s.face)) r ≡ false
 
@@ -35,22 +35,22 @@ pub record Says (s : Sighting) (r : Place) : Type 0 where
 slot_other : (r : Place) (name : List ℕ) (rs : List Place) → bytes_eq (target_at r) name ≡ false
     → slot_of (r ∷ rs) name ≡ slot_of rs name
 slot_other r name rs e = λ i. record {
-  first = sighted (found_other One r name rs e i);
-  second = sighted (found_other Two r name rs e i);
+  first = angles_of (found_other One r name rs e i);
+  second = angles_of (found_other Two r name rs e i);
 }
 
 -- its own takes the reading of the face
-slot_own : (f : Face) (v : Sight) (r : Place) (name : List ℕ) (rs : List Place) → v ≡ sight_at r
+slot_own : (f : Face) (v : Angles) (r : Place) (name : List ℕ) (rs : List Place) → v ≡ angles_at r
     → passes_at (is_of_face f) r ≡ true → passes_at (is_of_face (other_face f)) r ≡ false
     → bytes_eq (target_at r) name ≡ true
     → slot_of (r ∷ rs) name ≡ with_face_reading f v (slot_of rs name)
 slot_own One v r name rs s f g e = λ i. record {
-  first = (ap sighted (found_here One r name rs e f) ∙ ap Some (sym s)) i;
-  second = sighted (found_not Two r name rs g i);
+  first = (ap angles_of (found_here One r name rs e f) ∙ ap Some (sym s)) i;
+  second = angles_of (found_not Two r name rs g i);
 }
 slot_own Two v r name rs s f g e = λ i. record {
-  first = sighted (found_not One r name rs g i);
-  second = (ap sighted (found_here Two r name rs e f) ∙ ap Some (sym s)) i;
+  first = angles_of (found_not One r name rs g i);
+  second = (ap angles_of (found_here Two r name rs e f) ∙ ap Some (sym s)) i;
 }
 
 -- targets are all different
@@ -100,8 +100,8 @@ none_read f name (r ∷ rs) all = found_other f r name rs all.0 ∙ none_read f 
 empty_of : (name : List ℕ) (rs : List Place)
     → AllByRecursion (λ r. bytes_eq (target_at r) name ≡ false) rs → slot_of rs name ≡ empty_slot
 empty_of name rs all = λ i. record {
-  first = sighted (none_read One name rs all i);
-  second = sighted (none_read Two name rs all i);
+  first = angles_of (none_read One name rs all i);
+  second = angles_of (none_read Two name rs all i);
 }
 
 -- an empty slot at the end gives nothing
@@ -175,9 +175,9 @@ length_slots [] rs = refl
 length_slots (t ∷ ts) rs = ap suc (length_slots ts rs)
 
 -- a further reading of the target at place i
-existing : (targets : List (List ℕ)) (i : ℕ) (f : Face) (v : Sight) (r : Place) (rs : List Place)
+existing : (targets : List (List ℕ)) (i : ℕ) (f : Face) (v : Angles) (r : Place) (rs : List Place)
     → i < length targets → get_or targets i [] ≡ target_at r → AllPairs (λ a b. a ≢ b) targets
-    → v ≡ sight_at r → passes_at (is_of_face f) r ≡ true → passes_at (is_of_face (other_face f)) r ≡ false
+    → v ≡ angles_at r → passes_at (is_of_face f) r ≡ true → passes_at (is_of_face (other_face f)) r ≡ false
     → set (slots_of targets rs) i (with_face_reading f v (slot_at (slots_of targets rs) i))
     ≡ slots_of targets (r ∷ rs)
 existing targets i f v r rs inside here different s g n = ext_get_or empty_slot
@@ -229,7 +229,7 @@ others_stay (t ∷ ts) r rs e =
 
 -- after a reading
 pub reading_state : (st newest : Place) (older readings : List Place) (r : Place) (name : List ℕ)
-    (e : EntryValue) (s : Sighting) → Says s r
+    (e : EntryValue) (s : Reading) → Says s r
     → in_set newest (r ∷ readings) ≡ r ∷ in_set newest readings → IsInNone r readings older
     → IsEntryOf st newest older readings name e
     → IsEntryOf st newest older (r ∷ readings) name (with_reading s e)
@@ -254,10 +254,10 @@ reading_state st newest older readings r name e s says mine none h = split
             targets = h.targets ∙ sym same;
             numbers = h.numbers;
             slots = (λ j. set (h.slots j) i
-                (with_face_reading s.face s.sight (slot_at (h.slots j) i)))
-                ∙ existing (targets_in readings) i s.face s.sight r
+                (with_face_reading s.face s.angles (slot_at (h.slots j) i)))
+                ∙ existing (targets_in readings) i s.face s.angles r
                 (in_set newest readings) at.0 here
-                (distinct_different (map (λ q. target_at q) readings)) says.sight_is says.face_is
+                (distinct_different (map (λ q. target_at q) readings)) says.angles_are says.face_is
                 says.face_not ∙ (λ j. slots_of (sym same j) (sym mine j));
             obs = h.obs ∙ sym (ap (λ ts. obs_in ts (r ∷ readings) older) same
                 ∙ obs_same (targets_in readings) r readings older none);
@@ -272,17 +272,17 @@ reading_state st newest older readings r name e s says mine none h = split
           (λ v. cond v (targets_in readings) (targets_in readings ++ target_at r ∷ [])) out in
           let unread = no_reading_of (target_at r) readings out in
           let own : slot_of (r ∷ in_set newest readings) (target_at r)
-          ≡ with_face_reading s.face s.sight empty_slot = slot_own s.face s.sight r (target_at r)
-          (in_set newest readings) says.sight_is says.face_is says.face_not
+          ≡ with_face_reading s.face s.angles empty_slot = slot_own s.face s.angles r (target_at r)
+          (in_set newest readings) says.angles_are says.face_is says.face_not
           ((bytes_eq-Decides (target_at r) (target_at r)).1 refl)
-          ∙ ap (with_face_reading s.face s.sight)
+          ∙ ap (with_face_reading s.face s.angles)
           (empty_of (target_at r) (in_set newest readings)
           (all_filter _ (λ q. is_same (opening (before q)) newest) readings unread)) in
           record {
             named_so = h.named_so;
             targets = (λ j. h.targets j ++ says.target_is j ∷ []) ∙ sym more;
             numbers = h.numbers;
-            slots = (λ j. h.slots j ++ with_face_reading s.face s.sight empty_slot ∷ [])
+            slots = (λ j. h.slots j ++ with_face_reading s.face s.angles empty_slot ∷ [])
                 ∙ sym (map-append (slot_of (r ∷ in_set newest readings)) (targets_in readings)
                 (target_at r ∷ []) ∙ (λ j. others_stay (targets_in readings) r
                 (in_set newest readings) out j ++ own j ∷ []))

@@ -9,10 +9,10 @@ use Rattle.station_book.specs.declared.face.Face.{Face}
 use Rattle.station_book.specs.declared.face.Face.TheVariants.{One, Two}
 use Rattle.station_book.specs.declared.faces.Faces.{Faces}
 use Rattle.station_book.specs.Limits.{FaceLimits, AreLimits}
-use Rattle.station_book.specs.Sights.{Sight, IsTwoC, IsTwoI, IsTwoFace}
+use Rattle.station_book.specs.TwoFaces.{Angles, IsTwoC, IsTwoI, IsTwoFace}
 use Rattle.station_book.specs.Blocks.{opens_station}
 use Rattle.station_book.specs.Places.{number_at, History, Place, places, last, before, station, is_same, is_set, target_at, sets_of, station_readings, targets_of}
-use Rattle.station_book.specs.Faults.{name_at, sight_at, IsWithoutFault}
+use Rattle.station_book.specs.Faults.{name_at, angles_at, IsWithoutFault}
 use Rattle.station_book.specs.Stations.{Pair, SurveyedStation, IsObserved, HasFaces, IsSurveyed, AreStations, stations_of, pairs_of}
 use Rattle.station_book.specs.Recorded.{IsReadingOf, IsRecorded, IsRecordedWith, HasSet}
 use Rattle.station_book.proofs.Elements.{In, in_contains, contains_in, IsAt, place_in, in_map, of_map, in_filter, in_reverse, zip_left, zip_right, matched}
@@ -57,13 +57,13 @@ recorded_pair limits h st s c o f p surveyed is differ = record {
         (get_or s.station.targets o.target []) p.name One p.first surveyed.name same p.one;
     face_two = reading_of h st p.set s.station.name
         (get_or s.station.targets o.target []) p.name Two p.second surveyed.name same p.two;
-    direction = subst (λ (a : Sight). IsTwoFace limits.two_c a (sight_at p.second) o.value)
+    direction = subst (λ (a : Angles). IsTwoFace limits.two_c a (angles_at p.second) o.value)
         p.first_is
-        (subst (λ (b : Sight). IsTwoFace limits.two_c c.first b o.value) p.second_is is.direction);
+        (subst (λ (b : Angles). IsTwoFace limits.two_c c.first b o.value) p.second_is is.direction);
     difference = f.two_i;
-    two_i = subst (λ (a : Sight). IsTwoI limits.two_i a (sight_at p.second) f.two_i)
+    two_i = subst (λ (a : Angles). IsTwoI limits.two_i a (angles_at p.second) f.two_i)
         p.first_is
-        (subst (λ (b : Sight). IsTwoI limits.two_i c.first b f.two_i) p.second_is differ.two_i);
+        (subst (λ (b : Angles). IsTwoI limits.two_i c.first b f.two_i) p.second_is differ.two_i);
   };
   first_is = refl;
   second_is = refl;
@@ -102,9 +102,9 @@ pub record IsPairObserved (limits : FaceLimits) (s : SurveyedStation) (set : Pla
   pub listed : In obs s.station.obs
   pub of_set : number_at set ≡ Some (get_or s.station.sets obs.set 0)
   pub of_target : get_or s.station.targets obs.target [] ≡ target
-  pub direction : IsTwoFace limits.two_c (sight_at first) (sight_at second) obs.value
+  pub direction : IsTwoFace limits.two_c (angles_at first) (angles_at second) obs.value
   pub difference : ℤ
-  pub two_i : IsTwoI limits.two_i (sight_at first) (sight_at second) difference
+  pub two_i : IsTwoI limits.two_i (angles_at first) (angles_at second) difference
 
 -- In a file without fault two readings, one of each face, are observed.
 pub pair_observed : (limits : FaceLimits) (h : History) (st : Place) (s : SurveyedStation)
@@ -143,7 +143,7 @@ pair_observed limits h st s set target first second clean listed surveyed set_pl
           (of_station_readings h st set target One first one))))
 
       pair : Pair
-      pair = record { set = i.0; target = j.0; first = sight_at first; second = sight_at second }
+      pair = record { set = i.0; target = j.0; first = angles_at first; second = angles_at second }
 
       own : In pair (pairs_of st h)
       own = pair_of_readings limits h st set target i.0 j.0 first second clean (inr set_placed) i.1 j.1
@@ -217,8 +217,8 @@ observed_key limits h st s k small clean listed surveyed r =
     same = same_key (key_of_obs s.station.sets s.station.targets pair.obs) k
         (same_some (get_or s.station.sets pair.obs.set 0) k.set (sym pair.of_set ∙ r.numbered))
         pair.of_target
-        (one_two_face limits.two_c small.two_c (sight_at r.first)
-        (sight_at r.second) pair.obs.value k.value pair.direction r.direction)
+        (one_two_face limits.two_c small.two_c (angles_at r.first)
+        (angles_at r.second) pair.obs.value k.value pair.direction r.direction)
 
 pub recorded : (limits : FaceLimits) (h : History) (stations : List SurveyedStation)
     (s : SurveyedStation) (k : Key)
@@ -289,18 +289,18 @@ with_faces limits h st s placed surveyed (c ∷ cs) (o ∷ os) (f ∷ fs) inside
         → IsRecordedWith limits h s.station.name (key_of_obs s.station.sets s.station.targets o) f
     head p =
         let r = recorded_pair limits h st s c o f p surveyed one.0 two.0 in
-        let first : c.first ≡ sight_at r.recorded.first = p.first_is
-        ∙ sym (ap sight_at r.first_is) in
-        let second : c.second ≡ sight_at r.recorded.second = p.second_is
-        ∙ sym (ap sight_at r.second_is) in
+        let first : c.first ≡ angles_at r.recorded.first = p.first_is
+        ∙ sym (ap angles_at r.first_is) in
+        let second : c.second ≡ angles_at r.recorded.second = p.second_is
+        ∙ sym (ap angles_at r.second_is) in
         record {
           recorded = r.recorded;
-          two_c = subst (λ (a : Sight). IsTwoC limits.two_c a (sight_at r.recorded.second) f.two_c)
+          two_c = subst (λ (a : Angles). IsTwoC limits.two_c a (angles_at r.recorded.second) f.two_c)
               first
-              (subst (λ (b : Sight). IsTwoC limits.two_c c.first b f.two_c) second two.0.two_c);
-          two_i = subst (λ (a : Sight). IsTwoI limits.two_i a (sight_at r.recorded.second) f.two_i)
+              (subst (λ (b : Angles). IsTwoC limits.two_c c.first b f.two_c) second two.0.two_c);
+          two_i = subst (λ (a : Angles). IsTwoI limits.two_i a (angles_at r.recorded.second) f.two_i)
               first
-              (subst (λ (b : Sight). IsTwoI limits.two_i c.first b f.two_i) second two.0.two_i);
+              (subst (λ (b : Angles). IsTwoI limits.two_i c.first b f.two_i) second two.0.two_i);
         }
 
 -- Beside each direction stand the face differences of its two readings.

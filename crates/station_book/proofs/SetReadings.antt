@@ -8,7 +8,7 @@ use Rattle.station_book.specs.StateOfHistory.{in_set}
 use Rattle.station_book.specs.Places.{History, Place, places, last, before, reading_in, is_same, is_reading, opening, station, station_readings, target_at, passes_at}
 use Rattle.station_book.specs.Faults.{open_readings}
 use Rattle.station_book.proofs.PlaceLaws.{length-last, belonging-more, belonging-same}
-use Rattle.station_book.proofs.StepLaws.{readings-opening, readings-more, readings-other, sight_opens_no_station}
+use Rattle.station_book.proofs.StepLaws.{readings-opening, readings-more, readings-other, opens_no_station}
 
 -- what a reading does to the slots: nothing at other targets
 pub found_other : (f : Face) (r : Place) (name : List ℕ) (rs : List Place)
@@ -48,7 +48,7 @@ open_in_set (b ∷ past) = elim (cases_Bool (is_opening b)) [
       (λ place. is_reading place && is_same (station (before place)) (station (b ∷ past)))
       (b ∷ past) (b ∷ past) (omega arith))
   | inr o ↦
-      let s = sight_opens_no_station b o in
+      let s = opens_no_station b o in
       ap (λ v. in_set (cond v (b ∷ past) (last is_opening past))
       (station_readings (station (b ∷ past)) (b ∷ past))) o
       ∙ elim (cases_Bool (is_reading (b ∷ past))) [

@@ -7,7 +7,7 @@ use Rattle.std.proofs.lemmas.List.Elements.{filter_map-append}
 use Rattle.station_book.specs.declared.slot.Slot.{Slot}
 use Rattle.adjust_kernel.specs.declared.obs.Obs.{Obs}
 use Rattle.station_book.specs.declared.faces.Faces.{Faces}
-use Rattle.station_book.specs.Sights.{Sight}
+use Rattle.station_book.specs.TwoFaces.{Angles}
 use Rattle.station_book.specs.Slots.{observation_of, compared, obs_at, obs_of, faces_at, faces_of}
 
 pub enumerate-append : {X : Type 0} (n : ℕ) (xs ys : List X)
@@ -63,7 +63,7 @@ pushed_faces slots i d old so_far new lt e f =
     ∙ append_assoc old (faces_of (take i slots)) (option_to_list (faces_at (get_or slots i d)))
     ∙ ap (λ xs. old ++ xs) (sym (faces_more slots i d lt))
 
-one_more : (set n : ℕ) (a b : Option Sight) (os : List Obs) (fs : List Faces)
+one_more : (set n : ℕ) (a b : Option Angles) (os : List Obs) (fs : List Faces)
     → length fs ≡ length os
     → length (cons_option (compared a b) fs) ≡ length (cons_option (observation_of set n a b) os)
 one_more set n (Some a) (Some b) os fs e = ap suc e

@@ -5,7 +5,7 @@ use Rattle.std.proofs.lemmas.Bool.{cases_Bool, cases_lt, or_parts}
 use Rattle.std.proofs.lemmas.List.Elements.{All-cons, All-append, All-weaker}
 use Rattle.adjust_kernel.specs.declared.obs.Obs.{Obs}
 use Rattle.adjust_kernel.specs.Stations.{IsObs, IsBefore, AreObs}
-use Rattle.station_book.specs.Sights.{Sight}
+use Rattle.station_book.specs.TwoFaces.{Angles}
 use Rattle.station_book.specs.declared.slot.Slot.{Slot}
 use Rattle.station_book.specs.Pairs.{direction}
 use Rattle.station_book.specs.Slots.{observation_of, obs_at, obs_of, is_unread, is_single, slot_at}
@@ -22,7 +22,7 @@ record IsOf (set low high : ℕ) (o : Obs) : Type 0 where
 abbrev observed : ℕ → ℕ → List Slot → List Obs
 observed set m slots = filter_map (obs_at set) (enumerate_from m slots)
 
-direction_below : (a b : Sight) → direction a b < 80_000_000
+direction_below : (a b : Angles) → direction a b < 80_000_000
 direction_below a b = omega arith
 
 from_lower : (set m top : ℕ) (os : List Obs) → All (IsOf set (m + 1) top) os
@@ -34,7 +34,7 @@ from_lower set m top os all = All-weaker (IsOf set (m + 1) top) (IsOf set m top)
   value = h.value;
 }) os all
 
-cons_of : (set m top : ℕ) (a b : Option Sight) (rest : List Obs) → m + 1 ≤ top
+cons_of : (set m top : ℕ) (a b : Option Angles) (rest : List Obs) → m + 1 ≤ top
     → All (IsOf set (m + 1) top) rest
     → All (IsOf set m top) (cons_option (observation_of set m a b) rest)
 cons_of set m top (Some a) (Some b) rest le all =
@@ -55,7 +55,7 @@ all_of set m top [] e = λ k d lt. absurd (omega arith)
 all_of set m top (s ∷ slots) e = cons_of set m top s.first s.second (observed set (m + 1) slots)
     (omega arith) (all_of set (m + 1) top slots (omega arith))
 
-cons_pairs : (set m top : ℕ) (a b : Option Sight) (rest : List Obs)
+cons_pairs : (set m top : ℕ) (a b : Option Angles) (rest : List Obs)
     → All (IsOf set (m + 1) top) rest → AllPairs IsBefore rest
     → AllPairs IsBefore (cons_option (observation_of set m a b) rest)
 cons_pairs set m top (Some a) (Some b) rest all pairs =
@@ -84,7 +84,7 @@ record IsAt (set target : ℕ) (o : Obs) : Type 0 where
   pub of_set : o.set ≡ set
   pub of_target : o.target ≡ target
 
-both_read : (set m : ℕ) (a b : Option Sight) (rest : List Obs) → (is_none a && is_none b) ≡ false
+both_read : (set m : ℕ) (a b : Option Angles) (rest : List Obs) → (is_none a && is_none b) ≡ false
     → ((is_some a && is_none b) || (is_none a && is_some b)) ≡ false
     → Any (IsAt set m) (cons_option (observation_of set m a b) rest)
 both_read set m None None rest e f = cc

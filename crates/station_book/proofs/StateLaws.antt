@@ -6,18 +6,18 @@ use Rattle.std.proofs.lemmas.Bool.{cases_Bool, false≢true, and_parts, ne_eqb, 
 use Rattle.std.proofs.lemmas.List.{length-append, map-append, length-map}
 use Rattle.station_book.specs.Slots.{empty_slot, obs_of, faces_of}
 use Rattle.station_book.specs.Entries.{EntryValue, first_entry, with_set, with_reading}
-use Rattle.station_book.specs.declared.sight.Sighting.{Sighting}
+use Rattle.station_book.specs.declared.angles.Reading.{Reading}
 use Rattle.station_book.proofs.ReadingLaws.{Says, IsInNone, reading_state, all_filter}
 use Rattle.station_book.specs.Shelves.{ShelfValue, survey_of, with_station, last_of}
 use Rattle.station_book.proofs.SetReadings.{none_in_later}
 use Rattle.station_book.proofs.NewestLaws.{HasNewest}
 use Rattle.gsi_word.specs.Blocks.{GsiBlock}
-use Rattle.station_book.specs.Blocks.{number, opens_station, opens_set, is_opening, is_sight}
+use Rattle.station_book.specs.Blocks.{number, opens_station, opens_set, is_opening, has_direction}
 use Rattle.station_book.specs.Places.{number_at, History, Place, places, last, before, station, opening, is_empty, is_open, is_set, is_reading, is_same, sets_of, station_readings, first_sets}
 use Rattle.station_book.specs.Faults.{open_sets, name_at}
 use Rattle.station_book.specs.StateOfHistory.{in_set, slots_of, targets_in, obs_in, faces_in, numbers_in, IsEntryOf, IsEntryWith, IsStateAt, IsComputed, stations_in, AreStates}
 use Rattle.station_book.proofs.PlaceLaws.{length-last, belonging-more, belonging-same, belonging-fresh, belonging-older, owners_in_order}
-use Rattle.station_book.proofs.StepLaws.{no_set_at_station, no_station_at_set, sight_opens_nothing, sight_opens_no_station, is_open-opening, is_open-other, sets-station, sets-more, sets-other, same_station, sight_opens_no_set}
+use Rattle.station_book.proofs.StepLaws.{no_set_at_station, no_station_at_set, direction_opens_nothing, opens_no_station, is_open-opening, is_open-other, sets-station, sets-more, sets-other, same_station, opens_no_set}
 
 -- These places are all before this one.
 abbrev pub AllBefore : Place → List Place → Type 0
@@ -143,7 +143,7 @@ open_set (b ∷ past) e = elim (cases_Bool (is_opening b)) [
       let same : opening (b ∷ past) ≡ opening past = rw o in
       record {
         older = k.older;
-        sets = sets-other b past (sight_opens_no_station b o) (sight_opens_no_set b o) ∙ k.sets
+        sets = sets-other b past (opens_no_station b o) (opens_no_set b o) ∙ k.sets
             ∙ ap (λ (p : Place). p ∷ k.older) (sym same);
         before_it = subst (λ (p : Place). AllBefore p k.older) (sym same) k.before_it;
       }
@@ -164,7 +164,7 @@ no_set_no_reading (b ∷ past) e = elim (cases_Bool (opens_station b)) [
     | inr n ↦
         let none = sym (sets-other b past s n) ∙ e in elim (cases_Bool (is_reading (b ∷ past))) [
           | inl r ↦ absurd (false≢true (sym (open_has_set past
-              (and_parts (is_sight b) (is_open past) r).1) ∙ ap is_empty none))
+              (and_parts (has_direction b) (is_open past) r).1) ∙ ap is_empty none))
           | inr r ↦ belonging-same opens_station is_reading b past s r
               ∙ no_set_no_reading past none
         ]
@@ -274,9 +274,9 @@ parted (b ∷ past) = elim (cases_Bool (opens_station b)) [
 
 pub set_is_no_reading : (b : GsiBlock) (past : History) → opens_set b ≡ true
     → is_reading (b ∷ past) ≡ false
-set_is_no_reading b past n = and_left (is_sight b) (is_open past)
-    (false_from_ne_true (is_sight b) (λ s. false≢true
-    (sym (or_parts _ _ (or_parts _ _ (sight_opens_nothing b s)).1).0 ∙ n)))
+set_is_no_reading b past n = and_left (has_direction b) (is_open past)
+    (false_from_ne_true (has_direction b) (λ s. false≢true
+    (sym (or_parts _ _ (or_parts _ _ (direction_opens_nothing b s)).1).0 ∙ n)))
 
 -- Where the open station has a set, it is the last one that has.
 pub open_last : (past : History) → is_empty (open_sets past) ≡ false → HasOpenLast past
@@ -383,7 +383,7 @@ in_none b past readings (s ∷ older) all = (
 
 -- all stations after a reading
 pub states_reading : (x : List ℕ × EntryValue) (es : ShelfValue) (b : GsiBlock) (past : History)
-    (s : Sighting) → is_opening b ≡ false → is_reading (b ∷ past) ≡ true → is_open past ≡ true
+    (s : Reading) → is_opening b ≡ false → is_reading (b ∷ past) ≡ true → is_open past ≡ true
     → Says s (b ∷ past) → AreStates past (stations_in past) (x ∷ es)
     → AreStates (b ∷ past) (stations_in (b ∷ past)) ((x.0, with_reading s x.1) ∷ es)
 states_reading x es b past s o reading now says h =
@@ -394,10 +394,10 @@ states_reading x es b past s o reading now says h =
     (head k.0, older_stay p.rest es b past p.older k.1)
   where
     no_station : opens_station b ≡ false
-    no_station = sight_opens_no_station b o
+    no_station = opens_no_station b o
 
     no_set : opens_set b ≡ false
-    no_set = sight_opens_no_set b o
+    no_set = opens_no_set b o
 
     set : HasOpenSet past
     set = open_set past now

@@ -2,7 +2,7 @@
 use Rattle.std.proofs.Common.{◌≡◌, ℕ, true, false, cond, ◌||◌, not, List, [], ◌∷◌, map, refl, ap}
 use Rattle.std.proofs.lemmas.Bool.{and_parts, or_parts}
 use Rattle.gsi_word.specs.Blocks.{GsiBlock}
-use Rattle.station_book.specs.Blocks.{role_of, is_station, is_set_code, is_close, is_measurement, opens_station, opens_set, is_opening, is_sight, target, lacks}
+use Rattle.station_book.specs.Blocks.{role_of, is_station, is_set_code, is_close, is_measurement, opens_station, opens_set, is_opening, has_direction, target, lacks}
 use Rattle.station_book.specs.declared.role.Role.{Role}
 use Rattle.station_book.specs.declared.role.Role.TheVariants as roles
 use Rattle.station_book.specs.Places.{History, last, passes_at, is_open, is_set, is_reading, station, targets_of, distinct, with_new, target_at}
@@ -65,8 +65,8 @@ targets-other b past e r = ap (λ rs. distinct (map (λ r. target_at r) rs))
     (belonging-same opens_station is_reading b past e r)
 
 -- a measurement opens and closes nothing
-pub sight_opens_nothing : (b : GsiBlock) → is_sight b ≡ true → is_opening b ≡ false
-sight_opens_nothing b e = by (role_of b)
+pub direction_opens_nothing : (b : GsiBlock) → has_direction b ≡ true → is_opening b ≡ false
+direction_opens_nothing b e = by (role_of b)
     (and_parts (is_measurement (role_of b)) (not (lacks 21 b)) e).0 where
       by : (r : Role) → is_measurement r ≡ true
           → (is_station r || (is_set_code r || is_close r)) ≡ false
@@ -76,11 +76,11 @@ sight_opens_nothing b e = by (role_of b)
       by roles.Close t = cc
       by roles.Other t = refl
 
-pub sight_opens_no_station : (b : GsiBlock) → is_opening b ≡ false → opens_station b ≡ false
-sight_opens_no_station b e = (or_parts (opens_station b) _ e).0
+pub opens_no_station : (b : GsiBlock) → is_opening b ≡ false → opens_station b ≡ false
+opens_no_station b e = (or_parts (opens_station b) _ e).0
 
-pub sight_opens_no_set : (b : GsiBlock) → is_opening b ≡ false → opens_set b ≡ false
-sight_opens_no_set b e = (or_parts (opens_set b) _ (or_parts (opens_station b) _ e).1).0
+pub opens_no_set : (b : GsiBlock) → is_opening b ≡ false → opens_set b ≡ false
+opens_no_set b e = (or_parts (opens_set b) _ (or_parts (opens_station b) _ e).1).0
 
 -- a block has one role
 pub set_role : (b : GsiBlock) → opens_set b ≡ true → role_of b ≡ roles.Set
@@ -92,8 +92,8 @@ set_role b e = by (role_of b) e where
   by roles.Measurement t = cc
   by roles.Other t = cc
 
-pub sight_role : (b : GsiBlock) → is_sight b ≡ true → role_of b ≡ roles.Measurement
-sight_role b e = by (role_of b)
+pub measurement_role : (b : GsiBlock) → has_direction b ≡ true → role_of b ≡ roles.Measurement
+measurement_role b e = by (role_of b)
     (and_parts (is_measurement (role_of b)) (not (lacks 21 b)) e).0 where
       by : (r : Role) → is_measurement r ≡ true → r ≡ roles.Measurement
       by roles.Measurement t = refl

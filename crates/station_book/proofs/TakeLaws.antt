@@ -9,7 +9,7 @@ use Rattle.station_book.specs.declared.fault.BookKind.{BookKind}
 use Rattle.station_book.specs.declared.fault.BookKind.TheVariants as kinds
 use Rattle.station_book.specs.declared.role.Role.{Role}
 use Rattle.station_book.specs.declared.role.Role.TheVariants as roles
-use Rattle.station_book.specs.declared.sight.Sighting.{Sighting}
+use Rattle.station_book.specs.declared.angles.Reading.{Reading}
 use Rattle.station_book.specs.declared.stage.Stage.{Stage}
 use Rattle.station_book.specs.declared.stage.Stage.TheVariants.{Outside, Station, BetweenSets, InSet}
 use Rattle.station_book.specs.Faults.{station_faults, when, first_of, open_sets, fault_after, name_at}
@@ -19,7 +19,7 @@ use Rattle.station_book.specs.Entries.{with_set, with_reading}
 use Rattle.station_book.specs.Shelves.{ShelfValue, change_last}
 use Rattle.station_book.specs.State as states
 use Rattle.gsi_word.specs.Blocks.{GsiBlock}
-use Rattle.station_book.specs.Blocks.{opens_station, opens_set, is_opening, is_sight, named, number, sight, is_of_face, other_face, found, is_absent, is_twice, name_found, has_two, lacks}
+use Rattle.station_book.specs.Blocks.{opens_station, opens_set, is_opening, has_direction, named, number, angles, is_of_face, other_face, found, is_absent, is_twice, name_found, has_two, lacks}
 use Rattle.station_book.specs.Places.{History, last, station, is_empty, is_open, is_reading}
 use Rattle.station_book.specs.StateOfHistory.{IsStage, AreStates, stations_in}
 use Rattle.station_book.specs.Readings as said
@@ -39,15 +39,15 @@ station_as b r e = ap is_station e
 pub set_as : (b : GsiBlock) (r : Role) → role_of b ≡ r → opens_set b ≡ is_set_code r
 set_as b r e = ap is_set_code e
 
-pub sight_as : (b : GsiBlock) (r : Role) → role_of b ≡ r
-    → is_sight b ≡ (is_measurement r && not (lacks 21 b))
-sight_as b r e = ap (λ q. is_measurement q && not (lacks 21 b)) e
+pub direction_as : (b : GsiBlock) (r : Role) → role_of b ≡ r
+    → has_direction b ≡ (is_measurement r && not (lacks 21 b))
+direction_as b r e = ap (λ q. is_measurement q && not (lacks 21 b)) e
 
 opening_as : (b : GsiBlock) (r : Role) → role_of b ≡ r
     → is_opening b ≡ (is_station r || (is_set_code r || is_close r))
 opening_as b r e = ap (λ q. is_station q || (is_set_code q || is_close q)) e
 
-no_reading : (b : GsiBlock) (past : History) → is_sight b ≡ false → is_reading (b ∷ past) ≡ false
+no_reading : (b : GsiBlock) (past : History) → has_direction b ≡ false → is_reading (b ∷ past) ≡ false
 no_reading b past e = ap (λ v. v && is_open past) e
 
 -- a block that opens and closes nothing leaves the stage
@@ -130,36 +130,36 @@ set_taken shelf b past InSet (Some n) r e f g h = further_taken shelf b past n r
     (open_has_set past g) h
 
 -- what a measurement that was read says
-pub record WasRead (b : GsiBlock) (s : Sighting) : Type 0 where
-  pub has_direction : lacks 21 b ≡ false
-  pub clean : first_of (said.sighting_faults b) ≡ None
-  pub is : said.sighting b ≡ s
+pub record WasRead (b : GsiBlock) (s : Reading) : Type 0 where
+  pub directed : lacks 21 b ≡ false
+  pub clean : first_of (said.own_faults b) ≡ None
+  pub is : said.reading b ≡ s
 
-read_cases : (absent : Bool) (fault : Option BookKind) (s t : Sighting)
+read_cases : (absent : Bool) (fault : Option BookKind) (s t : Reading)
     → cond absent (Ok None) (said.unless_fault fault s) ≡ Ok (Some t)
     → (absent ≡ false) × (fault ≡ None) × (s ≡ t)
 read_cases true fault s t e = absurd cc
 read_cases false None s t e = (refl, refl, cc)
 read_cases false (Some k) s t e = absurd cc
 
-pub was_read : (b : GsiBlock) (s : Sighting) → said.read b ≡ Ok (Some s) → WasRead b s
-was_read b s e = let p = read_cases (lacks 21 b) (first_of (said.sighting_faults b))
-    (said.sighting b) s e in record { has_direction = p.0; clean = p.1; is = p.2 }
+pub was_read : (b : GsiBlock) (s : Reading) → said.read b ≡ Ok (Some s) → WasRead b s
+was_read b s e = let p = read_cases (lacks 21 b) (first_of (said.own_faults b))
+    (said.reading b) s e in record { directed = p.0; clean = p.1; is = p.2 }
 
-none_cases : (absent : Bool) (fault : Option BookKind) (s : Sighting)
-    → ◌≡◌ {A = Result (Option Sighting) BookKind}
+none_cases : (absent : Bool) (fault : Option BookKind) (s : Reading)
+    → ◌≡◌ {A = Result (Option Reading) BookKind}
     (cond absent (Ok None) (said.unless_fault fault s)) (Ok None) → absent ≡ true
 none_cases true fault s e = refl
 none_cases false None s e = absurd cc
 none_cases false (Some k) s e = absurd cc
 
 pub first_face : (b : GsiBlock)
-    → is_of_face faces.One b ≡ (ltb 0 ((sight b).zenith) && ltb ((sight b).zenith) 20_000_000)
+    → is_of_face faces.One b ≡ (ltb 0 ((angles b).zenith) && ltb ((angles b).zenith) 20_000_000)
 unfolding is_of_face
 first_face b = refl
 
 pub second_face : (b : GsiBlock)
-    → is_of_face faces.Two b ≡ (ltb 20_000_000 ((sight b).zenith) && ltb ((sight b).zenith) 40_000_000)
+    → is_of_face faces.Two b ≡ (ltb 20_000_000 ((angles b).zenith) && ltb ((angles b).zenith) 40_000_000)
 unfolding is_of_face
 second_face b = refl
 
@@ -173,18 +173,18 @@ face_cases b true two e f g = (e, one_face b e)
 face_cases b false true e f g = (f, e)
 face_cases b false false e f g = absurd cc
 
-says : (b : GsiBlock) (past : History) (s : Sighting) → WasRead b s → Says s (b ∷ past)
+says : (b : GsiBlock) (past : History) (s : Reading) → WasRead b s → Says s (b ∷ past)
 says b past s w =
-    let clear = none_when (is_none (said.face_of ((sight b).zenith))) kinds.FaceUnclear
-    (all_none (said.sighting_faults b) w.clean).1.1.1.1.1.0 in
-    let face : HasFace b (unwrap_or (said.face_of ((sight b).zenith)) faces.One) = face_cases b
-    (ltb 0 ((sight b).zenith) && ltb ((sight b).zenith) 20_000_000)
-    (ltb 20_000_000 ((sight b).zenith) && ltb ((sight b).zenith) 40_000_000) (first_face b)
+    let clear = none_when (is_none (said.face_of ((angles b).zenith))) kinds.FaceUnclear
+    (all_none (said.own_faults b) w.clean).1.1.1.1.1.0 in
+    let face : HasFace b (unwrap_or (said.face_of ((angles b).zenith)) faces.One) = face_cases b
+    (ltb 0 ((angles b).zenith) && ltb ((angles b).zenith) 20_000_000)
+    (ltb 20_000_000 ((angles b).zenith) && ltb ((angles b).zenith) 40_000_000) (first_face b)
     (second_face b) clear in
-    let here : HasFace b s.face = subst (λ (t : Sighting). HasFace b t.face) w.is face in
+    let here : HasFace b s.face = subst (λ (t : Reading). HasFace b t.face) w.is face in
     record {
-      target_is = sym (ap (λ (t : Sighting). t.target) w.is);
-      sight_is = sym (ap (λ (t : Sighting). t.sight) w.is);
+      target_is = sym (ap (λ (t : Reading). t.target) w.is);
+      angles_are = sym (ap (λ (t : Reading). t.angles) w.is);
       face_is = here.0;
       face_not = here.1;
     }
@@ -199,19 +199,19 @@ measures_nothing b r = (
 
 -- a measurement in an open set, by what it says
 in_set_taken : (shelf : ShelfValue) (b : GsiBlock) (past : History)
-    (o : Result (Option Sighting) BookKind) → role_of b ≡ roles.Measurement → said.read b ≡ o
+    (o : Result (Option Reading) BookKind) → role_of b ≡ roles.Measurement → said.read b ≡ o
     → is_open past ≡ true → (kind : (k : BookKind) → o ≡ Err k → ⊥)
     → AreStates past (stations_in past) shelf
     → AreStates (b ∷ past) (stations_in (b ∷ past)) (states.with_measured o shelf)
 in_set_taken shelf b past (Err k) r e now kind h = absurd (kind k refl)
 in_set_taken shelf b past (Ok None) r e now kind h =
-    let absent : lacks 21 b ≡ true = none_cases (lacks 21 b) (first_of (said.sighting_faults b))
-    (said.sighting b) e in
-    let blind : is_sight b ≡ false = sight_as b roles.Measurement r ∙ ap not absent in
+    let absent : lacks 21 b ≡ true = none_cases (lacks 21 b) (first_of (said.own_faults b))
+    (said.reading b) e in
+    let blind : has_direction b ≡ false = direction_as b roles.Measurement r ∙ ap not absent in
     states_idle shelf b past (set_as b roles.Measurement r) (no_reading b past blind) h
 in_set_taken shelf b past (Ok (Some s)) r e now kind h =
     let w = was_read b s e in
-    let seen : is_sight b ≡ true = sight_as b roles.Measurement r ∙ ap not w.has_direction in
+    let seen : has_direction b ≡ true = direction_as b roles.Measurement r ∙ ap not w.directed in
     let reading : is_reading (b ∷ past) ≡ true = (λ i. seen i && now i) in
     let x = newest_there shelf past (open_has_set past now) h in
     subst (λ (o : ShelfValue). AreStates (b ∷ past) (stations_in (b ∷ past))
@@ -219,14 +219,14 @@ in_set_taken shelf b past (Ok (Some s)) r e now kind h =
     (states_reading x.newest x.older b past s (opening_as b roles.Measurement r) reading now
     (says b past s w) (subst (λ (o : ShelfValue). AreStates past (stations_in past) o) x.is h))
 
-no_err : (limits : FaceLimits) (shelf : ShelfValue) (o : Result (Option Sighting) BookKind)
+no_err : (limits : FaceLimits) (shelf : ShelfValue) (o : Result (Option Reading) BookKind)
     → states.measured limits shelf o ≡ None → (k : BookKind) → o ≡ Err k → ⊥
 no_err limits shelf (Err j) f k e = absurd cc
 no_err limits shelf (Ok o) f k e = cc
 
 closed_no_reading : (b : GsiBlock) (past : History) → is_open past ≡ false
     → is_reading (b ∷ past) ≡ false
-closed_no_reading b past e = and_right (is_sight b) (is_open past) e
+closed_no_reading b past e = and_right (has_direction b) (is_open past) e
 
 -- a measurement
 pub measurement_taken : (limits : FaceLimits) (shelf : ShelfValue) (stage : Stage) (b : GsiBlock)
@@ -275,7 +275,7 @@ taken_state limits taken stage shelf b past roles.Station r f clean h =
             is_open-opening b past (opening_as b roles.Station r) ∙ set_as b roles.Station r,
           );
       stations = states_idle shelf b past (set_as b roles.Station r)
-          (no_reading b past (sight_as b roles.Station r)) h.stations;
+          (no_reading b past (direction_as b roles.Station r)) h.stations;
     }
 taken_state limits taken stage shelf b past roles.Set r f clean h = record {
   limited = refl;
@@ -294,7 +294,7 @@ taken_state limits taken stage shelf b past roles.Close r f clean h = record {
   stage = stage_closes stage b past (station_as b roles.Close r) (set_as b roles.Close r)
       (opening_as b roles.Close r) h.stage;
   stations = states_idle shelf b past (set_as b roles.Close r)
-      (no_reading b past (sight_as b roles.Close r)) h.stations;
+      (no_reading b past (direction_as b roles.Close r)) h.stations;
 }
 taken_state limits taken stage shelf b past roles.Measurement r f clean h =
     let m = measures_nothing b r in
@@ -312,7 +312,7 @@ taken_state limits taken stage shelf b past roles.Other r f clean h = record {
   stage = stage_stays stage b past (station_as b roles.Other r) (set_as b roles.Other r)
       (opening_as b roles.Other r) h.stage;
   stations = states_idle shelf b past (set_as b roles.Other r)
-      (no_reading b past (sight_as b roles.Other r)) h.stations;
+      (no_reading b past (direction_as b roles.Other r)) h.stations;
 }
 
 -- the same book under its own limits

@@ -14,13 +14,13 @@ use Rattle.station_book.specs.declared.fault.BookKind.TheVariants as kinds
 use Rattle.station_book.specs.declared.role.Role.{Role}
 use Rattle.station_book.specs.declared.role.Role.TheVariants as roles
 use Rattle.station_book.specs.Limits.{FaceLimits}
-use Rattle.station_book.specs.Blocks.{role_of, is_station, is_set_code, is_close, opens_set, is_opening, is_sight, is_of_face, other_face}
+use Rattle.station_book.specs.Blocks.{role_of, is_station, is_set_code, is_close, opens_set, is_opening, has_direction, is_of_face, other_face}
 use Rattle.station_book.specs.Places.{History, Place, places, last, before, opening, station, is_open, is_same, is_reading, target_at, passes_at, reading_in}
 use Rattle.station_book.specs.Faults.{first_of, faults_as, end_faults, station_faults, set_faults, fault_after, fault_at_end, IsWithoutFault, IsFirstFault, IsWholeFile, IsFileFault, open_readings, face_at, has_one_face, name_at}
 use Rattle.station_book.specs.Stations.{SurveyedStation, IsSurveyed, AreStations, stations_of}
 use Rattle.station_book.specs.Recorded.{IsReadingOf, IsListed}
 use Rattle.station_book.proofs.Elements.{In, any_from, find_some, in_contains, contains_in, in_map, of_filter, zip_right}
-use Rattle.station_book.proofs.StepLaws.{readings-more, readings-other, sight_opens_nothing}
+use Rattle.station_book.proofs.StepLaws.{readings-more, readings-other, direction_opens_nothing}
 use Rattle.station_book.proofs.KeptLaws.{all_none, none_when}
 use Rattle.station_book.proofs.KeptLaws.{clean_reading}
 use Rattle.station_book.proofs.FirstFault.{fault_or_none, no_first_fault, one_first_fault}
@@ -100,7 +100,7 @@ other_in_open past r listed clean = elim
 
     now : is_open past ≡ true
     now = sym (ap (passes_at opens_set) own.of_set)
-        ∙ (and_parts (passes_at is_sight r) (is_open (before r)) own.reading).1
+        ∙ (and_parts (passes_at has_direction r) (is_open (before r)) own.reading).1
 
     paired : has_one_face (open_readings past) ≡ false
     paired = right_false (is_open past) (has_one_face (open_readings past)) now
@@ -132,8 +132,8 @@ open_or_paired : (limits : FaceLimits) (h : History) (r : Place) → IsWithoutFa
 open_or_paired limits [] r clean placed reading = absurd placed
 open_or_paired limits (b ∷ past) r clean (inl e) reading =
     let here : is_reading (b ∷ past) ≡ true = sym (ap is_reading e) ∙ reading in
-    let o : is_opening b ≡ false = sight_opens_nothing b
-    (and_parts (is_sight b) (is_open past) here).0 in
+    let o : is_opening b ≡ false = direction_opens_nothing b
+    (and_parts (has_direction b) (is_open past) here).0 in
     inl (subst (In r) (sym (readings-more b past o here)) (inl e))
 open_or_paired limits (b ∷ past) r clean (inr placed) reading =
     elim (open_or_paired limits past r clean.1 placed reading) [

@@ -11,11 +11,11 @@ use Rattle.gsi_word.specs.declared.found.Found.TheVariants.{Absent, One, Twice}
 use Rattle.std.specs.Prelude.{slice_index}
 use Rattle.station_book.specs.declared.face.Face.TheVariants as faces
 use Rattle.station_book.specs.Limits.{FaceLimits}
-use Rattle.station_book.specs.Sights.{Sight, AreOnCircle}
-use Rattle.station_book.specs.Blocks.{found, angle_found, angle_or_zero, sight, target, is_of_face}
+use Rattle.station_book.specs.TwoFaces.{Angles, AreOnCircle}
+use Rattle.station_book.specs.Blocks.{found, angle_found, angle_or_zero, angles, target, is_of_face}
 use Rattle.station_book.specs.StateOfHistory.{in_set}
 use Rattle.station_book.specs.Places.{History, Place, places, before, station, opening, is_same, is_reading, reading_in, station_readings}
-use Rattle.station_book.specs.Faults.{face, has_no_two_c, has_no_two_i, open_readings, sight_at, IsWithoutFault}
+use Rattle.station_book.specs.Faults.{face, has_no_two_c, has_no_two_i, open_readings, angles_at, IsWithoutFault}
 use Rattle.station_book.proofs.FaceLaws.{one_face, face_of}
 use Rattle.station_book.proofs.KeptLaws.{IsCleanReading, clean_reading}
 use Rattle.station_book.proofs.SetReadings.{open_in_set}
@@ -45,21 +45,21 @@ found_below (One w) = word_below (not (is_gon (slice_index w.info 3)))
 found_below Twice = omega arith
 
 -- what a block reads is on the circle
-pub sight_on_circle : (b : GsiBlock) → AreOnCircle (sight b)
-unfolding sight
-sight_on_circle b = record { hz = found_below (found 21 b); zenith = found_below (found 22 b) }
+pub angles_on_circle : (b : GsiBlock) → AreOnCircle (angles b)
+unfolding angles
+angles_on_circle b = record { hz = found_below (found 21 b); zenith = found_below (found 22 b) }
 
-pub place_on_circle : (r : Place) → AreOnCircle (sight_at r)
+pub place_on_circle : (r : Place) → AreOnCircle (angles_at r)
 place_on_circle [] = record { hz = omega arith; zenith = omega arith }
-place_on_circle (b ∷ past) = sight_on_circle b
+place_on_circle (b ∷ past) = angles_on_circle b
 
 -- both differences of two readings are within the limits
-pub record AreWithin (limits : FaceLimits) (first second : Sight) : Type 0 where
+pub record AreWithin (limits : FaceLimits) (first second : Angles) : Type 0 where
   pub two_c : has_no_two_c limits.two_c first second ≡ false
   pub two_i : has_no_two_i limits.two_i first second ≡ false
 
 -- The tests ask the same whichever reading comes first.
-two_c_turned : (limit : ℕ) (a b : Sight) → AreOnCircle a → AreOnCircle b
+two_c_turned : (limit : ℕ) (a b : Angles) → AreOnCircle a → AreOnCircle b
     → has_no_two_c limit a b ≡ false → has_no_two_c limit b a ≡ false
 unfolding has_no_two_c
 two_c_turned limit a b ha hb e = false_from_ne_true (has_no_two_c limit b a) (λ t.
@@ -74,7 +74,7 @@ two_c_turned limit a b ha hb e = false_from_ne_true (has_no_two_c limit b a) (λ
           (40_000_000 - limit) f in omega arith
     ])
 
-two_i_turned : (limit : ℕ) (a b : Sight) → has_no_two_i limit a b ≡ false
+two_i_turned : (limit : ℕ) (a b : Angles) → has_no_two_i limit a b ≡ false
     → has_no_two_i limit b a ≡ false
 unfolding has_no_two_i
 two_i_turned limit a b e =
@@ -85,18 +85,18 @@ two_i_turned limit a b e =
 beside_first : (limits : FaceLimits) (past : History) (b : GsiBlock) (m : Place)
     → IsCleanReading limits past b → face b ≡ faces.One
     → reading_in faces.Two (target b) (open_readings past) ≡ Some m
-    → AreWithin limits (sight b) (sight_at m)
+    → AreWithin limits (angles b) (angles_at m)
 beside_first limits past b m clean f g =
     record { two_c = rw (f, g) at clean.two_c; two_i = rw (f, g) at clean.two_i }
 
 beside_second : (limits : FaceLimits) (past : History) (b : GsiBlock) (m : Place)
     → IsCleanReading limits past b → face b ≡ faces.Two
     → reading_in faces.One (target b) (open_readings past) ≡ Some m
-    → AreWithin limits (sight_at m) (sight b)
+    → AreWithin limits (angles_at m) (angles b)
 beside_second limits past b m clean f g = record {
-  two_c = two_c_turned limits.two_c (sight b) (sight_at m) (sight_on_circle b) (place_on_circle m)
+  two_c = two_c_turned limits.two_c (angles b) (angles_at m) (angles_on_circle b) (place_on_circle m)
       (rw (f, g) at clean.two_c);
-  two_i = two_i_turned limits.two_i (sight b) (sight_at m) (rw (f, g) at clean.two_i);
+  two_i = two_i_turned limits.two_i (angles b) (angles_at m) (rw (f, g) at clean.two_i);
 }
 
 -- the readings of a set by the lengths of its place and of its station's
@@ -114,7 +114,7 @@ open_of_places past st set s o =
 -- Two readings of a target in a set are within the limits.
 abbrev pub AllWithin : FaceLimits → List Place → Type 0
 AllWithin limits rs = (name : List ℕ) (a b : Place) → reading_in faces.One name rs ≡ Some a
-    → reading_in faces.Two name rs ≡ Some b → AreWithin limits (sight_at a) (sight_at b)
+    → reading_in faces.Two name rs ≡ Some b → AreWithin limits (angles_at a) (angles_at b)
 
 -- one reading more, in the open set
 one_more : (limits : FaceLimits) (past : History) (b : GsiBlock) → IsCleanReading limits past b
@@ -128,14 +128,14 @@ one_more limits past b clean ih name x y ex ey = elim (cases_Bool (bytes_eq (tar
             let g : is_of_face faces.Two b ≡ false = one_face b f in
             let found : Some (b ∷ past) ≡ Some x = rw (t, f) at ex in
             let here : b ∷ past ≡ x = cc in
-            subst (λ (p : Place). AreWithin limits (sight_at p) (sight_at y)) here
+            subst (λ (p : Place). AreWithin limits (angles_at p) (angles_at y)) here
             (beside_first limits past b y clean (face_of faces.One b f) (ap (λ (n : List ℕ). reading_in faces.Two n
             (open_readings past)) own ∙ (rw (t, g) at ey)))
         | inr f ↦ elim (cases_Bool (is_of_face faces.Two b)) [
           | inl g ↦
               let found : Some (b ∷ past) ≡ Some y = rw (t, g) at ey in
               let here : b ∷ past ≡ y = cc in
-              subst (λ (p : Place). AreWithin limits (sight_at x) (sight_at p)) here
+              subst (λ (p : Place). AreWithin limits (angles_at x) (angles_at p)) here
               (beside_second limits past b x clean (face_of faces.Two b g) (ap (λ (n : List ℕ). reading_in faces.One n
               (open_readings past)) own ∙ (rw (t, f) at ex)))
           | inr g ↦ ih name x y (rw (t, f) at ex) (rw (t, g) at ey)

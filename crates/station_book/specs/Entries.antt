@@ -7,7 +7,7 @@ use Rattle.station_book.specs.declared.fault.BookKind.{BookKind}
 use Rattle.station_book.specs.declared.fault.BookKind.TheVariants as kinds
 use Rattle.station_book.specs.Limits.{FaceLimits}
 use Rattle.station_book.specs.declared.faces.Faces.{Faces}
-use Rattle.station_book.specs.declared.sight.Sighting.{Sighting}
+use Rattle.station_book.specs.declared.angles.Reading.{Reading}
 use Rattle.station_book.specs.declared.slot.Slot.{Slot}
 use Rattle.station_book.specs.Faults.{when, first_of}
 use Rattle.adjust_kernel.specs.Names.{IsName}
@@ -55,34 +55,34 @@ abbrev pub place_of : List ℕ → List (List ℕ) → Option ℕ
 place_of name targets = position (λ t. bytes_eq t name) targets
 
 -- whether a reading's target is none of the station's
-abbrev pub is_new_to : EntryValue → Sighting → Bool
+abbrev pub is_new_to : EntryValue → Reading → Bool
 is_new_to e s = is_none (place_of s.target e.targets)
 
 -- the fault of a target more, where a station has as many as it may have
 abbrev pub new_target_fault : List (List ℕ) → Option BookKind
 new_target_fault targets = first_of (when (nat_le MOST_TARGETS (length targets)) kinds.TooManyTargets ∷ [])
 
-abbrev pub entry_faults_at : FaceLimits → EntryValue → Sighting → Option ℕ → List (Option BookKind)
+abbrev pub entry_faults_at : FaceLimits → EntryValue → Reading → Option ℕ → List (Option BookKind)
 entry_faults_at limits e s None = when
     (nat_le MOST_TARGETS (length e.targets)) kinds.TooManyTargets ∷ []
 entry_faults_at limits e s (Some i) = slot_faults limits (slot_at e.slots i) s
 
 -- the faults of a reading in the last set
-abbrev pub entry_faults : FaceLimits → EntryValue → Sighting → List (Option BookKind)
+abbrev pub entry_faults : FaceLimits → EntryValue → Reading → List (Option BookKind)
 entry_faults limits e s = entry_faults_at limits e s (place_of s.target e.targets)
 
-abbrev pub with_reading_at : Sighting → EntryValue → Option ℕ → EntryValue
+abbrev pub with_reading_at : Reading → EntryValue → Option ℕ → EntryValue
 with_reading_at s e None = record
     e {
       targets = e.targets ++ s.target ∷ [];
-      slots = e.slots ++ with_face_reading s.face s.sight
+      slots = e.slots ++ with_face_reading s.face s.angles
           empty_slot ∷ [];
     }
 with_reading_at s e (Some i) = record
-    e { slots = slice_set e.slots i (with_face_reading s.face s.sight (slot_at e.slots i)) }
+    e { slots = slice_set e.slots i (with_face_reading s.face s.angles (slot_at e.slots i)) }
 
 -- the station with one more reading in the last set
-abbrev pub with_reading : Sighting → EntryValue → EntryValue
+abbrev pub with_reading : Reading → EntryValue → EntryValue
 with_reading s e = with_reading_at s e (place_of s.target e.targets)
 
 -- what always holds of the parts

@@ -2,18 +2,18 @@
 use Rattle.std.specs.Prelude.{ℕ, ◌+◌, ◌-◌, ◌*◌, ◌%◌, ℤ, pos, ◌-ℤ◌}
 use Rattle.adjust_kernel.specs.declared.limits.TheConstants.{TURN}
 use Rattle.station_book.specs.declared.bounds.TheConstants.{CIRCLE, HALF_CIRCLE}
-use Rattle.station_book.specs.Sights.{Sight}
+use Rattle.station_book.specs.TwoFaces.{Angles}
 
 -- 2c and half a circle, from 0 up to a circle
-abbrev pub half_turned : Sight → Sight → ℕ
+abbrev pub half_turned : Angles → Angles → ℕ
 half_turned first second = ((second.hz + CIRCLE) - first.hz) % CIRCLE
 
-abbrev pub two_c : Sight → Sight → ℤ
+abbrev pub two_c : Angles → Angles → ℤ
 two_c first second = pos (half_turned first second) -ℤ pos HALF_CIRCLE
 
-abbrev pub two_i : Sight → Sight → ℤ
+abbrev pub two_i : Angles → Angles → ℤ
 two_i first second = pos (first.zenith + second.zenith) -ℤ pos CIRCLE
 
 -- the two-face direction, in half units
-abbrev pub direction : Sight → Sight → ℕ
+abbrev pub direction : Angles → Angles → ℕ
 direction first second = ((2 * first.hz + half_turned first second) + (CIRCLE + HALF_CIRCLE)) % TURN

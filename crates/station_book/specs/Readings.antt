@@ -7,8 +7,8 @@ use Rattle.station_book.specs.declared.face.Face.{Face}
 use Rattle.station_book.specs.declared.face.Face.TheVariants.{One, Two}
 use Rattle.station_book.specs.declared.fault.BookKind.{BookKind}
 use Rattle.station_book.specs.declared.fault.BookKind.TheVariants as kinds
-use Rattle.station_book.specs.declared.sight.Sighting.{Sighting}
-use Rattle.station_book.specs.Blocks.{has_two, lacks, angle_fault, target, sight}
+use Rattle.station_book.specs.declared.angles.Reading.{Reading}
+use Rattle.station_book.specs.Blocks.{has_two, lacks, angle_fault, target, angles}
 use Rattle.station_book.specs.Faults.{when, first_of}
 
 -- the face of a zenith angle
@@ -18,28 +18,28 @@ face_of zenith =
     (if nat_lt HALF_CIRCLE zenith && nat_lt zenith CIRCLE then Some Two else None)
 
 -- the faults of a measurement with a direction, in themselves
-abbrev pub sighting_faults : GsiBlock → List (Option BookKind)
-sighting_faults b =
+abbrev pub own_faults : GsiBlock → List (Option BookKind)
+own_faults b =
     when (has_two 21 b) (kinds.WordTwice 21)
     ∷ when (has_two 22 b) (kinds.WordTwice 22)
     ∷ when (lacks 22 b) kinds.NoZenith
     ∷ option_map kinds.Hz (angle_fault 21 b)
     ∷ option_map kinds.Zenith (angle_fault 22 b)
-    ∷ when (is_none (face_of (sight b).zenith)) kinds.FaceUnclear
+    ∷ when (is_none (face_of (angles b).zenith)) kinds.FaceUnclear
     ∷ []
 
 -- what a measurement with a direction says
-abbrev pub sighting : GsiBlock → Sighting
-sighting b = record {
+abbrev pub reading : GsiBlock → Reading
+reading b = record {
   target = target b;
-  sight = sight b;
-  face = unwrap_or (face_of (sight b).zenith) One;
+  angles = angles b;
+  face = unwrap_or (face_of (angles b).zenith) One;
 }
 
-abbrev pub unless_fault : Option BookKind → Sighting → Result (Option Sighting) BookKind
+abbrev pub unless_fault : Option BookKind → Reading → Result (Option Reading) BookKind
 unless_fault None s = Ok (Some s)
 unless_fault (Some k) s = Err k
 
 -- what a measurement says: nothing without word 21, else its first fault or its reading
-abbrev pub read : GsiBlock → Result (Option Sighting) BookKind
-read b = if lacks 21 b then Ok None else unless_fault (first_of (sighting_faults b)) (sighting b)
+abbrev pub read : GsiBlock → Result (Option Reading) BookKind
+read b = if lacks 21 b then Ok None else unless_fault (first_of (own_faults b)) (reading b)

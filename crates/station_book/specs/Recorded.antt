@@ -5,10 +5,10 @@ use Rattle.station_book.specs.declared.face.Face.{Face}
 use Rattle.station_book.specs.declared.face.Face.TheVariants.{One, Two}
 use Rattle.station_book.specs.declared.faces.Faces.{Faces}
 use Rattle.station_book.specs.Limits.{FaceLimits}
-use Rattle.station_book.specs.Sights.{IsTwoC, IsTwoI, IsTwoFace}
+use Rattle.station_book.specs.TwoFaces.{IsTwoC, IsTwoI, IsTwoFace}
 use Rattle.station_book.specs.Blocks.{is_of_face}
 use Rattle.station_book.specs.Places.{History, Place, places, number_at, before, opening, station, is_set, is_reading, target_at, passes_at}
-use Rattle.station_book.specs.Faults.{name_at, sight_at}
+use Rattle.station_book.specs.Faults.{name_at, angles_at}
 use Rattle.station_book.specs.Stations.{SurveyedStation}
 
 -- The file has a reading at this place: of this station, named by its block with code 10, of the
@@ -39,16 +39,16 @@ pub record IsRecorded (limits : FaceLimits) (h : History) (name : List ℕ) (k :
   pub second : Place
   pub face_one : IsReadingOf h name set k.target One first
   pub face_two : IsReadingOf h name set k.target Two second
-  pub direction : IsTwoFace limits.two_c (sight_at first) (sight_at second) k.value
+  pub direction : IsTwoFace limits.two_c (angles_at first) (angles_at second) k.value
   pub difference : ℤ
-  pub two_i : IsTwoI limits.two_i (sight_at first) (sight_at second) difference
+  pub two_i : IsTwoI limits.two_i (angles_at first) (angles_at second) difference
 
 -- The same, with the face differences of the same two readings, each within its limit.
 pub record IsRecordedWith (limits : FaceLimits) (h : History) (name : List ℕ) (k : Key) (f : Faces)
     : Type 0 where
   pub recorded : IsRecorded limits h name k
-  pub two_c : IsTwoC limits.two_c (sight_at recorded.first) (sight_at recorded.second) f.two_c
-  pub two_i : IsTwoI limits.two_i (sight_at recorded.first) (sight_at recorded.second) f.two_i
+  pub two_c : IsTwoC limits.two_c (angles_at recorded.first) (angles_at recorded.second) f.two_c
+  pub two_i : IsTwoI limits.two_i (angles_at recorded.first) (angles_at recorded.second) f.two_i
 
 -- The reading at this place is listed: it is one of the two readings of which an observation is
 -- listed at its station, set and target.

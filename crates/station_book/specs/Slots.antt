@@ -8,20 +8,20 @@ use Rattle.station_book.specs.declared.fault.BookKind.{BookKind}
 use Rattle.station_book.specs.declared.fault.BookKind.TheVariants as kinds
 use Rattle.station_book.specs.Limits.{FaceLimits}
 use Rattle.station_book.specs.declared.faces.Faces.{Faces}
-use Rattle.station_book.specs.Sights.{Sight, AreOnCircle}
-use Rattle.station_book.specs.declared.sight.Sighting.{Sighting}
+use Rattle.station_book.specs.TwoFaces.{Angles, AreOnCircle}
+use Rattle.station_book.specs.declared.angles.Reading.{Reading}
 use Rattle.station_book.specs.declared.slot.Slot.{Slot}
 use Rattle.station_book.specs.Blocks.{other_face}
 use Rattle.station_book.specs.Faults.{when, first_of, has_no_two_c, has_no_two_i, is_apart}
 use Rattle.station_book.specs.Pairs.{two_c, two_i, direction}
 
 -- the reading of a face
-abbrev pub face_reading : Face → Slot → Option Sight
+abbrev pub face_reading : Face → Slot → Option Angles
 face_reading One s = s.first
 face_reading Two s = s.second
 
 -- the slot with a reading in this face
-abbrev pub with_face_reading : Face → Sight → Slot → Slot
+abbrev pub with_face_reading : Face → Angles → Slot → Slot
 with_face_reading One v s = record s { first = Some v }
 with_face_reading Two v s = record s { second = Some v }
 
@@ -29,17 +29,17 @@ abbrev pub empty_slot : Slot
 empty_slot = record { first = None; second = None }
 
 -- the faults of a reading of a target that has this slot
-abbrev pub slot_faults : FaceLimits → Slot → Sighting → List (Option BookKind)
+abbrev pub slot_faults : FaceLimits → Slot → Reading → List (Option BookKind)
 slot_faults limits slot s =
     when (is_some (face_reading s.face slot)) kinds.FaceTwice
-    ∷ when (is_apart (has_no_two_c limits.two_c) s.sight (face_reading (other_face s.face) slot))
+    ∷ when (is_apart (has_no_two_c limits.two_c) s.angles (face_reading (other_face s.face) slot))
     kinds.TwoC
-    ∷ when (is_apart (has_no_two_i limits.two_i) s.sight (face_reading (other_face s.face) slot))
+    ∷ when (is_apart (has_no_two_i limits.two_i) s.angles (face_reading (other_face s.face) slot))
     kinds.TwoI
     ∷ []
 
 -- the fault of two readings
-abbrev pub pair_fault : FaceLimits → Sight → Sight → Option BookKind
+abbrev pub pair_fault : FaceLimits → Angles → Angles → Option BookKind
 pair_fault limits a b = first_of
     (when (has_no_two_c limits.two_c a b) kinds.TwoC ∷ when
     (has_no_two_i limits.two_i a b) kinds.TwoI ∷ [])
@@ -63,7 +63,7 @@ abbrev pub IsKeptSlot : Slot → Type 0
 IsKeptSlot s = (IfSome s.first AreOnCircle) × (IfSome s.second AreOnCircle)
 
 -- the observation of two readings
-abbrev pub observation_of : ℕ → ℕ → Option Sight → Option Sight → Option Obs
+abbrev pub observation_of : ℕ → ℕ → Option Angles → Option Angles → Option Obs
 observation_of set target (Some a) (Some b) = Some
     (record { set = set; target = target; value = direction a b })
 observation_of set target (Some a) None = None
@@ -76,7 +76,7 @@ obs_at set p = observation_of set p.0 p.1.first p.1.second
 abbrev pub obs_of : ℕ → List Slot → List Obs
 obs_of set slots = filter_map (obs_at set) (enumerate_from 0 slots)
 
-abbrev pub compared : Option Sight → Option Sight → Option Faces
+abbrev pub compared : Option Angles → Option Angles → Option Faces
 compared (Some a) (Some b) = Some (record { two_c = two_c a b; two_i = two_i a b })
 compared (Some a) None = None
 compared None b = None

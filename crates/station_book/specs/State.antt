@@ -3,7 +3,7 @@ use Rattle.std.specs.Prelude.{ℕ, ◌+◌, Bool, true, false, ◌&&◌, if◌th
 use Rattle.station_book.specs.declared.fault.BookKind.{BookKind}
 use Rattle.station_book.specs.declared.fault.BookKind.TheVariants as kinds
 use Rattle.station_book.specs.Limits.{FaceLimits}
-use Rattle.station_book.specs.declared.sight.Sighting.{Sighting}
+use Rattle.station_book.specs.declared.angles.Reading.{Reading}
 use Rattle.station_book.specs.declared.stage.Stage.{Stage}
 use Rattle.station_book.specs.declared.stage.Stage.TheVariants.{Outside, Station, BetweenSets, InSet}
 use Rattle.station_book.specs.Faults.{when, first_of, station_faults}
@@ -75,13 +75,13 @@ closed_stage BetweenSets = BetweenSets
 closed_stage InSet = BetweenSets
 
 -- the fault of a measurement that says this, in an open set
-abbrev pub measured : FaceLimits → ShelfValue → Result (Option Sighting) BookKind → Option BookKind
+abbrev pub measured : FaceLimits → ShelfValue → Result (Option Reading) BookKind → Option BookKind
 measured limits shelf (Err k) = Some k
 measured limits shelf (Ok None) = None
 measured limits shelf (Ok (Some s)) = first_of (entry_faults limits (last_of shelf) s)
 
 -- the stations after a measurement that says this, in an open set
-abbrev pub with_measured : Result (Option Sighting) BookKind → ShelfValue → ShelfValue
+abbrev pub with_measured : Result (Option Reading) BookKind → ShelfValue → ShelfValue
 with_measured (Err k) shelf = shelf
 with_measured (Ok None) shelf = shelf
 with_measured (Ok (Some s)) shelf = change_last (with_reading s) shelf
@@ -102,7 +102,7 @@ fault_of k b = fault_as (role_of b) k b
 
 -- whether a book may need memory for a measurement that says this, in an open set: its target is
 -- new to the last station
-abbrev pub is_first_of_target : ShelfValue → Result (Option Sighting) BookKind → Bool
+abbrev pub is_first_of_target : ShelfValue → Result (Option Reading) BookKind → Bool
 is_first_of_target shelf (Err k) = false
 is_first_of_target shelf (Ok None) = false
 is_first_of_target shelf (Ok (Some s)) = is_new_to (last_of shelf) s

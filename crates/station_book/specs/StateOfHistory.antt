@@ -5,7 +5,7 @@ use Rattle.std.specs.Option.{option_map}
 use Rattle.adjust_kernel.specs.declared.obs.Obs.{Obs}
 use Rattle.station_book.specs.declared.face.Face.TheVariants.{One, Two}
 use Rattle.station_book.specs.declared.faces.Faces.{Faces}
-use Rattle.station_book.specs.Sights.{Sight}
+use Rattle.station_book.specs.TwoFaces.{Angles}
 use Rattle.station_book.specs.declared.slot.Slot.{Slot}
 use Rattle.station_book.specs.declared.stage.Stage.{Stage}
 use Rattle.station_book.specs.declared.stage.Stage.TheVariants.{Outside, Station, BetweenSets, InSet}
@@ -14,16 +14,16 @@ use Rattle.station_book.specs.Entries.{EntryValue}
 use Rattle.station_book.specs.Shelves.{ShelfValue}
 use Rattle.station_book.specs.Places.{History, Place, number_at, before, opening, station, is_same, is_empty, is_open, sets_of, station_readings, first_sets, distinct, reading_in, target_at}
 use Rattle.station_book.specs.Stations.{SurveyedStation}
-use Rattle.station_book.specs.Faults.{open_sets, name_at, sight_at}
+use Rattle.station_book.specs.Faults.{open_sets, name_at, angles_at}
 
-abbrev pub sighted : Option Place → Option Sight
-sighted o = option_map sight_at o
+abbrev pub angles_of : Option Place → Option Angles
+angles_of o = option_map angles_at o
 
 -- the angles of a target's readings, among these
 abbrev pub slot_of : List Place → List ℕ → Slot
 slot_of rs name = record {
-  first = sighted (reading_in One name rs);
-  second = sighted (reading_in Two name rs);
+  first = angles_of (reading_in One name rs);
+  second = angles_of (reading_in Two name rs);
 }
 
 abbrev pub slots_of : List (List ℕ) → List Place → List Slot

@@ -8,15 +8,15 @@ ghost use Rattle.station_book.specs.Shelves.{survey_of, more_set_faults};
 ghost use Rattle.std.specs.Str.{bytes_eq};
 ghost use Rattle.station_book.specs.Faults.{first_of, when};
 ghost use Rattle.station_book.specs.Slots.{closing_faults};
-ghost use Rattle.station_book.specs.Sights.{AreOnCircle};
+ghost use Rattle.station_book.specs.TwoFaces.{AreOnCircle};
 ghost use Rattle.station_book.specs.Entries.{MayEnd, first_entry, with_set, is_new_to, entry_faults, with_reading, with_reading_at};
 ghost use Rattle.station_book.specs.declared.fault.BookKind.TheVariants as kinds;
 ghost use Rattle.station_book.specs.Refusals.{ExplainsRefusal, WantsOnly};
 
+use crate::angles::Reading;
 use crate::faces::Faces;
 use crate::fault::{BookKind, Refusal};
 use crate::limits::Limits;
-use crate::sight::Sighting;
 use crate::slot::{empty_slot, end_fault, push_pairs, slot_fault};
 use crate::surveyed::Surveyed;
 use crate::targets::Targets;
@@ -110,8 +110,8 @@ impl Entry {
     }
 
     /// Takes a reading of the last set.
-    pub(crate) fn take_reading(&mut self, limits: Limits, reading: Sighting) -> Result<(), Refusal>
-        requires { AreOnCircle reading.sight }
+    pub(crate) fn take_reading(&mut self, limits: Limits, reading: Reading) -> Result<(), Refusal>
+        requires { AreOnCircle reading.angles }
         ensures clean { OnOk result (first_of (entry_faults limits self.old reading) ≡ None) }
         ensures ok { OnOk result (self.new ≡ with_reading reading self.old) }
         ensures fault { IfErr result
@@ -119,12 +119,12 @@ impl Entry {
         ensures memory { IfErr result (WantsOnly (is_new_to self.old reading)) }
         ensures err { OnErr result (self.new ≡ self.old) }
     {
-        let Sighting {
+        let Reading {
             target,
             face,
-            sight,
+            angles,
         } = reading;
-        let first = empty_slot().with_reading(face, sight);
+        let first = empty_slot().with_reading(face, angles);
         let Some(place) = self.targets.find_or_add(target, face, first)? else {
             target.recall();
             return Ok(());
@@ -133,7 +133,7 @@ impl Entry {
         if let Some(kind) = slot_fault(limits, slot, reading) {
             return Err(Refusal::Kind(kind));
         }
-        self.targets.set(place, slot.with_reading(face, sight));
+        self.targets.set(place, slot.with_reading(face, angles));
         Ok(())
     }
 

@@ -5,15 +5,15 @@ ghost use Rattle.station_book.specs.declared.bounds.TheConstants.{CIRCLE};
 ghost use Rattle.station_book.specs.declared.limits.TheConstants.{LARGEST_LIMIT};
 ghost use Rattle.station_book.specs.Faults.{has_no_two_c, has_no_two_i};
 ghost use Rattle.station_book.specs.Pairs.{half_turned, two_c, two_i, direction};
-ghost use Rattle.station_book.specs.Sights.{AreOnCircle};
+ghost use Rattle.station_book.specs.TwoFaces.{AreOnCircle};
 
+use crate::angles::Angles;
 use crate::bounds::{CIRCLE, HALF_CIRCLE};
 use crate::faces::Faces;
-use crate::sight::Sight;
 use adjust_kernel::TURN;
 
 /// 2c and half a circle, from 0 up to a circle.
-fn half_turned(first: Sight, second: Sight) -> u32
+fn half_turned(first: Angles, second: Angles) -> u32
     requires first_in { AreOnCircle first }
     requires second_in { AreOnCircle second }
     ensures value { result ≡ half_turned first second }
@@ -23,7 +23,7 @@ fn half_turned(first: Sight, second: Sight) -> u32
 }
 
 /// The face differences.
-pub(crate) fn faces_of(first: Sight, second: Sight) -> Faces
+pub(crate) fn faces_of(first: Angles, second: Angles) -> Faces
     requires first_in { AreOnCircle first }
     requires second_in { AreOnCircle second }
     ensures two_c { result.two_c ≡ two_c first second }
@@ -35,7 +35,7 @@ pub(crate) fn faces_of(first: Sight, second: Sight) -> Faces
 }
 
 /// The two-face direction, in half units.
-pub(crate) fn direction_of(first: Sight, second: Sight) -> u32
+pub(crate) fn direction_of(first: Angles, second: Angles) -> u32
     requires first_in { AreOnCircle first }
     requires second_in { AreOnCircle second }
     ensures { result ≡ direction first second }
@@ -45,7 +45,7 @@ pub(crate) fn direction_of(first: Sight, second: Sight) -> u32
 
 /// Whether no 2c is within this limit.
 #[tactic(auto, unfolding(crate::specs::Faults::has_no_two_c))]
-pub(crate) fn has_no_two_c(limit: u32, first: Sight, second: Sight) -> bool
+pub(crate) fn has_no_two_c(limit: u32, first: Angles, second: Angles) -> bool
     requires limit { limit ≤ LARGEST_LIMIT }
     requires first_in { AreOnCircle first }
     requires second_in { AreOnCircle second }
@@ -57,7 +57,7 @@ pub(crate) fn has_no_two_c(limit: u32, first: Sight, second: Sight) -> bool
 
 /// Whether no 2i is within this limit.
 #[tactic(auto, unfolding(crate::specs::Faults::has_no_two_i))]
-pub(crate) fn has_no_two_i(limit: u32, first: Sight, second: Sight) -> bool
+pub(crate) fn has_no_two_i(limit: u32, first: Angles, second: Angles) -> bool
     requires limit { limit ≤ LARGEST_LIMIT }
     requires first_in { AreOnCircle first }
     requires second_in { AreOnCircle second }

@@ -8,12 +8,12 @@ ghost use Rattle.station_book.specs.Faults.{when, first_of, station_faults};
 ghost use Rattle.station_book.specs.Blocks.{has_two, named, number, number_of_name, target};
 ghost use Rattle.station_book.specs.Readings.{face_of, read};
 ghost use Rattle.station_book.specs.declared.fault.BookKind.TheVariants as kinds;
-ghost use Rattle.station_book.specs.Sights.{AreOnCircle};
+ghost use Rattle.station_book.specs.TwoFaces.{AreOnCircle};
 
+use crate::angles::{Angles, Reading};
 use crate::bounds::{CIRCLE, HALF_CIRCLE};
 use crate::face::Face;
 use crate::fault::BookKind;
-use crate::sight::{Sight, Sighting};
 use adjust_kernel::{LARGEST_SET_NUMBER, Name};
 use gsi_word::{
     Block, CODE_INFORMATION, Found, HORIZONTAL_DIRECTION, VERTICAL_ANGLE, Word, decimal_number,
@@ -91,10 +91,10 @@ fn target(block: &Block<'_>) -> Name
 }
 
 /// What a measurement block says: nothing where it has no direction.
-#[tactic(auto, unfolding(crate::specs::Blocks::has_two, crate::specs::Blocks::lacks, crate::specs::Blocks::angle_fault, crate::specs::Blocks::sight, crate::specs::Blocks::target))]
-pub(crate) fn read(block: &Block<'_>) -> Result<Option<Sighting>, BookKind>
+#[tactic(auto, unfolding(crate::specs::Blocks::has_two, crate::specs::Blocks::lacks, crate::specs::Blocks::angle_fault, crate::specs::Blocks::angles, crate::specs::Blocks::target))]
+pub(crate) fn read(block: &Block<'_>) -> Result<Option<Reading>, BookKind>
     ensures value { result ≡ read (block_of block.now) }
-    ensures angles { IfOk result (λ o. IfSome o (λ s. AreOnCircle s.sight)) }
+    ensures angles { IfOk result (λ o. IfSome o (λ s. AreOnCircle s.angles)) }
 {
     let (direction, zenith) = block.find_two(HORIZONTAL_DIRECTION, VERTICAL_ANGLE);
     let direction = match direction {
@@ -113,9 +113,9 @@ pub(crate) fn read(block: &Block<'_>) -> Result<Option<Sighting>, BookKind>
         return Err(BookKind::FaceUnclear);
     };
     let target = target(block);
-    Ok(Some(Sighting {
+    Ok(Some(Reading {
         target,
-        sight: Sight { hz, zenith },
+        angles: Angles { hz, zenith },
         face,
     }))
 }

@@ -7,15 +7,15 @@ ghost use Rattle.adjust_kernel.specs.Sheets.{IsSetNumber};
 ghost use Rattle.station_book.specs.Shelves.{empty_shelf, surveys_of, with_station, LastMayEnd, first_set_faults, last_of, change_last, is_known, more_set_faults};
 ghost use Rattle.station_book.specs.Faults.{first_of};
 ghost use Rattle.station_book.specs.Slots.{closing_faults};
-ghost use Rattle.station_book.specs.Sights.{AreOnCircle};
+ghost use Rattle.station_book.specs.TwoFaces.{AreOnCircle};
 ghost use Rattle.station_book.specs.Entries.{MayEnd, with_set, is_new_to, entry_faults, with_reading};
 ghost use Rattle.station_book.specs.Refusals.{ExplainsRefusal, WantsOnly};
 
+use crate::angles::Reading;
 use crate::bounds::MOST_STATIONS;
 use crate::entry::Entry;
 use crate::fault::{BookKind, Refusal};
 use crate::limits::Limits;
-use crate::sight::Sighting;
 use crate::stations::Stations;
 use crate::surveyed::Surveyed;
 use adjust_kernel::Name;
@@ -148,9 +148,9 @@ impl Shelf {
     }
 
     /// A reading in the last set of the last station.
-    pub(crate) fn take_reading(&mut self, limits: Limits, reading: Sighting) -> Result<(), Refusal>
+    pub(crate) fn take_reading(&mut self, limits: Limits, reading: Reading) -> Result<(), Refusal>
         requires some { 0 < length self.old }
-        requires angle { AreOnCircle reading.sight }
+        requires angle { AreOnCircle reading.angles }
         ensures clean { OnOk result
             (first_of (entry_faults limits (last_of self.old) reading) ≡ None) }
         ensures ok { OnOk result (self.new ≡ change_last (with_reading reading) self.old) }

@@ -6,22 +6,22 @@ ghost use Rattle.std.specs.List.{list_any, list_all};
 ghost use Rattle.std.specs.Option.{option_to_list};
 ghost use Rattle.station_book.specs.Faults.{first_of};
 ghost use Rattle.station_book.specs.Slots.{face_reading, with_face_reading, empty_slot, slot_faults, pair_fault, closing_faults, is_unread, is_single, IsKeptSlot, obs_at, obs_of, faces_at, faces_of};
-ghost use Rattle.station_book.specs.Sights.{AreOnCircle};
+ghost use Rattle.station_book.specs.TwoFaces.{AreOnCircle};
 
+use crate::angles::{Angles, Reading};
 use crate::face::Face;
 use crate::faces::Faces;
 use crate::fault::BookKind;
 use crate::limits::Limits;
 use crate::pair::{direction_of, faces_of, has_no_two_c, has_no_two_i};
-use crate::sight::{Sight, Sighting};
 use adjust_kernel::Obs;
 use std::alloc::AllocError;
 
 /// The readings of one target in a set.
 #[derive(Clone, Copy, Debug, PartialEq, Eq, Drop)]
 pub(crate) struct Slot {
-    pub first: Option<Sight>,
-    pub second: Option<Sight>,
+    pub first: Option<Angles>,
+    pub second: Option<Angles>,
 }
 
 /// A target without a reading.
@@ -36,7 +36,7 @@ pub(crate) fn empty_slot() -> Slot
 
 impl Slot {
     /// The reading of a face.
-    fn reading(self, face: Face) -> Option<Sight>
+    fn reading(self, face: Face) -> Option<Angles>
         ensures { result ≡ face_reading face self }
     {
         match face {
@@ -46,26 +46,26 @@ impl Slot {
     }
 
     /// The slot with a reading in this face.
-    pub(crate) fn with_reading(self, face: Face, sight: Sight) -> Slot
-        ensures { result ≡ with_face_reading face sight self }
+    pub(crate) fn with_reading(self, face: Face, angles: Angles) -> Slot
+        ensures { result ≡ with_face_reading face angles self }
     {
         match face {
             Face::One => Slot {
-                first: Some(sight),
+                first: Some(angles),
                 second: self.second,
             },
             Face::Two => Slot {
                 first: self.first,
-                second: Some(sight),
+                second: Some(angles),
             },
         }
     }
 }
 
 /// The fault of a reading of the slot's target, if it has one.
-pub(crate) fn slot_fault(limits: Limits, slot: Slot, reading: Sighting) -> Option<BookKind>
-    requires angles { IsKeptSlot slot }
-    requires sight { AreOnCircle reading.sight }
+pub(crate) fn slot_fault(limits: Limits, slot: Slot, reading: Reading) -> Option<BookKind>
+    requires slot { IsKeptSlot slot }
+    requires reading { AreOnCircle reading.angles }
     ensures { result ≡ first_of (slot_faults limits slot reading) }
 {
     if slot.reading(reading.face).is_some() {
@@ -74,12 +74,12 @@ pub(crate) fn slot_fault(limits: Limits, slot: Slot, reading: Sighting) -> Optio
     let Some(other) = slot.reading(reading.face.other()) else {
         return None;
     };
-    pair_fault(limits, reading.sight, other)
+    pair_fault(limits, reading.angles, other)
 }
 
 /// The fault of two readings of a target, one of each face, if they have one: whichever comes
 /// first, they have the same.
-fn pair_fault(limits: Limits, first: Sight, second: Sight) -> Option<BookKind>
+fn pair_fault(limits: Limits, first: Angles, second: Angles) -> Option<BookKind>
     requires first_in { AreOnCircle first }
     requires second_in { AreOnCircle second }
     ensures { result ≡ pair_fault limits first second }
