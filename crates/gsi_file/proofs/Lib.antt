@@ -7,3 +7,4 @@ pub mod Finding
 pub mod AnswerLaws
 pub mod LineFaultLaws
 pub mod FaultsToCome
+pub mod LawLemmas

@@ -1,5 +1,4 @@
-//! Laws of the definitions that contracts cite. The functions do nothing; some call the laws of the
-//! crate below that they follow from.
+//! Laws of the definitions that contracts cite. The functions do nothing.
 
 ghost use Rattle.std.specs.Prelude.{◌≡◌, ◌≤◌, ◌⊎◌, List, ℕ, length, take, Some, true};
 ghost use Rattle.byte_ends.specs.Source.{Told};
@@ -35,25 +34,19 @@ pub fn failed_read_needs_a_failing_source()
 /// A line has one fault at most.
 pub fn one_fault()
     ensures { (line : List ℕ) (a b : FileKind) → IsFileFault line a → IsFileFault line b → a ≡ b }
-{
-    gsi_word::laws::one_fault();
-}
+{}
 
 /// A line that is a block has no fault.
 pub fn no_fault_in_a_block()
     ensures { (line : List ℕ) (fault : FileKind) (block : GsiBlock)
         → IsFileFault line fault → ¬ IsBlock line block }
-{
-    gsi_word::laws::no_fault_in_a_block();
-}
+{}
 
 /// Each line is a block or has a fault.
 pub fn block_or_fault()
     ensures { (line : List ℕ) → ((block : GsiBlock) × IsBlock line block)
         ⊎ ((fault : FileKind) × IsFileFault line fault) }
-{
-    gsi_word::laws::block_or_fault();
-}
+{}
 
 /// The limits of a line and of a file, in bytes.
 pub fn limits()

@@ -10,3 +10,4 @@ pub mod Strays
 pub mod AngleLaws
 pub mod LineCases
 pub mod WordsLeft
+pub mod LawLemmas

@@ -15,3 +15,4 @@ pub mod OneAnswer
 pub mod TextRows
 pub mod TextLengths
 pub mod TextAgain
+pub mod LawLemmas

@@ -15,17 +15,10 @@ use Rattle.station_check.specs.Judged.{IsChecked}
 use Rattle.station_check.specs.Promise.{KeepsPromise}
 use Rattle.station_check.specs.Surveys.{Surveys, IsSurvey}
 use Rattle.station_check.specs.Verdicts.{BySheet, AnswersVerdict}
-use Rattle.station_check.proofs.Acceptance.{Accepts, accepted_so}
-use Rattle.station_check.proofs.OneVerdict.{HasOneVerdict, only_verdict}
-use Rattle.station_check.proofs.Refusals.{Refuses, HasOneOutcome, refused_so, told_of_file, none_first, first}
-
--- the laws that the promise rests on
-pub record PromiseLaws (limits : FaceLimits) : Type 0 where
-  pub accepts : Accepts
-  pub refuses : Refuses
-  pub one_verdict : HasOneVerdict
-  pub one_outcome : HasOneOutcome
-  pub small : AreLimits limits
+use Rattle.station_check.proofs.Acceptance.{accepted_so}
+use Rattle.station_check.proofs.LawLemmas.{acceptance, one_outcome, one_verdict, refusal}
+use Rattle.station_check.proofs.OneVerdict.{only_verdict}
+use Rattle.station_check.proofs.Refusals.{refused_so, told_of_file, none_first, first}
 
 -- the whole verdict on a sheet that was checked by a file's stations
 verdict_of : (limits : FaceLimits) (most : Option ℕ) (file : FileAnswers) (stated : Told) (stations : List SurveyedStation) (r : Result Accepted Fault) → IsSurvey limits file stations → IsChecked stations most stated r → AnswersVerdict limits most file stated r
@@ -35,16 +28,16 @@ verdict_of limits most file stated stations r s c = by_checked c.verdict where
   by_checked (inr h) = inr (record { came = Ok s.blocks; comes = s.file; verdict = (stations, s.stations_are, h) })
 
 -- The promise, where the field file has stations.
-pub promise_by_sheet : (limits : FaceLimits) → PromiseLaws limits → (most : Option ℕ) (file : FileAnswers) (stated : Told) (stations : List SurveyedStation) (r : Result Accepted Fault) → IsSurvey limits file stations → IfErr r IsOfSheet → IsChecked stations most stated r
+pub promise_by_sheet : (limits : FaceLimits) → AreLimits limits → (most : Option ℕ) (file : FileAnswers) (stated : Told) (stations : List SurveyedStation) (r : Result Accepted Fault) → IsSurvey limits file stations → IfErr r IsOfSheet → IsChecked stations most stated r
     → KeepsPromise limits most file stated r
-promise_by_sheet limits laws most file stated stations r s o c =
+promise_by_sheet limits small most file stated stations r s o c =
     let verdict = verdict_of limits most file stated stations r s c in
     record {
-      accepted = accepted_so laws.accepts limits laws.small most file stated stations r s c.judged;
-      refused = refused_so laws.refuses limits most file stated stations r s o c.judged c.verdict;
+      accepted = accepted_so acceptance limits small most file stated stations r s c.judged;
+      refused = refused_so refusal limits most file stated stations r s o c.judged c.verdict;
       verdict = verdict;
-      no_other = only_verdict laws.one_verdict limits most file stated r laws.small verdict;
-      file_first = none_first laws.one_outcome limits file stations r s;
+      no_other = only_verdict one_verdict limits most file stated r small verdict;
+      file_first = none_first one_outcome limits file stations r s;
     }
 
 -- the whole verdict, where the field file has a fault
@@ -60,13 +53,13 @@ file_verdict limits most file stated (Kernel fault) h = inr (record { came = Err
 file_verdict limits most file stated Write h = inr (record { came = Err Write; comes = h; verdict = refl })
 
 -- The promise, where the field file has a fault.
-pub promise_by_file : (limits : FaceLimits) → PromiseLaws limits → (most : Option ℕ) (file : FileAnswers) (stated : Told) (fault : Fault) → IsOfFile fault → Surveys limits file (Err fault) → KeepsPromise limits most file stated (Err fault)
-promise_by_file limits laws most file stated fault o h =
+pub promise_by_file : (limits : FaceLimits) → AreLimits limits → (most : Option ℕ) (file : FileAnswers) (stated : Told) (fault : Fault) → IsOfFile fault → Surveys limits file (Err fault) → KeepsPromise limits most file stated (Err fault)
+promise_by_file limits small most file stated fault o h =
     let verdict = file_verdict limits most file stated fault h in
     record {
       accepted = tt;
       refused = told_of_file limits most file stated fault o h;
       verdict = verdict;
-      no_other = only_verdict laws.one_verdict limits most file stated (Err fault) laws.small verdict;
-      file_first = first laws.one_outcome limits file fault h;
+      no_other = only_verdict one_verdict limits most file stated (Err fault) small verdict;
+      file_first = first one_outcome limits file fault h;
     }

@@ -1,5 +1,5 @@
-use Rattle.gsi_file.proofs.LineFaultLaws.{one_kind}
+use Rattle.gsi_file.proofs.LawLemmas.{one_fault}
 use Rattle.gsi_file.proofs.laws.one_fault.Goals as goal
 
 pub returns : goal.returns
-returns c = one_kind c.one_fault.ensures
+returns c = one_fault

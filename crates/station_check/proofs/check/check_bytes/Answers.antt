@@ -7,31 +7,29 @@ use Rattle.station_check.specs.Promise.{KeepsPromise}
 use Rattle.station_check.specs.Surveys.{Surveys}
 use Rattle.byte_ends.proofs.Coming.{came_so, anything_came}
 use Rattle.station_check.proofs.Leaving.{left_alone}
-use Rattle.station_check.proofs.Promises.{PromiseLaws, promise_by_sheet, promise_by_file}
+use Rattle.station_check.proofs.Promises.{promise_by_sheet, promise_by_file}
 use Rattle.station_check.proofs.Refusals.{of_check}
 use Rattle.station_check.proofs.check.check_bytes.Goals as goal
 
 pub returns-clause-promise : goal.returns-clause-promise
 returns-clause-promise g c =
-    let laws : PromiseLaws c.args.limits = record { accepts = c.acceptance.ensures; refuses = c.refusal.ensures; one_verdict = c.one_verdict.ensures; one_outcome = c.one_outcome.ensures.one; small = c.are_limits.ensures } in
     let stations = c.in_ok-stations.stations in
     came_so _ (λ (gsi : Told). Surveys c.args.limits (file_answers gsi) (Ok stations))
     (λ (gsi : Told). SomeBytesCame (g.Q.Source.told c.args.sheet.now) (λ (stated : Told). KeepsPromise c.args.limits c.args.residual (file_answers gsi) stated c.check_sheet.result))
     c.in_ok-stations.ensures.surveys
     (λ gsi s. came_so _ (λ (stated : Told). IsChecked stations c.args.residual stated c.check_sheet.result)
     (λ (stated : Told). KeepsPromise c.args.limits c.args.residual (file_answers gsi) stated c.check_sheet.result) c.check_sheet.ensures.checks
-    (λ stated checked. promise_by_sheet c.args.limits laws c.args.residual (file_answers gsi) stated stations c.check_sheet.result s c.check_sheet.ensures.of_sheet checked))
+    (λ stated checked. promise_by_sheet c.args.limits c.are_limits.ensures c.args.residual (file_answers gsi) stated stations c.check_sheet.result s c.check_sheet.ensures.of_sheet checked))
 
 pub returns-in_err-stations-clause-promise : goal.returns-in_err-stations-clause-promise
 returns-in_err-stations-clause-promise g c =
-    let laws : PromiseLaws c.args.limits = record { accepts = c.acceptance.ensures; refuses = c.refusal.ensures; one_verdict = c.one_verdict.ensures; one_outcome = c.one_outcome.ensures.one; small = c.are_limits.ensures } in
     let fault = c.in_err-stations.field-0.0 in
     let is_its : c.from_residual.result ≡ Err fault = search rules in
     rw is_its (came_so _ (λ (gsi : Told). Surveys c.args.limits (file_answers gsi) (Err fault))
     (λ (gsi : Told). SomeBytesCame (g.Q.Source.told c.args.sheet.now) (λ (stated : Told). KeepsPromise c.args.limits c.args.residual (file_answers gsi) stated (Err fault)))
     c.in_err-stations.ensures.surveys
     (λ gsi s. anything_came _ (λ (stated : Told). KeepsPromise c.args.limits c.args.residual (file_answers gsi) stated (Err fault))
-    (λ stated. promise_by_file c.args.limits laws c.args.residual (file_answers gsi) stated fault c.in_err-stations.ensures.of_file s)))
+    (λ stated. promise_by_file c.args.limits c.are_limits.ensures c.args.residual (file_answers gsi) stated fault c.in_err-stations.ensures.of_file s)))
 
 pub returns-clause-of_check : goal.returns-clause-of_check
 returns-clause-of_check g c = of_check c.check_sheet.result c.check_sheet.ensures.of_sheet

@@ -1,5 +1,5 @@
-use Rattle.station_check.proofs.Refusals.{refused_of}
+use Rattle.station_check.proofs.LawLemmas.{refusal}
 use Rattle.station_check.proofs.laws.refusal.Goals as goal
 
 pub returns : goal.returns
-returns c = refused_of c.its_station.ensures
+returns c = refusal
