@@ -11,7 +11,7 @@ use crate::adjusted::{directions_of, orientations_of};
 use crate::complete::is_complete;
 use crate::fault::MeansFault;
 use crate::rows::rows_of;
-use adjust_kernel::{Direction, Orientation, Row, Sheet, Station, laws};
+use adjust_kernel::{Direction, Orientation, Row, Sheet, Station};
 use std::alloc::Global;
 
 /// The sheet with these means.
@@ -35,7 +35,6 @@ fn sheet_of(
     ensures small { HasSmallNumbers result }
 {
     let denominator = station.sets().len() as u64 * station.targets().len() as u64;
-    laws::acceptance();
     Sheet::of_valid(station.name(), denominator, directions, orientations, rows)
 }
 

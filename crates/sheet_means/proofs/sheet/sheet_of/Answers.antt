@@ -1,6 +1,7 @@
 use Rattle.std.proofs.Common.{◌*◌, length, None, sym, ◌∙◌, subst}
 use Rattle.adjust_kernel.specs.Sheets.{SheetValue, IsSheet}
 use Rattle.adjust_kernel.specs.Verdict.{IsAcceptedSheet}
+use Rattle.adjust_kernel.proofs.LawLemmas.{accepted_sheet}
 use Rattle.sheet_means.specs.Means.{IsMeansSheet, IsUnturnedAtFirst}
 use Rattle.sheet_means.proofs.MeansSheetLaws.{is_sheet, is_means_sheet, is_unturned, targets_add_up, sets_add_up, holds_together, some_readings}
 use Rattle.sheet_means.proofs.sheet.sheet_of.Goals as goal
@@ -29,7 +30,7 @@ returns-clause-accepted c =
     let orientations = c.args.orientations.items in
     subst (λ (sheet : SheetValue). IsAcceptedSheet station sheet None)
     (sym (c.of_valid.ensures ∙ (λ i. record { name = c.name.ensures.value i; denominator = length (c.sets.ensures.value i) * length (c.targets.ensures.value i); directions = directions; orientations = orientations; rows = rows })))
-    (c.acceptance.ensures.accepted station (record { name = station.name; denominator = length station.sets * length station.targets; directions = directions; orientations = orientations; rows = rows }) None
+    (accepted_sheet station (record { name = station.name; denominator = length station.sets * length station.targets; directions = directions; orientations = orientations; rows = rows }) None
     (is_means_sheet station valid c.requires.complete rows c.requires.rows directions c.requires.directions orientations c.requires.orientations).matches
     (targets_add_up station valid c.requires.complete rows c.requires.rows directions c.requires.directions orientations c.requires.orientations)
     (sets_add_up station valid c.requires.complete rows c.requires.rows directions c.requires.directions orientations c.requires.orientations)
