@@ -2,4 +2,3 @@
 pub use Rattle.sheet_format.proofs.OneAnswer.{one-sheet as one_sheet, one-fault as one_fault}
 pub use Rattle.sheet_format.proofs.OneAnswer.{never-both as never_both}
 pub use Rattle.sheet_format.proofs.OneAnswer.{sheet-or-fault as some_answer}
-pub use Rattle.sheet_format.proofs.TextAgain.{text-again as text_stands}

@@ -3,6 +3,7 @@
 ghost use Rattle.std.specs.Prelude.{◌≡◌, true, Err, OnOk};
 ghost use Rattle.std.specs.Io.KnownBytes.{Appends};
 ghost use Rattle.byte_ends.specs.Sink.{AppendsSome};
+ghost use Rattle.sheet_format.specs.Rows.{IsSheetText};
 ghost use Rattle.sheet_format.specs.Texts as spec;
 ghost use Rattle.sheet_format.specs.declared.fault.WriteFault.TheVariants as fault;
 
@@ -16,6 +17,8 @@ use std::alloc::Global;
 ///
 /// The text is made in memory first, so that a refusal of memory comes before anything is written.
 pub fn write_sheet<W: Sink>(alloc: Global, sheet: &Sheet, writer: &mut W) -> Result<(), WriteFault>
+    // The text stands for the sheet.
+    ensures stands { IsSheetText (spec.sheet_text sheet.now) sheet.now }
     ensures written { OnOk result
         (Appends (W.holds writer.old) (W.holds writer.new) (spec.sheet_text sheet.now)) }
     ensures unfailed { OnOk result (W.failed writer.new ≡ W.failed writer.old) }
