@@ -10,3 +10,4 @@ pub mod StatedDirections
 pub mod OneAnswer
 pub mod TableLengths
 pub mod TableAgain
+pub mod LawLemmas

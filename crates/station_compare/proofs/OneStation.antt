@@ -1,40 +1,33 @@
 -- A field file has one station of a name, or none.
 use Rattle.std.proofs.Common.{◌≡◌, ℕ, List, Some, None, Ok, Err, sym, ap, subst, ◌∙◌}
-use Rattle.std.specs.Prelude.{◌↔◌}
 use Rattle.gsi_file.specs.FileAnswers.{FileAnswers}
 use Rattle.station_book.specs.Limits.{AreLimits, FaceLimits}
 use Rattle.station_book.specs.Places.{History}
 use Rattle.station_book.specs.Stations.{AreStations, SurveyedStation, station_named}
-use Rattle.station_check.proofs.Refusals.{HasOneOutcome}
+use Rattle.station_book.proofs.LawLemmas.{one_survey}
+use Rattle.station_check.proofs.LawLemmas.{one_outcome, station_of_file}
 use Rattle.station_check.specs.Means.{HasNoStation, HasStation}
 use Rattle.station_check.specs.Records.{FileComesTo}
 use Rattle.station_check.specs.StationOfFile.{IsStationOfFile}
 use Rattle.station_check.specs.Surveys.{IsSurvey}
 use Rattle.station_check.specs.declared.fault.Fault.{Fault}
 
--- what the crates below prove of a file: it comes to one thing, has one list of stations, and the
--- station of a name is that of the lines
-pub record OneEachFile : Type 0 where
-  pub outcome : HasOneOutcome
-  pub survey : (limits : FaceLimits) (h : History) (a b : List SurveyedStation) → AreLimits limits → AreStations limits h a → AreStations limits h b → a ≡ b
-  pub station : (limits : FaceLimits) (file : FileAnswers) (name : List ℕ) (its : SurveyedStation) → AreLimits limits → HasStation limits file name its ↔ IsStationOfFile limits file name its
-
-module _ (one : OneEachFile) (limits : FaceLimits) (small : AreLimits limits) (file : FileAnswers) (name : List ℕ) where
+module _ (limits : FaceLimits) (small : AreLimits limits) (file : FileAnswers) (name : List ℕ) where
   has_station : (its : SurveyedStation) → IsStationOfFile limits file name its → HasStation limits file name its
-  has_station its s = (one.station limits file name its small).1 s
+  has_station its s = (station_of_file limits file name its small).1 s
 
   -- a file that has stations has no fault
   pub no_file_fault : (its : SurveyedStation) → IsStationOfFile limits file name its → (fault : Fault) → FileComesTo limits file (Err fault) → ⊥
   no_file_fault its s fault h =
       let has = has_station its s in
-      let e : Ok has.survey.blocks ≡ Err fault = one.outcome limits file (Ok has.survey.blocks) (Err fault) has.survey.file h in
+      let e : Ok has.survey.blocks ≡ Err fault = one_outcome limits file (Ok has.survey.blocks) (Err fault) has.survey.file h in
       cc
 
   same_survey : (a b : List SurveyedStation) → IsSurvey limits file a → IsSurvey limits file b → a ≡ b
   same_survey a b s t =
-      let e : Ok s.blocks ≡ Ok t.blocks = one.outcome limits file (Ok s.blocks) (Ok t.blocks) s.file t.file in
+      let e : Ok s.blocks ≡ Ok t.blocks = one_outcome limits file (Ok s.blocks) (Ok t.blocks) s.file t.file in
       let same : s.blocks ≡ t.blocks = cc in
-      one.survey limits t.blocks a b small (subst (λ (h : History). AreStations limits h a) same s.stations_are) t.stations_are
+      one_survey limits t.blocks a b small (subst (λ (h : History). AreStations limits h a) same s.stations_are) t.stations_are
 
   -- so a name has one station
   pub same_station : (a b : SurveyedStation) → IsStationOfFile limits file name a → IsStationOfFile limits file name b → a ≡ b

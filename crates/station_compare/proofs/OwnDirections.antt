@@ -6,6 +6,7 @@ use Rattle.adjust_kernel.specs.declared.kernel_fault.KernelFault.TheVariants.{Na
 use Rattle.adjust_kernel.specs.declared.limits.TheConstants.{LARGEST_RESIDUAL_LIMIT}
 use Rattle.byte_ends.specs.Input.{Input, Ended, RanPast, input_within}
 use Rattle.byte_ends.specs.Source.{Told}
+use Rattle.direction_table.proofs.LawLemmas.{never_both, one_table}
 use Rattle.direction_table.specs.TableTexts.{directions_of}
 use Rattle.direction_table.specs.Tables.{IsTableFault, IsTableText}
 use Rattle.direction_table.specs.Texts.{step_of}
@@ -14,6 +15,7 @@ use Rattle.direction_table.specs.declared.reading.TheConstants.{LONGEST_TABLE}
 use Rattle.direction_table.specs.declared.table.TargetDirection.{TargetDirection}
 use Rattle.gsi_file.specs.FileAnswers.{FileAnswers}
 use Rattle.sheet_apart.specs.Apart.{stated_by}
+use Rattle.stated_directions.proofs.LawLemmas.{rounded}
 use Rattle.stated_directions.proofs.TiesLaws.{measured_is_tied}
 use Rattle.stated_directions.specs.Faults.{IsAdjustFault}
 use Rattle.stated_directions.specs.Told.{AreTold, IsTold, as_stated}
@@ -24,7 +26,7 @@ use Rattle.station_book.specs.Stations.{SurveyedStation}
 use Rattle.station_check.specs.StationOfFile.{IsStationOfFile}
 use Rattle.station_check.specs.declared.fault.Fault.{Fault}
 use Rattle.station_check.specs.declared.fault.Fault.TheVariants as lines
-use Rattle.station_compare.proofs.OneStation.{OneEachFile, never_none, no_file_fault, same_station}
+use Rattle.station_compare.proofs.OneStation.{never_none, no_file_fault, same_station}
 use Rattle.station_compare.specs.Agreeing.{Agrees}
 use Rattle.station_compare.specs.Answers.{Compares, IsRefusedByTable}
 use Rattle.station_compare.specs.Comparing.{ByInput, ByTable}
@@ -34,14 +36,6 @@ use Rattle.station_compare.specs.declared.agreement.Agreement.{Agreement}
 use Rattle.station_compare.specs.declared.fault.CompareFault.{CompareFault}
 use Rattle.station_compare.specs.declared.fault.CompareFault.TheVariants.{File, TableRead, Table}
 use Rattle.station_compare.specs.declared.fault.CompareFault.TheVariants.{Adjust, Apart, Write, Memory}
-
--- what the crates below prove: a file has one station of a name, bytes are one table or have a fault,
--- and directions that were rounded to little are apart by little
-pub record OneEach : Type 0 where
-  pub file : OneEachFile
-  pub table : (targets : List (List ℕ)) (bytes : List ℕ) (a b : List ℤ) → IsTableText targets bytes a → IsTableText targets bytes b → a ≡ b
-  pub never_both : (targets : List (List ℕ)) (bytes : List ℕ) (directions : List ℤ) (fault : TableFault) → IsTableText targets bytes directions → IsTableFault targets bytes fault → ⊥
-  pub rounded : (station : StationValue) (limit other step apart : ℕ) (directions : List ℕ) → AreTold station limit step directions → IsTold station other (as_stated directions) apart → step ≤ 1_000 → apart ≤ 1
 
 power_small : (k : ℕ) → k ≤ 3 → 10 ^ k ≤ 1_000
 power_small zero h = omega arith
@@ -63,13 +57,13 @@ read_as (row ∷ rows) = ap (λ ds. pos row.direction ∷ ds) (read_as rows)
 read_whole : (bytes : List ℕ) → length bytes ≤ LONGEST_TABLE → input_within LONGEST_TABLE (record { bytes = bytes; fails = false }) ≡ Ended bytes
 read_whole bytes short = ap (λ (past : Bool). if past then RanPast else Ended bytes) (le-ltb LONGEST_TABLE (length bytes) short)
 
-module _ (one : OneEach) (count : ℕ) (text : List ℕ) (many : 6 ≤ count) where
+module _ (count : ℕ) (text : List ℕ) (many : 6 ≤ count) where
   -- own directions beside their station
   module _ (station : StationValue) (own : IsDirectionsText station count text) where
     own_apart : (directions : List ℤ) (apart : ℕ) → IsTableText station.targets text directions → IsTold station LARGEST_RESIDUAL_LIMIT (stated_by directions) apart → apart ≤ 1
     own_apart directions apart states told =
-        let same : directions ≡ map pos (numbers_of own.stated) = one.table station.targets text directions (directions_of own.stated) states own.reads ∙ read_as own.stated in
-        one.rounded station LARGEST_RESIDUAL_LIMIT LARGEST_RESIDUAL_LIMIT (step_of count) apart (numbers_of own.stated) own.told
+        let same : directions ≡ map pos (numbers_of own.stated) = one_table station.targets text directions (directions_of own.stated) states own.reads ∙ read_as own.stated in
+        rounded station LARGEST_RESIDUAL_LIMIT LARGEST_RESIDUAL_LIMIT (step_of count) apart (numbers_of own.stated) own.told
         (subst (λ ds. IsTold station LARGEST_RESIDUAL_LIMIT (stated_by ds) apart) same told) (small_step count many)
 
     no_more : (within apart : ℕ) → within < apart → apart ≤ 1 → (within ≡ 0) × (apart ≡ 1)
@@ -91,7 +85,7 @@ module _ (one : OneEach) (count : ℕ) (text : List ℕ) (many : 6 ≤ count) wh
     by_table : (within : ℕ) (fault : CompareFault) → ByTable station within text (Err fault) → MayRefuse within fault
     by_table within (File fault) h = h
     by_table within TableRead h = h
-    by_table within (Table fault) h = absurd (one.never_both station.targets text (directions_of own.stated) fault own.reads h)
+    by_table within (Table fault) h = absurd (never_both station.targets text (directions_of own.stated) fault own.reads h)
     by_table within (Adjust fault) h = unadjusted within fault h.fault_stands
     by_table within (Apart apart) h = no_more within apart h.0 (own_apart h.1.directions apart h.1.states h.1.told)
     by_table within Write h = h
@@ -106,7 +100,7 @@ module _ (one : OneEach) (count : ℕ) (text : List ℕ) (many : 6 ≤ count) wh
 
     -- the station that a comparison finds is that of the directions
     its : (other : SurveyedStation) → IsStationOfFile limits file name other → IsDirectionsText other.station count text
-    its other s = subst (λ (o : SurveyedStation). IsDirectionsText o.station count text) (same_station one.file limits small file name own.its other own.station s) own.directions
+    its other s = subst (λ (o : SurveyedStation). IsDirectionsText o.station count text) (same_station limits small file name own.its other own.station s) own.directions
 
     pub agrees_by_1 : (within : ℕ) (a : Agreement) → Agrees limits file whole name within a → a.apart ≤ 1
     agrees_by_1 within a h =
@@ -119,15 +113,15 @@ module _ (one : OneEach) (count : ℕ) (text : List ℕ) (many : 6 ≤ count) wh
         by_table h.its.station (its h.its h.station) within fault (subst (λ (input : Input). ByInput h.its.station within input (Err fault)) read h.by_input)
 
     refused_by_file : (within : ℕ) (fault : Fault) → Compares limits file whole name within (Err (File fault)) → ⊥
-    refused_by_file within lines.NoStation h = never_none one.file limits small file name own.its own.station h
-    refused_by_file within (lines.Gsi fault) h = no_file_fault one.file limits small file name own.its own.station (lines.Gsi fault) h
-    refused_by_file within (lines.Book fault) h = no_file_fault one.file limits small file name own.its own.station (lines.Book fault) h
-    refused_by_file within lines.SheetRead h = no_file_fault one.file limits small file name own.its own.station lines.SheetRead h
-    refused_by_file within (lines.Sheet fault) h = no_file_fault one.file limits small file name own.its own.station (lines.Sheet fault) h
-    refused_by_file within (lines.Means fault) h = no_file_fault one.file limits small file name own.its own.station (lines.Means fault) h
-    refused_by_file within (lines.Kernel fault) h = no_file_fault one.file limits small file name own.its own.station (lines.Kernel fault) h
-    refused_by_file within lines.Write h = no_file_fault one.file limits small file name own.its own.station lines.Write h
-    refused_by_file within lines.Memory h = no_file_fault one.file limits small file name own.its own.station lines.Memory h
+    refused_by_file within lines.NoStation h = never_none limits small file name own.its own.station h
+    refused_by_file within (lines.Gsi fault) h = no_file_fault limits small file name own.its own.station (lines.Gsi fault) h
+    refused_by_file within (lines.Book fault) h = no_file_fault limits small file name own.its own.station (lines.Book fault) h
+    refused_by_file within lines.SheetRead h = no_file_fault limits small file name own.its own.station lines.SheetRead h
+    refused_by_file within (lines.Sheet fault) h = no_file_fault limits small file name own.its own.station (lines.Sheet fault) h
+    refused_by_file within (lines.Means fault) h = no_file_fault limits small file name own.its own.station (lines.Means fault) h
+    refused_by_file within (lines.Kernel fault) h = no_file_fault limits small file name own.its own.station (lines.Kernel fault) h
+    refused_by_file within lines.Write h = no_file_fault limits small file name own.its own.station lines.Write h
+    refused_by_file within lines.Memory h = no_file_fault limits small file name own.its own.station lines.Memory h
 
     pub may_refuse : (within : ℕ) (fault : CompareFault) → Compares limits file whole name within (Err fault) → MayRefuse within fault
     may_refuse within (File fault) h = refused_by_file within fault h

@@ -11,11 +11,10 @@ use crate::compare::largest_limit;
 use crate::fault::CompareFault;
 use adjust_kernel::{Name, Station};
 use byte_ends::{Sink, Source};
-use direction_table::laws::table_reads_back;
 use direction_table::{Decimals, TargetDirection, table_text};
 use stated_directions::rounded_directions;
 use station_book::Limits;
-use station_check::laws::{are_limits, station_of_file};
+use station_check::laws::are_limits;
 use station_check::{Fault, stations_of_file, write_whole};
 use std::alloc::{AllocError, Global};
 
@@ -41,8 +40,7 @@ pub fn directions_text<R: Source>(
         (λ text. StatesDirections limits file name.now decimals text.items)
         (HasNoDirections limits file name.now)) }
 {
-    // What the promise rests on.
-    station_of_file();
+    // The promise rests on laws of limits that were made.
     are_limits(limits);
     let stations = stations_of_file(alloc, gsi, limits)?;
     let Some(surveyed) = stations.get(name) else {
@@ -83,8 +81,6 @@ fn text_of_station(
         (λ text. IsDirectionsText station.now decimals text.items)
         (HasNoTable station.now) }
 {
-    // The text is read as this very table.
-    table_reads_back();
     let directions = rounded_directions(alloc, station, step_of(decimals), largest_limit())?;
     let stated = rows_of(alloc, station.targets(), &directions)?;
     Ok(table_text(alloc, &stated, decimals)?)

@@ -26,11 +26,4 @@ pub fn directions_agree()
         → 6 ≤ count → StatesDirections limits file name count text
         → Compares limits file (record { bytes = text; fails = false }) name within (Err fault)
         → MayRefuse within fault }
-{
-    station_check::laws::one_outcome();
-    station_check::laws::station_of_file();
-    station_book::laws::one_survey();
-    direction_table::laws::one_table();
-    direction_table::laws::never_both();
-    stated_directions::laws::rounded();
-}
+{}

@@ -7,6 +7,7 @@ use Rattle.byte_ends.specs.Source.{Told}
 use Rattle.direction_table.specs.declared.reading.TheConstants.{LONGEST_TABLE}
 use Rattle.gsi_file.specs.FileAnswers.{file_answers}
 use Rattle.station_check.specs.Surveys.{Surveys}
+use Rattle.station_check.proofs.LawLemmas.{station_of_file}
 use Rattle.station_compare.proofs.Comparisons.{compares_by_file, compares_by_table}
 use Rattle.station_compare.specs.Answers.{Compares}
 use Rattle.station_compare.specs.Comparing.{ByInput}
@@ -27,7 +28,7 @@ returns-clause-compares g c =
     (λ (stated : Told). Compares c.args.limits (file_answers gsi) stated c.args.name.now c.args.within answer)
     (subst (λ (station : StationValue). SomeBytesCame (g.Q.Source.told c.args.table.now) (λ (stated : Told). ByInput station c.args.within (input_within LONGEST_TABLE stated) answer)) c.station.ensures c.compare_station.ensures.compares)
     (λ stated by_input. compares_by_table c.args.limits (file_answers gsi) stated c.args.name.now c.args.within its answer
-    ((c.station_of_file.ensures c.args.limits (file_answers gsi) c.args.name.now its c.are_limits.ensures).0 (record { stations = stations; survey = survey; named = sym c.get.ensures ∙ ap option_copied c.in-Some.is }))
+    ((station_of_file c.args.limits (file_answers gsi) c.args.name.now its c.are_limits.ensures).0 (record { stations = stations; survey = survey; named = sym c.get.ensures ∙ ap option_copied c.in-Some.is }))
     by_input))
 
 pub returns-in_err-stations-clause-compares : goal.returns-in_err-stations-clause-compares

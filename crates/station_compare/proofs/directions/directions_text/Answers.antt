@@ -5,6 +5,7 @@ use Rattle.byte_ends.proofs.Coming.{came_so}
 use Rattle.byte_ends.specs.Source.{Told}
 use Rattle.gsi_file.specs.FileAnswers.{file_answers}
 use Rattle.station_check.specs.Surveys.{Surveys}
+use Rattle.station_check.proofs.LawLemmas.{station_of_file}
 use Rattle.station_compare.proofs.TablesOf.{tells_by_station}
 use Rattle.station_compare.specs.Directions.{HasNoDirections, HasNoTable, IsDirectionsText, StatesDirections}
 use Rattle.station_compare.proofs.directions.directions_text.Goals as goal
@@ -18,5 +19,5 @@ returns g c =
     (λ (gsi : Told). MatchResult answer (λ text. StatesDirections c.args.limits (file_answers gsi) c.args.name.now c.args.decimals text.items) (HasNoDirections c.args.limits (file_answers gsi) c.args.name.now))
     c.in_ok-stations.ensures.surveys
     (λ gsi survey. tells_by_station (λ text. text.items) c.args.limits (file_answers gsi) c.args.name.now c.args.decimals its answer
-    ((c.station_of_file.ensures c.args.limits (file_answers gsi) c.args.name.now its c.are_limits.ensures).0 (record { stations = stations; survey = survey; named = sym c.get.ensures ∙ ap option_copied c.in-Some.is }))
+    ((station_of_file c.args.limits (file_answers gsi) c.args.name.now its c.are_limits.ensures).0 (record { stations = stations; survey = survey; named = sym c.get.ensures ∙ ap option_copied c.in-Some.is }))
     (subst (λ (station : StationValue). MatchResult answer (λ text. IsDirectionsText station c.args.decimals text.items) (HasNoTable station)) c.station.ensures c.text_of_station.ensures))

@@ -2,6 +2,7 @@ use Rattle.std.proofs.Common.{◌≡◌, ℕ, List, All, rules, sym, subst}
 use Rattle.direction_table.specs.TableTexts.{directions_of, names_of, table_text}
 use Rattle.direction_table.specs.Tables.{IsTableText}
 use Rattle.direction_table.specs.Texts.{IsWhole}
+use Rattle.direction_table.proofs.LawLemmas.{table_reads_back}
 use Rattle.station_compare.proofs.TablesOf.{all_by_part}
 use Rattle.station_compare.specs.Directions.{numbers_of}
 use Rattle.station_compare.proofs.directions.text_of_station.Goals as goal
@@ -24,5 +25,5 @@ returns c =
       near = search rules;
       told = search rules;
       reads = subst (λ (t : List ℕ). IsTableText station.targets t (directions_of rows)) (sym text_is)
-          (c.table_reads_back.ensures station.targets count rows c.targets.ensures.valid.targets named (search rules) (all_by_part (IsWhole count) (λ row. row.direction) rows whole));
+          (table_reads_back station.targets count rows c.targets.ensures.valid.targets named (search rules) (all_by_part (IsWhole count) (λ row. row.direction) rows whole));
     }
