@@ -114,8 +114,6 @@ accepted_of finds recorded beside keeps limits most file told stations a small s
       lines = subst (λ (bs : List GsiBlock). AllZip IsBlock file.lines bs) in_order well.each;
       faultless = well.faultless;
       closed = well.closed;
-      bytes = judged.bytes;
-      whole = judged.whole;
       sheet = judged.sheet;
       states = judged.states;
       stations = stations;

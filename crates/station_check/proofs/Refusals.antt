@@ -4,6 +4,8 @@ use Rattle.std.specs.Prelude.{IfErr}
 use Rattle.byte_ends.specs.Source.{Told}
 use Rattle.byte_ends.specs.Input.{Input, input_within, Ended, BrokeOff, RanPast}
 use Rattle.gsi_file.specs.FileAnswers.{FileAnswers}
+use Rattle.gsi_file.specs.declared.file_fault.FileFault.TheVariants as file
+use Rattle.station_book.specs.declared.fault.BookFault.TheVariants as book
 use Rattle.adjust_kernel.specs.Sheets.{SheetValue}
 use Rattle.adjust_kernel.specs.Verdict.{IsVerdict}
 use Rattle.adjust_kernel.specs.declared.accepted.Accepted.{Accepted}
@@ -97,10 +99,8 @@ unnamed finds limits file told stations survey found =
     record {
       stations = stations;
       survey = survey;
-      bytes = found.bytes;
-      whole = found.whole;
       sheet = found.sheet;
-      states = found.states;
+      states = record { bytes = found.bytes; whole = found.whole; states = found.states };
       absent = λ other among same.
           let e : Some other ≡ None = sym ((finds limits blocks stations found.sheet.name other well.faultless survey.stations_are).1 (among, same)) ∙ found.none in cc;
     }
@@ -110,8 +110,6 @@ judged_badly : (limits : FaceLimits) (most : Option ℕ) (file : FileAnswers) (t
 judged_badly limits most file told stations fault survey judged = record {
   stations = stations;
   survey = survey;
-  bytes = judged.bytes;
-  whole = judged.whole;
   sheet = judged.sheet;
   states = judged.states;
   its = judged.judged.its;
@@ -216,3 +214,17 @@ of_check (Err (Means fault)) o = o
 of_check (Err (Kernel fault)) o = o
 of_check (Err Write) o = o
 of_check (Err Memory) o = o
+
+-- A fault of the field file may be answered by a check.
+pub file_of_check : (fault : Fault) → IsOfFile fault → IsOfCheck fault
+file_of_check (Gsi (file.At number what)) o = tt
+file_of_check (Gsi file.Memory) o = absurd o
+file_of_check (Book (book.At number what)) o = tt
+file_of_check (Book book.Memory) o = absurd o
+file_of_check SheetRead o = absurd o
+file_of_check (Sheet fault) o = absurd o
+file_of_check NoStation o = absurd o
+file_of_check (Means fault) o = absurd o
+file_of_check (Kernel fault) o = absurd o
+file_of_check Write o = absurd o
+file_of_check Memory o = tt

@@ -23,6 +23,12 @@ use Rattle.station_book.specs.Places.{History}
 use Rattle.station_book.specs.Recorded.{IsRecorded, IsRecordedWith}
 use Rattle.station_book.specs.Stations.{SurveyedStation, AreStations}
 
+-- A source gives bytes, no more than a sheet may have, and then ends; and they state this sheet.
+pub record StatesSheet (stated : Told) (sheet : SheetValue) : Type 0 where
+  pub bytes : List ℕ
+  pub whole : input_within LONGEST_SHEET stated ≡ Ended bytes
+  pub states : IsSheetText bytes sheet
+
 -- Of these lines and the end after them, and of these bytes of a sheet and how they end, this is
 -- the acceptance; `most` is the residual limit in half units, where one is stated.
 pub record IsAccepted (limits : FaceLimits) (most : Option ℕ) (file : FileAnswers) (stated : Told)
@@ -35,10 +41,8 @@ pub record IsAccepted (limits : FaceLimits) (most : Option ℕ) (file : FileAnsw
   pub faultless : IsWithoutFault limits blocks
   pub closed : fault_at_end blocks ≡ None
   -- The sheet was read to its end, and its bytes state this sheet.
-  pub bytes : List ℕ
-  pub whole : input_within LONGEST_SHEET stated ≡ Ended bytes
   pub sheet : SheetValue
-  pub states : IsSheetText bytes sheet
+  pub states : StatesSheet stated sheet
   -- Its station: of the stations of these blocks the one that has the sheet's name.
   pub stations : List SurveyedStation
   pub surveyed : AreStations limits blocks stations

@@ -1,18 +1,18 @@
 -- The kernel's verdict on a sheet, as it came about.
 use Rattle.std.specs.Prelude.{◌≡◌, ◌⊎◌, ℕ, List, Option, Some, Result, Ok, Err, OnOk}
 use Rattle.byte_ends.specs.Source.{Told}
-use Rattle.byte_ends.specs.Input.{input_within, Ended}
+use Rattle.byte_ends.specs.Input.{input_within}
 use Rattle.adjust_kernel.specs.Matching.{Matches}
 use Rattle.adjust_kernel.specs.Promises.{TellsOfSquares}
 use Rattle.adjust_kernel.specs.Sheets.{SheetValue}
 use Rattle.adjust_kernel.specs.Verdict.{IsVerdict}
 use Rattle.adjust_kernel.specs.declared.accepted.Accepted.{Accepted}
 use Rattle.adjust_kernel.specs.declared.kernel_fault.KernelFault.{KernelFault}
-use Rattle.sheet_format.specs.Rows.{IsSheetText}
 use Rattle.sheet_format.specs.declared.reading.TheConstants.{LONGEST_SHEET}
 use Rattle.station_book.specs.Stations.{SurveyedStation, station_named}
 use Rattle.station_check.specs.declared.fault.Fault.{Fault}
 use Rattle.station_check.specs.declared.fault.Fault.TheVariants.{Kernel, Memory}
+use Rattle.station_check.specs.Accepted.{StatesSheet}
 use Rattle.station_check.specs.Verdicts.{BySheet}
 
 -- Of these stations the one of the sheet's name was found, and the kernel gave this verdict, which
@@ -28,10 +28,8 @@ pub record IsJudged (stations : List SurveyedStation) (most : Option ℕ) (sheet
 -- The sheet was read to its end, its bytes state this sheet, and it was judged so.
 pub record IsJudgedSheet (stations : List SurveyedStation) (most : Option ℕ) (stated : Told)
     (v : Result Accepted KernelFault) : Type 0 where
-  pub bytes : List ℕ
-  pub whole : input_within LONGEST_SHEET stated ≡ Ended bytes
   pub sheet : SheetValue
-  pub states : IsSheetText bytes sheet
+  pub states : StatesSheet stated sheet
   pub judged : IsJudged stations most sheet v
 
 -- what P says of the kernel's verdict, where the answer is one

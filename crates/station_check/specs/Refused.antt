@@ -9,7 +9,6 @@ use Rattle.adjust_kernel.specs.Sheets.{SheetValue}
 use Rattle.adjust_kernel.specs.Verdict.{IsVerdict}
 use Rattle.adjust_kernel.specs.declared.accepted.Accepted.{Accepted}
 use Rattle.adjust_kernel.specs.declared.kernel_fault.KernelFault.{KernelFault}
-use Rattle.sheet_format.specs.Rows.{IsSheetText}
 use Rattle.sheet_format.specs.Faults.{IsSheetFault}
 use Rattle.sheet_format.specs.declared.fault.SheetFault.{SheetFault}
 use Rattle.sheet_format.specs.declared.fault.SheetFault.TheVariants as sheet
@@ -19,6 +18,7 @@ use Rattle.station_book.specs.Stations.{SurveyedStation, station_named}
 use Rattle.station_check.specs.declared.fault.Fault.{Fault}
 use Rattle.station_check.specs.declared.fault.Fault.TheVariants.{Gsi, Book, SheetRead, Sheet}
 use Rattle.station_check.specs.declared.fault.Fault.TheVariants.{NoStation, Kernel, Memory}
+use Rattle.station_check.specs.Accepted.{StatesSheet}
 use Rattle.station_check.specs.FirstFault.{IsFirstFault}
 use Rattle.station_check.specs.Records.{FileComesTo}
 use Rattle.station_check.specs.Surveys.{IsSurvey}
@@ -74,10 +74,8 @@ pub record IsRefusedByName (limits : FaceLimits) (file : FileAnswers) (stated : 
   pub stations : List SurveyedStation
   pub survey : IsSurvey limits file stations
   -- The sheet was read to its end, and its bytes state this sheet.
-  pub bytes : List ℕ
-  pub whole : input_within LONGEST_SHEET stated ≡ Ended bytes
   pub sheet : SheetValue
-  pub states : IsSheetText bytes sheet
+  pub states : StatesSheet stated sheet
   -- None of the stations has its name.
   pub absent : (other : SurveyedStation) → Contains stations other
       → other.station.name ≢ sheet.name
@@ -89,10 +87,8 @@ pub record IsRefusedByKernel (limits : FaceLimits) (most : Option ℕ) (file : F
   pub stations : List SurveyedStation
   pub survey : IsSurvey limits file stations
   -- The sheet was read to its end, and its bytes state this sheet.
-  pub bytes : List ℕ
-  pub whole : input_within LONGEST_SHEET stated ≡ Ended bytes
   pub sheet : SheetValue
-  pub states : IsSheetText bytes sheet
+  pub states : StatesSheet stated sheet
   -- The fault is the first that stands of the sheet and the station of its name.
   pub its : SurveyedStation
   pub named : station_named sheet.name stations ≡ Some its
