@@ -3,8 +3,6 @@ use Rattle.std.specs.Prelude.{◌≡◌, ℕ, ◌+◌, ◌<◌, ◌≤◌, Bool,
 use Rattle.std.specs.Int.{is_in_range}
 use Rattle.std.specs.List.{count_by, last_or, list_all}
 use Rattle.std.specs.Option.{option_or}
-use Rattle.csv.specs.declared.error.ErrorKind.{ErrorKind}
-use Rattle.csv.specs.declared.error.ErrorKind.TheVariants as error
 use Rattle.adjust_kernel.specs.declared.limits.TheConstants.{LARGEST_SET_NUMBER, LARGEST_TURN, LONGEST_NAME, MOST_ROWS, MOST_SETS, MOST_TARGETS, TURN}
 use Rattle.adjust_kernel.specs.declared.name.TheConstants.{FIRST_PRINTABLE, LAST_PRINTABLE}
 use Rattle.sheet_format.specs.Columns.{Fields, columns_of}
@@ -195,13 +193,3 @@ IsSheetFault bytes Memory = ⊥
 -- A refusal is the fault of the bytes, or that memory ran out.
 abbrev pub IsFaultOrMemory : List ℕ → SheetFault → Type 0
 IsFaultOrMemory bytes fault = IsSheetFault bytes fault ⊎ (fault ≡ Memory)
-
--- an error of `csv` that may come of a read of bytes in memory, as rows of any length: memory was
--- refused, or the input failed, which `csv` leaves open over any reader
-abbrev pub IsMemoryOrInput : ErrorKind → Type 0
-IsMemoryOrInput error.OutOfMemory = Unit {0}
-IsMemoryOrInput (error.Io why) = Unit {0}
-IsMemoryOrInput (error.Utf8 at why) = ⊥
-IsMemoryOrInput (error.UnequalLengths at expected len) = ⊥
-IsMemoryOrInput (error.Serialize why) = ⊥
-IsMemoryOrInput (error.Deserialize at why) = ⊥

@@ -5,5 +5,6 @@ pub mod Columns
 pub mod Rows
 pub mod Faults
 pub mod FaultNames
+pub mod Errors
 pub mod Drafts
 pub mod Texts

@@ -1,5 +1,5 @@
 -- The text of a sheet, as it is written.
-use Rattle.std.specs.Prelude.{◌≡◌, ℕ, Bool, false, ◌&&◌, nat_le, if◌then◌else◌, List, Option, Some}
+use Rattle.std.specs.Prelude.{◌≡◌, ℕ, Bool, false, ◌&&◌, nat_le, if◌then◌else◌, ◌++◌, List, Option, Some}
 use Rattle.std.specs.List.{flat_map, list_all}
 use Rattle.csv.specs.Writing.{default_writer, fields_written, has_written, row_text, text_written, writer_setup}
 use Rattle.csv.specs.declared.writer.Writer.{Writer}
@@ -38,3 +38,8 @@ pub record HasWritten {W : Type 0} (contents : W → Option (List ℕ)) (writer 
   pub fields : fields_written writer ≡ 0
   pub between : has_written writer ≡ false
   pub whole : text_written contents writer ≡ Some text
+
+-- whatever text stood between two rows before, this was written after it, and again it stands so
+abbrev pub Writes : {W : Type 0} → (W → Option (List ℕ)) → Writer W → Writer W → List ℕ → Type 0
+Writes contents before after written =
+    (text : List ℕ) → HasWritten contents before text → HasWritten contents after (text ++ written)

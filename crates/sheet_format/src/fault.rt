@@ -1,10 +1,16 @@
 //! Why bytes are no sheet, and why a sheet was not written.
 
 ghost use Rattle.std.specs.Prelude.{◌≡◌, ◌≤◌, length};
+ghost use Rattle.csv.specs.Reading.{error_kind};
+ghost use Rattle.sheet_format.specs.Errors.{IsMemoryOrInput};
 ghost use Rattle.sheet_format.specs.FaultNames.{row_kind_name, sheet_fault_name};
+ghost use Rattle.sheet_format.specs.declared.fault.SheetFault.TheVariants as sheet_fault;
+ghost use Rattle.sheet_format.specs.declared.fault.WriteFault.TheVariants as write_fault;
 
 use crate::reading::LONGEST_SHEET;
 use adjust_kernel::{LONGEST_NAME, MOST_ROWS, MOST_SETS, MOST_TARGETS};
+use byte_ends::Failed;
+use csv::IntoInnerError;
 use thiserror::Error;
 
 /// What is wrong with a row of a sheet, in the order in which it is looked for.
@@ -93,6 +99,18 @@ impl SheetFault {
     }
 }
 
+/// An error of `csv` is out of memory: where rows are read as bytes and may be of any length, no
+/// other comes, but for one of the input. Bytes in memory have none, and `csv` leaves it open over
+/// any reader.
+impl From<csv::Error> for SheetFault {
+    ghost from_gives = { λ error fault.
+        IsMemoryOrInput (error_kind error) → fault ≡ sheet_fault.Memory };
+
+    fn from(_: csv::Error) -> SheetFault {
+        SheetFault::Memory
+    }
+}
+
 /// Why a sheet was not written.
 #[derive(Clone, Copy, Debug, PartialEq, Eq, Error)]
 pub enum WriteFault {
@@ -103,4 +121,31 @@ pub enum WriteFault {
     /// whether it is open and has room.
     #[error("a write failed: see whether the output is open and has room")]
     Write,
+}
+
+/// An error of `csv` is out of memory: the text of a sheet is made there.
+impl From<csv::Error> for WriteFault {
+    ghost from_gives = { λ _ fault. fault ≡ write_fault.Memory };
+
+    fn from(_: csv::Error) -> WriteFault {
+        WriteFault::Memory
+    }
+}
+
+/// So is one that comes where the text is taken out of `csv`'s writer.
+impl<W: Drop> From<IntoInnerError<W>> for WriteFault {
+    ghost from_gives = { λ _ fault. fault ≡ write_fault.Memory };
+
+    fn from(_: IntoInnerError<W>) -> WriteFault {
+        WriteFault::Memory
+    }
+}
+
+/// A call of the writer that failed is a failed write.
+impl From<Failed> for WriteFault {
+    ghost from_gives = { λ _ fault. fault ≡ write_fault.Write };
+
+    fn from(_: Failed) -> WriteFault {
+        WriteFault::Write
+    }
 }

@@ -5,15 +5,14 @@
 
 ghost use Rattle.std.specs.Prelude.{◌≡◌, ◌≤◌, ◌⊎◌, length, Err, IfErr, IfOk, Ok};
 ghost use Rattle.adjust_kernel.specs.Sheets.{SheetValue};
-ghost use Rattle.csv.specs.Reading.{error_kind};
-ghost use Rattle.sheet_format.specs.Faults.{IsFaultOrMemory, IsMemoryOrInput, IsSheetFault};
+ghost use Rattle.sheet_format.specs.Faults.{IsFaultOrMemory, IsSheetFault};
 ghost use Rattle.sheet_format.specs.Rows.{IsSheetText};
 ghost use Rattle.sheet_format.specs.declared.fault.SheetFault.TheVariants.{Memory};
 
 use crate::draft::{Draft, Refusal};
 use crate::fault::{RowKind, SheetFault};
 use adjust_kernel::Sheet;
-use csv::{ByteRecord, Error, ErrorKind, ReaderBuilder};
+use csv::{ByteRecord, ReaderBuilder};
 use std::alloc::Global;
 
 /// The most bytes of a sheet.
@@ -51,10 +50,7 @@ fn read_rows(alloc: Global, bytes: &[u8]) -> Result<Sheet, SheetFault>
     let mut draft = Draft::new(alloc);
     let mut row = ByteRecord::new(alloc);
     'rows: loop {
-        let found = match reader.read_byte_record(&mut row) {
-            Ok(found) => found,
-            Err(error) => return Err(fault_of(error)),
-        };
+        let found = reader.read_byte_record(&mut row)?;
         let number = draft.taken() + 1;
         if !found {
             match draft.finish() {
@@ -67,19 +63,5 @@ fn read_rows(alloc: Global, bytes: &[u8]) -> Result<Sheet, SheetFault>
             Err(Refusal::Fault(kind)) => return Err(SheetFault::Row(number, kind)),
             Err(Refusal::Memory) => return Err(SheetFault::Memory),
         }
-    }
-}
-
-/// The answer to an error of `csv`: out of memory.
-///
-/// No other error comes where rows are read as bytes and may be of any length, but for one of the
-/// input. Bytes in memory have none, and `csv` leaves it open over any reader.
-fn fault_of(error: Error) -> SheetFault
-    requires { IsMemoryOrInput (error_kind error) }
-    ensures { result ≡ Memory }
-{
-    match error.into_kind() {
-        ErrorKind::OutOfMemory | ErrorKind::Io(_) => SheetFault::Memory,
-        _ => unreachable!(),
     }
 }

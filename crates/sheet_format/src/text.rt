@@ -2,7 +2,7 @@
 //!
 //! The rows go through `csv`'s writer, which puts quotes where a name asks for them.
 
-ghost use Rattle.std.specs.Prelude.{◌≡◌, [], ◌∷◌, ◌++◌, List, ℕ, map, IfErr, IfOk, OnOk};
+ghost use Rattle.std.specs.Prelude.{◌≡◌, map, IfErr, IfOk, OnOk};
 ghost use Rattle.adjust_kernel.specs.Sheets.{IsSheet};
 ghost use Rattle.csv.specs.Writing.{default_writer, row_text};
 ghost use Rattle.sheet_format.specs.Rows.{obs_fields, set_fields, sheet_fields, target_fields};
@@ -12,7 +12,7 @@ ghost use Rattle.sheet_format.specs.declared.fault.WriteFault.TheVariants.{Memor
 use crate::fault::WriteFault;
 use crate::version::Version;
 use adjust_kernel::{Direction, Name, Orientation, Row, Sheet};
-use csv::{Writer, WriterBuilder};
+use csv::{Error, Writer, WriterBuilder};
 use itoa::Buffer;
 use std::alloc::Global;
 use std::io::Write;
@@ -25,15 +25,14 @@ pub(crate) fn sheet_text(alloc: Global, sheet: &Sheet) -> Result<Vec<u8>, WriteF
 {
     let mut writer = WriterBuilder::new().from_writer(Vec::new(alloc));
     push_sheet(&mut writer, sheet)?;
-    writer.into_inner().map_err(|_| WriteFault::Memory)
+    Ok(writer.into_inner()?)
 }
 
-// Writes the rows of a sheet.
-fn push_sheet<W: Write + Drop>(writer: &mut Writer<W>, sheet: &Sheet) -> Result<(), WriteFault>
-    ensures ok { OnOk result ((text : List ℕ) → spec.HasWritten W.contents writer.old text
-        → spec.HasWritten W.contents writer.new (text ++ spec.sheet_text sheet.now)) }
+/// Writes the rows of a sheet.
+fn push_sheet<W: Write + Drop>(writer: &mut Writer<W>, sheet: &Sheet) -> Result<(), Error>
+    ensures ok { OnOk result (spec.Writes W.contents writer.old writer.new
+        (spec.sheet_text sheet.now)) }
     ensures valid { IsSheet sheet.now }
-    ensures err { IfErr result (λ fault. fault ≡ Memory) }
 {
     push_header(
         writer,
@@ -46,27 +45,23 @@ fn push_sheet<W: Write + Drop>(writer: &mut Writer<W>, sheet: &Sheet) -> Result<
     push_obs(writer, sheet.rows())
 }
 
-// Writes one row after those that were written.
-fn push_row<W: Write + Drop>(writer: &mut Writer<W>, fields: &[&[u8]]) -> Result<(), WriteFault>
-    ensures ok { OnOk result ((text : List ℕ) → spec.HasWritten W.contents writer.old text
-        → spec.HasWritten W.contents writer.new
-        (text ++ row_text default_writer (map (λ f. f.now) fields.now))) }
-    ensures err { IfErr result (λ fault. fault ≡ Memory) }
+/// Writes one row after those that were written.
+fn push_row<W: Write + Drop>(writer: &mut Writer<W>, fields: &[&[u8]]) -> Result<(), Error>
+    ensures { OnOk result (spec.Writes W.contents writer.old writer.new
+        (row_text default_writer (map (λ f. f.now) fields.now))) }
 {
-    writer.write_fields(fields).map_err(|_| WriteFault::Memory)
+    writer.write_fields(fields)
 }
 
-// Writes the first row.
+/// Writes the first row.
 fn push_header<W: Write + Drop>(
     writer: &mut Writer<W>,
     version: Version,
     name: Name,
     denominator: u64,
-) -> Result<(), WriteFault>
-    ensures ok { OnOk result ((text : List ℕ) → spec.HasWritten W.contents writer.old text
-        → spec.HasWritten W.contents writer.new
-        (text ++ row_text default_writer (sheet_fields version name denominator))) }
-    ensures err { IfErr result (λ fault. fault ≡ Memory) }
+) -> Result<(), Error>
+    ensures { OnOk result (spec.Writes W.contents writer.old writer.new
+        (row_text default_writer (sheet_fields version name denominator))) }
 {
     let mut number = Buffer::new();
     push_row(
@@ -81,15 +76,10 @@ fn push_header<W: Write + Drop>(
     )
 }
 
-// Writes the row of a target.
-fn push_target<W: Write + Drop>(
-    writer: &mut Writer<W>,
-    direction: &Direction,
-) -> Result<(), WriteFault>
-    ensures ok { OnOk result ((text : List ℕ) → spec.HasWritten W.contents writer.old text
-        → spec.HasWritten W.contents writer.new
-        (text ++ row_text default_writer (target_fields direction.now))) }
-    ensures err { IfErr result (λ fault. fault ≡ Memory) }
+/// Writes the row of a target.
+fn push_target<W: Write + Drop>(writer: &mut Writer<W>, direction: &Direction) -> Result<(), Error>
+    ensures { OnOk result (spec.Writes W.contents writer.old writer.new
+        (row_text default_writer (target_fields direction.now))) }
 {
     let mut value = Buffer::new();
     push_row(
@@ -104,15 +94,10 @@ fn push_target<W: Write + Drop>(
     )
 }
 
-// Writes the row of a set.
-fn push_set<W: Write + Drop>(
-    writer: &mut Writer<W>,
-    orientation: &Orientation,
-) -> Result<(), WriteFault>
-    ensures ok { OnOk result ((text : List ℕ) → spec.HasWritten W.contents writer.old text
-        → spec.HasWritten W.contents writer.new
-        (text ++ row_text default_writer (set_fields orientation.now))) }
-    ensures err { IfErr result (λ fault. fault ≡ Memory) }
+/// Writes the row of a set.
+fn push_set<W: Write + Drop>(writer: &mut Writer<W>, orientation: &Orientation) -> Result<(), Error>
+    ensures { OnOk result (spec.Writes W.contents writer.old writer.new
+        (row_text default_writer (set_fields orientation.now))) }
 {
     let mut number = Buffer::new();
     let mut value = Buffer::new();
@@ -128,15 +113,13 @@ fn push_set<W: Write + Drop>(
     )
 }
 
-// Writes the rows of the targets.
+/// Writes the rows of the targets.
 fn push_targets<W: Write + Drop>(
     writer: &mut Writer<W>,
     directions: &[Direction],
-) -> Result<(), WriteFault>
-    ensures ok { OnOk result ((text : List ℕ) → spec.HasWritten W.contents writer.old text
-        → spec.HasWritten W.contents writer.new
-        (text ++ spec.rows_text (map target_fields directions.now))) }
-    ensures err { IfErr result (λ fault. fault ≡ Memory) }
+) -> Result<(), Error>
+    ensures { OnOk result (spec.Writes W.contents writer.old writer.new
+        (spec.rows_text (map target_fields directions.now))) }
 {
     for direction in directions {
         push_target(writer, direction)?;
@@ -144,15 +127,13 @@ fn push_targets<W: Write + Drop>(
     Ok(())
 }
 
-// Writes the rows of the sets.
+/// Writes the rows of the sets.
 fn push_sets<W: Write + Drop>(
     writer: &mut Writer<W>,
     orientations: &[Orientation],
-) -> Result<(), WriteFault>
-    ensures ok { OnOk result ((text : List ℕ) → spec.HasWritten W.contents writer.old text
-        → spec.HasWritten W.contents writer.new
-        (text ++ spec.rows_text (map set_fields orientations.now))) }
-    ensures err { IfErr result (λ fault. fault ≡ Memory) }
+) -> Result<(), Error>
+    ensures { OnOk result (spec.Writes W.contents writer.old writer.new
+        (spec.rows_text (map set_fields orientations.now))) }
 {
     for orientation in orientations {
         push_set(writer, orientation)?;
@@ -162,11 +143,9 @@ fn push_sets<W: Write + Drop>(
 
 /// Writes the rows of the observations. The numbers of all rows are made into text in the same
 /// place.
-fn push_obs<W: Write + Drop>(writer: &mut Writer<W>, rows: &[Row]) -> Result<(), WriteFault>
-    ensures ok { OnOk result ((text : List ℕ) → spec.HasWritten W.contents writer.old text
-        → spec.HasWritten W.contents writer.new
-        (text ++ spec.rows_text (map obs_fields rows.now))) }
-    ensures err { IfErr result (λ fault. fault ≡ Memory) }
+fn push_obs<W: Write + Drop>(writer: &mut Writer<W>, rows: &[Row]) -> Result<(), Error>
+    ensures { OnOk result (spec.Writes W.contents writer.old writer.new
+        (spec.rows_text (map obs_fields rows.now))) }
 {
     let mut number = Buffer::new();
     let mut value = Buffer::new();

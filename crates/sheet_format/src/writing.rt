@@ -32,6 +32,7 @@ pub fn write_sheet<W: Sink>(alloc: Global, sheet: &Sheet, writer: &mut W) -> Res
     ensures failed { result ≡ Err fault.Write → W.failed writer.new ≡ true }
 {
     let text = sheet_text(alloc, sheet)?;
-    writer.write_all(&text).map_err(|_| WriteFault::Write)?;
-    writer.flush().map_err(|_| WriteFault::Write)
+    writer.write_all(&text)?;
+    writer.flush()?;
+    Ok(())
 }
