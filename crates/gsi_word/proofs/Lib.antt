@@ -6,7 +6,7 @@ pub mod NameLaws
 pub mod DecimalLaws
 pub mod FoundLaws
 pub mod PrintableLaws
-pub mod Strays
+pub mod Unprintable
 pub mod AngleLaws
 pub mod LineCases
 pub mod WordsLeft

@@ -60,9 +60,9 @@ fn number_of_eight(bytes: &[u8]) -> Option<u64>
 fn are_digits(bytes: &[u8]) -> bool
     ensures { result ≡ list_all is_ascii_digit bytes.now }
 {
-    let mut stray = false;
+    let mut other = false;
     for byte in bytes {
-        stray |= !byte.is_ascii_digit();
+        other |= !byte.is_ascii_digit();
     }
-    !stray
+    !other
 }

@@ -5,7 +5,7 @@ ghost use Rattle.std.specs.Int.{trailing_zeros, w64};
 
 /// The place of the lowest bit of a mask that is set, or how many lanes there are.
 #[inline(always)]
-pub(crate) fn first_set(mask: u64, lanes: usize) -> usize
+pub(crate) fn lowest_lane(mask: u64, lanes: usize) -> usize
     ensures { result ≡ (if mask == 0 then lanes else trailing_zeros w64 mask) }
 {
     if mask == 0 {

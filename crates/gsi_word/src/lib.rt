@@ -14,9 +14,9 @@ mod found;
 mod index;
 mod lanes;
 pub mod laws;
+mod line;
 mod line_fault;
 mod printable;
-mod reading;
 mod shape;
 #[cfg(test)]
 mod tests;
@@ -31,9 +31,9 @@ pub use found::Found;
 pub use index::{
     CODE_INFORMATION, CODE_NUMBER, HORIZONTAL_DIRECTION, POINT_NUMBER, VERTICAL_ANGLE,
 };
+pub use line::{block_in, read_block, read_words};
 pub use line_fault::LineFault;
-pub use printable::{LOAD, check_printable, printable_run};
-pub use reading::{block_in, read_block, read_words};
+pub use printable::{LANES, check_printable, printable_run};
 pub use shape::Shape;
 pub use word::Word;
 pub use words::Words;

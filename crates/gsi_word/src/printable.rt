@@ -10,11 +10,11 @@ ghost use Rattle.gsi_word.specs.Words.{IsPrintable};
 ghost use Rattle.gsi_word.specs.LineFaults.{IsByteFault};
 ghost use Rattle.gsi_word.specs.Layout.{is_printable};
 
-use crate::lanes::first_set;
+use crate::lanes::lowest_lane;
 use std::simd::prelude::*;
 
-/// How many bytes are tested together: those of one load.
-pub const LOAD: usize = 16;
+/// How many bytes are tested together: one in each lane of a load.
+pub const LANES: usize = 16;
 
 /// Whether a byte may stand in a line: a blank or a visible character of ASCII.
 fn is_printable(byte: u8) -> bool
@@ -27,22 +27,22 @@ fn is_printable(byte: u8) -> bool
 fn are_printable(bytes: &[u8]) -> bool
     ensures { IsTrue result ↔ All IsPrintable bytes.now }
 {
-    if bytes.len() < LOAD {
-        return has_no_stray(bytes);
+    if bytes.len() < LANES {
+        return has_no_unprintable(bytes);
     }
-    let whole = bytes.len() / LOAD * LOAD;
-    has_no_stray(&bytes[..whole]) && has_no_stray(&bytes[bytes.len() - LOAD..])
+    let whole = bytes.len() / LANES * LANES;
+    has_no_unprintable(&bytes[..whole]) && has_no_unprintable(&bytes[bytes.len() - LANES..])
 }
 
 /// The same, in one pass.
-fn has_no_stray(bytes: &[u8]) -> bool
+fn has_no_unprintable(bytes: &[u8]) -> bool
     ensures { IsTrue result ↔ All IsPrintable bytes.now }
 {
-    let mut stray = false;
+    let mut unprintable = false;
     for byte in bytes {
-        stray |= !is_printable(*byte);
+        unprintable |= !is_printable(*byte);
     }
-    !stray
+    !unprintable
 }
 
 /// Whether all bytes may stand in a line, or the place of the first, from 1, that may not.
@@ -53,30 +53,30 @@ pub fn check_printable(line: &[u8]) -> Result<(), usize>
     if are_printable(line) {
         return Ok(());
     }
-    match first_stray(line) {
+    match first_unprintable(line) {
         Some(place) => Err(place + 1),
         None => Ok(()),
     }
 }
 
 /// The place of the first byte, from 0, that may not stand in a line.
-fn first_stray(line: &[u8]) -> Option<usize>
+fn first_unprintable(line: &[u8]) -> Option<usize>
     ensures { result ≡ position (λ b. not (is_printable b)) line.now }
 {
     line.iter().position(|byte| !is_printable(*byte))
 }
 
-/// With how many bytes that may stand in a line the load at a place begins: all [`LOAD`] of them, or
-/// those before the first that may not.
+/// With how many bytes that may stand in a line the load at a place begins: all [`LANES`] of them,
+/// or those before the first that may not.
 #[inline(always)]
 pub fn printable_run(bytes: &[u8], at: usize) -> usize
-    requires { at + LOAD ≤ length bytes.now }
-    ensures within { result ≤ LOAD }
+    requires { at + LANES ≤ length bytes.now }
+    ensures within { result ≤ LANES }
     ensures printable { (k : ℕ) → at ≤ k → k < at + result
         → IsPrintable (slice_index bytes.now k) }
-    ensures stray { result < LOAD → ¬ IsPrintable (slice_index bytes.now (at + result)) }
+    ensures unprintable { result < LANES → ¬ IsPrintable (slice_index bytes.now (at + result)) }
 {
     let load = u8x16::from_slice(&bytes[at..]);
-    let stray = load.simd_lt(u8x16::splat(b' ')) | load.simd_gt(u8x16::splat(b'~'));
-    first_set(stray.to_bitmask(), LOAD)
+    let unprintable = load.simd_lt(u8x16::splat(b' ')) | load.simd_gt(u8x16::splat(b'~'));
+    lowest_lane(unprintable.to_bitmask(), LANES)
 }

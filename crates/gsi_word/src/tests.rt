@@ -1,7 +1,7 @@
 //! Worked lines, words, names and angles.
 
 use crate::{
-    AngleFault, CODE_INFORMATION, CODE_NUMBER, Found, HORIZONTAL_DIRECTION, LOAD, LineFault,
+    AngleFault, CODE_INFORMATION, CODE_NUMBER, Found, HORIZONTAL_DIRECTION, LANES, LineFault,
     POINT_NUMBER, VERTICAL_ANGLE, Word, decimal_number, laws, printable_run, read_block,
 };
 use std::process::Abort;
@@ -320,7 +320,7 @@ fn a_load_begins_with_a_run_of_printable_bytes(rt: HostRuntime) {
         (b"0\xff23456789\x1fBCDEFGHI", 3, 7),
     ];
     for (row, (bytes, at, run)) in rows.iter().enumerate() {
-        if bytes.len() >= LOAD && *at <= bytes.len() - LOAD {
+        if bytes.len() >= LANES && *at <= bytes.len() - LANES {
             assert_eq!(rt; printable_run(bytes, *at), *run, "row {row}");
         } else {
             assert!(rt; false, "row {row}");

@@ -4,7 +4,7 @@ ghost use Rattle.std.specs.Prelude.{◌≡◌, ◌<◌, ◌==◌, length, drop, 
 ghost use Rattle.std.specs.List.{prefix_len};
 ghost use Rattle.gsi_word.specs.Names.{name_of};
 
-use crate::lanes::first_set;
+use crate::lanes::lowest_lane;
 use crate::word::{GSI_8, GSI_16};
 use std::simd::prelude::*;
 
@@ -31,9 +31,9 @@ fn leading_zeros(content: &[u8]) -> usize
 {
     if content.len() == GSI_8 {
         let others = u8x8::from_slice(content).simd_ne(u8x8::splat(b'0'));
-        first_set(others.to_bitmask(), GSI_8)
+        lowest_lane(others.to_bitmask(), GSI_8)
     } else {
         let others = u8x16::from_slice(content).simd_ne(u8x16::splat(b'0'));
-        first_set(others.to_bitmask(), GSI_16)
+        lowest_lane(others.to_bitmask(), GSI_16)
     }
 }

@@ -5,11 +5,11 @@ use Rattle.gsi_word.specs.Words.{IsPrintable}
 use Rattle.gsi_word.proofs.PrintableLaws.{all_of_both}
 use Rattle.gsi_word.proofs.printable.are_printable.Goals as goal
 
-pub returns-then-has_no_stray : goal.returns-then-has_no_stray
-returns-then-has_no_stray c =
+pub returns-then-has_no_unprintable : goal.returns-then-has_no_unprintable
+returns-then-has_no_unprintable c =
     let bytes = c.args.bytes.now in
     let last = length bytes - 16 in
     let rest = take_rest bytes last in (
-      λ yes. all_of_both bytes (length bytes / 16 * 16) last (omega arith) (search rules) (subst (All IsPrintable) rest (c.has_no_stray-then-has_no_stray.ensures.0 yes)),
-      λ all. c.has_no_stray-then-has_no_stray.ensures.1 (subst (All IsPrintable) (sym rest) (All-drop IsPrintable last bytes all)),
+      λ yes. all_of_both bytes (length bytes / 16 * 16) last (omega arith) (search rules) (subst (All IsPrintable) rest (c.has_no_unprintable-then-has_no_unprintable.ensures.0 yes)),
+      λ all. c.has_no_unprintable-then-has_no_unprintable.ensures.1 (subst (All IsPrintable) (sym rest) (All-drop IsPrintable last bytes all)),
     )

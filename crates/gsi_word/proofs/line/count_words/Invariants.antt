@@ -1,5 +1,5 @@
 use Rattle.std.proofs.Common.{◌+◌, ◌≤◌, length}
-use Rattle.gsi_word.proofs.reading.count_words.Given as goal
+use Rattle.gsi_word.proofs.line.count_words.Given as goal
 use Rattle.gsi_word.proofs.RunLaws.{Runs}
 
 abbrev pub invariant-words : goal.invariant-words

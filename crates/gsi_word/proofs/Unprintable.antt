@@ -29,8 +29,8 @@ pub printable_where_unset : (b : ℕ) → top 7 (lane (nat_lt b 32) (nat_lt 126 
 printable_where_unset b e = let both = neither (nat_lt b 32) (nat_lt 126 b) e in (ltb-false _ _ both.0, ltb-false _ _ both.1)
 
 -- a byte whose lane is set is not printable
-pub stray_where_set : (b : ℕ) → top 7 (lane (nat_lt b 32) (nat_lt 126 b)) ≡ true → ¬ IsPrintable b
-stray_where_set b e p = elim (either (nat_lt b 32) (nat_lt 126 b) e) [
+pub unprintable_where_set : (b : ℕ) → top 7 (lane (nat_lt b 32) (nat_lt 126 b)) ≡ true → ¬ IsPrintable b
+unprintable_where_set b e p = elim (either (nat_lt b 32) (nat_lt 126 b) e) [
   | inl below ↦ let lt = ltb-true _ _ below in omega (arith, lt, p.0)
   | inr above ↦ let lt = ltb-true _ _ above in omega (arith, lt, p.1)
 ]
@@ -53,5 +53,5 @@ module _ (bytes : List ℕ) (at : ℕ) (room : at + 16 ≤ length bytes) (run : 
   pub run_is_printable : ((b : ℕ) → top 7 (f b) ≡ false → IsPrintable b) → (k : ℕ) → at ≤ k → k < at + run → IsPrintable (get_or bytes k 0)
   run_is_printable unset k from to = unset (get_or bytes k 0) (run_in_chunk_fails (λ b. top 7 (f b)) bytes at 16 run 0 room counted k from to)
 
-  pub run_ends_at_a_stray : ((b : ℕ) → top 7 (f b) ≡ true → ¬ IsPrintable b) → run < 16 → ¬ IsPrintable (get_or bytes (at + run) 0)
-  run_ends_at_a_stray set short = set (get_or bytes (at + run) 0) (run_in_chunk_stops (λ b. top 7 (f b)) bytes at 16 run 0 room counted short)
+  pub run_ends_at_an_unprintable : ((b : ℕ) → top 7 (f b) ≡ true → ¬ IsPrintable b) → run < 16 → ¬ IsPrintable (get_or bytes (at + run) 0)
+  run_ends_at_an_unprintable set short = set (get_or bytes (at + run) 0) (run_in_chunk_stops (λ b. top 7 (f b)) bytes at 16 run 0 room counted short)
