@@ -1,4 +1,5 @@
 pub mod Numbers
+pub mod Numerals
 pub mod Versions
 pub mod Kinds
 pub mod Columns

@@ -8,6 +8,7 @@ ghost use Rattle.sheet_format.specs.Columns.{columns_view};
 ghost use Rattle.sheet_format.specs.Drafts as spec;
 ghost use Rattle.sheet_format.specs.Faults as faults;
 ghost use Rattle.sheet_format.specs.Numbers.{is_at_most, natural_of};
+ghost use Rattle.sheet_format.specs.Numerals.{number_of};
 ghost use Rattle.sheet_format.specs.Versions.{largest_angle};
 
 use crate::columns::Columns;
@@ -39,10 +40,10 @@ fn name_of(field: &[u8]) -> Option<Name>
 /// The number of a set.
 #[inline(always)]
 fn set_number(number: &Numeral<'_>) -> Option<u16>
-    ensures value { IfSome result (λ set. set ≡ natural_of number.now) }
+    ensures value { IfSome result (λ set. set ≡ natural_of (number_of number.now)) }
     ensures valid { IfSome result IsSetNumber }
-    ensures within { OnSome result (faults.is_set_number number.now ≡ true) }
-    ensures outside { IfNone result (faults.is_set_number number.now ≡ false) }
+    ensures within { OnSome result (faults.is_set_number (number_of number.now) ≡ true) }
+    ensures outside { IfNone result (faults.is_set_number (number_of number.now) ≡ false) }
 {
     number
         .small_within(1, i32::from(LARGEST_SET_NUMBER))
@@ -52,10 +53,10 @@ fn set_number(number: &Numeral<'_>) -> Option<u16>
 /// A direction on the circle, in half units.
 #[inline(always)]
 fn circle_value(number: &Numeral<'_>) -> Option<u32>
-    ensures value { IfSome result (λ value. value ≡ natural_of number.now) }
+    ensures value { IfSome result (λ value. value ≡ natural_of (number_of number.now)) }
     ensures valid { IfSome result (λ value. value < TURN) }
-    ensures within { OnSome result (faults.is_circle_value number.now ≡ true) }
-    ensures outside { IfNone result (faults.is_circle_value number.now ≡ false) }
+    ensures within { OnSome result (faults.is_circle_value (number_of number.now) ≡ true) }
+    ensures outside { IfNone result (faults.is_circle_value (number_of number.now) ≡ false) }
 {
     number
         .small_within(0, TURN as i32 - 1)
@@ -65,10 +66,10 @@ fn circle_value(number: &Numeral<'_>) -> Option<u32>
 /// The full turns of an observation.
 #[inline(always)]
 fn full_turns(number: &Numeral<'_>) -> Option<i8>
-    ensures value { IfSome result (λ turns. turns ≡ number.now) }
+    ensures value { IfSome result (λ turns. turns ≡ number_of number.now) }
     ensures valid { IfSome result (IsWithin LARGEST_TURN) }
-    ensures within { OnSome result (is_at_most LARGEST_TURN number.now ≡ true) }
-    ensures outside { IfNone result (is_at_most LARGEST_TURN number.now ≡ false) }
+    ensures within { OnSome result (is_at_most LARGEST_TURN (number_of number.now) ≡ true) }
+    ensures outside { IfNone result (is_at_most LARGEST_TURN (number_of number.now) ≡ false) }
 {
     let most = i32::from(LARGEST_TURN);
     number.small_within(-most, most).map(|turns| turns as i8)
@@ -77,10 +78,10 @@ fn full_turns(number: &Numeral<'_>) -> Option<i8>
 /// An adjusted direction or orientation, in half units times the denominator.
 #[inline(always)]
 fn angle(number: &Numeral<'_>, version: Version) -> Option<i128>
-    ensures value { IfSome result (λ angle. angle ≡ number.now) }
+    ensures value { IfSome result (λ angle. angle ≡ number_of number.now) }
     ensures valid { IfSome result (IsWithin LARGEST_ANGLE) }
-    ensures within { OnSome result (is_at_most (largest_angle version) number.now ≡ true) }
-    ensures outside { IfNone result (is_at_most (largest_angle version) number.now ≡ false) }
+    ensures within { OnSome result (is_at_most (largest_angle version) (number_of number.now) ≡ true) }
+    ensures outside { IfNone result (is_at_most (largest_angle version) (number_of number.now) ≡ false) }
 {
     number.at_most(version.largest_angle())
 }
@@ -98,7 +99,7 @@ pub(crate) fn header_of(columns: &Columns<'_>) -> Result<Header, RowKind>
         return Err(RowKind::NotEmpty);
     }
     let name = name_of(columns.name).ok_or(RowKind::Name)?;
-    let number = Numeral::of(columns.value).ok_or(RowKind::Number)?;
+    let number = Numeral::parse(columns.value).ok_or(RowKind::Number)?;
     let denominator = number
         .natural_within(1, version.largest_denominator())
         .ok_or(RowKind::Range)?;
@@ -123,7 +124,7 @@ pub(crate) fn direction_of(columns: &Columns<'_>, version: Version) -> Result<Di
         return Err(RowKind::NotEmpty);
     }
     let name = name_of(columns.name).ok_or(RowKind::Name)?;
-    let value = Numeral::of(columns.value).ok_or(RowKind::Number)?;
+    let value = Numeral::parse(columns.value).ok_or(RowKind::Number)?;
     let value = angle(&value, version).ok_or(RowKind::Range)?;
     Ok(Direction { name, value })
 }
@@ -143,8 +144,8 @@ pub(crate) fn orientation_of(
     if !columns.name.is_empty() || !columns.turn.is_empty() {
         return Err(RowKind::NotEmpty);
     }
-    let number = Numeral::of(columns.number).ok_or(RowKind::Number)?;
-    let value = Numeral::of(columns.value).ok_or(RowKind::Number)?;
+    let number = Numeral::parse(columns.number).ok_or(RowKind::Number)?;
+    let value = Numeral::parse(columns.value).ok_or(RowKind::Number)?;
     let set = set_number(&number).ok_or(RowKind::Range)?;
     let value = angle(&value, version).ok_or(RowKind::Range)?;
     Ok(Orientation { set, value })
@@ -158,9 +159,9 @@ pub(crate) fn obs_row_of(columns: &Columns<'_>) -> Result<Row, RowKind>
     ensures err { IfErr result (λ kind. faults.obs_fault (columns_view columns.now) ≡ Some kind) }
 {
     let target = name_of(columns.name).ok_or(RowKind::Name)?;
-    let number = Numeral::of(columns.number).ok_or(RowKind::Number)?;
-    let value = Numeral::of(columns.value).ok_or(RowKind::Number)?;
-    let turn = Numeral::of(columns.turn).ok_or(RowKind::Number)?;
+    let number = Numeral::parse(columns.number).ok_or(RowKind::Number)?;
+    let value = Numeral::parse(columns.value).ok_or(RowKind::Number)?;
+    let turn = Numeral::parse(columns.turn).ok_or(RowKind::Number)?;
     let set = set_number(&number).ok_or(RowKind::Range)?;
     let value = circle_value(&value).ok_or(RowKind::Range)?;
     let turn = full_turns(&turn).ok_or(RowKind::Range)?;

@@ -8,8 +8,7 @@ ghost use Rattle.std.specs.Char.{is_ascii_digit};
 ghost use Rattle.std.specs.List.{list_all};
 ghost use Rattle.std.specs.Str.Parse.{digits_value};
 ghost use Rattle.sheet_format.specs.Numbers as spec;
-
-use std::marker::Model;
+ghost use Rattle.sheet_format.specs.declared.number.TheConstants.{SHORT};
 
 fn are_digits(bytes: &[u8]) -> bool
     ensures { result ≡ list_all is_ascii_digit bytes.now }
@@ -27,6 +26,7 @@ fn is_positive(bytes: &[u8]) -> bool
 }
 
 /// Whether a field is a canonical decimal, whatever its length.
+// Apart from its caller, since few fields are so long that it is asked.
 #[cold]
 #[inline(never)]
 fn is_canonical(bytes: &[u8]) -> bool
@@ -92,77 +92,78 @@ fn short_number(field: &[u8]) -> Option<i64>
     }
 }
 
-/// The number of a canonical field, if it lies from `low` to `high`, whatever its length.
-fn long_within(bytes: &[u8], low: i128, high: i128) -> Option<i128>
-    requires { spec.is_canonical bytes.now ≡ true }
-    ensures value { IfSome result (λ number. number ≡ spec.value_of bytes.now) }
-    ensures within { OnSome result (spec.is_within low high (spec.value_of bytes.now) ≡ true) }
-    ensures outside { IfNone result (spec.is_within low high (spec.value_of bytes.now) ≡ false) }
-{
-    match str::from_utf8(bytes) {
-        Ok(text) => match text.parse::<i128>() {
-            Ok(number) if low <= number && number <= high => Some(number),
-            Ok(_) => None,
-            Err(_) => None,
-        },
-        Err(_) => None,
+/// A canonical decimal of more bytes than [`SHORT`]. Its number is read where its range is asked
+/// for.
+#[derive(Drop)]
+pub(crate) struct LongNumeral<'a> {
+    field: &'a [u8],
+    ghost canonical: { spec.is_canonical field.now ≡ true },
+    ghost long: { SHORT < length field.now },
+}
+
+impl<'a> LongNumeral<'a> {
+    /// The number, if it lies from `low` to `high`.
+    fn within(&self, low: i128, high: i128) -> Option<i128>
+        ensures value { IfSome result (λ number. number ≡ spec.value_of self.now.field.now) }
+        ensures within { OnSome result
+            (spec.is_within low high (spec.value_of self.now.field.now) ≡ true) }
+        ensures outside { IfNone result
+            (spec.is_within low high (spec.value_of self.now.field.now) ≡ false) }
+    {
+        let number = str::from_utf8(self.field).ok()?.parse::<i128>().ok()?;
+        if low <= number && number <= high {
+            Some(number)
+        } else {
+            None
+        }
     }
 }
 
-/// A canonical field as its number. Contracts see the number, whatever its size.
+/// A canonical field as its number.
 #[derive(Drop)]
-pub(crate) struct Numeral<'a> {
-    field: &'a [u8],
-    /// The number of a short field; of a longer one, anything.
-    short: i64,
-}
-
-impl<'a> Model for Numeral<'a> {
-    ghost use Rattle.std.specs.Prelude.{◌≡◌, ◌≤◌, ℤ, length, true};
-    ghost use Rattle.sheet_format.specs.Numbers.{is_canonical, value_of};
-    ghost use Rattle.sheet_format.specs.declared.number.TheConstants.{SHORT};
-
-    ghost Value = { ℤ };
-
-    ghost view = { λ n. value_of n.field.now };
-
-    ghost invariant = { λ n. (is_canonical n.field.now ≡ true)
-        × (length n.field.now ≤ SHORT → n.short ≡ value_of n.field.now) };
+pub(crate) enum Numeral<'a> {
+    /// The number of a short field.
+    Short(i64),
+    /// A longer field.
+    Long(LongNumeral<'a>),
 }
 
 impl<'a> Numeral<'a> {
+    ghost use Rattle.sheet_format.specs.Numerals.{number_of};
+
     /// The number of a field, if it is a canonical decimal.
     #[inline(always)]
-    pub(crate) fn of(field: &'a [u8]) -> Option<Numeral<'a>>
-        ensures value { IfSome result (λ number. number ≡ spec.value_of field.now) }
+    pub(crate) fn parse(field: &'a [u8]) -> Option<Numeral<'a>>
+        ensures value { IfSome result (λ number. number_of number ≡ spec.value_of field.now) }
         ensures some { OnSome result (spec.is_canonical field.now ≡ true) }
         ensures none { IfNone result (spec.is_canonical field.now ≡ false) }
     {
-        if field.len() > SHORT {
-            if !is_canonical(field) {
-                return None;
-            }
-            return Some(Numeral { field, short: 0 });
+        if field.len() <= SHORT {
+            return Some(Numeral::Short(short_number(field)?));
         }
-        let short = short_number(field)?;
-        Some(Numeral { field, short })
+        if !is_canonical(field) {
+            return None;
+        }
+        Some(Numeral::Long(LongNumeral { field }))
     }
 
     /// The number, if it lies from `low` to `high`.
     #[inline(always)]
     pub(crate) fn within(&self, low: i128, high: i128) -> Option<i128>
-        ensures value { IfSome result (λ number. number ≡ self.now) }
-        ensures within { OnSome result (spec.is_within low high self.now ≡ true) }
-        ensures outside { IfNone result (spec.is_within low high self.now ≡ false) }
+        ensures value { IfSome result (λ number. number ≡ number_of self.now) }
+        ensures within { OnSome result (spec.is_within low high (number_of self.now) ≡ true) }
+        ensures outside { IfNone result (spec.is_within low high (number_of self.now) ≡ false) }
     {
-        if self.field.len() > SHORT {
-            return long_within(self.field, low, high);
-        }
-        let number = i128::from(self.short);
-        if low <= number && number <= high {
-            Some(number)
-        } else {
-            None
+        match self {
+            Numeral::Short(short) => {
+                let number = i128::from(*short);
+                if low <= number && number <= high {
+                    Some(number)
+                } else {
+                    None
+                }
+            }
+            Numeral::Long(long) => long.within(low, high),
         }
     }
 
@@ -170,9 +171,9 @@ impl<'a> Numeral<'a> {
     #[inline(always)]
     pub(crate) fn at_most(&self, most: i128) -> Option<i128>
         requires { pos 0 ≤ℤ most }
-        ensures value { IfSome result (λ number. number ≡ self.now) }
-        ensures within { OnSome result (spec.is_at_most most self.now ≡ true) }
-        ensures outside { IfNone result (spec.is_at_most most self.now ≡ false) }
+        ensures value { IfSome result (λ number. number ≡ number_of self.now) }
+        ensures within { OnSome result (spec.is_at_most most (number_of self.now) ≡ true) }
+        ensures outside { IfNone result (spec.is_at_most most (number_of self.now) ≡ false) }
     {
         self.within(-most, most)
     }
@@ -180,28 +181,32 @@ impl<'a> Numeral<'a> {
     /// The number, if it lies from `low` to `high`. A long field has none of so few bits.
     #[inline(always)]
     pub(crate) fn small_within(&self, low: i32, high: i32) -> Option<i32>
-        ensures value { IfSome result (λ number. number ≡ self.now) }
+        ensures value { IfSome result (λ number. number ≡ number_of self.now) }
         ensures range { IfSome result (λ number. (low ≤ℤ number) × (number ≤ℤ high)) }
-        ensures within { OnSome result (spec.is_within low high self.now ≡ true) }
-        ensures outside { IfNone result (spec.is_within low high self.now ≡ false) }
+        ensures within { OnSome result (spec.is_within low high (number_of self.now) ≡ true) }
+        ensures outside { IfNone result (spec.is_within low high (number_of self.now) ≡ false) }
     {
-        if self.field.len() > SHORT {
-            return None;
-        }
-        if i64::from(low) <= self.short && self.short <= i64::from(high) {
-            Some(self.short as i32)
-        } else {
-            None
+        match self {
+            Numeral::Short(short) => {
+                if i64::from(low) <= *short && *short <= i64::from(high) {
+                    Some(*short as i32)
+                } else {
+                    None
+                }
+            }
+            Numeral::Long(_) => None,
         }
     }
 
     /// The number, if it lies from `low` to `high`; neither is below 0.
     #[inline(always)]
     pub(crate) fn natural_within(&self, low: u64, high: u64) -> Option<u64>
-        ensures value { IfSome result (λ number. number ≡ spec.natural_of self.now) }
+        ensures value { IfSome result (λ number. number ≡ spec.natural_of (number_of self.now)) }
         ensures range { IfSome result (λ number. (low ≤ number) × (number ≤ high)) }
-        ensures within { OnSome result (spec.is_within (pos low) (pos high) self.now ≡ true) }
-        ensures outside { IfNone result (spec.is_within (pos low) (pos high) self.now ≡ false) }
+        ensures within { OnSome result
+            (spec.is_within (pos low) (pos high) (number_of self.now) ≡ true) }
+        ensures outside { IfNone result
+            (spec.is_within (pos low) (pos high) (number_of self.now) ≡ false) }
     {
         self.within(i128::from(low), i128::from(high))
             .map(|number| number as u64)
