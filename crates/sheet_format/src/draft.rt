@@ -62,7 +62,8 @@ impl Model for Draft {
 
     ghost Value = { spec.DraftValue };
 
-    ghost view = { λ d. spec.draft_of d.header d.directions.items d.orientations.items d.rows.items };
+    ghost view = { λ d.
+        spec.draft_of d.header d.directions.items d.orientations.items d.rows.items };
 
     ghost invariant = { λ d. spec.KeepsRules
         (spec.draft_of d.header d.directions.items d.orientations.items d.rows.items) };

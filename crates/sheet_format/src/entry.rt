@@ -80,8 +80,10 @@ fn full_turns(number: &Numeral<'_>) -> Option<i8>
 fn angle(number: &Numeral<'_>, version: Version) -> Option<i128>
     ensures value { IfSome result (λ angle. angle ≡ number_of number.now) }
     ensures valid { IfSome result (IsWithin LARGEST_ANGLE) }
-    ensures within { OnSome result (is_at_most (largest_angle version) (number_of number.now) ≡ true) }
-    ensures outside { IfNone result (is_at_most (largest_angle version) (number_of number.now) ≡ false) }
+    ensures within { OnSome result
+        (is_at_most (largest_angle version) (number_of number.now) ≡ true) }
+    ensures outside { IfNone result
+        (is_at_most (largest_angle version) (number_of number.now) ≡ false) }
 {
     number.at_most(version.largest_angle())
 }
