@@ -16,8 +16,6 @@
 
 mod accepted;
 mod connection;
-mod excess;
-mod greatest;
 mod kernel_fault;
 pub mod laws;
 mod limits;
@@ -39,7 +37,6 @@ mod verdict;
 
 pub use accepted::Accepted;
 pub use connection::is_connected;
-pub use excess::first_excess;
 pub use kernel_fault::KernelFault;
 pub use limits::{
     LARGEST_ANGLE, LARGEST_DENOMINATOR, LARGEST_RESIDUAL, LARGEST_RESIDUAL_LIMIT,
@@ -51,7 +48,7 @@ pub use name::Name;
 pub use obs::Obs;
 pub use out_of_memory::OutOfMemory;
 pub use residual::residual_of;
-pub use residual_limit::ResidualLimit;
+pub use residual_limit::{ResidualLimit, first_above_limit};
 pub use row::{Direction, Orientation, Row};
 pub use running::Running;
 pub use scan::Scan;

@@ -1,15 +1,16 @@
 //! The residuals of a sheet, gone through once: their sums in a tally, and the greatest in size.
 //! Then the first target and the first set whose sum isn't 0.
-ghost use Rattle.std.specs.Prelude.{◌≡◌, ◌≢◌, ◌≤◌, ◌<◌, ℕ, pos, List, [], IfNone, IfSome};
+ghost use Rattle.std.specs.Prelude.{◌≡◌, ◌≢◌, ◌≤◌, ◌<◌, ℕ, pos, List, [], max, IfNone, IfSome};
+ghost use Rattle.std.specs.Int.RustNames.{unsigned_abs};
 ghost use Rattle.adjust_kernel.specs.Firsts.{IsFirstWhere};
 ghost use Rattle.adjust_kernel.specs.Greatest.{IsGreatest};
 ghost use Rattle.adjust_kernel.specs.Pairs.{ArePaired, choice_stated_by, readings_of};
 ghost use Rattle.adjust_kernel.specs.Readings.{Reading};
 ghost use Rattle.adjust_kernel.specs.Residuals.{Choice, target_sum, set_sum};
 ghost use Rattle.adjust_kernel.specs.Tallies.{all_added};
+ghost use Rattle.adjust_kernel.specs.Within.{IsWithin};
 
-use crate::greatest::larger_size;
-use crate::limits::{MOST_ROWS, MOST_SETS, MOST_TARGETS};
+use crate::limits::{LARGEST_RESIDUAL, MOST_ROWS, MOST_SETS, MOST_TARGETS};
 use crate::obs::Obs;
 use crate::residual::row_residual;
 use crate::sheet::Sheet;
@@ -35,6 +36,14 @@ pub fn add_residuals<T: Tally>(mut tally: T, sheet: &Sheet, obs: &[Obs]) -> (T, 
         greatest = larger_size(greatest, residual);
     }
     (tally, greatest)
+}
+
+/// The larger of a size and the size of a residual.
+fn larger_size(size: i128, residual: i128) -> i128
+    requires { IsWithin LARGEST_RESIDUAL residual }
+    ensures { (known : ℕ) → size ≡ pos known → result ≡ pos (max known (unsigned_abs residual)) }
+{
+    size.max(residual.abs())
 }
 
 /// The first target from 0 whose residuals don't add to 0.

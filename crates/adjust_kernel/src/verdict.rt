@@ -18,11 +18,10 @@ ghost use Rattle.adjust_kernel.specs.Verdict.{IsVerdict, IsFault, TargetsAddUp, 
 
 use crate::accepted::Accepted;
 use crate::connection::is_connected;
-use crate::excess::first_excess;
 use crate::kernel_fault::KernelFault;
 use crate::limits::{LARGEST_RESIDUAL_LIMIT, MOST_ROWS};
 use crate::matching::check_matches;
-use crate::residual_limit::ResidualLimit;
+use crate::residual_limit::{ResidualLimit, first_above_limit};
 use crate::running::Running;
 use crate::sheet::Sheet;
 use crate::station::Station;
@@ -78,10 +77,10 @@ fn verdict_of<T: Tally>(
     ensures valid_limit { OnOk result (IfSome residual (λ most. most ≤ LARGEST_RESIDUAL_LIMIT)) }
 {
     check_matches(station, sheet)?;
-    let greatest = check_sums(tally, station, sheet)?;
+    let greatest_residual = check_sums(tally, station, sheet)?;
     check_connection(station, sheet)?;
     check_limit(station, sheet, residual)?;
-    Ok(acceptance(station, sheet, greatest))
+    Ok(acceptance(station, sheet, greatest_residual))
 }
 
 /// The greatest size of a residual, where the residuals of each target and of each set add to 0; if
@@ -92,18 +91,18 @@ fn check_sums<T: Tally>(tally: T, station: &Station, sheet: &Sheet) -> Result<i1
     requires matches { Matches station.now sheet.now }
     ensures targets { OnOk result (TargetsAddUp station.now sheet.now) }
     ensures sets { OnOk result (SetsAddUp station.now sheet.now) }
-    ensures greatest { IfOk result
+    ensures greatest_residual { IfOk result
         (IsGreatest (choice_stated_by sheet.now) (readings station.now sheet.now)) }
     ensures err { IfErr result (IsFault station.now sheet.now) }
 {
-    let (tally, greatest) = add_residuals(tally, sheet, station.obs());
+    let (tally, greatest_residual) = add_residuals(tally, sheet, station.obs());
     if let Some(target) = first_uneven_target(&tally, station.targets().len() as u32) {
         return Err(KernelFault::TargetSum(target + 1));
     }
     if let Some(set) = first_uneven_set(&tally, station.sets().len() as u32) {
         return Err(KernelFault::SetSum(set + 1));
     }
-    Ok(greatest)
+    Ok(greatest_residual)
 }
 
 /// Nothing where the observations hold all sets and targets together.
@@ -135,7 +134,7 @@ fn check_limit(
     ensures err { IfErr result (λ fault. IsVerdict station.now sheet.now residual (Err fault)) }
 {
     if let Some(limit) = residual {
-        if let Some(row) = first_excess(sheet, station.obs(), limit.half_units()) {
+        if let Some(row) = first_above_limit(sheet, station.obs(), limit.half_units()) {
             return Err(KernelFault::Residual(row as u32 + 1));
         }
     }
@@ -143,9 +142,9 @@ fn check_limit(
 }
 
 /// What is said of an accepted sheet.
-fn acceptance(station: &Station, sheet: &Sheet, greatest: i128) -> Accepted
+fn acceptance(station: &Station, sheet: &Sheet, greatest_residual: i128) -> Accepted
     requires greatest { IsGreatest (choice_stated_by sheet.now)
-        (readings station.now sheet.now) greatest }
+        (readings station.now sheet.now) greatest_residual }
     ensures { IsAcceptance station.now sheet.now result }
 {
     Accepted {
@@ -153,7 +152,7 @@ fn acceptance(station: &Station, sheet: &Sheet, greatest: i128) -> Accepted
         sets: station.sets().len() as u32,
         targets: station.targets().len() as u32,
         directions: station.obs().len() as u32,
-        greatest,
+        greatest: greatest_residual,
         denominator: sheet.denominator(),
     }
 }

@@ -14,7 +14,7 @@ ghost use Rattle.sheet_nearness.specs.Nearness.{AreTied, IsFirstBesideSums, IsNe
 use crate::levels::steps_to_all;
 use adjust_kernel::{
     KernelFault, LARGEST_DENOMINATOR, LARGEST_RESIDUAL_LIMIT, MOST_ROWS, MOST_SETS, MOST_TARGETS,
-    ResidualLimit, Running, Sheet, Station, Tally, add_residuals, check_matches, first_excess,
+    ResidualLimit, Running, Sheet, Station, Tally, add_residuals, check_matches, first_above_limit,
     is_connected,
 };
 
@@ -81,7 +81,7 @@ fn check_residuals(
     ensures limited { OnOk result (KeepsLimit station.now sheet.now LARGEST_RESIDUAL_LIMIT) }
     ensures err { IfErr result (IsFirstBesideSums station.now sheet.now residual) }
 {
-    if let Some(row) = first_excess(sheet, station.obs(), residual.half_units()) {
+    if let Some(row) = first_above_limit(sheet, station.obs(), residual.half_units()) {
         return Err(KernelFault::Residual(row as u32 + 1));
     }
     Ok(())

@@ -8,7 +8,7 @@ use Rattle.adjust_kernel.specs.Readings.{Reading}
 use Rattle.adjust_kernel.specs.Residuals.{residual}
 use Rattle.adjust_kernel.specs.Pairs.{choice_stated_by, readings_of}
 use Rattle.adjust_kernel.proofs.ReadingLaws.{length-readings_of}
-use Rattle.adjust_kernel.proofs.excess.is_row_above.Goals as goal
+use Rattle.adjust_kernel.proofs.residual_limit.is_row_above.Goals as goal
 
 pub returns : goal.returns
 returns c =

@@ -7,7 +7,7 @@ use Rattle.adjust_kernel.specs.Residuals.{residual}
 use Rattle.adjust_kernel.specs.Pairs.{choice_stated_by, readings_of}
 use Rattle.adjust_kernel.proofs.GreatestLaws.{within_size}
 use Rattle.adjust_kernel.proofs.ReadingLaws.{length-readings_of}
-use Rattle.adjust_kernel.proofs.excess.first_excess.Goals as goal
+use Rattle.adjust_kernel.proofs.residual_limit.first_above_limit.Goals as goal
 
 pub loop-row-preserved : goal.loop-row-preserved
 loop-row-preserved c =
