@@ -2,7 +2,7 @@
 use Rattle.std.proofs.Common.{◌≡◌, ℕ, ◌+◌, ◌≤◌, Bool, true, false, List, [], take, Some, IfSome, refl, ap, inr}
 use Rattle.byte_ends.specs.Source.{Told}
 use Rattle.gsi_file.specs.declared.file_fault.FileKind.{FileKind}
-use Rattle.gsi_file.specs.declared.search.Found.{Found}
+use Rattle.gsi_file.specs.declared.search.FoundLine.{FoundLine}
 use Rattle.gsi_file.specs.declared.lines.State.{State}
 use Rattle.gsi_file.specs.declared.lines.State.TheVariants.{Open, End, Failed}
 use Rattle.gsi_file.specs.declared.limits.TheConstants.{LONGEST_FILE}
@@ -16,7 +16,7 @@ next_at_fault : (before after : Told) (room line used room' : ℕ) (hand hand' :
 next_at_fault before after room line used room' hand hand' true kind e fault = inr (take line hand', [], ap (λ (a : FileAnswers). a.lines) e, fault)
 next_at_fault before after room line used room' hand hand' false kind e fault = inr (take line hand', _, ap (λ (a : FileAnswers). a.lines) e, fault)
 
-pub fault_to_come : (state : State) (count room room' : ℕ) (hand hand' rest : List ℕ) (before after : Told) (f : Found) (kind : FileKind)
+pub fault_to_come : (state : State) (count room room' : ℕ) (hand hand' rest : List ℕ) (before after : Told) (f : FoundLine) (kind : FileKind)
     → settled_in state ≡ false → count + 1 ≤ LONGEST_FILE → HasFound (Some before) (Some after) room hand hand' f → IsFileFault (take f.line hand') kind
     → IfSome (comes_in state count room hand (Some before)).answers (λ a. FaultIsNext a kind)
     × ((comes_in state count room' rest (Some after)).number ≡ (comes_in state count room hand (Some before)).number)

@@ -3,7 +3,7 @@ use Rattle.std.specs.Prelude.{◌≡◌, ℕ, ◌+◌, ◌/◌, ◌<◌, ◌≤�
 use Rattle.byte_ends.specs.Source.{Told, WhereTold, HasBrokenOff}
 use Rattle.gsi_word.specs.Words.{IsPrintable}
 use Rattle.gsi_file.specs.declared.file_fault.FileKind.{FileKind}
-use Rattle.gsi_file.specs.declared.search.Found.{Found}
+use Rattle.gsi_file.specs.declared.search.FoundLine.{FoundLine}
 use Rattle.gsi_file.specs.FileAnswers.{FileAnswers, answers_within, line_before}
 use Rattle.gsi_file.specs.ToCome.{IsRead, only}
 
@@ -35,7 +35,7 @@ FindsLine old new room hand hand' line used room' false =
 
 -- A line was found. It takes two bytes of those that may be taken, or all. Where it is not the
 -- last, a byte of those in hand ends it. Where its bytes are said to be printable, they are.
-pub record HasFound (old new : Option Told) (room : ℕ) (hand hand' : List ℕ) (f : Found)
+pub record HasFound (old new : Option Told) (room : ℕ) (hand hand' : List ℕ) (f : FoundLine)
     : Type 0 where
   pub line : f.line ≤ f.used
   pub used : f.used ≤ length hand'
@@ -50,7 +50,7 @@ BreaksOff old new = WhereTold old new (λ o n. HasBrokenOff n)
 
 -- A line was found, or the end, or a fault of the file; a read fails only at the end of the source.
 abbrev pub Finds : Option Told → Option Told → ℕ → List ℕ → List ℕ
-    → Result (Option Found) FileKind → Type 0
+    → Result (Option FoundLine) FileKind → Type 0
 Finds old new room hand hand' (Ok (Some f)) = HasFound old new room hand hand' f
 Finds old new room hand hand' (Ok None) = AnswersAre old room hand new (only None)
 Finds old new room hand hand' (Err kind) =

@@ -7,7 +7,7 @@ use Rattle.gsi_file.specs.declared.file_fault.FileFault.TheVariants.{At, Memory}
 use Rattle.gsi_file.specs.declared.lines.State.{State}
 use Rattle.gsi_file.specs.declared.lines.State.TheVariants.{Open, End, Failed}
 use Rattle.gsi_file.specs.declared.lines.Lines.{Lines}
-use Rattle.gsi_file.specs.Hand.{line_in_hand, unused}
+use Rattle.gsi_file.specs.Window.{line_in_window, unused}
 use Rattle.gsi_file.specs.Finding.{answers_in, BreaksOff}
 use Rattle.gsi_file.specs.ToCome.{ToCome, IsRead, only}
 
@@ -28,7 +28,7 @@ settled_in (Failed kind) = true
 
 -- what is to come of lines
 abbrev pub to_come : {R : Type 0} → (R → Option Told) → Lines R → ToCome
-to_come told l = comes_in l.state l.count l.room (unused l.hand) (told l.reader)
+to_come told l = comes_in l.state l.count l.room (unused l.window) (told l.reader)
 
 -- A reader that still gives this, whether it tells or not: what is to come of lines where theirs
 -- does is `to_come (gives t)`.
@@ -45,12 +45,12 @@ is_settled l = settled_in l.state
 
 -- the line that was found
 abbrev pub line_found : {R : Type 0} → Lines R → List ℕ
-line_found l = line_in_hand l.hand
+line_found l = line_in_window l.window
 
 -- the bytes that were read and not yet given up: the line that was found, the byte that ended it if
 -- one did, and those after
 abbrev pub bytes_in_hand : {R : Type 0} → Lines R → List ℕ
-bytes_in_hand l = l.hand.buffer
+bytes_in_hand l = l.window.buffer
 
 -- how many bytes may still be taken
 abbrev pub bytes_left : {R : Type 0} → Lines R → ℕ

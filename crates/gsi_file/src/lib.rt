@@ -12,7 +12,6 @@
 
 mod buffer;
 mod file_fault;
-mod hand;
 pub mod laws;
 mod limits;
 mod line;
@@ -22,6 +21,7 @@ mod out_of_memory;
 mod search;
 #[cfg(test)]
 mod tests;
+mod window;
 
 pub use file_fault::{FileFault, FileKind};
 pub use limits::{LONGEST_FILE, LONGEST_LINE};

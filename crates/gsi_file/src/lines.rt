@@ -13,11 +13,11 @@ ghost use Rattle.gsi_file.specs.declared.limits.TheConstants.{LONGEST_FILE};
 
 use crate::buffer::Buffer;
 use crate::file_fault::{FileFault, FileKind};
-use crate::hand::Hand;
 use crate::limits::LONGEST_FILE;
 use crate::line::Line;
 use crate::out_of_memory::OutOfMemory;
 use crate::search::find_line;
+use crate::window::Window;
 use byte_ends::Source;
 use gsi_word::{Shape, block_in, check_printable, read_words};
 use std::alloc::Global;
@@ -37,7 +37,7 @@ enum State {
 #[derive(Drop)]
 pub struct Lines<R> {
     reader: R,
-    hand: Hand,
+    window: Window,
     /// How many lines came.
     count: u32,
     /// How many bytes of the file may still be taken.
@@ -91,7 +91,7 @@ impl<R: Source> Lines<R> {
         match Buffer::new(alloc) {
             Ok(buffer) => Ok(Lines {
                 reader,
-                hand: Hand::new(buffer),
+                window: Window::new(buffer),
                 count: 0,
                 room: LONGEST_FILE,
                 state: State::Open,
@@ -133,7 +133,7 @@ impl<R: Source> Lines<R> {
         match self.advance()? {
             Some(shape) => {
                 let number = self.count;
-                let block = block_in(self.hand.line(), shape);
+                let block = block_in(self.window.line(), shape);
                 Ok(Some(Line { number, block }))
             }
             None => Ok(None),
@@ -184,14 +184,14 @@ impl<R: Source> Lines<R> {
         ensures failed { R.failed (reader_of self.new)
             ≡ failed_by (R.failed (reader_of self.old)) result }
     {
-        self.hand.give_up_line();
-        let Some(found) = find_line(&mut self.reader, &mut self.hand.buffer, self.room)? else {
+        self.window.drop_line();
+        let Some(found) = find_line(&mut self.reader, &mut self.window.buffer, self.room)? else {
             self.state = State::End;
             return Ok(None);
         };
-        self.hand.hold_line(found);
+        self.window.set_line(found);
         self.room = found.room;
-        let shape = match check_line(self.hand.line(), found.printable) {
+        let shape = match check_line(self.window.line(), found.printable) {
             Ok(shape) => shape,
             Err(kind) => return Err(kind),
         };

@@ -17,7 +17,7 @@ use byte_ends::Source;
 
 /// A numbered line at the front of what is in hand.
 #[derive(Clone, Copy)]
-pub(crate) struct Found {
+pub(crate) struct FoundLine {
     /// How many bytes it has.
     pub(crate) line: usize,
     /// How many bytes are used up with it: the byte that ends it, too, and a line feed after that.
@@ -31,7 +31,7 @@ pub(crate) struct Found {
 }
 
 /// A line that a byte has ended, where `left` bytes might be taken at its beginning.
-fn ended(end: LineEnd, used: usize, left: usize) -> Found
+fn ended(end: LineEnd, used: usize, left: usize) -> FoundLine
     requires { used ≤ left }
     ensures { result ≡ record {
       line = end.place;
@@ -41,7 +41,7 @@ fn ended(end: LineEnd, used: usize, left: usize) -> Found
       printable = end.printable;
     } }
 {
-    Found {
+    FoundLine {
         line: end.place,
         used,
         room: left - used,
@@ -51,7 +51,7 @@ fn ended(end: LineEnd, used: usize, left: usize) -> Found
 }
 
 /// A line that the source has ended with.
-fn at_end(line: usize) -> Found
+fn at_end(line: usize) -> FoundLine
     ensures { result ≡ record {
       line = line;
       used = line;
@@ -60,7 +60,7 @@ fn at_end(line: usize) -> Found
       printable = false;
     } }
 {
-    Found {
+    FoundLine {
         line,
         used: line,
         room: 0,
@@ -74,7 +74,7 @@ pub(crate) fn find_line<R: Source>(
     reader: &mut R,
     buffer: &mut Buffer,
     room: usize,
-) -> Result<Option<Found>, FileKind>
+) -> Result<Option<FoundLine>, FileKind>
     ensures finds { Finds (R.told reader.old) (R.told reader.new) room buffer.old buffer.new
         result }
     ensures through { Through (R.told reader.old) (R.told reader.new) (λ before after.
@@ -89,7 +89,7 @@ pub(crate) fn find_line<R: Source>(
         line = end.place;
         if line < seen {
             if buffer.has_ink(line) {
-                return Ok(Some(ended(end, buffer.behind_end(line, seen), left)));
+                return Ok(Some(ended(end, buffer.next_line_start(line, seen), left)));
             }
             buffer.drop_front(line + 1);
             left -= line + 1;

@@ -1,5 +1,5 @@
 use Rattle.std.proofs.Common.{false, Some, sym, subst, ◌∙◌, arith}
-use Rattle.gsi_file.specs.declared.search.Found.{Found}
+use Rattle.gsi_file.specs.declared.search.FoundLine.{FoundLine}
 use Rattle.gsi_file.specs.Finding.{HasFound}
 use Rattle.gsi_file.proofs.Finding.{Searching, breaks_off, fails, file_too_long, line_too_long, found_ended, found_at_end, passes, ends_by, none_plain}
 use Rattle.gsi_file.proofs.search.find_line.Goals as goal
@@ -10,8 +10,8 @@ returns-then-has_ink-clause-finds g c =
     let line = c.line_end-end.result.place in
     let h = c.search.buffer in
     let s : Searching (told c.args.reader.now) (told c.search.reader) c.args.room c.args.buffer.now c.search.left line h = record { short = omega arith; inside = omega arith; fits = omega arith; most = c.search.invariant.searching.most; plain = c.line_end-end.ensures.plain; same = c.search.invariant.searching.same } in
-    subst (λ (f : Found). HasFound (told c.args.reader.now) (told c.search.reader) c.args.room c.args.buffer.now h f) (sym c.ended.ensures)
-    (found_ended _ _ _ _ c.search.left line c.behind_end.result c.line_end-end.result.printable h (omega arith) (omega arith) (omega (arith, c.behind_end.ensures.within)) (omega (arith, c.behind_end.ensures.within)) (c.line_end-end.ensures.end c.if-line-seen.true) (sym c.has_ink.ensures ∙ c.if-has_ink.true) c.line_end-end.ensures.printable c.behind_end.ensures.next s)
+    subst (λ (f : FoundLine). HasFound (told c.args.reader.now) (told c.search.reader) c.args.room c.args.buffer.now h f) (sym c.ended.ensures)
+    (found_ended _ _ _ _ c.search.left line c.next_line_start.result c.line_end-end.result.printable h (omega arith) (omega arith) (omega (arith, c.next_line_start.ensures.within)) (omega (arith, c.next_line_start.ensures.within)) (c.line_end-end.ensures.end c.if-line-seen.true) (sym c.has_ink.ensures ∙ c.if-has_ink.true) c.line_end-end.ensures.printable c.next_line_start.ensures.next s)
 
 pub returns-then-has_ink-clause-through : goal.returns-then-has_ink-clause-through
 returns-then-has_ink-clause-through g c after may =
@@ -22,8 +22,8 @@ returns-then-has_ink-clause-through g c after may =
     let s : Searching (Some y.0) (Some after) c.args.room c.args.buffer.now c.search.left line h = record { short = omega arith; inside = omega arith; fits = omega arith; most = c.search.invariant.searching.most; plain = c.line_end-end.ensures.plain; same = y.2 } in (
       y.0,
       y.1,
-      subst (λ (f : Found). HasFound (Some y.0) (Some after) c.args.room c.args.buffer.now h f) (sym c.ended.ensures)
-          (found_ended _ _ _ _ c.search.left line c.behind_end.result c.line_end-end.result.printable h (omega arith) (omega arith) (omega (arith, c.behind_end.ensures.within)) (omega (arith, c.behind_end.ensures.within)) (c.line_end-end.ensures.end c.if-line-seen.true) (sym c.has_ink.ensures ∙ c.if-has_ink.true) c.line_end-end.ensures.printable c.behind_end.ensures.next s),
+      subst (λ (f : FoundLine). HasFound (Some y.0) (Some after) c.args.room c.args.buffer.now h f) (sym c.ended.ensures)
+          (found_ended _ _ _ _ c.search.left line c.next_line_start.result c.line_end-end.result.printable h (omega arith) (omega arith) (omega (arith, c.next_line_start.ensures.within)) (omega (arith, c.next_line_start.ensures.within)) (c.line_end-end.ensures.end c.if-line-seen.true) (sym c.has_ink.ensures ∙ c.if-has_ink.true) c.line_end-end.ensures.printable c.next_line_start.ensures.next s),
     )
 
 pub search-preserved-then-line-seen : goal.search-preserved-then-line-seen
@@ -83,7 +83,7 @@ returns-then-has_ink-2-clause-finds g c =
     let line = c.line_end-end.result.place in
     let h = c.search.buffer in
     let s : Searching (told c.args.reader.now) (told c.search.reader) c.args.room c.args.buffer.now c.search.left line h = record { short = omega arith; inside = omega arith; fits = omega arith; most = c.search.invariant.searching.most; plain = c.line_end-end.ensures.plain; same = c.search.invariant.searching.same } in
-    subst (λ (f : Found). HasFound (told c.args.reader.now) (told c.fill.new.from) c.args.room c.args.buffer.now c.fill.new.self f) (sym c.at_end.ensures)
+    subst (λ (f : FoundLine). HasFound (told c.args.reader.now) (told c.fill.new.from) c.args.room c.args.buffer.now c.fill.new.self f) (sym c.at_end.ensures)
     (found_at_end (told c.args.reader.now) (told c.search.reader) (told c.fill.new.from) _ _ c.search.left line h c.fill.new.self c.in-Ok-eq0.field-0 (omega arith) c.in-Ok-eq0.field-0-test (sym c.has_ink-in-Ok-eq0.ensures ∙ c.if-has_ink-2.true) s c.in-Ok-eq0.ensures.fills)
 
 pub returns-then-has_ink-2-clause-through : goal.returns-then-has_ink-2-clause-through
@@ -96,7 +96,7 @@ returns-then-has_ink-2-clause-through g c after may =
     let s : Searching (Some y.0) (Some x.0) c.args.room c.args.buffer.now c.search.left line h = record { short = omega arith; inside = omega arith; fits = omega arith; most = c.search.invariant.searching.most; plain = c.line_end-end.ensures.plain; same = y.2 } in (
       y.0,
       y.1,
-      subst (λ (f : Found). HasFound (Some y.0) (Some after) c.args.room c.args.buffer.now c.fill.new.self f) (sym c.at_end.ensures)
+      subst (λ (f : FoundLine). HasFound (Some y.0) (Some after) c.args.room c.args.buffer.now c.fill.new.self f) (sym c.at_end.ensures)
           (found_at_end (Some y.0) (Some x.0) (Some after) _ _ c.search.left line h c.fill.new.self c.in-Ok-eq0.field-0 (omega arith) c.in-Ok-eq0.field-0-test (sym c.has_ink-in-Ok-eq0.ensures ∙ c.if-has_ink-2.true) s x.2),
     )
 

@@ -1,7 +1,7 @@
 use Rattle.std.proofs.Common.{Some, List, ℕ, take, subst, ◌∙◌, arith}
 use Rattle.gsi_file.specs.Finding.{HasFound}
 use Rattle.gsi_file.specs.ToCome.{IsFileFault}
-use Rattle.gsi_file.specs.Hand.{unused}
+use Rattle.gsi_file.specs.Window.{unused}
 use Rattle.gsi_file.proofs.FaultsToCome.{fault_to_come}
 use Rattle.gsi_file.proofs.lines.Lines.find_block.Goals as goal
 
@@ -9,6 +9,6 @@ pub returns-in-Err-clause-through : goal.returns-in-Err-clause-through
 returns-in-Err-clause-through g c after may =
     let x = c.in_ok-found.ensures.through after may in
     let self = c.args.self.now in
-    let found : HasFound (Some x.0) (Some after) self.room (unused self.hand) c.find_line.new.buffer c.in-Some.found = rw (c.in-Some.is, c.give_up_line.ensures.buffer) at x.2 in
-    let fault : IsFileFault (take c.in-Some.found.line c.find_line.new.buffer) c.in-Err.kind = subst (λ (line : List ℕ). IsFileFault line c.in-Err.kind) (c.line.ensures ∙ c.hold_line.ensures.line) c.in-Err.ensures.fault in
-    (x.0, x.1, fault_to_come self.state self.count self.room c.in-Some.found.room (unused self.hand) c.find_line.new.buffer (unused c.hold_line.new.self) x.0 after c.in-Some.found c.in-Err.kind c.requires (omega (arith, self.counted, found.takes)) found fault)
+    let found : HasFound (Some x.0) (Some after) self.room (unused self.window) c.find_line.new.buffer c.in-Some.found = rw (c.in-Some.is, c.drop_line.ensures.buffer) at x.2 in
+    let fault : IsFileFault (take c.in-Some.found.line c.find_line.new.buffer) c.in-Err.kind = subst (λ (line : List ℕ). IsFileFault line c.in-Err.kind) (c.line.ensures ∙ c.set_line.ensures.line) c.in-Err.ensures.fault in
+    (x.0, x.1, fault_to_come self.state self.count self.room c.in-Some.found.room (unused self.window) c.find_line.new.buffer (unused c.set_line.new.self) x.0 after c.in-Some.found c.in-Err.kind c.requires (omega (arith, self.counted, found.takes)) found fault)

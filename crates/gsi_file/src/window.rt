@@ -3,12 +3,12 @@
 ghost use Rattle.std.specs.Prelude.{◌≤◌, length};
 
 use crate::buffer::Buffer;
-use crate::search::Found;
+use crate::search::FoundLine;
 
 /// The bytes that were read and not yet given up. The line that was found stays at their front
 /// until the next is looked for.
 #[derive(Drop)]
-pub(crate) struct Hand {
+pub(crate) struct Window {
     pub(crate) buffer: Buffer,
     /// How many bytes the line has.
     line: usize,
@@ -18,16 +18,16 @@ pub(crate) struct Hand {
     ghost held: { used ≤ length buffer },
 }
 
-impl Hand {
+impl Window {
     ghost use Rattle.std.specs.Prelude.{◌≡◌, [], take, drop, length};
-    ghost use Rattle.gsi_file.specs.Hand.{line_in_hand, unused};
+    ghost use Rattle.gsi_file.specs.Window.{line_in_window, unused};
 
     /// Nothing in hand, and no line found.
-    pub(crate) fn new(buffer: Buffer) -> Hand
+    pub(crate) fn new(buffer: Buffer) -> Window
         requires { buffer ≡ [] }
         ensures { unused result ≡ [] }
     {
-        Hand {
+        Window {
             buffer,
             line: 0,
             used: 0,
@@ -36,13 +36,13 @@ impl Hand {
 
     /// The line that was found.
     pub(crate) fn line(&self) -> &[u8]
-        ensures { result.now ≡ line_in_hand self.now }
+        ensures { result.now ≡ line_in_window self.now }
     {
         self.buffer.front(self.line)
     }
 
-    /// Gives up the line that was found, so that another can be.
-    pub(crate) fn give_up_line(&mut self)
+    /// Drops the line that was found, so that another can be.
+    pub(crate) fn drop_line(&mut self)
         ensures buffer { self.new.buffer ≡ unused self.old }
         ensures none { self.new.used ≡ 0 }
     {
@@ -51,12 +51,12 @@ impl Hand {
         self.used = 0;
     }
 
-    /// Keeps the line that was found at the front.
-    pub(crate) fn hold_line(&mut self, found: Found)
+    /// Sets the line that was found at the front.
+    pub(crate) fn set_line(&mut self, found: FoundLine)
         requires inner { found.line ≤ found.used }
         requires held { found.used ≤ length self.old.buffer }
         ensures kept { self.new.buffer ≡ self.old.buffer }
-        ensures line { line_in_hand self.new ≡ take found.line self.old.buffer }
+        ensures line { line_in_window self.new ≡ take found.line self.old.buffer }
         ensures unused { unused self.new ≡ drop found.used self.old.buffer }
     {
         self.line = found.line;
