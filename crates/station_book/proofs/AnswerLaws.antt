@@ -16,7 +16,7 @@ use Rattle.station_book.specs.Faults.{fault_at_end, angles_at, IsWithoutFault}
 use Rattle.station_book.specs.Stations.{Pair, pair_of, pairs_in, SurveyedStation, IsObserved, HasFaces, IsSurveyed, AreStations}
 use Rattle.station_book.specs.Slots as slots
 use Rattle.station_book.specs.Slots.{obs_at, obs_of, faces_at, faces_of}
-use Rattle.station_book.specs.Shelves.{empty_shelf, surveys_of}
+use Rattle.station_book.specs.StationStates.{none_so_far, surveys_of}
 use Rattle.station_book.specs.Refusals.{ExplainsFault}
 use Rattle.station_book.specs.State.{State, ending}
 use Rattle.station_book.specs.StateOfHistory.{in_set, angles_of, slots_of, obs_in, faces_in, numbers_in, IsComputed, stations_in}
@@ -194,24 +194,24 @@ module _ (limits : FaceLimits) where
 
 -- a new book stands for no block
 pub empty_state : (limits : FaceLimits)
-    → StandsFor limits (record { limits = limits; taken = 0; stage = Outside; shelf = empty_shelf })
+    → StandsFor limits (record { limits = limits; taken = 0; stage = Outside; stations = none_so_far })
     []
 empty_state limits =
     record { limited = refl; counted = refl; clean = tt; stage = (refl, refl); stations = tt }
 
 -- the fault of the end by the blocks, under any limits
 end_same : (limits : FaceLimits) (k : State) (h : History) → StandsFor limits k h
-    → ending k.stage k.shelf ≡ fault_at_end h
+    → ending k.stage k.stations ≡ fault_at_end h
 end_same limits k h it = same_end k h (at_own limits k h it)
 
 -- the clauses of `finish`, by the blocks
-pub end_clean : {X E : Type 0} (k : State) (r : Result X E) → OnOk r (ending k.stage k.shelf ≡ None)
+pub end_clean : {X E : Type 0} (k : State) (r : Result X E) → OnOk r (ending k.stage k.stations ≡ None)
     → OnOk r ((limits : FaceLimits) (h : History) → StandsFor limits k h → fault_at_end h ≡ None)
 end_clean k (Ok x) clean = λ limits h it. sym (end_same limits k h it) ∙ clean
 end_clean k (Err e) clean = clean
 
 pub end_stations : {E : Type 0} (k : State) (r : Result (List SurveyedStation) E)
-    → IfOk r (λ s. s ≡ surveys_of k.shelf)
+    → IfOk r (λ s. s ≡ surveys_of k.stations)
     → IfOk r (λ s. (limits : FaceLimits) (h : History) → StandsFor limits k h
     → AreStations limits h s)
 end_stations k (Ok s) same = λ limits h it. are_stations limits h s it.clean
@@ -220,7 +220,7 @@ end_stations k (Ok s) same = λ limits h it. are_stations limits h s it.clean
 end_stations k (Err e) same = same
 
 pub end_fault : {X : Type 0} (k : State) (r : Result X BookFault)
-    → IfErr r (ExplainsFault (k.taken + 1) (ending k.stage k.shelf))
+    → IfErr r (ExplainsFault (k.taken + 1) (ending k.stage k.stations))
     → IfErr r (λ e. (limits : FaceLimits) (h : History) → StandsFor limits k h → ExplainsEnd h e)
 end_fault k (Ok x) why = why
 end_fault k (Err (At n kind)) why = λ limits h it.

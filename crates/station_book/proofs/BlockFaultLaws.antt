@@ -16,8 +16,8 @@ use Rattle.station_book.specs.declared.stage.Stage.TheVariants.{Outside, Station
 use Rattle.station_book.specs.Limits.{FaceLimits}
 use Rattle.station_book.specs.Blocks.{role_of}
 use Rattle.station_book.specs.Readings as said
-use Rattle.station_book.specs.Entries.{place_of}
-use Rattle.station_book.specs.Shelves.{ShelfValue, last_of}
+use Rattle.station_book.specs.StationState.{place_of}
+use Rattle.station_book.specs.StationStates.{StationStates, last_of}
 use Rattle.station_book.specs.State as states
 use Rattle.station_book.specs.Refusals.{ExplainsFault, WantsOnlyAt}
 use Rattle.station_book.specs.Blocks.{opens_set, has_direction, target}
@@ -28,7 +28,7 @@ use Rattle.station_book.specs.StateOfHistory.{IsStage, AreStates, stations_in}
 use Rattle.station_book.specs.StandsFor.{StandsFor, ExplainsBlock}
 use Rattle.station_book.proofs.ListLaws.{absent}
 use Rattle.station_book.proofs.StepLaws.{open_targets}
-use Rattle.station_book.proofs.StateLaws.{open_has_set, open_entry}
+use Rattle.station_book.proofs.StateLaws.{open_has_set, open_state}
 use Rattle.station_book.proofs.EndLaws.{same_end}
 use Rattle.station_book.proofs.TakeLaws.{set_as, direction_as, was_read, at_own, taken_state}
 use Rattle.station_book.proofs.FaultLaws.{first_append}
@@ -70,22 +70,22 @@ abbrev IsFirstOfTarget : GsiBlock → History → Type 0
 IsFirstOfTarget b past = (is_reading (b ∷ past) ≡ true) × (is_new_target b past ≡ true)
 
 -- A target that is new to what is kept is new to the station.
-new_target : (shelf : ShelfValue) (b : GsiBlock) (past : History)
+new_target : (so_far : StationStates) (b : GsiBlock) (past : History)
     (o : Result (Option Reading) BookKind)
     → role_of b ≡ roles.Measurement → said.read b ≡ o → is_open past ≡ true
-    → AreStates past (stations_in past) shelf
-    → states.is_first_of_target shelf o ≡ true → IsFirstOfTarget b past
-new_target shelf b past (Err k) r e now h t = absurd (false≢true t)
-new_target shelf b past (Ok None) r e now h t = absurd (false≢true t)
-new_target shelf b past (Ok (Some s)) r e now h t =
+    → AreStates past (stations_in past) so_far
+    → states.is_first_of_target so_far o ≡ true → IsFirstOfTarget b past
+new_target so_far b past (Err k) r e now h t = absurd (false≢true t)
+new_target so_far b past (Ok None) r e now h t = absurd (false≢true t)
+new_target so_far b past (Ok (Some s)) r e now h t =
     let w = was_read b s e in
     let seen : has_direction b ≡ true = direction_as b roles.Measurement r ∙ ap not w.directed in
     let own : target b ≡ s.target = ap (λ (q : Reading). q.target) w.is in
-    let targets : (last_of shelf).targets ≡ open_targets past =
-    (open_entry shelf past (open_has_set past now) h).is.targets in
+    let targets : (last_of so_far).targets ≡ open_targets past =
+    (open_state so_far past (open_has_set past now) h).is.targets in
     let none : place_of (target b) (open_targets past) ≡ None =
     (λ i. place_of (own i) (sym targets i))
-    ∙ none_is (place_of s.target (last_of shelf).targets) t in
+    ∙ none_is (place_of s.target (last_of so_far).targets) t in
     ((λ i. seen i && now i), ap not (absent (λ x. bytes_eq x (target b)) (open_targets past) none))
 
 -- Memory is wanted by sets and by first readings of a target alone.
@@ -100,8 +100,8 @@ may_grow limits k b past h = by (role_of b) refl where
   by roles.Close e t = absurd (false≢true t)
   by roles.Measurement e t =
       let p = and_parts (states.has_open_set k.stage)
-      (states.is_first_of_target k.shelf (said.read b)) t in
-      inr (new_target k.shelf b past (said.read b) e refl
+      (states.is_first_of_target k.stations (said.read b)) t in
+      inr (new_target k.stations b past (said.read b) e refl
       (open_stage k.stage past h.stage p.0) h.stations p.1)
   by roles.Other e t = absurd (false≢true t)
 
@@ -121,7 +121,7 @@ take_taken k new b (Ok x) clean same = λ limits h it.
     let own = at_own limits k h it in
     subst (λ (l : FaceLimits). StandsFor l new (b ∷ h)) it.limited
     (subst (λ (w : states.State). StandsFor k.limits w (b ∷ h)) (sym same)
-    (taken_state k.limits k.taken k.stage k.shelf b h (role_of b) refl clean
+    (taken_state k.limits k.taken k.stage k.stations b h (role_of b) refl clean
     (sym (own_fault k b h own) ∙ clean) own))
 take_taken k new b (Err e) clean same = same
 

@@ -12,7 +12,7 @@ use Rattle.station_book.specs.declared.stage.Stage.{Stage}
 use Rattle.station_book.specs.declared.stage.Stage.TheVariants.{Outside, Station, BetweenSets, InSet}
 use Rattle.station_book.specs.Faults.{when, first_of, open_readings, has_one_face, fault_at_end, face_at}
 use Rattle.station_book.specs.Slots.{is_unread, is_single}
-use Rattle.station_book.specs.Shelves.{ShelfValue, last_of, survey_of, surveys_of}
+use Rattle.station_book.specs.StationStates.{StationStates, last_of, survey_of, surveys_of}
 use Rattle.station_book.specs.Stations.{SurveyedStation}
 use Rattle.station_book.specs.State.{State, ending}
 use Rattle.station_book.specs.Places.{History, Place, station, opening, is_empty, is_open, reading_in, sets_of, station_readings, target_at}
@@ -24,7 +24,7 @@ use Rattle.station_book.proofs.FaceLaws as faces
 use Rattle.station_book.proofs.FaceLaws.{IsKept, some_there}
 use Rattle.station_book.proofs.KeptLaws.{open_kept}
 use Rattle.station_book.proofs.SetReadings.{open_in_set}
-use Rattle.station_book.proofs.StateLaws.{open_set, open_has_set, survey_is, open_entry}
+use Rattle.station_book.proofs.StateLaws.{open_set, open_has_set, survey_is, open_state}
 use Rattle.indexmap.proofs.ReorderLemmas.{map-reverse}
 use Rattle.std.proofs.lemmas.Bool.{and_left, and_right}
 
@@ -82,11 +82,11 @@ empty_by_slots targets (r ∷ rs) kept =
     (some_there (face_at r) name r (r ∷ rs) (inl refl) equal kept.0.has_face)))
 
 -- the slots of the set that is open
-pub slots_kept : (shelf : ShelfValue) (past : History) → is_open past ≡ true
-    → AreStates past (stations_in past) shelf
-    → (last_of shelf).slots ≡ slots_of (open_targets past) (open_readings past)
-slots_kept shelf past now h =
-    let e = open_entry shelf past (open_has_set past now) h in
+pub slots_kept : (so_far : StationStates) (past : History) → is_open past ≡ true
+    → AreStates past (stations_in past) so_far
+    → (last_of so_far).slots ≡ slots_of (open_targets past) (open_readings past)
+slots_kept so_far past now h =
+    let e = open_state so_far past (open_has_set past now) h in
     let heads : opening past ∷ (open_set past now).older ≡ e.newest ∷ e.older =
     sym (open_set past now).sets ∙ e.sets in
     let newest : opening past ≡ e.newest = cc in
@@ -103,15 +103,15 @@ closed_end past e = λ i. first_of
 
 -- THE LAW of the end: the fault by what is kept is the fault by the blocks
 pub same_end : (k : State) (past : History) → StandsFor k.limits k past
-    → ending k.stage k.shelf ≡ fault_at_end past
+    → ending k.stage k.stations ≡ fault_at_end past
 unfolding fault_at_end
 same_end k past h = by k.stage h.stage where
-  by : (stage : Stage) → IsStage stage past → ending stage k.shelf ≡ fault_at_end past
+  by : (stage : Stage) → IsStage stage past → ending stage k.stations ≡ fault_at_end past
   by Outside g = sym (closed_end past g.1)
   by (Station name) g = sym (closed_end past g.3)
   by BetweenSets g = sym (closed_end past g.1)
   by InSet g =
-      let slots = slots_kept k.shelf past g h.stations in
+      let slots = slots_kept k.stations past g h.stations in
       let kept = open_kept k.limits past h.clean in
       let none = empty_by_slots (open_targets past) (open_readings past) kept in
       let one = faces.one_face_by_slots (open_targets past) (open_readings past) kept
@@ -130,7 +130,7 @@ AreComputed h (st ∷ sts) [] = ⊥
 AreComputed h (st ∷ sts) (s ∷ ss) = IsComputed st (sets_of st h) (station_readings st h) s
     × AreComputed h sts ss
 
-answers : (h : History) (sts : List Place) (es : ShelfValue) → AreStates h sts es
+answers : (h : History) (sts : List Place) (es : StationStates) → AreStates h sts es
     → AreComputed h sts (map survey_of es)
 answers h [] [] k = tt
 answers h [] (e ∷ es) k = k
@@ -139,8 +139,8 @@ answers h (st ∷ sts) (e ∷ es) k = (survey_is h st e k.0, answers h sts es k.
 
 -- THE LAW of the answer: what is kept gives the stations of the blocks
 pub same_stations : (k : State) (past : History) → StandsFor k.limits k past
-    → AreComputed past (stations_in past) (reverse (surveys_of k.shelf))
+    → AreComputed past (stations_in past) (reverse (surveys_of k.stations))
 same_stations k past h =
     subst (λ (ss : List SurveyedStation). AreComputed past (stations_in past) ss)
-    (ap (map survey_of) (sym (reverse-reverse k.shelf)) ∙ map-reverse survey_of (reverse k.shelf))
-    (answers past (stations_in past) k.shelf h.stations)
+    (ap (map survey_of) (sym (reverse-reverse k.stations)) ∙ map-reverse survey_of (reverse k.stations))
+    (answers past (stations_in past) k.stations h.stations)

@@ -17,8 +17,8 @@ use Rattle.station_book.proofs.KeptLaws.{clean_set}
 use Rattle.station_book.proofs.StationLaws.{had_sets_by_names}
 use Rattle.std.specs.Map.{values_of, lookup}
 use Rattle.adjust_kernel.specs.Names.{IsName}
-use Rattle.station_book.specs.Shelves.{AreByName}
-use Rattle.station_book.proofs.ShelfLaws.{name_eq, names_by_bytes}
+use Rattle.station_book.specs.StationStates.{AreByName}
+use Rattle.station_book.proofs.NameMaps.{name_eq, names_by_bytes}
 
 module _ {X : Type 0} where
   -- R holds of each element and each later one

@@ -1,4 +1,5 @@
--- The newest of the stations that are kept: their map has the oldest first, a shelf the newest.
+-- The newest of the stations that are kept: their map has the oldest first, the
+-- states the newest.
 use Rattle.std.proofs.Common.{◌≡◌, ℕ, suc, ◌-◌, ◌<◌, Bool, true, false, ◌||◌, List, [], ◌∷◌, ◌++◌, length, reverse, get_or, All, Some, refl, sym, ap, ◌∙◌, subst, arith}
 use Rattle.std.specs.Prelude.{slice_get}
 use Rattle.std.specs.List.{list_any}
@@ -11,17 +12,17 @@ use Rattle.std.proofs.lemmas.List.Folds.{list_any-append}
 use Rattle.std.proofs.lemmas.Option.{get_or_from_slice_get}
 use Rattle.indexmap.specs.IndexMap.{insert_entry}
 use Rattle.indexmap.specs.Layout.{set_value_at}
-use Rattle.station_book.specs.Entries.{EntryValue, MayEnd}
-use Rattle.station_book.specs.Shelves.{ShelfValue, LastMayEnd, OlderMayEnd, last_of, change_last}
-use Rattle.station_book.proofs.ShelfLaws.{name_eq, inserted}
+use Rattle.station_book.specs.StationState.{StationState, MayEnd}
+use Rattle.station_book.specs.StationStates.{StationStates, LastMayEnd, OlderMayEnd, last_of, change_last}
+use Rattle.station_book.proofs.NameMaps.{name_eq, inserted}
 
 -- the newest of these stations, and those before it
-pub record HasNewest (s : ShelfValue) : Type 0 where
-  pub newest : List ℕ × EntryValue
-  pub older : ShelfValue
+pub record HasNewest (s : StationStates) : Type 0 where
+  pub newest : List ℕ × StationState
+  pub older : StationStates
   pub is : s ≡ newest ∷ older
 
-pub some_newest : (s : ShelfValue) → 0 < length s → HasNewest s
+pub some_newest : (s : StationStates) → 0 < length s → HasNewest s
 some_newest [] some = absurd (omega (arith, some))
 some_newest (e ∷ older) some = record { newest = e; older = older; is = refl }
 
@@ -100,47 +101,47 @@ module _ {V : Type 0} where
       (all_reverse P es (λ k d lt. all (suc k) d (omega (arith, lt))))
       (All-cons P e [] (all 0 e (omega arith)) (All-nil P)))
 
--- a map of this size, and the shelf that it is
-module _ (es s : ShelfValue) (size : ℕ) (sized : size ≡ length es) (view : reverse es ≡ s)
+-- a map of this size, and the states that it keeps
+module _ (es s : StationStates) (size : ℕ) (sized : size ≡ length es) (view : reverse es ≡ s)
     (some : 0 < length s) where
   n : HasNewest s
   n = some_newest s some
 
   -- its last value
-  pub last_value : (v : EntryValue) → slice_get (values_of es) (size - 1) ≡ Some v → v ≡ last_of s
+  pub last_value : (v : StationState) → slice_get (values_of es) (size - 1) ≡ Some v → v ≡ last_of s
   last_value v at =
       last_value_is es n.older n.newest v (view ∙ n.is)
       (ap (λ (k : ℕ). slice_get (values_of es) (k - 1)) (sym sized) ∙ at) ∙ ap last_of (sym n.is)
 
-  changed : (w : EntryValue)
+  changed : (w : StationState)
       → reverse (set_value_at es (size - 1) w) ≡ (n.newest.0, w) ∷ n.older
   changed w = ap (λ (k : ℕ). reverse (set_value_at es (k - 1) w)) sized
       ∙ changed_newest es n.older n.newest w (view ∙ n.is)
 
-  -- a shelf whose last value is changed, and one whose last value is written back
-  pub changed_last : (f : EntryValue → EntryValue) (w : EntryValue) → w ≡ f (last_of s)
+  -- the states whose last one is changed, and those whose last one is written back
+  pub changed_last : (f : StationState → StationState) (w : StationState) → w ≡ f (last_of s)
       → reverse (set_value_at es (size - 1) w) ≡ change_last f s
   changed_last f w is =
-      changed w ∙ ap (λ (v : EntryValue). (n.newest.0, v) ∷ n.older)
-      (is ∙ ap (λ (t : ShelfValue). f (last_of t)) n.is) ∙ ap (change_last f) (sym n.is)
+      changed w ∙ ap (λ (v : StationState). (n.newest.0, v) ∷ n.older)
+      (is ∙ ap (λ (t : StationStates). f (last_of t)) n.is) ∙ ap (change_last f) (sym n.is)
 
-  pub unchanged_last : (w : EntryValue) → w ≡ last_of s
+  pub unchanged_last : (w : StationState) → w ≡ last_of s
       → reverse (set_value_at es (size - 1) w) ≡ s
   unchanged_last w is =
-      changed w ∙ ap (λ (v : EntryValue). (n.newest.0, v) ∷ n.older) (is ∙ ap last_of n.is)
+      changed w ∙ ap (λ (v : StationState). (n.newest.0, v) ∷ n.older) (is ∙ ap last_of n.is)
       ∙ sym n.is
 
   -- The older ones stay as they are.
-  pub older_may : (w : EntryValue) → OlderMayEnd (reverse es)
+  pub older_may : (w : StationState) → OlderMayEnd (reverse es)
       → OlderMayEnd (reverse (set_value_at es (size - 1) w))
   older_may w h = subst OlderMayEnd (sym (changed w)) (subst OlderMayEnd (view ∙ n.is) h)
 
 -- Where the newest may end too, all may.
-pub all_may : (s : ShelfValue) → LastMayEnd s → OlderMayEnd s → All (λ e. MayEnd e.1) s
+pub all_may : (s : StationStates) → LastMayEnd s → OlderMayEnd s → All (λ e. MayEnd e.1) s
 all_may [] last older = All-nil (λ e. MayEnd e.1)
 all_may (e ∷ es) last older = All-cons (λ e. MayEnd e.1) e es last older
 
-pub all_in_map : (es : List (List ℕ × EntryValue)) → LastMayEnd (reverse es)
+pub all_in_map : (es : List (List ℕ × StationState)) → LastMayEnd (reverse es)
     → OlderMayEnd (reverse es) → All (λ e. MayEnd e.1) es
 all_in_map es last older = subst (All (λ e. MayEnd e.1)) (reverse-reverse es)
     (all_reverse (λ e. MayEnd e.1) (reverse es) (all_may (reverse es) last older))

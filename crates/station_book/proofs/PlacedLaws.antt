@@ -7,7 +7,7 @@ use Rattle.std.proofs.lemmas.Bool.{lt-ltb, false≢true, false_from_ne_true}
 use Rattle.std.proofs.lemmas.List.Sums.{prefix_len_is}
 use Rattle.std.proofs.lemmas.Option.{get_or_from_slice_get, slice_get_cases}
 use Rattle.std.proofs.lemmas.Slice.Eq.{bytes_eq-Decides}
-use Rattle.station_book.specs.Entries.{is_named, place_of}
+use Rattle.station_book.specs.StationState.{is_named, place_of}
 
 -- A name that differs is no match.
 other_name : (a b name : List ℕ) → b ≡ name → a ≢ b → not (bytes_eq a name) ≡ true

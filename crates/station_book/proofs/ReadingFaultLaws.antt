@@ -19,9 +19,9 @@ use Rattle.station_book.specs.Faults.{when, first_of, has_no_two_c, has_no_two_i
 use Rattle.station_book.specs.State.{then_fault}
 use Rattle.station_book.specs.Readings as said
 use Rattle.station_book.specs.Slots.{face_reading, slot_at}
-use Rattle.station_book.specs.Entries as entries
-use Rattle.station_book.specs.Entries.{EntryValue, place_of}
-use Rattle.station_book.specs.Shelves.{ShelfValue, last_of}
+use Rattle.station_book.specs.StationState as entries
+use Rattle.station_book.specs.StationState.{StationState, place_of}
+use Rattle.station_book.specs.StationStates.{StationStates, last_of}
 use Rattle.station_book.specs.State as states
 use Rattle.gsi_word.specs.Blocks.{GsiBlock}
 use Rattle.station_book.specs.Blocks.{has_two, lacks, angle_fault, is_of_face, other_face, angles, target}
@@ -37,7 +37,7 @@ use Rattle.station_book.proofs.StateLaws.{open_has_set}
 use Rattle.station_book.proofs.TakeLaws.{first_face, second_face}
 use Rattle.station_book.proofs.EndLaws.{slots_kept, some_angles}
 use Rattle.station_book.proofs.FaultLaws.{first_append}
-use Rattle.station_book.proofs.StateLaws.{open_entry}
+use Rattle.station_book.proofs.StateLaws.{open_state}
 use Rattle.std.proofs.lemmas.Bool.{and_right}
 
 -- the faults of a reading in itself
@@ -129,16 +129,16 @@ old_target_tests false c i = refl
 
 -- a reading with those before it, by the targets and the slots
 same_later : (limits : FaceLimits) (targets : List (List ℕ)) (rs : List Place) (b : GsiBlock)
-    (e : EntryValue) → AllByRecursion (IsKept targets) rs → e.targets ≡ targets
+    (e : StationState) → AllByRecursion (IsKept targets) rs → e.targets ≡ targets
     → e.slots ≡ slots_of targets rs
-    → first_of (entries.entry_faults limits e (reading_of b)) ≡ first_of
+    → first_of (entries.state_faults limits e (reading_of b)) ≡ first_of
     (later_faults limits targets rs b)
 same_later limits targets rs b e kept ts ss = split (place_of (target b) e.targets) refl where
   place : place_of (target b) e.targets ≡ place_of (target b) targets
   place = ap (place_of (target b)) ts
 
   split : (o : Option ℕ) → place_of (target b) e.targets ≡ o
-      → first_of (entries.entry_faults_at limits e (reading_of b) o) ≡ first_of
+      → first_of (entries.state_faults_at limits e (reading_of b) o) ≡ first_of
       (later_faults limits targets rs b)
   split None p =
       let out : is_among targets (target b) ≡ false = absent (λ x. bytes_eq x (target b)) targets
@@ -180,32 +180,32 @@ same_later limits targets rs b e kept ts ss = split (place_of (target b) e.targe
       (angles_of (reading_in (other_face (face b)) (target b) rs)))))
 
 -- the same, in the open set
-same_later_open : (limits : FaceLimits) (shelf : ShelfValue) (past : History) (b : GsiBlock)
-    → IsWithoutFault limits past → is_open past ≡ true → AreStates past (stations_in past) shelf
-    → first_of (entries.entry_faults limits (last_of shelf) (said.reading b)) ≡ first_of
+same_later_open : (limits : FaceLimits) (so_far : StationStates) (past : History) (b : GsiBlock)
+    → IsWithoutFault limits past → is_open past ≡ true → AreStates past (stations_in past) so_far
+    → first_of (entries.state_faults limits (last_of so_far) (said.reading b)) ≡ first_of
     (later_faults limits (open_targets past) (open_readings past) b)
-same_later_open limits shelf past b w now h =
-    let e = open_entry shelf past (open_has_set past now) h in
-    ap (λ s. first_of (entries.entry_faults limits (last_of shelf) s)) (reading_as b)
-    ∙ same_later limits (open_targets past) (open_readings past) b (last_of shelf)
-    (open_kept limits past w) e.is.targets (slots_kept shelf past now h)
+same_later_open limits so_far past b w now h =
+    let e = open_state so_far past (open_has_set past now) h in
+    ap (λ s. first_of (entries.state_faults limits (last_of so_far) s)) (reading_as b)
+    ∙ same_later limits (open_targets past) (open_readings past) b (last_of so_far)
+    (open_kept limits past w) e.is.targets (slots_kept so_far past now h)
 
-measured_parts : (limits : FaceLimits) (shelf : ShelfValue) (o : Option BookKind) (s : Reading)
-    → states.measured limits shelf (said.unless_fault o s) ≡ then_fault o
-    (first_of (entries.entry_faults limits (last_of shelf) s))
-measured_parts limits shelf None s = refl
-measured_parts limits shelf (Some k) s = refl
+measured_parts : (limits : FaceLimits) (so_far : StationStates) (o : Option BookKind) (s : Reading)
+    → states.measured limits so_far (said.unless_fault o s) ≡ then_fault o
+    (first_of (entries.state_faults limits (last_of so_far) s))
+measured_parts limits so_far None s = refl
+measured_parts limits so_far (Some k) s = refl
 
 -- a reading in the open set
-same_measured : (limits : FaceLimits) (shelf : ShelfValue) (past : History) (b : GsiBlock)
-    → IsWithoutFault limits past → is_open past ≡ true → AreStates past (stations_in past) shelf
-    → states.measured limits shelf
+same_measured : (limits : FaceLimits) (so_far : StationStates) (past : History) (b : GsiBlock)
+    → IsWithoutFault limits past → is_open past ≡ true → AreStates past (stations_in past) so_far
+    → states.measured limits so_far
     (said.unless_fault (first_of (said.own_faults b)) (said.reading b)) ≡ first_of
     (reading_faults limits past b)
-same_measured limits shelf past b w now h =
-    measured_parts limits shelf (first_of (said.own_faults b)) (said.reading b)
+same_measured limits so_far past b w now h =
+    measured_parts limits so_far (first_of (said.own_faults b)) (said.reading b)
     ∙ (λ i. then_fault (first_of (sym (own_same b) i))
-    (same_later_open limits shelf past b w now h i))
+    (same_later_open limits so_far past b w now h i))
     ∙ sym (first_append (own_faults b)
     (later_faults limits (open_targets past) (open_readings past) b))
 
@@ -214,24 +214,24 @@ not_open : (sees now : Bool) (os : List (Option BookKind)) → now ≡ false
 not_open sees now os e = rw (and_right sees now e)
 
 -- a measurement, by where it stands
-by_stage : (limits : FaceLimits) (stage : Stage) (shelf : ShelfValue) (past : History)
+by_stage : (limits : FaceLimits) (stage : Stage) (so_far : StationStates) (past : History)
     (b : GsiBlock) → IsWithoutFault limits past → IsStage stage past
-    → AreStates past (stations_in past) shelf
-    → cond (states.has_open_set stage) (states.measured limits shelf (said.read b)) None ≡ first_of
+    → AreStates past (stations_in past) so_far
+    → cond (states.has_open_set stage) (states.measured limits so_far (said.read b)) None ≡ first_of
     (cond (not (lacks 21 b) && is_open past) (reading_faults limits past b) [])
-by_stage limits Outside shelf past b w g h = not_open (not (lacks 21 b)) (is_open past)
+by_stage limits Outside so_far past b w g h = not_open (not (lacks 21 b)) (is_open past)
     (reading_faults limits past b) g.1
-by_stage limits (Station name) shelf past b w g h = not_open (not (lacks 21 b)) (is_open past)
+by_stage limits (Station name) so_far past b w g h = not_open (not (lacks 21 b)) (is_open past)
     (reading_faults limits past b) g.3
-by_stage limits BetweenSets shelf past b w g h = not_open (not (lacks 21 b)) (is_open past)
+by_stage limits BetweenSets so_far past b w g h = not_open (not (lacks 21 b)) (is_open past)
     (reading_faults limits past b) g.1
-by_stage limits InSet shelf past b w g h = by (lacks 21 b) where
-  by : (none : Bool) → states.measured limits shelf
+by_stage limits InSet so_far past b w g h = by (lacks 21 b) where
+  by : (none : Bool) → states.measured limits so_far
       (cond none (Ok None) (said.unless_fault (first_of (said.own_faults b))
       (said.reading b))) ≡ first_of
       (cond (not none && is_open past) (reading_faults limits past b) [])
   by true = refl
-  by false = same_measured limits shelf past b w g h
+  by false = same_measured limits so_far past b w g h
       ∙ sym (ap (λ v. first_of (cond v (reading_faults limits past b) [])) g)
 
 -- THE LAW of a measurement: the fault by what is kept is the fault by the blocks before
@@ -239,4 +239,4 @@ pub same_measurement_fault : (k : states.State) (b : GsiBlock) (past : History)
     → StandsFor k.limits k past → states.fault_as roles.Measurement k b
     ≡ first_of (faults_as roles.Measurement k.limits past b)
 same_measurement_fault k b past h =
-    by_stage k.limits k.stage k.shelf past b h.clean h.stage h.stations
+    by_stage k.limits k.stage k.stations past b h.clean h.stage h.stations

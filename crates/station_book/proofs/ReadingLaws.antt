@@ -14,13 +14,13 @@ use Rattle.station_book.specs.TwoFaces.{Angles}
 use Rattle.station_book.specs.declared.angles.Reading.{Reading}
 use Rattle.station_book.specs.declared.slot.Slot.{Slot}
 use Rattle.station_book.specs.Slots.{empty_slot, slot_at, with_face_reading, obs_at, obs_of, faces_at, faces_of}
-use Rattle.station_book.specs.Entries.{EntryValue, place_of, with_reading, with_reading_at}
+use Rattle.station_book.specs.StationState.{StationState, place_of, with_reading, with_reading_at}
 use Rattle.station_book.specs.Blocks.{is_of_face, other_face}
 use Rattle.station_book.specs.Places.{Place, opening, before, is_same, is_among, distinct, reading_in, target_at, passes_at}
-use Rattle.station_book.specs.StateOfHistory.{in_set, angles_of, slot_of, slots_of, targets_in, obs_in, faces_in, IsEntryOf}
+use Rattle.station_book.specs.StateOfHistory.{in_set, angles_of, slot_of, slots_of, targets_in, obs_in, faces_in, IsStateOf}
 use Rattle.station_book.proofs.SetReadings.{found_other, found_here, found_not}
 use Rattle.station_book.proofs.SlotLaws.{enumerate-append}
-use Rattle.station_book.proofs.EntryLaws.{absent_name}
+use Rattle.station_book.proofs.StationStateLaws.{absent_name}
 use Rattle.station_book.proofs.ListLaws.{absent}
 use Rattle.station_book.specs.Faults.{angles_at}
 
@@ -229,17 +229,17 @@ others_stay (t ∷ ts) r rs e =
 
 -- after a reading
 pub reading_state : (st newest : Place) (older readings : List Place) (r : Place) (name : List ℕ)
-    (e : EntryValue) (s : Reading) → Says s r
+    (e : StationState) (s : Reading) → Says s r
     → in_set newest (r ∷ readings) ≡ r ∷ in_set newest readings → IsInNone r readings older
-    → IsEntryOf st newest older readings name e
-    → IsEntryOf st newest older (r ∷ readings) name (with_reading s e)
+    → IsStateOf st newest older readings name e
+    → IsStateOf st newest older (r ∷ readings) name (with_reading s e)
 reading_state st newest older readings r name e s says mine none h = split
     (place_of s.target e.targets) refl where
       place : place_of s.target e.targets ≡ place_of (target_at r) (targets_in readings)
       place = λ j. place_of (says.target_is j) (h.targets j)
 
       split : (o : Option ℕ) → place_of s.target e.targets ≡ o
-          → IsEntryOf st newest older (r ∷ readings) name (with_reading_at s e o)
+          → IsStateOf st newest older (r ∷ readings) name (with_reading_at s e o)
       split (Some i) p =
           let at = position-Some (λ x. bytes_eq x (target_at r)) (targets_in readings) i []
           (sym place ∙ p) in

@@ -6,7 +6,7 @@ use Rattle.station_book.specs.Limits.{FaceLimits, AreLimits}
 use Rattle.station_book.specs.Places.{History}
 use Rattle.station_book.specs.Faults.{IsWithoutFault}
 use Rattle.station_book.specs.Stations.{SurveyedStation, AreStations}
-use Rattle.station_book.specs.Shelves.{empty_shelf, surveys_of}
+use Rattle.station_book.specs.StationStates.{none_so_far, surveys_of}
 use Rattle.station_book.specs.State.{State, after}
 use Rattle.station_book.specs.StandsFor.{StandsFor}
 use Rattle.station_book.proofs.TakeLaws.{at_own}
@@ -16,7 +16,7 @@ use Rattle.station_book.proofs.AnswerLaws.{are_stations, empty_state}
 
 -- what a book keeps that has taken these blocks
 abbrev kept_of : FaceLimits → History → State
-kept_of limits [] = record { limits = limits; taken = 0; stage = Outside; shelf = empty_shelf }
+kept_of limits [] = record { limits = limits; taken = 0; stage = Outside; stations = none_so_far }
 kept_of limits (b ∷ past) = after b (kept_of limits past)
 
 state_of : (limits : FaceLimits) (h : History) → IsWithoutFault limits h
@@ -31,7 +31,7 @@ pub some_survey : (limits : FaceLimits) (h : History) → AreLimits limits → I
     → (stations : List SurveyedStation) × AreStations limits h stations
 some_survey limits h valid w =
     let k = kept_of limits h in (
-      surveys_of k.shelf,
-      are_stations limits h (surveys_of k.shelf) w
+      surveys_of k.stations,
+      are_stations limits h (surveys_of k.stations) w
           (same_stations k h (at_own limits k h (state_of limits h w))),
     )

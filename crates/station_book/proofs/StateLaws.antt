@@ -5,17 +5,17 @@ use Rattle.std.specs.List.{AllByRecursion}
 use Rattle.std.proofs.lemmas.Bool.{cases_Bool, false≢true, and_parts, ne_eqb, eq-eqb, and_left, false_from_ne_true, or_parts}
 use Rattle.std.proofs.lemmas.List.{length-append, map-append, length-map}
 use Rattle.station_book.specs.Slots.{empty_slot, obs_of, faces_of}
-use Rattle.station_book.specs.Entries.{EntryValue, first_entry, with_set, with_reading}
+use Rattle.station_book.specs.StationState.{StationState, begun, with_set, with_reading}
 use Rattle.station_book.specs.declared.angles.Reading.{Reading}
 use Rattle.station_book.proofs.ReadingLaws.{Says, IsInNone, reading_state, all_filter}
-use Rattle.station_book.specs.Shelves.{ShelfValue, survey_of, with_station, last_of}
+use Rattle.station_book.specs.StationStates.{StationStates, survey_of, with_station, last_of}
 use Rattle.station_book.proofs.SetReadings.{none_in_later}
 use Rattle.station_book.proofs.NewestLaws.{HasNewest}
 use Rattle.gsi_word.specs.Blocks.{GsiBlock}
 use Rattle.station_book.specs.Blocks.{number, opens_station, opens_set, is_opening, has_direction}
 use Rattle.station_book.specs.Places.{number_at, History, Place, places, last, before, station, opening, is_empty, is_open, is_set, is_reading, is_same, sets_of, station_readings, first_sets}
 use Rattle.station_book.specs.Faults.{open_sets, name_at}
-use Rattle.station_book.specs.StateOfHistory.{in_set, slots_of, targets_in, obs_in, faces_in, numbers_in, IsEntryOf, IsEntryWith, IsStateAt, IsComputed, stations_in, AreStates}
+use Rattle.station_book.specs.StateOfHistory.{in_set, slots_of, targets_in, obs_in, faces_in, numbers_in, IsStateOf, IsStateWith, IsStateAt, IsComputed, stations_in, AreStates}
 use Rattle.station_book.proofs.PlaceLaws.{length-last, belonging-more, belonging-same, belonging-fresh, belonging-older, owners_in_order}
 use Rattle.station_book.proofs.StepLaws.{no_set_at_station, no_station_at_set, direction_opens_nothing, opens_no_station, is_open-opening, is_open-other, sets-station, sets-more, sets-other, same_station, opens_no_set}
 
@@ -36,7 +36,7 @@ length_numbers (s ∷ older) = let l = length-append (numbers_in older)
 
 -- after the first set
 pub first_state : (st set : Place) (name : List ℕ) (n : ℕ) → name_at st ≡ Some name
-    → number_at set ≡ Some n → IsEntryOf st set [] [] name (first_entry n)
+    → number_at set ≡ Some n → IsStateOf st set [] [] name (begun n)
 first_state st set name n named_so numbered = record {
   named_so = named_so;
   targets = refl;
@@ -48,9 +48,9 @@ first_state st set name n named_so numbered = record {
 
 -- after a further set
 pub set_state : (st set newest : Place) (older readings : List Place) (name : List ℕ) (n : ℕ)
-    (e : EntryValue) → number_at set ≡ Some n → in_set set readings ≡ []
-    → IsEntryOf st newest older readings name e
-    → IsEntryOf st set (newest ∷ older) readings name (with_set n e)
+    (e : StationState) → number_at set ≡ Some n → in_set set readings ≡ []
+    → IsStateOf st newest older readings name e
+    → IsStateOf st set (newest ∷ older) readings name (with_set n e)
 set_state st set newest older readings name n e numbered none h = record {
   named_so = h.named_so;
   targets = h.targets;
@@ -74,10 +74,10 @@ set_state st set newest older readings name n e numbered none h = record {
       ∙ sym (no_readings (targets_in readings)) ∙ ap (slots_of (targets_in readings)) (sym none)
 
 -- what a station gives once its last set is closed
-pub survey_is : (h : History) (st : Place) (e : List ℕ × EntryValue) → IsStateAt h st e
+pub survey_is : (h : History) (st : Place) (e : List ℕ × StationState) → IsStateAt h st e
     → IsComputed st (sets_of st h) (station_readings st h) (survey_of e)
 survey_is h st e k = by (sets_of st h) refl k where
-  by : (sets : List Place) → sets_of st h ≡ sets → IsEntryWith st sets (station_readings st h) e
+  by : (sets : List Place) → sets_of st h ≡ sets → IsStateWith st sets (station_readings st h) e
       → IsComputed st (sets_of st h) (station_readings st h) (survey_of e)
   by [] s k = absurd k
   by (newest ∷ older) s k =
@@ -94,14 +94,14 @@ survey_is h st e k = by (sets_of st h) refl k where
       }
 
 -- A block by which the sets and readings of a station stay as they are changes nothing of it.
-stays : (st : Place) (e : List ℕ × EntryValue) (b : GsiBlock) (past : History)
+stays : (st : Place) (e : List ℕ × StationState) (b : GsiBlock) (past : History)
     → sets_of st (b ∷ past) ≡ sets_of st past
     → station_readings st (b ∷ past) ≡ station_readings st past → IsStateAt past st e
     → IsStateAt (b ∷ past) st e
 stays st e b past sets readings h = rw (sets, readings) h
 
 -- Whatever block comes, what is kept of the stations before the open one stays as it is.
-pub older_stay : (sts : List Place) (es : ShelfValue) (b : GsiBlock) (past : History)
+pub older_stay : (sts : List Place) (es : StationStates) (b : GsiBlock) (past : History)
     → AllBefore (station past) sts → AreStates past sts es
     → AreStates (b ∷ past) sts es
 older_stay [] [] b past all h = tt
@@ -178,7 +178,7 @@ idle : (p : GsiBlock → Bool) (kind : Place → Bool) (owner : Place) (b : GsiB
     ≡ filter (λ place. kind place && is_same (last p (before place)) owner) (places past)
 idle p kind owner b past e = rw e
 
-all_idle : (sts : List Place) (es : ShelfValue) (b : GsiBlock) (past : History)
+all_idle : (sts : List Place) (es : StationStates) (b : GsiBlock) (past : History)
     → opens_set b ≡ false → is_reading (b ∷ past) ≡ false → AreStates past sts es
     → AreStates (b ∷ past) sts es
 all_idle [] [] b past n r h = tt
@@ -197,7 +197,7 @@ same_stations b past n = ap (map (λ s. station (before s)))
     (first_sets past)) n)
 
 -- all stations after a block of code 10 or 30, another code, or a measurement that is no reading
-pub states_idle : (s : ShelfValue) (b : GsiBlock) (past : History) → opens_set b ≡ false
+pub states_idle : (s : StationStates) (b : GsiBlock) (past : History) → opens_set b ≡ false
     → is_reading (b ∷ past) ≡ false → AreStates past (stations_in past) s
     → AreStates (b ∷ past) (stations_in (b ∷ past)) s
 states_idle s b past n r h = subst (λ (sts : List Place). AreStates (b ∷ past) sts s)
@@ -286,14 +286,14 @@ open_last past some = elim (parted past) [
 ]
 
 -- all stations after the first set of the open one
-pub states_first : (shelf : ShelfValue) (b : GsiBlock) (past : History) (name : List ℕ) (n : ℕ)
+pub states_first : (so_far : StationStates) (b : GsiBlock) (past : History) (name : List ℕ) (n : ℕ)
     → opens_station b ≡ false → opens_set b ≡ true → open_sets past ≡ []
-    → name_at (station past) ≡ Some name → number b ≡ Some n → AreStates past (stations_in past) shelf
-    → AreStates (b ∷ past) (stations_in (b ∷ past)) (with_station name n shelf)
-states_first shelf b past name n s set none named_so numbered h =
-    subst (λ (sts : List Place). AreStates (b ∷ past) sts (with_station name n shelf)) (sym stations) (
+    → name_at (station past) ≡ Some name → number b ≡ Some n → AreStates past (stations_in past) so_far
+    → AreStates (b ∷ past) (stations_in (b ∷ past)) (with_station name n so_far)
+states_first so_far b past name n s set none named_so numbered h =
+    subst (λ (sts : List Place). AreStates (b ∷ past) sts (with_station name n so_far)) (sym stations) (
       head,
-      older_stay (stations_in past) shelf b past older h,
+      older_stay (stations_in past) so_far b past older h,
     )
   where
     stations : stations_in (b ∷ past) ≡ station past ∷ stations_in past
@@ -314,7 +314,7 @@ states_first shelf b past name n s set none named_so numbered h =
     readings = idle opens_station is_reading (station past) b past (set_is_no_reading b past set)
         ∙ no_set_no_reading past none
 
-    head : IsStateAt (b ∷ past) (station past) (name, first_entry n)
+    head : IsStateAt (b ∷ past) (station past) (name, begun n)
     head = rw (sets, readings)
         (first_state (station past) (b ∷ past) name n named_so numbered)
 
@@ -325,7 +325,7 @@ none_to_come b past st = none_in_later
     (λ place. is_reading place && is_same (station (before place)) st) (b ∷ past) past (omega arith)
 
 -- all stations after a further set of the open one
-pub states_further : (x : List ℕ × EntryValue) (es : ShelfValue) (b : GsiBlock) (past : History) (n : ℕ)
+pub states_further : (x : List ℕ × StationState) (es : StationStates) (b : GsiBlock) (past : History) (n : ℕ)
     → opens_station b ≡ false → opens_set b ≡ true → is_empty (open_sets past) ≡ false
     → number b ≡ Some n → AreStates past (stations_in past) (x ∷ es)
     → AreStates (b ∷ past) (stations_in (b ∷ past)) ((x.0, with_set n x.1) ∷ es)
@@ -339,8 +339,8 @@ states_further x es b past n s set some numbered h =
     (sym (same ∙ p.stations)) (head k.0, older_stay p.rest es b past p.older k.1)
   where
     further : (sets : List Place)
-        → IsEntryWith (station past) sets (station_readings (station past) past) x
-        → IsEntryWith (station past) ((b ∷ past) ∷ sets) (station_readings (station past) past)
+        → IsStateWith (station past) sets (station_readings (station past) past) x
+        → IsStateWith (station past) ((b ∷ past) ∷ sets) (station_readings (station past) past)
         (x.0, with_set n x.1)
     further [] k = absurd k
     further (newest ∷ older) k = set_state (station past) (b ∷ past) newest older
@@ -359,13 +359,13 @@ states_further x es b past n s set some numbered h =
         ) (further (open_sets past) k)
 
 -- Where the open station has a set, a station is kept.
-pub newest_there : (s : ShelfValue) (past : History) → is_empty (open_sets past) ≡ false
+pub newest_there : (s : StationStates) (past : History) → is_empty (open_sets past) ≡ false
     → AreStates past (stations_in past) s → HasNewest s
 newest_there s past some h =
     let p = open_last past some in
     of_first p.rest s (subst (λ (sts : List Place). AreStates past sts s) p.stations h)
   where
-    of_first : (sts : List Place) (es : ShelfValue) → AreStates past (station past ∷ sts) es
+    of_first : (sts : List Place) (es : StationStates) → AreStates past (station past ∷ sts) es
         → HasNewest es
     of_first sts [] k = absurd k
     of_first sts (x ∷ es) k = record { newest = x; older = es; is = refl }
@@ -382,7 +382,7 @@ in_none b past readings (s ∷ older) all = (
 )
 
 -- all stations after a reading
-pub states_reading : (x : List ℕ × EntryValue) (es : ShelfValue) (b : GsiBlock) (past : History)
+pub states_reading : (x : List ℕ × StationState) (es : StationStates) (b : GsiBlock) (past : History)
     (s : Reading) → is_opening b ≡ false → is_reading (b ∷ past) ≡ true → is_open past ≡ true
     → Says s (b ∷ past) → AreStates past (stations_in past) (x ∷ es)
     → AreStates (b ∷ past) (stations_in (b ∷ past)) ((x.0, with_reading s x.1) ∷ es)
@@ -425,30 +425,30 @@ states_reading x es b past s o reading now says h =
         (rw set.sets at k))
 
 -- what is kept of the open station, where it has a set
-pub record HasOpenEntry (past : History) (shelf : ShelfValue) : Type 0 where
+pub record HasOpenState (past : History) (so_far : StationStates) : Type 0 where
   pub newest : Place
   pub older : List Place
   pub sets : open_sets past ≡ newest ∷ older
   pub name : List ℕ
-  pub is : IsEntryOf (station past) newest older (station_readings (station past) past) name
-      (last_of shelf)
+  pub is : IsStateOf (station past) newest older (station_readings (station past) past) name
+      (last_of so_far)
 
--- Where the open station has a set, the last entry is its own.
-pub open_entry : (shelf : ShelfValue) (past : History) → is_empty (open_sets past) ≡ false
-    → AreStates past (stations_in past) shelf → HasOpenEntry past shelf
-open_entry shelf past some h =
+-- Where the open station has a set, the last state is its own.
+pub open_state : (so_far : StationStates) (past : History) → is_empty (open_sets past) ≡ false
+    → AreStates past (stations_in past) so_far → HasOpenState past so_far
+open_state so_far past some h =
     let p = open_last past some in
-    of_newest p.rest shelf (subst (λ (sts : List Place). AreStates past sts shelf) p.stations h)
+    of_newest p.rest so_far (subst (λ (sts : List Place). AreStates past sts so_far) p.stations h)
   where
-    of_sets : (x : List ℕ × EntryValue) (es : ShelfValue) (sets : List Place)
+    of_sets : (x : List ℕ × StationState) (es : StationStates) (sets : List Place)
         → open_sets past ≡ sets
-        → IsEntryWith (station past) sets (station_readings (station past) past) x
-        → HasOpenEntry past (x ∷ es)
+        → IsStateWith (station past) sets (station_readings (station past) past) x
+        → HasOpenState past (x ∷ es)
     of_sets x es [] s k = absurd k
     of_sets x es (set ∷ rest) s k =
         record { newest = set; older = rest; sets = s; name = x.0; is = k }
 
-    of_newest : (sts : List Place) (es : ShelfValue) → AreStates past (station past ∷ sts) es
-        → HasOpenEntry past es
+    of_newest : (sts : List Place) (es : StationStates) → AreStates past (station past ∷ sts) es
+        → HasOpenState past es
     of_newest sts [] k = absurd k
     of_newest sts (y ∷ es) k = of_sets y es (open_sets past) refl k.0

@@ -15,8 +15,8 @@ use Rattle.station_book.specs.declared.stage.Stage.TheVariants.{Outside, Station
 use Rattle.station_book.specs.Faults.{station_faults, when, first_of, open_sets, fault_after, name_at}
 use Rattle.station_book.specs.State.{then_fault}
 use Rattle.station_book.specs.Blocks.{role_of, is_station, is_set_code, is_close, is_measurement}
-use Rattle.station_book.specs.Entries.{with_set, with_reading}
-use Rattle.station_book.specs.Shelves.{ShelfValue, change_last}
+use Rattle.station_book.specs.StationState.{with_set, with_reading}
+use Rattle.station_book.specs.StationStates.{StationStates, change_last}
 use Rattle.station_book.specs.State as states
 use Rattle.gsi_word.specs.Blocks.{GsiBlock}
 use Rattle.station_book.specs.Blocks.{opens_station, opens_set, is_opening, has_direction, named, number, angles, is_of_face, other_face, found, is_absent, is_twice, name_found, has_two, lacks}
@@ -102,31 +102,31 @@ is_set_block : (b : GsiBlock) → role_of b ≡ roles.Set
 is_set_block b e = (station_as b roles.Set e, set_as b roles.Set e)
 
 -- a further set of the last station
-further_taken : (shelf : ShelfValue) (b : GsiBlock) (past : History) (n : ℕ) → role_of b ≡ roles.Set
-    → number b ≡ Some n → is_empty (open_sets past) ≡ false → AreStates past (stations_in past) shelf
-    → AreStates (b ∷ past) (stations_in (b ∷ past)) (change_last (with_set n) shelf)
-further_taken shelf b past n r e some h =
+further_taken : (so_far : StationStates) (b : GsiBlock) (past : History) (n : ℕ) → role_of b ≡ roles.Set
+    → number b ≡ Some n → is_empty (open_sets past) ≡ false → AreStates past (stations_in past) so_far
+    → AreStates (b ∷ past) (stations_in (b ∷ past)) (change_last (with_set n) so_far)
+further_taken so_far b past n r e some h =
     let k = is_set_block b r in
-    let x = newest_there shelf past some h in
-    subst (λ (s : ShelfValue). AreStates (b ∷ past) (stations_in (b ∷ past))
+    let x = newest_there so_far past some h in
+    subst (λ (s : StationStates). AreStates (b ∷ past) (stations_in (b ∷ past))
     (change_last (with_set n) s)) (sym x.is)
     (states_further x.newest x.older b past n k.0 k.1 some e
-    (subst (λ (s : ShelfValue). AreStates past (stations_in past) s) x.is h))
+    (subst (λ (s : StationStates). AreStates past (stations_in past) s) x.is h))
 
 -- a block of code 20
-pub set_taken : (shelf : ShelfValue) (b : GsiBlock) (past : History) (stage : Stage) (n : Option ℕ)
-    → role_of b ≡ roles.Set → number b ≡ n → states.opening_fault stage shelf n ≡ None
-    → IsStage stage past → AreStates past (stations_in past) shelf
-    → AreStates (b ∷ past) (stations_in (b ∷ past)) (states.opened stage n shelf)
-set_taken shelf b past Outside n r e f g h = absurd cc
-set_taken shelf b past (Station name) None r e f g h = absurd cc
-set_taken shelf b past (Station name)
-    (Some n) r e f g h = let k = is_set_block b r in states_first shelf b past name n k.0 k.1 g.2 g.1
+pub set_taken : (so_far : StationStates) (b : GsiBlock) (past : History) (stage : Stage) (n : Option ℕ)
+    → role_of b ≡ roles.Set → number b ≡ n → states.opening_fault stage so_far n ≡ None
+    → IsStage stage past → AreStates past (stations_in past) so_far
+    → AreStates (b ∷ past) (stations_in (b ∷ past)) (states.opened stage n so_far)
+set_taken so_far b past Outside n r e f g h = absurd cc
+set_taken so_far b past (Station name) None r e f g h = absurd cc
+set_taken so_far b past (Station name)
+    (Some n) r e f g h = let k = is_set_block b r in states_first so_far b past name n k.0 k.1 g.2 g.1
     e h
-set_taken shelf b past BetweenSets None r e f g h = absurd cc
-set_taken shelf b past BetweenSets (Some n) r e f g h = further_taken shelf b past n r e g.0 h
-set_taken shelf b past InSet None r e f g h = absurd cc
-set_taken shelf b past InSet (Some n) r e f g h = further_taken shelf b past n r e
+set_taken so_far b past BetweenSets None r e f g h = absurd cc
+set_taken so_far b past BetweenSets (Some n) r e f g h = further_taken so_far b past n r e g.0 h
+set_taken so_far b past InSet None r e f g h = absurd cc
+set_taken so_far b past InSet (Some n) r e f g h = further_taken so_far b past n r e
     (open_has_set past g) h
 
 -- what a measurement that was read says
@@ -198,68 +198,68 @@ measures_nothing b r = (
 )
 
 -- a measurement in an open set, by what it says
-in_set_taken : (shelf : ShelfValue) (b : GsiBlock) (past : History)
+in_set_taken : (so_far : StationStates) (b : GsiBlock) (past : History)
     (o : Result (Option Reading) BookKind) → role_of b ≡ roles.Measurement → said.read b ≡ o
     → is_open past ≡ true → (kind : (k : BookKind) → o ≡ Err k → ⊥)
-    → AreStates past (stations_in past) shelf
-    → AreStates (b ∷ past) (stations_in (b ∷ past)) (states.with_measured o shelf)
-in_set_taken shelf b past (Err k) r e now kind h = absurd (kind k refl)
-in_set_taken shelf b past (Ok None) r e now kind h =
+    → AreStates past (stations_in past) so_far
+    → AreStates (b ∷ past) (stations_in (b ∷ past)) (states.with_measured o so_far)
+in_set_taken so_far b past (Err k) r e now kind h = absurd (kind k refl)
+in_set_taken so_far b past (Ok None) r e now kind h =
     let absent : lacks 21 b ≡ true = none_cases (lacks 21 b) (first_of (said.own_faults b))
     (said.reading b) e in
     let blind : has_direction b ≡ false = direction_as b roles.Measurement r ∙ ap not absent in
-    states_idle shelf b past (set_as b roles.Measurement r) (no_reading b past blind) h
-in_set_taken shelf b past (Ok (Some s)) r e now kind h =
+    states_idle so_far b past (set_as b roles.Measurement r) (no_reading b past blind) h
+in_set_taken so_far b past (Ok (Some s)) r e now kind h =
     let w = was_read b s e in
     let seen : has_direction b ≡ true = direction_as b roles.Measurement r ∙ ap not w.directed in
     let reading : is_reading (b ∷ past) ≡ true = (λ i. seen i && now i) in
-    let x = newest_there shelf past (open_has_set past now) h in
-    subst (λ (o : ShelfValue). AreStates (b ∷ past) (stations_in (b ∷ past))
+    let x = newest_there so_far past (open_has_set past now) h in
+    subst (λ (o : StationStates). AreStates (b ∷ past) (stations_in (b ∷ past))
     (change_last (with_reading s) o)) (sym x.is)
     (states_reading x.newest x.older b past s (opening_as b roles.Measurement r) reading now
-    (says b past s w) (subst (λ (o : ShelfValue). AreStates past (stations_in past) o) x.is h))
+    (says b past s w) (subst (λ (o : StationStates). AreStates past (stations_in past) o) x.is h))
 
-no_err : (limits : FaceLimits) (shelf : ShelfValue) (o : Result (Option Reading) BookKind)
-    → states.measured limits shelf o ≡ None → (k : BookKind) → o ≡ Err k → ⊥
-no_err limits shelf (Err j) f k e = absurd cc
-no_err limits shelf (Ok o) f k e = cc
+no_err : (limits : FaceLimits) (so_far : StationStates) (o : Result (Option Reading) BookKind)
+    → states.measured limits so_far o ≡ None → (k : BookKind) → o ≡ Err k → ⊥
+no_err limits so_far (Err j) f k e = absurd cc
+no_err limits so_far (Ok o) f k e = cc
 
 closed_no_reading : (b : GsiBlock) (past : History) → is_open past ≡ false
     → is_reading (b ∷ past) ≡ false
 closed_no_reading b past e = and_right (has_direction b) (is_open past) e
 
 -- a measurement
-pub measurement_taken : (limits : FaceLimits) (shelf : ShelfValue) (stage : Stage) (b : GsiBlock)
+pub measurement_taken : (limits : FaceLimits) (so_far : StationStates) (stage : Stage) (b : GsiBlock)
     (past : History) → role_of b ≡ roles.Measurement
-    → cond (states.has_open_set stage) (states.measured limits shelf (said.read b)) None ≡ None
-    → IsStage stage past → AreStates past (stations_in past) shelf
+    → cond (states.has_open_set stage) (states.measured limits so_far (said.read b)) None ≡ None
+    → IsStage stage past → AreStates past (stations_in past) so_far
     → AreStates (b ∷ past) (stations_in (b ∷ past))
-    (cond (states.has_open_set stage) (states.with_measured (said.read b) shelf) shelf)
-measurement_taken limits shelf Outside b past r f g h = states_idle shelf b past
+    (cond (states.has_open_set stage) (states.with_measured (said.read b) so_far) so_far)
+measurement_taken limits so_far Outside b past r f g h = states_idle so_far b past
     (set_as b roles.Measurement r) (closed_no_reading b past g.1) h
-measurement_taken limits shelf (Station name) b past r f g h = states_idle shelf b past
+measurement_taken limits so_far (Station name) b past r f g h = states_idle so_far b past
     (set_as b roles.Measurement r) (closed_no_reading b past g.3) h
-measurement_taken limits shelf BetweenSets b past r f g h = states_idle shelf b past
+measurement_taken limits so_far BetweenSets b past r f g h = states_idle so_far b past
     (set_as b roles.Measurement r) (closed_no_reading b past g.1) h
-measurement_taken limits shelf InSet b past r f g h = in_set_taken shelf b past
-    (said.read b) r refl g (no_err limits shelf (said.read b) f) h
+measurement_taken limits so_far InSet b past r f g h = in_set_taken so_far b past
+    (said.read b) r refl g (no_err limits so_far (said.read b) f) h
 
 -- THE LAW: after a block without fault, what is kept stands for the blocks with it
-pub taken_state : (limits : FaceLimits) (taken : ℕ) (stage : Stage) (shelf : ShelfValue)
+pub taken_state : (limits : FaceLimits) (taken : ℕ) (stage : Stage) (so_far : StationStates)
     (b : GsiBlock) (past : History) (r : Role) → role_of b ≡ r
-    → states.fault_as r (record { limits = limits; taken = taken; stage = stage; shelf = shelf }) b
+    → states.fault_as r (record { limits = limits; taken = taken; stage = stage; stations = so_far }) b
     ≡ None → fault_after limits past b ≡ None
-    → StandsFor limits (record { limits = limits; taken = taken; stage = stage; shelf = shelf })
+    → StandsFor limits (record { limits = limits; taken = taken; stage = stage; stations = so_far })
     past → StandsFor limits
     (states.after_as r b (record {
       limits = limits;
       taken = taken + 1;
       stage = stage;
-      shelf = shelf;
+      stations = so_far;
     })) (b ∷ past)
-taken_state limits taken stage shelf b past roles.Station r f clean h =
+taken_state limits taken stage so_far b past roles.Station r f clean h =
     let (name, is) = name_of_station b
-    (then_second (states.ending stage shelf) (first_of (station_faults b)) f) in
+    (then_second (states.ending stage so_far) (first_of (station_faults b)) f) in
     let s = station_as b roles.Station r in
     let here : station (b ∷ past) ≡ b ∷ past = ap
     (λ v. cond v (b ∷ past) (last opens_station past)) s in
@@ -274,44 +274,44 @@ taken_state limits taken stage shelf b past roles.Station r f clean h =
             sets-station b past s,
             is_open-opening b past (opening_as b roles.Station r) ∙ set_as b roles.Station r,
           );
-      stations = states_idle shelf b past (set_as b roles.Station r)
+      stations = states_idle so_far b past (set_as b roles.Station r)
           (no_reading b past (direction_as b roles.Station r)) h.stations;
     }
-taken_state limits taken stage shelf b past roles.Set r f clean h = record {
+taken_state limits taken stage so_far b past roles.Set r f clean h = record {
   limited = refl;
   clean = (clean, h.clean);
   counted = (let t = h.counted in omega (arith, t));
   stage = is_open-opening b past (opening_as b roles.Set r) ∙ set_as b roles.Set r;
-  stations = set_taken shelf b past stage (number b) r refl
+  stations = set_taken so_far b past stage (number b) r refl
       (then_second (when (has_two 42 b) (kinds.WordTwice 42))
-      (states.opening_fault stage shelf (number b)) (then_second (states.ending stage shelf) _ f))
+      (states.opening_fault stage so_far (number b)) (then_second (states.ending stage so_far) _ f))
       h.stage h.stations;
 }
-taken_state limits taken stage shelf b past roles.Close r f clean h = record {
+taken_state limits taken stage so_far b past roles.Close r f clean h = record {
   limited = refl;
   clean = (clean, h.clean);
   counted = (let t = h.counted in omega (arith, t));
   stage = stage_closes stage b past (station_as b roles.Close r) (set_as b roles.Close r)
       (opening_as b roles.Close r) h.stage;
-  stations = states_idle shelf b past (set_as b roles.Close r)
+  stations = states_idle so_far b past (set_as b roles.Close r)
       (no_reading b past (direction_as b roles.Close r)) h.stations;
 }
-taken_state limits taken stage shelf b past roles.Measurement r f clean h =
+taken_state limits taken stage so_far b past roles.Measurement r f clean h =
     let m = measures_nothing b r in
     record {
       limited = refl;
       clean = (clean, h.clean);
       counted = (let t = h.counted in omega (arith, t));
       stage = stage_stays stage b past m.0 m.1 m.2 h.stage;
-      stations = measurement_taken limits shelf stage b past r f h.stage h.stations;
+      stations = measurement_taken limits so_far stage b past r f h.stage h.stations;
     }
-taken_state limits taken stage shelf b past roles.Other r f clean h = record {
+taken_state limits taken stage so_far b past roles.Other r f clean h = record {
   limited = refl;
   clean = (clean, h.clean);
   counted = (let t = h.counted in omega (arith, t));
   stage = stage_stays stage b past (station_as b roles.Other r) (set_as b roles.Other r)
       (opening_as b roles.Other r) h.stage;
-  stations = states_idle shelf b past (set_as b roles.Other r)
+  stations = states_idle so_far b past (set_as b roles.Other r)
       (no_reading b past (direction_as b roles.Other r)) h.stations;
 }
 

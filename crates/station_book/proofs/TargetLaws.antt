@@ -7,9 +7,9 @@ use Rattle.std.proofs.lemmas.Grind.{get_or-set_at}
 use Rattle.std.proofs.lemmas.List.{get_or-set_other}
 use Rattle.indexmap.specs.IndexMap.{insert_entry}
 use Rattle.indexmap.specs.Layout.{set_value_at}
-use Rattle.station_book.specs.Entries.{place_of}
+use Rattle.station_book.specs.StationState.{place_of}
 use Rattle.station_book.proofs.Elements.{same_bytes}
-use Rattle.station_book.proofs.ShelfLaws.{name_eq, names_by_bytes, inserted, found_known}
+use Rattle.station_book.proofs.NameMaps.{name_eq, names_by_bytes, inserted, found_known}
 
 -- a map's search finds the first of the name
 pub found_place : (name : List ℕ) (targets : List (List ℕ))

@@ -14,8 +14,8 @@ use Rattle.station_book.specs.Blocks.{role_of}
 use Rattle.station_book.specs.Blocks.{has_two, named, number}
 use Rattle.station_book.specs.Readings.{read}
 use Rattle.station_book.specs.Slots.{closing_faults}
-use Rattle.station_book.specs.Entries.{with_set, is_new_to, entry_faults, with_reading}
-use Rattle.station_book.specs.Shelves.{ShelfValue, last_of, LastMayEnd, change_last, with_station, first_set_faults, more_set_faults}
+use Rattle.station_book.specs.StationState.{with_set, is_new_to, state_faults, with_reading}
+use Rattle.station_book.specs.StationStates.{StationStates, last_of, LastMayEnd, change_last, with_station, first_set_faults, more_set_faults}
 
 -- what a book keeps: its limits, how many blocks it took, where it stands, and its stations with
 -- sets
@@ -23,7 +23,7 @@ pub record State : Type 0 where
   pub limits : FaceLimits
   pub taken : ℕ
   pub stage : Stage
-  pub shelf : ShelfValue
+  pub stations : StationStates
 
 -- the first of two that stands
 abbrev pub then_fault : {X : Type 0} → Option X → Option X → Option X
@@ -38,29 +38,29 @@ has_open_set BetweenSets = false
 has_open_set InSet = true
 
 -- the fault of the end of a set, where one is open
-abbrev pub ending : Stage → ShelfValue → Option BookKind
-ending Outside shelf = None
-ending (Station name) shelf = None
-ending BetweenSets shelf = None
-ending InSet shelf = first_of (closing_faults (last_of shelf).slots)
+abbrev pub ending : Stage → StationStates → Option BookKind
+ending Outside so_far = None
+ending (Station name) so_far = None
+ending BetweenSets so_far = None
+ending InSet so_far = first_of (closing_faults (last_of so_far).slots)
 
 -- the fault of a set that opens here
-abbrev pub opening_fault : Stage → ShelfValue → Option ℕ → Option BookKind
-opening_fault Outside shelf n = Some kinds.SetOutside
-opening_fault (Station name) shelf None = Some kinds.SetNumber
-opening_fault (Station name) shelf (Some n) = first_of (first_set_faults name shelf)
-opening_fault BetweenSets shelf None = Some kinds.SetNumber
-opening_fault BetweenSets shelf (Some n) = first_of (more_set_faults (last_of shelf) n)
-opening_fault InSet shelf None = Some kinds.SetNumber
-opening_fault InSet shelf (Some n) = first_of (more_set_faults (last_of shelf) n)
+abbrev pub opening_fault : Stage → StationStates → Option ℕ → Option BookKind
+opening_fault Outside so_far n = Some kinds.SetOutside
+opening_fault (Station name) so_far None = Some kinds.SetNumber
+opening_fault (Station name) so_far (Some n) = first_of (first_set_faults name so_far)
+opening_fault BetweenSets so_far None = Some kinds.SetNumber
+opening_fault BetweenSets so_far (Some n) = first_of (more_set_faults (last_of so_far) n)
+opening_fault InSet so_far None = Some kinds.SetNumber
+opening_fault InSet so_far (Some n) = first_of (more_set_faults (last_of so_far) n)
 
 -- the stations after a set of this number
-abbrev pub opened : Stage → Option ℕ → ShelfValue → ShelfValue
-opened stage None shelf = shelf
-opened Outside (Some n) shelf = shelf
-opened (Station name) (Some n) shelf = with_station name n shelf
-opened BetweenSets (Some n) shelf = change_last (with_set n) shelf
-opened InSet (Some n) shelf = change_last (with_set n) shelf
+abbrev pub opened : Stage → Option ℕ → StationStates → StationStates
+opened stage None so_far = so_far
+opened Outside (Some n) so_far = so_far
+opened (Station name) (Some n) so_far = with_station name n so_far
+opened BetweenSets (Some n) so_far = change_last (with_set n) so_far
+opened InSet (Some n) so_far = change_last (with_set n) so_far
 
 -- after a block of code 10 with this name
 abbrev pub at_station : Option (List ℕ) → Stage → Stage
@@ -75,25 +75,25 @@ closed_stage BetweenSets = BetweenSets
 closed_stage InSet = BetweenSets
 
 -- the fault of a measurement that says this, in an open set
-abbrev pub measured : FaceLimits → ShelfValue → Result (Option Reading) BookKind → Option BookKind
-measured limits shelf (Err k) = Some k
-measured limits shelf (Ok None) = None
-measured limits shelf (Ok (Some s)) = first_of (entry_faults limits (last_of shelf) s)
+abbrev pub measured : FaceLimits → StationStates → Result (Option Reading) BookKind → Option BookKind
+measured limits so_far (Err k) = Some k
+measured limits so_far (Ok None) = None
+measured limits so_far (Ok (Some s)) = first_of (state_faults limits (last_of so_far) s)
 
 -- the stations after a measurement that says this, in an open set
-abbrev pub with_measured : Result (Option Reading) BookKind → ShelfValue → ShelfValue
-with_measured (Err k) shelf = shelf
-with_measured (Ok None) shelf = shelf
-with_measured (Ok (Some s)) shelf = change_last (with_reading s) shelf
+abbrev pub with_measured : Result (Option Reading) BookKind → StationStates → StationStates
+with_measured (Err k) so_far = so_far
+with_measured (Ok None) so_far = so_far
+with_measured (Ok (Some s)) so_far = change_last (with_reading s) so_far
 
 -- the fault of a block with this role
 abbrev pub fault_as : Role → State → GsiBlock → Option BookKind
-fault_as AsStation k b = then_fault (ending k.stage k.shelf) (first_of (station_faults b))
-fault_as Set k b = then_fault (ending k.stage k.shelf)
+fault_as AsStation k b = then_fault (ending k.stage k.stations) (first_of (station_faults b))
+fault_as Set k b = then_fault (ending k.stage k.stations)
     (then_fault (when (has_two 42 b) (kinds.WordTwice 42))
-    (opening_fault k.stage k.shelf (number b)))
-fault_as Close k b = ending k.stage k.shelf
-fault_as Measurement k b = if has_open_set k.stage then measured k.limits k.shelf (read b) else None
+    (opening_fault k.stage k.stations (number b)))
+fault_as Close k b = ending k.stage k.stations
+fault_as Measurement k b = if has_open_set k.stage then measured k.limits k.stations (read b) else None
 fault_as Other k b = None
 
 -- the fault of a block
@@ -102,17 +102,17 @@ fault_of k b = fault_as (role_of b) k b
 
 -- whether a book may need memory for a measurement that says this, in an open set: its target is
 -- new to the last station
-abbrev pub is_first_of_target : ShelfValue → Result (Option Reading) BookKind → Bool
-is_first_of_target shelf (Err k) = false
-is_first_of_target shelf (Ok None) = false
-is_first_of_target shelf (Ok (Some s)) = is_new_to (last_of shelf) s
+abbrev pub is_first_of_target : StationStates → Result (Option Reading) BookKind → Bool
+is_first_of_target so_far (Err k) = false
+is_first_of_target so_far (Ok None) = false
+is_first_of_target so_far (Ok (Some s)) = is_new_to (last_of so_far) s
 
 -- whether a book may need memory for a block of this role: a set, or the first reading of a target
 abbrev pub grows_as : Role → State → GsiBlock → Bool
 grows_as AsStation k b = false
 grows_as Set k b = true
 grows_as Close k b = false
-grows_as Measurement k b = has_open_set k.stage && is_first_of_target k.shelf (read b)
+grows_as Measurement k b = has_open_set k.stage && is_first_of_target k.stations (read b)
 grows_as Other k b = false
 
 -- whether a book may need memory for a block
@@ -122,10 +122,10 @@ grows k b = grows_as (role_of b) k b
 -- what is kept after a block with this role
 abbrev pub after_as : Role → GsiBlock → State → State
 after_as AsStation b k = record k { stage = at_station (named b) k.stage }
-after_as Set b k = record k { stage = InSet; shelf = opened k.stage (number b) k.shelf }
+after_as Set b k = record k { stage = InSet; stations = opened k.stage (number b) k.stations }
 after_as Close b k = record k { stage = closed_stage k.stage }
 after_as Measurement b k = record
-    k { shelf = if has_open_set k.stage then with_measured (read b) k.shelf else k.shelf }
+    k { stations = if has_open_set k.stage then with_measured (read b) k.stations else k.stations }
 after_as Other b k = k
 
 -- what is kept after a block
@@ -133,20 +133,20 @@ abbrev pub after : GsiBlock → State → State
 after b k = after_as (role_of b) b (record k { taken = k.taken + 1 })
 
 -- Where the open station has a set, there is a station.
-abbrev pub HasLast : Stage → ShelfValue → Type 0
+abbrev pub HasLast : Stage → StationStates → Type 0
 HasLast Outside s = Unit {0}
 HasLast (Station name) s = Unit {0}
 HasLast BetweenSets s = 0 < length s
 HasLast InSet s = 0 < length s
 
 -- Where no set is open, the last one may end.
-abbrev pub RestMayEnd : Stage → ShelfValue → Type 0
+abbrev pub RestMayEnd : Stage → StationStates → Type 0
 RestMayEnd Outside s = LastMayEnd s
 RestMayEnd (Station name) s = LastMayEnd s
 RestMayEnd BetweenSets s = LastMayEnd s
 RestMayEnd InSet s = Unit {0}
 
 -- what always holds of a book's stage and stations
-pub record IsBook (stage : Stage) (s : ShelfValue) : Type 0 where
+pub record IsBook (stage : Stage) (s : StationStates) : Type 0 where
   pub has_last : HasLast stage s
   pub rest : RestMayEnd stage s

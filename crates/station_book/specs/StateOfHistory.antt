@@ -10,8 +10,8 @@ use Rattle.station_book.specs.declared.slot.Slot.{Slot}
 use Rattle.station_book.specs.declared.stage.Stage.{Stage}
 use Rattle.station_book.specs.declared.stage.Stage.TheVariants.{Outside, Station, BetweenSets, InSet}
 use Rattle.station_book.specs.Slots.{obs_of, faces_of}
-use Rattle.station_book.specs.Entries.{EntryValue}
-use Rattle.station_book.specs.Shelves.{ShelfValue}
+use Rattle.station_book.specs.StationState.{StationState}
+use Rattle.station_book.specs.StationStates.{StationStates}
 use Rattle.station_book.specs.Places.{History, Place, number_at, before, opening, station, is_same, is_empty, is_open, sets_of, station_readings, first_sets, distinct, reading_in, target_at}
 use Rattle.station_book.specs.Stations.{SurveyedStation}
 use Rattle.station_book.specs.Faults.{open_sets, name_at, angles_at}
@@ -55,8 +55,8 @@ numbers_in [] = []
 numbers_in (s ∷ older) = numbers_in older ++ number_at s ∷ []
 
 -- what is kept of a station that has these sets, at least one, and these readings, the newest first
-pub record IsEntryOf (st newest : Place) (older readings : List Place) (name : List ℕ)
-    (e : EntryValue) : Type 0 where
+pub record IsStateOf (st newest : Place) (older readings : List Place) (name : List ℕ)
+    (e : StationState) : Type 0 where
   pub named_so : name_at st ≡ Some name
   pub targets : e.targets ≡ targets_in readings
   pub numbers : map (λ n. Some n) e.sets ≡ numbers_in (newest ∷ older)
@@ -64,13 +64,13 @@ pub record IsEntryOf (st newest : Place) (older readings : List Place) (name : L
   pub obs : e.obs ≡ obs_in (targets_in readings) readings older
   pub faces : e.faces ≡ faces_in (targets_in readings) readings older
 
-abbrev pub IsEntryWith : Place → List Place → List Place → List ℕ × EntryValue → Type 0
-IsEntryWith st [] readings e = ⊥
-IsEntryWith st (s ∷ older) readings e = IsEntryOf st s older readings e.0 e.1
+abbrev pub IsStateWith : Place → List Place → List Place → List ℕ × StationState → Type 0
+IsStateWith st [] readings e = ⊥
+IsStateWith st (s ∷ older) readings e = IsStateOf st s older readings e.0 e.1
 
 -- what is kept of the station that this block with code 10 opens
-abbrev pub IsStateAt : History → Place → List ℕ × EntryValue → Type 0
-IsStateAt h st e = IsEntryWith st (sets_of st h) (station_readings st h) e
+abbrev pub IsStateAt : History → Place → List ℕ × StationState → Type 0
+IsStateAt h st e = IsStateWith st (sets_of st h) (station_readings st h) e
 
 -- the stations that have sets, the newest first
 abbrev pub stations_in : History → List Place
@@ -85,7 +85,7 @@ pub record IsComputed (st : Place) (sets readings : List Place) (s : SurveyedSta
   pub faces : s.faces ≡ faces_in (targets_in readings) readings sets
 
 -- Each station that has sets is kept; both lists come the newest first.
-abbrev pub AreStates : History → List Place → ShelfValue → Type 0
+abbrev pub AreStates : History → List Place → StationStates → Type 0
 AreStates h [] [] = Unit {0}
 AreStates h [] (e ∷ es) = ⊥
 AreStates h (st ∷ sts) [] = ⊥

@@ -3,7 +3,7 @@
 
 ghost use Rattle.std.specs.Prelude.{◌≡◌, ◌≢◌, ◌<◌, AllPairs, None, Some, slice_get, slice_set, length, replicate, IfErr, IfNone, IfOk, IfSome, OnErr, []};
 ghost use Rattle.adjust_kernel.specs.declared.limits.TheConstants.{MOST_TARGETS};
-ghost use Rattle.station_book.specs.Entries.{is_named, place_of, new_target_fault};
+ghost use Rattle.station_book.specs.StationState.{is_named, place_of, new_target_fault};
 ghost use Rattle.station_book.specs.Refusals.{ExplainsRefusal};
 ghost use Rattle.station_book.specs.Slots.{slot_at, empty_slot};
 ghost use Rattle.station_book.specs.Targets.{with_first};

@@ -3,7 +3,7 @@ use Rattle.std.specs.Map.{keys_of, values_of}
 use Rattle.std.proofs.lemmas.List.{length-map, map-append}
 use Rattle.indexmap.specs.Entry.{entry_index, entry_map, entry_value, map_with_value}
 use Rattle.station_book.specs.declared.slot.Slot.{Slot}
-use Rattle.station_book.specs.Entries.{place_of}
+use Rattle.station_book.specs.StationState.{place_of}
 use Rattle.station_book.specs.Targets.{TargetsValue, with_target}
 use Rattle.station_book.proofs.TargetLaws.{added, found_place, known_place, unknown_place, if_failed}
 use Rattle.station_book.proofs.targets.Targets.search_or_add.Goals as goal

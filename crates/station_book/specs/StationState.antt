@@ -17,7 +17,7 @@ use Rattle.station_book.specs.Slots.{slot_at, with_face_reading, empty_slot, slo
 
 -- the names of its targets, their readings in its last set, the numbers of its sets, and what all
 -- sets before the last gave
-pub record EntryValue : Type 0 where
+pub record StationState : Type 0 where
   pub targets : List (List ℕ)
   pub slots : List Slot
   pub sets : List ℕ
@@ -25,11 +25,11 @@ pub record EntryValue : Type 0 where
   pub faces : List Faces
 
 -- a station with its first set
-abbrev pub first_entry : ℕ → EntryValue
-first_entry n = record { targets = []; slots = []; sets = n ∷ []; obs = []; faces = [] }
+abbrev pub begun : ℕ → StationState
+begun n = record { targets = []; slots = []; sets = n ∷ []; obs = []; faces = [] }
 
 -- what all its sets gave
-abbrev pub closed : EntryValue → EntryValue
+abbrev pub closed : StationState → StationState
 closed e = record e {
   obs = e.obs ++ obs_of
       (length e.sets - 1) e.slots;
@@ -37,7 +37,7 @@ closed e = record e {
 }
 
 -- the station with one more set
-abbrev pub with_set : ℕ → EntryValue → EntryValue
+abbrev pub with_set : ℕ → StationState → StationState
 with_set n e = record {
   targets = e.targets;
   slots = replicate (length e.slots) empty_slot;
@@ -55,23 +55,23 @@ abbrev pub place_of : List ℕ → List (List ℕ) → Option ℕ
 place_of name targets = position (λ t. bytes_eq t name) targets
 
 -- whether a reading's target is none of the station's
-abbrev pub is_new_to : EntryValue → Reading → Bool
+abbrev pub is_new_to : StationState → Reading → Bool
 is_new_to e s = is_none (place_of s.target e.targets)
 
 -- the fault of a target more, where a station has as many as it may have
 abbrev pub new_target_fault : List (List ℕ) → Option BookKind
 new_target_fault targets = first_of (when (nat_le MOST_TARGETS (length targets)) kinds.TooManyTargets ∷ [])
 
-abbrev pub entry_faults_at : FaceLimits → EntryValue → Reading → Option ℕ → List (Option BookKind)
-entry_faults_at limits e s None = when
+abbrev pub state_faults_at : FaceLimits → StationState → Reading → Option ℕ → List (Option BookKind)
+state_faults_at limits e s None = when
     (nat_le MOST_TARGETS (length e.targets)) kinds.TooManyTargets ∷ []
-entry_faults_at limits e s (Some i) = slot_faults limits (slot_at e.slots i) s
+state_faults_at limits e s (Some i) = slot_faults limits (slot_at e.slots i) s
 
 -- the faults of a reading in the last set
-abbrev pub entry_faults : FaceLimits → EntryValue → Reading → List (Option BookKind)
-entry_faults limits e s = entry_faults_at limits e s (place_of s.target e.targets)
+abbrev pub state_faults : FaceLimits → StationState → Reading → List (Option BookKind)
+state_faults limits e s = state_faults_at limits e s (place_of s.target e.targets)
 
-abbrev pub with_reading_at : Reading → EntryValue → Option ℕ → EntryValue
+abbrev pub with_reading_at : Reading → StationState → Option ℕ → StationState
 with_reading_at s e None = record
     e {
       targets = e.targets ++ s.target ∷ [];
@@ -82,11 +82,11 @@ with_reading_at s e (Some i) = record
     e { slots = slice_set e.slots i (with_face_reading s.face s.angles (slot_at e.slots i)) }
 
 -- the station with one more reading in the last set
-abbrev pub with_reading : Reading → EntryValue → EntryValue
+abbrev pub with_reading : Reading → StationState → StationState
 with_reading s e = with_reading_at s e (place_of s.target e.targets)
 
 -- what always holds of the parts
-pub record IsEntry (e : EntryValue) : Type 0 where
+pub record IsStationState (e : StationState) : Type 0 where
   pub same_length : length e.slots ≡ length e.targets
   pub paired : length e.faces ≡ length e.obs
   pub few_targets : length e.targets ≤ MOST_TARGETS
@@ -97,8 +97,8 @@ pub record IsEntry (e : EntryValue) : Type 0 where
   pub different : AllPairs (λ a b. a ≢ b) e.targets
   pub numbers : All IsSetNumber e.sets
   pub different_sets : AllPairs (λ a b. a ≢ b) e.sets
-  pub sound : AreSoFar (length e.sets - 1) e.slots e.obs
+  pub so_far : AreSoFar (length e.sets - 1) e.slots e.obs
 
 -- The last set may end here.
-abbrev pub MayEnd : EntryValue → Type 0
+abbrev pub MayEnd : StationState → Type 0
 MayEnd e = first_of (closing_faults e.slots) ≡ None

@@ -4,18 +4,18 @@ ghost use Rattle.std.specs.Prelude.{◌≡◌, ◌<◌, ◌≤◌, ◌+◌, ◌+
 ghost use Rattle.std.specs.List.{list_any};
 ghost use Rattle.std.specs.Str.{bytes_eq};
 ghost use Rattle.adjust_kernel.specs.Sheets.{IsSetNumber};
-ghost use Rattle.station_book.specs.Shelves.{empty_shelf, surveys_of, with_station, LastMayEnd, first_set_faults, last_of, change_last, is_known, more_set_faults};
+ghost use Rattle.station_book.specs.StationStates.{none_so_far, surveys_of, with_station, LastMayEnd, first_set_faults, last_of, change_last, is_known, more_set_faults};
 ghost use Rattle.station_book.specs.Faults.{first_of};
 ghost use Rattle.station_book.specs.Slots.{closing_faults};
 ghost use Rattle.station_book.specs.TwoFaces.{AreOnCircle};
-ghost use Rattle.station_book.specs.Entries.{MayEnd, with_set, is_new_to, entry_faults, with_reading};
+ghost use Rattle.station_book.specs.StationState.{MayEnd, with_set, is_new_to, state_faults, with_reading};
 ghost use Rattle.station_book.specs.Refusals.{ExplainsRefusal, WantsOnly};
 
 use crate::angles::Reading;
 use crate::bounds::MOST_STATIONS;
-use crate::entry::Entry;
 use crate::fault::{BookKind, Refusal};
 use crate::limits::Limits;
+use crate::station_so_far::StationSoFar;
 use crate::stations::Stations;
 use crate::surveyed::Surveyed;
 use adjust_kernel::Name;
@@ -25,28 +25,28 @@ use std::marker::Model;
 
 /// The stations that have sets, in the order of their first sets. Blocks add to the last one.
 #[derive(Drop)]
-pub(crate) struct Shelf {
+pub(crate) struct StationsSoFar {
     alloc: Global,
-    stations: IndexMap<Name, Entry>,
+    stations: IndexMap<Name, StationSoFar>,
 }
 
-impl Model for Shelf {
+impl Model for StationsSoFar {
     ghost use Rattle.std.specs.Prelude.{reverse};
-    ghost use Rattle.station_book.specs.Shelves.{ShelfValue, OlderMayEnd};
+    ghost use Rattle.station_book.specs.StationStates.{StationStates, OlderMayEnd};
 
-    ghost Value = { ShelfValue };
+    ghost Value = { StationStates };
 
     ghost view = { λ s. reverse s.stations.entries };
 
     ghost invariant = { λ s. OlderMayEnd (reverse s.stations.entries) };
 }
 
-impl Shelf {
+impl StationsSoFar {
     /// No station.
-    pub(crate) fn new(alloc: Global) -> Shelf
-        ensures { result ≡ empty_shelf }
+    pub(crate) fn new(alloc: Global) -> StationsSoFar
+        ensures { result ≡ none_so_far }
     {
-        Shelf {
+        StationsSoFar {
             alloc,
             stations: IndexMap::new(alloc),
         }
@@ -68,7 +68,7 @@ impl Shelf {
 
     /// The last station.
     #[inline(always)]
-    fn last(&self) -> &Entry
+    fn last(&self) -> &StationSoFar
         requires { 0 < length self.now }
         ensures { result.now ≡ last_of self.now }
     {
@@ -91,8 +91,8 @@ impl Shelf {
         ensures ok { OnOk result (self.new ≡ with_station name number self.old) }
         ensures err { OnErr result (self.new ≡ self.old) }
     {
-        let entry = Entry::first(self.alloc, number)?;
-        self.stations.insert(name, entry)?;
+        let station = StationSoFar::first(self.alloc, number)?;
+        self.stations.insert(name, station)?;
         Ok(())
     }
 
@@ -152,10 +152,10 @@ impl Shelf {
         requires some { 0 < length self.old }
         requires angle { AreOnCircle reading.angles }
         ensures clean { OnOk result
-            (first_of (entry_faults limits (last_of self.old) reading) ≡ None) }
+            (first_of (state_faults limits (last_of self.old) reading) ≡ None) }
         ensures ok { OnOk result (self.new ≡ change_last (with_reading reading) self.old) }
         ensures fault { IfErr result
-            (ExplainsRefusal (first_of (entry_faults limits (last_of self.old) reading))) }
+            (ExplainsRefusal (first_of (state_faults limits (last_of self.old) reading))) }
         ensures memory { IfErr result (WantsOnly (is_new_to (last_of self.old) reading)) }
         ensures err { OnErr result (self.new ≡ self.old) }
     {
@@ -168,11 +168,11 @@ impl Shelf {
         requires { LastMayEnd self }
         ensures { IfOk result (λ s. s ≡ surveys_of self) }
     {
-        let Shelf { alloc, stations } = self;
+        let StationsSoFar { alloc, stations } = self;
         let mut surveyed = IndexMap::with_capacity(alloc, stations.len())?;
         let mut rest = stations.into_iter();
-        'stations: while let Some((name, entry)) = rest.next() {
-            let station = entry.close(alloc, name)?;
+        'stations: while let Some((name, so_far)) = rest.next() {
+            let station = so_far.close(alloc, name)?;
             surveyed.insert(name, station)?;
         }
         Ok(Stations { surveyed })

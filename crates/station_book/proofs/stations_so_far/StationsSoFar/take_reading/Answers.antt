@@ -1,11 +1,11 @@
 use Rattle.std.proofs.Common.{sym, ap, subst, ◌∙◌}
 use Rattle.std.proofs.lemmas.Result.{on_ok_weaker, on_err_weaker}
 use Rattle.station_book.specs.Faults.{first_of}
-use Rattle.station_book.specs.Entries.{EntryValue, is_new_to, entry_faults, with_reading}
+use Rattle.station_book.specs.StationState.{StationState, is_new_to, state_faults, with_reading}
 use Rattle.station_book.specs.Refusals.{ExplainsRefusal, WantsOnly}
-use Rattle.station_book.proofs.ShelfLaws.{if_err}
+use Rattle.station_book.proofs.NameMaps.{if_err}
 use Rattle.station_book.proofs.NewestLaws.{last_value, changed_last, unchanged_last, older_may}
-use Rattle.station_book.proofs.shelf.Shelf.take_reading.Goals as goal
+use Rattle.station_book.proofs.stations_so_far.StationsSoFar.take_reading.Goals as goal
 
 pub invariant_of-self : goal.invariant_of-self
 invariant_of-self c = older_may c.self.inside.stations.entries c.args.self.now c.len-last.result
@@ -17,7 +17,7 @@ returns-clause-clean c =
     c.len-last.ensures.len c.self.view_is c.requires.some c.index_mut.result.now
     c.index_mut.ensures.value in
     on_ok_weaker c.take_reading.result
-    (λ e. ap (λ (v : EntryValue). first_of (entry_faults c.args.limits v c.args.reading))
+    (λ e. ap (λ (v : StationState). first_of (state_faults c.args.limits v c.args.reading))
     (sym last) ∙ e) c.take_reading.ensures.clean
 
 pub returns-clause-ok : goal.returns-clause-ok
@@ -36,8 +36,8 @@ returns-clause-fault c =
     c.len-last.ensures.len c.self.view_is c.requires.some c.index_mut.result.now
     c.index_mut.ensures.value in
     if_err c.take_reading.result
-    (λ f h. subst (λ (e : EntryValue). ExplainsRefusal
-    (first_of (entry_faults c.args.limits e c.args.reading)) f) last h) c.take_reading.ensures.fault
+    (λ f h. subst (λ (e : StationState). ExplainsRefusal
+    (first_of (state_faults c.args.limits e c.args.reading)) f) last h) c.take_reading.ensures.fault
 
 pub returns-clause-memory : goal.returns-clause-memory
 returns-clause-memory c =
@@ -45,7 +45,7 @@ returns-clause-memory c =
     c.len-last.ensures.len c.self.view_is c.requires.some c.index_mut.result.now
     c.index_mut.ensures.value in
     if_err c.take_reading.result
-    (λ f h. subst (λ (e : EntryValue). WantsOnly (is_new_to e c.args.reading) f) last h)
+    (λ f h. subst (λ (e : StationState). WantsOnly (is_new_to e c.args.reading) f) last h)
     c.take_reading.ensures.memory
 
 pub returns-clause-err : goal.returns-clause-err

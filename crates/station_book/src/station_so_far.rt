@@ -4,12 +4,12 @@ ghost use Rattle.std.specs.Prelude.{◌≡◌, ◌<◌, None, length, IfOk, IfEr
 ghost use Rattle.std.specs.List.{list_any};
 ghost use Rattle.adjust_kernel.specs.Names.{IsName};
 ghost use Rattle.adjust_kernel.specs.Sheets.{IsSetNumber};
-ghost use Rattle.station_book.specs.Shelves.{survey_of, more_set_faults};
+ghost use Rattle.station_book.specs.StationStates.{survey_of, more_set_faults};
 ghost use Rattle.std.specs.Str.{bytes_eq};
 ghost use Rattle.station_book.specs.Faults.{first_of, when};
 ghost use Rattle.station_book.specs.Slots.{closing_faults};
 ghost use Rattle.station_book.specs.TwoFaces.{AreOnCircle};
-ghost use Rattle.station_book.specs.Entries.{MayEnd, first_entry, with_set, is_new_to, entry_faults, with_reading, with_reading_at};
+ghost use Rattle.station_book.specs.StationState.{MayEnd, begun, with_set, is_new_to, state_faults, with_reading, with_reading_at};
 ghost use Rattle.station_book.specs.declared.fault.BookKind.TheVariants as kinds;
 ghost use Rattle.station_book.specs.Refusals.{ExplainsRefusal, WantsOnly};
 
@@ -27,17 +27,17 @@ use std::marker::Model;
 /// What a book keeps of a station that has sets. The readings of its last set are kept by target;
 /// those of all earlier sets have become observations.
 #[derive(Drop)]
-pub(crate) struct Entry {
+pub(crate) struct StationSoFar {
     targets: Targets,
     sets: Vec<u16>,
     obs: Vec<Obs>,
     faces: Vec<Faces>,
 }
 
-impl Model for Entry {
-    ghost use Rattle.station_book.specs.Entries.{EntryValue, IsEntry};
+impl Model for StationSoFar {
+    ghost use Rattle.station_book.specs.StationState.{StationState, IsStationState};
 
-    ghost Value = { EntryValue };
+    ghost Value = { StationState };
 
     ghost view = { λ e. record {
       targets = e.targets.names;
@@ -47,7 +47,7 @@ impl Model for Entry {
       faces = e.faces.items;
     } };
 
-    ghost invariant = { λ e. IsEntry (record {
+    ghost invariant = { λ e. IsStationState (record {
       targets = e.targets.names;
       slots = e.targets.slots;
       sets = e.sets.items;
@@ -56,15 +56,15 @@ impl Model for Entry {
     }) };
 }
 
-impl Entry {
+impl StationSoFar {
     /// The station of a first set.
-    pub(crate) fn first(alloc: Global, number: u16) -> Result<Entry, AllocError>
+    pub(crate) fn first(alloc: Global, number: u16) -> Result<StationSoFar, AllocError>
         requires { IsSetNumber number }
-        ensures { IfOk result (λ e. e ≡ first_entry number) }
+        ensures { IfOk result (λ e. e ≡ begun number) }
     {
         let mut sets = Vec::new(alloc);
         sets.push(number)?;
-        Ok(Entry {
+        Ok(StationSoFar {
             targets: Targets::new(alloc)?,
             sets,
             obs: Vec::new(alloc),
@@ -112,10 +112,10 @@ impl Entry {
     /// Takes a reading of the last set.
     pub(crate) fn take_reading(&mut self, limits: Limits, reading: Reading) -> Result<(), Refusal>
         requires { AreOnCircle reading.angles }
-        ensures clean { OnOk result (first_of (entry_faults limits self.old reading) ≡ None) }
+        ensures clean { OnOk result (first_of (state_faults limits self.old reading) ≡ None) }
         ensures ok { OnOk result (self.new ≡ with_reading reading self.old) }
         ensures fault { IfErr result
-            (ExplainsRefusal (first_of (entry_faults limits self.old reading))) }
+            (ExplainsRefusal (first_of (state_faults limits self.old reading))) }
         ensures memory { IfErr result (WantsOnly (is_new_to self.old reading)) }
         ensures err { OnErr result (self.new ≡ self.old) }
     {
@@ -144,7 +144,7 @@ impl Entry {
         ensures named { IfOk result (λ s. IsName s.station.name) }
     {
         name.recall();
-        let Entry {
+        let StationSoFar {
             targets,
             sets,
             mut obs,

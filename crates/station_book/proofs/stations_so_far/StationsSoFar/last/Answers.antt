@@ -1,5 +1,5 @@
 use Rattle.station_book.proofs.NewestLaws.{last_value}
-use Rattle.station_book.proofs.shelf.Shelf.last.Goals as goal
+use Rattle.station_book.proofs.stations_so_far.StationsSoFar.last.Goals as goal
 
 pub returns : goal.returns
 returns c = last_value c.self.inside.stations.entries c.args.self.now c.len.result c.len.ensures.len

@@ -21,7 +21,7 @@ use Rattle.station_book.specs.declared.slot.Slot.{Slot}
 use Rattle.station_book.specs.Faults.{when, first_of}
 use Rattle.station_book.specs.Slots.{slot_at, empty_slot, with_face_reading, is_unread, is_single, obs_of, faces_of, IsKeptSlot}
 use Rattle.station_book.specs.SoFar.{AreSoFar}
-use Rattle.station_book.specs.Entries.{EntryValue, closed, with_set, place_of, is_new_to, new_target_fault, entry_faults_at, entry_faults, with_reading_at, IsEntry, MayEnd}
+use Rattle.station_book.specs.StationState.{StationState, closed, with_set, place_of, is_new_to, new_target_fault, state_faults_at, state_faults, with_reading_at, IsStationState, MayEnd}
 use Rattle.std.specs.Prelude.{IfErr, IfNone}
 use Rattle.station_book.specs.Limits.{FaceLimits}
 use Rattle.station_book.specs.declared.faces.Faces.{Faces}
@@ -35,8 +35,8 @@ use Rattle.station_book.specs.Targets.{TargetsValue, with_first}
 use Rattle.station_book.proofs.ListLaws.{absent}
 
 -- what is kept of a station, by the parts in which the code keeps it
-abbrev pub entry_of : TargetsValue → List ℕ → List Obs → List Faces → EntryValue
-entry_of t sets obs faces =
+abbrev pub state_of_parts : TargetsValue → List ℕ → List Obs → List Faces → StationState
+state_of_parts t sets obs faces =
     record { targets = t.names; slots = t.slots; sets = sets; obs = obs; faces = faces }
 
 none_when : (a b : Bool) → first_of (when a kinds.EmptySet ∷ when b kinds.OneFace ∷ []) ≡ None
@@ -46,28 +46,28 @@ none_when false true e = cc
 none_when false false e = (refl, refl)
 
 -- the targets of what is kept
-abbrev pub targets_of : EntryValue → TargetsValue
+abbrev pub targets_of : StationState → TargetsValue
 targets_of e = record { names = e.targets; slots = e.slots }
 
 length_one : {X : Type 0} (xs : List X) (x : X) → length (xs ++ x ∷ []) ≡ length xs + 1
 length_one xs x = length-append xs (x ∷ [])
 
 -- the observations once the last set has ended
-pub closed_obs : (e : EntryValue) → IsEntry e → MayEnd e
+pub closed_obs : (e : StationState) → IsStationState e → MayEnd e
     → AreObs (length e.sets) (length e.targets) (closed e).obs
 closed_obs e h may =
     let tests = none_when (list_all is_unread e.slots) (list_any is_single e.slots) may in
     let n : length e.sets - 1 + 1 ≡ length e.sets = let s = h.some_set in omega (arith, s) in
     subst (λ (t : ℕ). AreObs (length e.sets) t (closed e).obs) h.same_length
     (subst (λ (k : ℕ). AreObs k (length e.slots) (closed e).obs) n
-    (closes (length e.sets - 1) e.slots e.obs h.sound tests.0 tests.1))
+    (closes (length e.sets - 1) e.slots e.obs h.so_far tests.0 tests.1))
 
 paired_more : (fs gs : List Faces) (os ps : List Obs) → length fs ≡ length os
     → length gs ≡ length ps → length (fs ++ gs) ≡ length (os ++ ps)
 paired_more fs gs os ps e f = length-append fs gs ∙ (λ i. e i + f i) ∙ sym (length-append os ps)
 
 -- each observation of the closed station has its face differences
-pub closed_paired : (e : EntryValue) → IsEntry e → length (closed e).faces ≡ length (closed e).obs
+pub closed_paired : (e : StationState) → IsStationState e → length (closed e).faces ≡ length (closed e).obs
 closed_paired e h = paired_more e.faces (faces_of e.slots) e.obs
     (obs_of (length e.sets - 1) e.slots) h.paired (pairs_match (length e.sets - 1) e.slots)
 
@@ -76,7 +76,7 @@ some_target [] e = cc
 some_target (s ∷ slots) e = omega arith
 
 -- a station of the kernel
-pub is_station : (name : List ℕ) (e : EntryValue) → IsName name → IsEntry e → MayEnd e
+pub is_station : (name : List ℕ) (e : StationState) → IsName name → IsStationState e → MayEnd e
     → IsStation (station_of name e.targets e.sets (closed e).obs)
 is_station name e named h may = record {
   name = named;
@@ -103,10 +103,10 @@ absent_number n sets e k d lt = λ same. false≢true (sym e
     ∙ list_any_at (λ m. eqb m n) sets k d lt (eq-eqb (get_or sets k d) n same))
 
 -- after a set
-pub set_is_entry : (n : ℕ) (e : EntryValue) → IsEntry e → MayEnd e
+pub set_is_state : (n : ℕ) (e : StationState) → IsStationState e → MayEnd e
     → list_any (λ m. eqb m n) e.sets ≡ false → length e.sets < 40 → IsSetNumber n
-    → IsEntry (with_set n e)
-set_is_entry n e h may new few number = record {
+    → IsStationState (with_set n e)
+set_is_state n e h may new few number = record {
   same_length = length-replicate (length e.slots) empty_slot ∙ h.same_length;
   paired = paired_more e.faces (faces_of e.slots) e.obs
       (obs_of (length e.sets - 1) e.slots) h.paired (pairs_match (length e.sets - 1) e.slots);
@@ -119,7 +119,7 @@ set_is_entry n e h may new few number = record {
   numbers = All-push IsSetNumber e.sets n h.numbers number;
   different_sets = all_pairs_push (λ a b. a ≢ b) e.sets n h.different_sets
       (absent_number n e.sets new);
-  sound = subst (λ (k : ℕ). AreSoFar k (replicate (length e.slots) empty_slot) (closed e).obs) count
+  so_far = subst (λ (k : ℕ). AreSoFar k (replicate (length e.slots) empty_slot) (closed e).obs) count
       after;
 } where
   count : length e.sets ≡ length (e.sets ++ n ∷ []) - 1
@@ -149,9 +149,9 @@ kept_reading One v s lt h = (lt, h.1)
 kept_reading Two v s lt h = (h.0, lt)
 
 -- after a further reading of a target
-pub reading_is_entry : (s : Reading) (e : EntryValue) (i : ℕ) → IsEntry e → i < length e.slots
-    → AreOnCircle s.angles → IsEntry (with_reading_at s e (Some i))
-reading_is_entry s e i h inside low = record {
+pub reading_is_state : (s : Reading) (e : StationState) (i : ℕ) → IsStationState e → i < length e.slots
+    → AreOnCircle s.angles → IsStationState (with_reading_at s e (Some i))
+reading_is_state s e i h inside low = record {
   same_length = length-set e.slots i new ∙ h.same_length;
   paired = h.paired;
   few_targets = h.few_targets;
@@ -164,13 +164,13 @@ reading_is_entry s e i h inside low = record {
   different = h.different;
   numbers = h.numbers;
   different_sets = h.different_sets;
-  sound = record {
+  so_far = record {
     within = subst (λ (t : ℕ). All (IsObs (length e.sets - 1) t) e.obs)
-        (sym (length-set e.slots i new)) h.sound.within;
-    ordered = h.sound.ordered;
-    each_set = h.sound.each_set;
+        (sym (length-set e.slots i new)) h.so_far.within;
+    ordered = h.so_far.ordered;
+    each_set = h.so_far.each_set;
     each_target = λ t lt. by t
-        (h.sound.each_target t (let l = length-set e.slots i new in omega (arith, l, lt)))
+        (h.so_far.each_target t (let l = length-set e.slots i new in omega (arith, l, lt)))
         (apart t);
   };
 } where
@@ -198,10 +198,10 @@ absent_name name targets e k d lt = λ same. false≢true (sym e
     ((bytes_eq-Decides (get_or targets k d) name).1 same))
 
 -- after the first reading of a target
-pub target_is_entry : (s : Reading) (e : EntryValue) → IsEntry e
+pub target_is_state : (s : Reading) (e : StationState) → IsStationState e
     → list_any (λ t. bytes_eq t s.target) e.targets ≡ false → length e.targets < 100
-    → IsName s.target → AreOnCircle s.angles → IsEntry (with_reading_at s e None)
-target_is_entry s e h new few named low = record {
+    → IsName s.target → AreOnCircle s.angles → IsStationState (with_reading_at s e None)
+target_is_state s e h new few named low = record {
   same_length = (let l = length_one e.slots slot in let m = length_one e.targets s.target in let n =
       h.same_length in omega (arith, l, m, n));
   paired = h.paired;
@@ -215,16 +215,16 @@ target_is_entry s e h new few named low = record {
       (absent_name s.target e.targets new);
   numbers = h.numbers;
   different_sets = h.different_sets;
-  sound = record {
+  so_far = record {
     within = All-weaker (IsObs (length e.sets - 1) (length e.slots))
         (IsObs (length e.sets - 1) (length (e.slots ++ slot ∷ [])))
         (λ o k. record {
           set = k.set;
           target = (let t = k.target in let l = length_one e.slots slot in omega (arith, t, l));
           value = k.value;
-        }) e.obs h.sound.within;
-    ordered = h.sound.ordered;
-    each_set = h.sound.each_set;
+        }) e.obs h.so_far.within;
+    ordered = h.so_far.ordered;
+    each_set = h.so_far.each_set;
     each_target = λ t lt. by t (cases t (let l = length_one e.slots slot in omega (arith, l, lt)));
   };
 } where
@@ -242,20 +242,20 @@ target_is_entry s e h new few named low = record {
 
   by : (t : ℕ) → (t < length e.slots) ⊎ (t ≡ length e.slots + 0)
       → Any (λ o. o.target ≡ t) e.obs ⊎ (is_unread (slot_at (e.slots ++ slot ∷ []) t) ≡ false)
-  by t (inl lt) = old t lt (h.sound.each_target t lt)
+  by t (inl lt) = old t lt (h.so_far.each_target t lt)
   by t (inr c) = inr (ap (λ (k : ℕ). is_unread (slot_at (e.slots ++ slot ∷ []) k)) c
       ∙ ap is_unread (get_or-append-add e.slots (slot ∷ []) 0 empty_slot)
       ∙ read_now s.face s.angles empty_slot)
 
 -- the same, where the target was added as the code adds it
-pub added_kept : (s : Reading) (e : EntryValue) (t : TargetsValue) (place : Option ℕ)
+pub added_kept : (s : Reading) (e : StationState) (t : TargetsValue) (place : Option ℕ)
     → place ≡ None → place ≡ place_of s.target e.targets → IfNone place (length e.targets < 100)
     → t ≡ with_first place s.target (with_face_reading s.face s.angles empty_slot) (targets_of e)
-    → IsEntry e → IsName s.target → AreOnCircle s.angles → IsEntry (entry_of t e.sets e.obs e.faces)
+    → IsStationState e → IsName s.target → AreOnCircle s.angles → IsStationState (state_of_parts t e.sets e.obs e.faces)
 added_kept s e t (Some i) none place few is h named low = cc
-added_kept s e t None none place few is h named low = subst IsEntry
-    (λ i. entry_of (sym is i) e.sets e.obs e.faces)
-    (target_is_entry s e h (absent (λ t. bytes_eq t s.target) e.targets (sym place)) few named low)
+added_kept s e t None none place few is h named low = subst IsStationState
+    (λ i. state_of_parts (sym is i) e.sets e.obs e.faces)
+    (target_is_state s e h (absent (λ t. bytes_eq t s.target) e.targets (sym place)) few named low)
 
 -- where the target was found, nothing was added
 pub found_same : (name : List ℕ) (first : Slot) (old t : TargetsValue) (place : Option ℕ) (i : ℕ)
@@ -264,13 +264,13 @@ found_same name first old t None i found is = cc
 found_same name first old t (Some k) i found is = is
 
 -- a reading more of a target, as the code notes it
-pub read_kept : (s : Reading) (e : EntryValue) (old t : TargetsValue) (i : ℕ) (new : Slot)
+pub read_kept : (s : Reading) (e : StationState) (old t : TargetsValue) (i : ℕ) (new : Slot)
     → old ≡ targets_of e → t.names ≡ old.names → t.slots ≡ set old.slots i new
-    → new ≡ with_face_reading s.face s.angles (slot_at old.slots i) → IsEntry e → i < length e.targets
-    → AreOnCircle s.angles → IsEntry (entry_of t e.sets e.obs e.faces)
+    → new ≡ with_face_reading s.face s.angles (slot_at old.slots i) → IsStationState e → i < length e.targets
+    → AreOnCircle s.angles → IsStationState (state_of_parts t e.sets e.obs e.faces)
 read_kept s e old t i new was names slots is h inside low =
     let here : i < length e.slots = let l = h.same_length in omega (arith, inside, l) in
-    subst IsEntry
+    subst IsStationState
     (λ k. record {
       targets = sym (names ∙ ap (λ (w : TargetsValue). w.names) was) k;
       slots = sym (slots ∙ (λ j. set (was j).slots i (same j))) k;
@@ -278,36 +278,36 @@ read_kept s e old t i new was names slots is h inside low =
       obs = e.obs;
       faces = e.faces;
     })
-    (reading_is_entry s e i h here low)
+    (reading_is_state s e i h here low)
   where
     same : new ≡ with_face_reading s.face s.angles (slot_at e.slots i)
     same = is ∙ ap (λ (w : TargetsValue). with_face_reading s.face s.angles (slot_at w.slots i)) was
 
-pub set_kept : (n : ℕ) (e : EntryValue) (targets : List (List ℕ)) (slots : List Slot)
+pub set_kept : (n : ℕ) (e : StationState) (targets : List (List ℕ)) (slots : List Slot)
     (sets : List ℕ) (obs : List Obs) (faces : List Faces) → targets ≡ e.targets
     → slots ≡ replicate (length e.slots) empty_slot → sets ≡ e.sets ++ n ∷ []
     → obs ≡ (closed e).obs → faces ≡ (closed e).faces
-    → IsEntry e → MayEnd e → list_any (λ m. eqb m n) e.sets ≡ false → length e.sets < 40
-    → IsSetNumber n → IsEntry
+    → IsStationState e → MayEnd e → list_any (λ m. eqb m n) e.sets ≡ false → length e.sets < 40
+    → IsSetNumber n → IsStationState
     (record { targets = targets; slots = slots; sets = sets; obs = obs; faces = faces })
-set_kept n e targets slots sets obs faces et el es eo ef h may new few number = subst IsEntry
+set_kept n e targets slots sets obs faces et el es eo ef h may new few number = subst IsStationState
     (λ i. record {
       targets = sym et i;
       slots = sym el i;
       sets = sym es i;
       obs = sym eo i;
       faces = sym ef i;
-    }) (set_is_entry n e h may new few number)
+    }) (set_is_state n e h may new few number)
 
 -- the fault of a new target, as that of a reading
-pub fault_moved : {X : Type 0} (limits : FaceLimits) (e now : EntryValue) (s : Reading)
+pub fault_moved : {X : Type 0} (limits : FaceLimits) (e now : StationState) (s : Reading)
     (f : Refusal) (r : Result X Refusal) → Err f ≡ r → e ≡ now → place_of s.target e.targets ≡ None
     → ExplainsRefusal (new_target_fault e.targets) f
-    → IfErr r (ExplainsRefusal (first_of (entry_faults limits now s)))
+    → IfErr r (ExplainsRefusal (first_of (state_faults limits now s)))
 fault_moved limits e now s f r it v absent h =
-    subst (λ r. IfErr r (ExplainsRefusal (first_of (entry_faults limits now s)))) it
-    (subst (λ (w : EntryValue). ExplainsRefusal (first_of (entry_faults limits w s)) f) v
-    (subst (λ (o : Option ℕ). ExplainsRefusal (first_of (entry_faults_at limits e s o)) f)
+    subst (λ r. IfErr r (ExplainsRefusal (first_of (state_faults limits now s)))) it
+    (subst (λ (w : StationState). ExplainsRefusal (first_of (state_faults limits w s)) f) v
+    (subst (λ (o : Option ℕ). ExplainsRefusal (first_of (state_faults_at limits e s o)) f)
     (sym absent) h))
 
 wanted : (needed : Bool) (f : Refusal) → needed ≡ true → WantsOnly needed f
@@ -315,8 +315,8 @@ wanted needed (refusals.Kind k) e = tt
 wanted needed refusals.Memory e = e
 
 -- where the station has no target of this name, the reading is the first of its target
-pub new_moved : {X : Type 0} (e now : EntryValue) (s : Reading) (f : Refusal)
+pub new_moved : {X : Type 0} (e now : StationState) (s : Reading) (f : Refusal)
     (r : Result X Refusal) → Err f ≡ r → e ≡ now → place_of s.target e.targets ≡ None
     → IfErr r (WantsOnly (is_new_to now s))
 new_moved e now s f r it v absent = subst (λ r. IfErr r (WantsOnly (is_new_to now s))) it
-    (wanted (is_new_to now s) f (ap (λ (w : EntryValue). is_new_to w s) (sym v) ∙ ap is_none absent))
+    (wanted (is_new_to now s) f (ap (λ (w : StationState). is_new_to w s) (sym v) ∙ ap is_none absent))

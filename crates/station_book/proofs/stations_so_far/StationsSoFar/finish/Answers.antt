@@ -1,9 +1,9 @@
 use Rattle.std.proofs.Common.{rules, ◌≡◌, List, [], ℕ, reverse, sym, ap, subst, ◌∙◌}
 use Rattle.std.proofs.lemmas.List.{reverse-reverse}
 use Rattle.station_book.specs.Stations.{SurveyedStation}
-use Rattle.station_book.specs.Entries.{EntryValue}
+use Rattle.station_book.specs.StationState.{StationState}
 use Rattle.station_book.proofs.ClosingLaws.{IsClosing, begins, next_may, next_inserted, all_closed}
-use Rattle.station_book.proofs.shelf.Shelf.finish.Goals as goal
+use Rattle.station_book.proofs.stations_so_far.StationsSoFar.finish.Goals as goal
 
 pub stations-init : goal.stations-init
 stations-init c =
@@ -12,8 +12,8 @@ stations-init c =
     let rest = c.into_iter-rest.ensures.into_iter_gives.0 in
     let none : c.in_ok-surveyed.surveyed.entries ≡ [] = c.in_ok-surveyed.ensures.empty in
     subst
-    (λ (t : List (List ℕ × EntryValue) × List (List ℕ × SurveyedStation)
-    × List (List ℕ × EntryValue)). IsClosing t.0 t.1 t.2)
+    (λ (t : List (List ℕ × StationState) × List (List ℕ × SurveyedStation)
+    × List (List ℕ × StationState)). IsClosing t.0 t.1 t.2)
     (λ i. (own i, sym none i, sym rest i))
     (begins es c.args.self c.self.view_is c.requires c.self.invariant c.len.ensures.unique)
 

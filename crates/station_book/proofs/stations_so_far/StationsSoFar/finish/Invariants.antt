@@ -1,6 +1,6 @@
 use Rattle.std.proofs.Common.{length, reverse}
 use Rattle.station_book.proofs.ClosingLaws.{IsClosing}
-use Rattle.station_book.proofs.shelf.Shelf.finish.Given as goal
+use Rattle.station_book.proofs.stations_so_far.StationsSoFar.finish.Given as goal
 
 abbrev pub invariant-stations : goal.invariant-stations
 invariant-stations l = IsClosing (reverse l.fn.self) l.surveyed.entries l.rest
