@@ -49,7 +49,8 @@ zip_reverse R (x ∷ xs) (y ∷ ys) h =
 module _ (limits : FaceLimits) where
   -- both readings of a target, where it has both
   abbrev Beside : Option Place → Option Place → Type 0
-  Beside o p = (a b : Place) → o ≡ Some a → p ≡ Some b → AreWithin limits (angles_at a) (angles_at b)
+  Beside o p = (a b : Place) → o ≡ Some a → p ≡ Some b → AreWithin limits (angles_at a)
+      (angles_at b)
 
   one_observed : (s n : ℕ) (o p : Option Place) (cs : List Pair) (os : List Obs) → Beside o p
       → AllZip (IsObserved limits) cs os
@@ -194,7 +195,12 @@ module _ (limits : FaceLimits) where
 
 -- a new book stands for no block
 pub empty_state : (limits : FaceLimits)
-    → StandsFor limits (record { limits = limits; taken = 0; stage = Outside; stations = none_so_far })
+    → StandsFor limits (record {
+      limits = limits;
+      taken = 0;
+      stage = Outside;
+      stations = none_so_far;
+    })
     []
 empty_state limits =
     record { limited = refl; counted = refl; clean = tt; stage = (refl, refl); stations = tt }
@@ -205,7 +211,8 @@ end_same : (limits : FaceLimits) (k : State) (h : History) → StandsFor limits 
 end_same limits k h it = same_end k h (at_own limits k h it)
 
 -- the clauses of `finish`, by the blocks
-pub end_clean : {X E : Type 0} (k : State) (r : Result X E) → OnOk r (ending k.stage k.stations ≡ None)
+pub end_clean : {X E : Type 0} (k : State) (r : Result X E) → OnOk r
+    (ending k.stage k.stations ≡ None)
     → OnOk r ((limits : FaceLimits) (h : History) → StandsFor limits k h → fault_at_end h ≡ None)
 end_clean k (Ok x) clean = λ limits h it. sym (end_same limits k h it) ∙ clean
 end_clean k (Err e) clean = clean

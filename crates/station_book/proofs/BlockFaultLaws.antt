@@ -54,7 +54,8 @@ same_fault limits k b past h = own_fault k b past (at_own limits k past h)
     ∙ ap (λ (l : FaceLimits). fault_after l past b) h.limited
 
 -- A set is open where the stage says so.
-open_stage : (stage : Stage) (past : History) → IsStage stage past → states.has_open_set stage ≡ true
+open_stage : (stage : Stage) (past : History) → IsStage stage past
+    → states.has_open_set stage ≡ true
     → is_open past ≡ true
 open_stage Outside past g e = absurd (false≢true e)
 open_stage (Station name) past g e = absurd (false≢true e)

@@ -103,7 +103,8 @@ module _ (es : List (List ℕ × StationState)) (closed : List (List ℕ × Surv
   next_inserted s more made valid e =
       next_closed more s made valid (e ∙ inserted closed x.0 s next_new)
 
-values_surveyed : (es : List (List ℕ × StationState)) → values_of (map surveyed es) ≡ map survey_of es
+values_surveyed : (es : List (List ℕ × StationState)) → values_of
+    (map surveyed es) ≡ map survey_of es
 values_surveyed [] = refl
 values_surveyed (e ∷ es) = ap (λ ss. survey_of e ∷ ss) (values_surveyed es)
 

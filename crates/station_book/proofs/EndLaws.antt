@@ -142,5 +142,6 @@ pub same_stations : (k : State) (past : History) → StandsFor k.limits k past
     → AreComputed past (stations_in past) (reverse (surveys_of k.stations))
 same_stations k past h =
     subst (λ (ss : List SurveyedStation). AreComputed past (stations_in past) ss)
-    (ap (map survey_of) (sym (reverse-reverse k.stations)) ∙ map-reverse survey_of (reverse k.stations))
+    (ap (map survey_of) (sym (reverse-reverse k.stations)) ∙ map-reverse survey_of
+    (reverse k.stations))
     (answers past (stations_in past) k.stations h.stations)

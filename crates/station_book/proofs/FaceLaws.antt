@@ -96,10 +96,12 @@ lonely rs name e = elim (or_cases
     (is_some (reading_in One name rs) && is_none (reading_in Two name rs))
     (is_none (reading_in One name rs) && is_some (reading_in Two name rs)) e) [
       | inl h ↦
-          let p = and_parts (is_some (reading_in One name rs)) (is_none (reading_in Two name rs)) h in
+          let p = and_parts (is_some (reading_in One name rs))
+          (is_none (reading_in Two name rs)) h in
           let s = the_some (reading_in One name rs) p.0 in at One s.0 s.1 p.1
       | inr h ↦
-          let p = and_parts (is_none (reading_in One name rs)) (is_some (reading_in Two name rs)) h in
+          let p = and_parts (is_none (reading_in One name rs))
+          (is_some (reading_in Two name rs)) h in
           let s = the_some (reading_in Two name rs) p.1 in at Two s.0 s.1 p.0
     ]
   where

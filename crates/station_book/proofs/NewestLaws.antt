@@ -47,7 +47,8 @@ module _ {V : Type 0} where
   last_place : (es older : List (List ℕ × V)) (x : List ℕ × V) → reverse es ≡ x ∷ older
       → length es - 1 ≡ length (reverse older)
   last_place es older x is =
-      let l : length es ≡ length (reverse older ++ x ∷ []) = ap length (placed_last es older x is) in
+      let l : length es ≡ length (reverse older ++ x ∷ []) = ap length
+      (placed_last es older x is) in
       let m = length-append (reverse older) (x ∷ []) in
       omega (arith, l, m)
 

@@ -31,7 +31,8 @@ reading_found h st set name f r set_placed set_station e =
     let found = find_some (λ r. bytes_eq (target_at r) name && passes_at (is_of_face f) r) r
     (readings_of set h) e in
     let tests = and_parts (bytes_eq (target_at r) name) (passes_at (is_of_face f) r) found.1 in
-    let own = of_filter (λ place. is_reading place && is_same (last is_opening (before place)) set) r
+    let own = of_filter (λ place. is_reading place && is_same (last is_opening (before place)) set)
+    r
     (places h) found.0 in
     let parts = and_parts (is_reading r) (is_same (opening (before r)) set) own.1 in
     let here : opening (before r) ≡ set = same_of_file h (opening (before r)) set
@@ -187,7 +188,8 @@ readings_of_pair h st c st_placed listed =
         (reading_in Two t.1 (readings_of e.1 h))) c (enumerate_from 0 (targets_of st h)) own)
 
 -- In a file without fault two such readings are a pair.
-pub pair_of_readings : (limits : FaceLimits) (h : History) (st set : Place) (name : List ℕ) (i j : ℕ)
+pub pair_of_readings : (limits : FaceLimits) (h : History) (st set : Place) (name : List ℕ)
+    (i j : ℕ)
     (first second : Place) → IsWithoutFault limits h → OfFile h set
     → IsAt (reverse (sets_of st h)) i set
     → IsAt (targets_of st h) j name

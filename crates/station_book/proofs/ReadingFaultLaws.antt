@@ -102,7 +102,8 @@ face_as : (b : GsiBlock) → unwrap_or (said.face_of ((angles b).zenith)) One �
 face_as b =
     second_of (ltb 0 ((angles b).zenith) && ltb ((angles b).zenith) 20_000_000)
     (ltb 20_000_000 ((angles b).zenith) && ltb ((angles b).zenith) 40_000_000)
-    (λ e. sym (second_face b) ∙ one_face b (first_face b ∙ e)) ∙ ap (λ v. cond v Two One) (sym (second_face b))
+    (λ e. sym (second_face b) ∙ one_face b (first_face b ∙ e)) ∙ ap (λ v. cond v Two One)
+    (sym (second_face b))
 
 -- a reading as the definitions say it
 abbrev reading_of : GsiBlock → Reading
@@ -160,14 +161,17 @@ same_later limits targets rs b e kept ts ss = split (place_of (target b) e.targe
       ∙ slot_get targets rs n [] at.0 ∙ ap (slot_of rs) here in
       let taken : is_some (face_reading (face b) (slot_at e.slots n)) ≡ is_some
       (reading_in (face b) (target b) rs) =
-      ap (λ s. is_some (face_reading (face b) s)) slot ∙ ap is_some (reading_angles (face b) rs (target b))
+      ap (λ s. is_some (face_reading (face b) s)) slot ∙ ap is_some
+      (reading_angles (face b) rs (target b))
       ∙ some_angles (reading_in (face b) (target b) rs) in
       let other : face_reading (other_face (face b)) (slot_at e.slots n) ≡ angles_of
-      (reading_in (other_face (face b)) (target b) rs) = ap (face_reading (other_face (face b))) slot
+      (reading_in (other_face (face b)) (target b) rs) = ap
+      (face_reading (other_face (face b))) slot
       ∙ reading_angles (other_face (face b)) rs (target b) in
       (λ i. first_of (when (taken i) kinds.FaceTwice
       ∷ when (is_apart (has_no_two_c limits.two_c) (angles b) (other i)) kinds.TwoC
-      ∷ when (is_apart (has_no_two_i limits.two_i) (angles b) (other i)) kinds.TwoI ∷ [])) ∙ old_target_tests (is_some (reading_in (face b) (target b) rs))
+      ∷ when (is_apart (has_no_two_i limits.two_i) (angles b) (other i)) kinds.TwoI ∷ []))
+      ∙ old_target_tests (is_some (reading_in (face b) (target b) rs))
       (is_apart (has_no_two_c limits.two_c) (angles b)
       (angles_of (reading_in (other_face (face b)) (target b) rs)))
       (is_apart (has_no_two_i limits.two_i) (angles b)

@@ -177,7 +177,8 @@ length_slots (t ∷ ts) rs = ap suc (length_slots ts rs)
 -- a further reading of the target at place i
 existing : (targets : List (List ℕ)) (i : ℕ) (f : Face) (v : Angles) (r : Place) (rs : List Place)
     → i < length targets → get_or targets i [] ≡ target_at r → AllPairs (λ a b. a ≢ b) targets
-    → v ≡ angles_at r → passes_at (is_of_face f) r ≡ true → passes_at (is_of_face (other_face f)) r ≡ false
+    → v ≡ angles_at r → passes_at (is_of_face f) r ≡ true → passes_at
+    (is_of_face (other_face f)) r ≡ false
     → set (slots_of targets rs) i (with_face_reading f v (slot_at (slots_of targets rs) i))
     ≡ slots_of targets (r ∷ rs)
 existing targets i f v r rs inside here different s g n = ext_get_or empty_slot

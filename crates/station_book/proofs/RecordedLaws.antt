@@ -146,7 +146,8 @@ pair_observed limits h st s set target first second clean listed surveyed set_pl
       pair = record { set = i.0; target = j.0; first = angles_at first; second = angles_at second }
 
       own : In pair (pairs_of st h)
-      own = pair_of_readings limits h st set target i.0 j.0 first second clean (inr set_placed) i.1 j.1
+      own = pair_of_readings limits h st set target i.0 j.0 first second clean
+          (inr set_placed) i.1 j.1
           one two
 
       o : (o : Obs) × In o s.station.obs × IsObserved limits pair o
@@ -295,10 +296,12 @@ with_faces limits h st s placed surveyed (c ∷ cs) (o ∷ os) (f ∷ fs) inside
         ∙ sym (ap angles_at r.second_is) in
         record {
           recorded = r.recorded;
-          two_c = subst (λ (a : Angles). IsTwoC limits.two_c a (angles_at r.recorded.second) f.two_c)
+          two_c = subst (λ (a : Angles). IsTwoC limits.two_c a
+              (angles_at r.recorded.second) f.two_c)
               first
               (subst (λ (b : Angles). IsTwoC limits.two_c c.first b f.two_c) second two.0.two_c);
-          two_i = subst (λ (a : Angles). IsTwoI limits.two_i a (angles_at r.recorded.second) f.two_i)
+          two_i = subst (λ (a : Angles). IsTwoI limits.two_i a
+              (angles_at r.recorded.second) f.two_i)
               first
               (subst (λ (b : Angles). IsTwoI limits.two_i c.first b f.two_i) second two.0.two_i);
         }

@@ -78,7 +78,8 @@ one_each past (st ∷ sts) [] h = absurd h
 one_each past (st ∷ sts) (e ∷ es) h = ap suc (one_each past sts es h.1)
 
 -- as many stations have sets as are kept
-count_stations : (so_far : StationStates) (past : History) → AreStates past (stations_in past) so_far
+count_stations : (so_far : StationStates) (past : History) → AreStates past
+    (stations_in past) so_far
     → length (first_sets past) ≡ length so_far
 count_stations so_far past h = sym (length-map (first_sets past) (λ s. station (before s)))
     ∙ one_each past (stations_in past) so_far h
@@ -223,7 +224,8 @@ pub same_set_fault : (k : states.State) (b : GsiBlock) (past : History) → Stan
     → states.fault_as roles.Set k b ≡ first_of (end_faults past ++ set_faults past b)
 unfolding fault_at_end
 same_set_fault k b past h =
-    let opens = same_opening k.limits k.stage k.stations past (number b) h.clean h.stage h.stations in
+    let opens = same_opening k.limits k.stage k.stations past
+    (number b) h.clean h.stage h.stations in
     (λ i. then_fault (same_end k past h i) (then_fault
     (when (has_two 42 b) (kinds.WordTwice 42)) (opens i)))
     ∙ (λ i. then_fault (fault_at_end past) (sym (set_tests past b) i))

@@ -25,7 +25,8 @@ state_of limits [] w = empty_state limits
 state_of limits (b ∷ past) w =
     let k = kept_of limits past in
     let s : StandsFor limits k past = state_of limits past w.1 in
-    take_taken {X = ℕ} {E = ℕ} k (after b k) b (Ok 0) (same_fault limits k b past s ∙ w.0) refl limits past s
+    take_taken {X = ℕ} {E = ℕ} k (after b k) b (Ok 0)
+    (same_fault limits k b past s ∙ w.0) refl limits past s
 
 pub some_survey : (limits : FaceLimits) (h : History) → AreLimits limits → IsWithoutFault limits h
     → (stations : List SurveyedStation) × AreStations limits h stations

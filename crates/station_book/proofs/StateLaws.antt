@@ -288,10 +288,12 @@ open_last past some = elim (parted past) [
 -- all stations after the first set of the open one
 pub states_first : (so_far : StationStates) (b : GsiBlock) (past : History) (name : List ℕ) (n : ℕ)
     → opens_station b ≡ false → opens_set b ≡ true → open_sets past ≡ []
-    → name_at (station past) ≡ Some name → number b ≡ Some n → AreStates past (stations_in past) so_far
+    → name_at (station past) ≡ Some name → number b ≡ Some n → AreStates past
+    (stations_in past) so_far
     → AreStates (b ∷ past) (stations_in (b ∷ past)) (with_station name n so_far)
 states_first so_far b past name n s set none named_so numbered h =
-    subst (λ (sts : List Place). AreStates (b ∷ past) sts (with_station name n so_far)) (sym stations) (
+    subst (λ (sts : List Place). AreStates (b ∷ past) sts (with_station name n so_far))
+    (sym stations) (
       head,
       older_stay (stations_in past) so_far b past older h,
     )
@@ -325,7 +327,8 @@ none_to_come b past st = none_in_later
     (λ place. is_reading place && is_same (station (before place)) st) (b ∷ past) past (omega arith)
 
 -- all stations after a further set of the open one
-pub states_further : (x : List ℕ × StationState) (es : StationStates) (b : GsiBlock) (past : History) (n : ℕ)
+pub states_further : (x : List ℕ × StationState) (es : StationStates) (b : GsiBlock)
+    (past : History) (n : ℕ)
     → opens_station b ≡ false → opens_set b ≡ true → is_empty (open_sets past) ≡ false
     → number b ≡ Some n → AreStates past (stations_in past) (x ∷ es)
     → AreStates (b ∷ past) (stations_in (b ∷ past)) ((x.0, with_set n x.1) ∷ es)
@@ -347,7 +350,8 @@ states_further x es b past n s set some numbered h =
         (station_readings (station past) past) x.0 n x.1 numbered
         (none_to_come b past (station past)) k
 
-    head : IsStateAt past (station past) x → IsStateAt (b ∷ past) (station past) (x.0, with_set n x.1)
+    head : IsStateAt past (station past) x → IsStateAt (b ∷ past) (station past)
+        (x.0, with_set n x.1)
     head k =
         let sets : sets_of (station past) (b ∷ past) ≡ (b ∷ past) ∷ open_sets past = ap
         (λ (st : Place). sets_of st (b ∷ past)) (sym (same_station b past s))
@@ -382,7 +386,8 @@ in_none b past readings (s ∷ older) all = (
 )
 
 -- all stations after a reading
-pub states_reading : (x : List ℕ × StationState) (es : StationStates) (b : GsiBlock) (past : History)
+pub states_reading : (x : List ℕ × StationState) (es : StationStates) (b : GsiBlock)
+    (past : History)
     (s : Reading) → is_opening b ≡ false → is_reading (b ∷ past) ≡ true → is_open past ≡ true
     → Says s (b ∷ past) → AreStates past (stations_in past) (x ∷ es)
     → AreStates (b ∷ past) (stations_in (b ∷ past)) ((x.0, with_reading s x.1) ∷ es)
@@ -403,7 +408,8 @@ states_reading x es b past s o reading now says h =
     set = open_set past now
 
     mine : (readings : List Place)
-        → in_set (opening past) ((b ∷ past) ∷ readings) ≡ (b ∷ past) ∷ in_set (opening past) readings
+        → in_set (opening past) ((b ∷ past) ∷ readings) ≡ (b ∷ past) ∷ in_set
+        (opening past) readings
     mine readings = ap (λ v. cond v ((b ∷ past) ∷ in_set (opening past) readings)
         (in_set (opening past) readings))
         (eq-eqb (length (opening past)) (length (opening past)) refl)
@@ -419,7 +425,8 @@ states_reading x es b past s o reading now says h =
         (sym (same_station b past no_station))
         ∙ belonging-more opens_station is_reading b past no_station reading in
         rw (sets, readings)
-        (reading_state (station past) (opening past) set.older (station_readings (station past) past)
+        (reading_state (station past) (opening past) set.older
+        (station_readings (station past) past)
         (b ∷ past) x.0 x.1 s says (mine (station_readings (station past) past))
         (in_none b past (station_readings (station past) past) set.older set.before_it)
         (rw set.sets at k))

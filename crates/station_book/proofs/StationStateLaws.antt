@@ -1,6 +1,6 @@
 -- What always holds of what is kept of a station still holds after a set and after a reading; and
 -- once the last set may end, it is a station of the kernel.
-use Rattle.std.proofs.Common.{◌≡◌, ◌≢◌, ℕ, ◌+◌, ◌-◌, ◌<◌, ◌≤◌, Bool, true, false, eqb, leb, Result, Ok, Err, List, [], ◌∷◌, ◌++◌, length, get_or, set, replicate, All, Any, Option, Some, None, is_none, inl, inr, ◌⊎◌, refl, sym, ap, ◌∙◌, subst, arith}
+use Rattle.std.proofs.Common.{◌≡◌, ◌≢◌, ℕ, ◌+◌, ◌-◌, ◌<◌, ◌≤◌, Bool, true, false, eqb, Result, Err, List, [], ◌∷◌, ◌++◌, length, get_or, set, replicate, All, Any, Option, Some, None, is_none, inl, inr, ◌⊎◌, refl, sym, ap, ◌∙◌, subst, arith}
 use Rattle.std.specs.List.{list_any, list_all}
 use Rattle.std.specs.Str.{bytes_eq}
 use Rattle.std.proofs.lemmas.Bool.{cases_lt, cases_eq, false≢true, eq-eqb, and_right}
@@ -67,7 +67,8 @@ paired_more : (fs gs : List Faces) (os ps : List Obs) → length fs ≡ length o
 paired_more fs gs os ps e f = length-append fs gs ∙ (λ i. e i + f i) ∙ sym (length-append os ps)
 
 -- each observation of the closed station has its face differences
-pub closed_paired : (e : StationState) → IsStationState e → length (closed e).faces ≡ length (closed e).obs
+pub closed_paired : (e : StationState) → IsStationState e → length (closed e).faces ≡ length
+    (closed e).obs
 closed_paired e h = paired_more e.faces (faces_of e.slots) e.obs
     (obs_of (length e.sets - 1) e.slots) h.paired (pairs_match (length e.sets - 1) e.slots)
 
@@ -119,7 +120,8 @@ set_is_state n e h may new few number = record {
   numbers = All-push IsSetNumber e.sets n h.numbers number;
   different_sets = all_pairs_push (λ a b. a ≢ b) e.sets n h.different_sets
       (absent_number n e.sets new);
-  so_far = subst (λ (k : ℕ). AreSoFar k (replicate (length e.slots) empty_slot) (closed e).obs) count
+  so_far = subst (λ (k : ℕ). AreSoFar k (replicate (length e.slots) empty_slot) (closed e).obs)
+      count
       after;
 } where
   count : length e.sets ≡ length (e.sets ++ n ∷ []) - 1
@@ -149,7 +151,8 @@ kept_reading One v s lt h = (lt, h.1)
 kept_reading Two v s lt h = (h.0, lt)
 
 -- after a further reading of a target
-pub reading_is_state : (s : Reading) (e : StationState) (i : ℕ) → IsStationState e → i < length e.slots
+pub reading_is_state : (s : Reading) (e : StationState) (i : ℕ) → IsStationState e
+    → i < length e.slots
     → AreOnCircle s.angles → IsStationState (with_reading_at s e (Some i))
 reading_is_state s e i h inside low = record {
   same_length = length-set e.slots i new ∙ h.same_length;
@@ -251,7 +254,8 @@ target_is_state s e h new few named low = record {
 pub added_kept : (s : Reading) (e : StationState) (t : TargetsValue) (place : Option ℕ)
     → place ≡ None → place ≡ place_of s.target e.targets → IfNone place (length e.targets < 100)
     → t ≡ with_first place s.target (with_face_reading s.face s.angles empty_slot) (targets_of e)
-    → IsStationState e → IsName s.target → AreOnCircle s.angles → IsStationState (state_of_parts t e.sets e.obs e.faces)
+    → IsStationState e → IsName s.target → AreOnCircle s.angles → IsStationState
+    (state_of_parts t e.sets e.obs e.faces)
 added_kept s e t (Some i) none place few is h named low = cc
 added_kept s e t None none place few is h named low = subst IsStationState
     (λ i. state_of_parts (sym is i) e.sets e.obs e.faces)
@@ -266,7 +270,8 @@ found_same name first old t (Some k) i found is = is
 -- a reading more of a target, as the code notes it
 pub read_kept : (s : Reading) (e : StationState) (old t : TargetsValue) (i : ℕ) (new : Slot)
     → old ≡ targets_of e → t.names ≡ old.names → t.slots ≡ set old.slots i new
-    → new ≡ with_face_reading s.face s.angles (slot_at old.slots i) → IsStationState e → i < length e.targets
+    → new ≡ with_face_reading s.face s.angles (slot_at old.slots i) → IsStationState e
+    → i < length e.targets
     → AreOnCircle s.angles → IsStationState (state_of_parts t e.sets e.obs e.faces)
 read_kept s e old t i new was names slots is h inside low =
     let here : i < length e.slots = let l = h.same_length in omega (arith, inside, l) in
@@ -319,4 +324,5 @@ pub new_moved : {X : Type 0} (e now : StationState) (s : Reading) (f : Refusal)
     (r : Result X Refusal) → Err f ≡ r → e ≡ now → place_of s.target e.targets ≡ None
     → IfErr r (WantsOnly (is_new_to now s))
 new_moved e now s f r it v absent = subst (λ r. IfErr r (WantsOnly (is_new_to now s))) it
-    (wanted (is_new_to now s) f (ap (λ (w : StationState). is_new_to w s) (sym v) ∙ ap is_none absent))
+    (wanted (is_new_to now s) f (ap (λ (w : StationState). is_new_to w s) (sym v)
+    ∙ ap is_none absent))

@@ -12,7 +12,8 @@ use Rattle.station_book.proofs.PlaceLaws.{belonging-fresh, belonging-more, belon
 -- a set is open after a block
 pub is_open-opening : (b : GsiBlock) (past : History) → is_opening b ≡ true
     → is_open (b ∷ past) ≡ opens_set b
-is_open-opening b past e = ap (λ v. passes_at opens_set (cond v (b ∷ past) (last is_opening past))) e
+is_open-opening b past e = ap (λ v. passes_at opens_set (cond v (b ∷ past) (last is_opening past)))
+    e
 
 pub is_open-other : (b : GsiBlock) (past : History) → is_opening b ≡ false
     → is_open (b ∷ past) ≡ is_open past

@@ -47,7 +47,8 @@ opening_as : (b : GsiBlock) (r : Role) → role_of b ≡ r
     → is_opening b ≡ (is_station r || (is_set_code r || is_close r))
 opening_as b r e = ap (λ q. is_station q || (is_set_code q || is_close q)) e
 
-no_reading : (b : GsiBlock) (past : History) → has_direction b ≡ false → is_reading (b ∷ past) ≡ false
+no_reading : (b : GsiBlock) (past : History) → has_direction b ≡ false → is_reading
+    (b ∷ past) ≡ false
 no_reading b past e = ap (λ v. v && is_open past) e
 
 -- a block that opens and closes nothing leaves the stage
@@ -102,8 +103,10 @@ is_set_block : (b : GsiBlock) → role_of b ≡ roles.Set
 is_set_block b e = (station_as b roles.Set e, set_as b roles.Set e)
 
 -- a further set of the last station
-further_taken : (so_far : StationStates) (b : GsiBlock) (past : History) (n : ℕ) → role_of b ≡ roles.Set
-    → number b ≡ Some n → is_empty (open_sets past) ≡ false → AreStates past (stations_in past) so_far
+further_taken : (so_far : StationStates) (b : GsiBlock) (past : History) (n : ℕ)
+    → role_of b ≡ roles.Set
+    → number b ≡ Some n → is_empty (open_sets past) ≡ false → AreStates past
+    (stations_in past) so_far
     → AreStates (b ∷ past) (stations_in (b ∷ past)) (change_last (with_set n) so_far)
 further_taken so_far b past n r e some h =
     let k = is_set_block b r in
@@ -114,14 +117,16 @@ further_taken so_far b past n r e some h =
     (subst (λ (s : StationStates). AreStates past (stations_in past) s) x.is h))
 
 -- a block of code 20
-pub set_taken : (so_far : StationStates) (b : GsiBlock) (past : History) (stage : Stage) (n : Option ℕ)
+pub set_taken : (so_far : StationStates) (b : GsiBlock) (past : History) (stage : Stage)
+    (n : Option ℕ)
     → role_of b ≡ roles.Set → number b ≡ n → states.opening_fault stage so_far n ≡ None
     → IsStage stage past → AreStates past (stations_in past) so_far
     → AreStates (b ∷ past) (stations_in (b ∷ past)) (states.opened stage n so_far)
 set_taken so_far b past Outside n r e f g h = absurd cc
 set_taken so_far b past (Station name) None r e f g h = absurd cc
 set_taken so_far b past (Station name)
-    (Some n) r e f g h = let k = is_set_block b r in states_first so_far b past name n k.0 k.1 g.2 g.1
+    (Some n) r e f g h = let k = is_set_block b r in states_first so_far b past name n k.0 k.1 g.2
+    g.1
     e h
 set_taken so_far b past BetweenSets None r e f g h = absurd cc
 set_taken so_far b past BetweenSets (Some n) r e f g h = further_taken so_far b past n r e g.0 h
@@ -159,14 +164,16 @@ unfolding is_of_face
 first_face b = refl
 
 pub second_face : (b : GsiBlock)
-    → is_of_face faces.Two b ≡ (ltb 20_000_000 ((angles b).zenith) && ltb ((angles b).zenith) 40_000_000)
+    → is_of_face faces.Two b ≡ (ltb 20_000_000 ((angles b).zenith) && ltb
+    ((angles b).zenith) 40_000_000)
 unfolding is_of_face
 second_face b = refl
 
 abbrev HasFace : GsiBlock → Face → Type 0
 HasFace b f = (is_of_face f b ≡ true) × (is_of_face (other_face f) b ≡ false)
 
-face_cases : (b : GsiBlock) (one two : Bool) → is_of_face faces.One b ≡ one → is_of_face faces.Two b ≡ two
+face_cases : (b : GsiBlock) (one two : Bool) → is_of_face faces.One b ≡ one
+    → is_of_face faces.Two b ≡ two
     → is_none (cond one (Some faces.One) (cond two (Some faces.Two) None)) ≡ false
     → HasFace b (unwrap_or (cond one (Some faces.One) (cond two (Some faces.Two) None)) faces.One)
 face_cases b true two e f g = (e, one_face b e)
@@ -229,7 +236,8 @@ closed_no_reading : (b : GsiBlock) (past : History) → is_open past ≡ false
 closed_no_reading b past e = and_right (has_direction b) (is_open past) e
 
 -- a measurement
-pub measurement_taken : (limits : FaceLimits) (so_far : StationStates) (stage : Stage) (b : GsiBlock)
+pub measurement_taken : (limits : FaceLimits) (so_far : StationStates) (stage : Stage)
+    (b : GsiBlock)
     (past : History) → role_of b ≡ roles.Measurement
     → cond (states.has_open_set stage) (states.measured limits so_far (said.read b)) None ≡ None
     → IsStage stage past → AreStates past (stations_in past) so_far
@@ -247,7 +255,12 @@ measurement_taken limits so_far InSet b past r f g h = in_set_taken so_far b pas
 -- THE LAW: after a block without fault, what is kept stands for the blocks with it
 pub taken_state : (limits : FaceLimits) (taken : ℕ) (stage : Stage) (so_far : StationStates)
     (b : GsiBlock) (past : History) (r : Role) → role_of b ≡ r
-    → states.fault_as r (record { limits = limits; taken = taken; stage = stage; stations = so_far }) b
+    → states.fault_as r (record {
+      limits = limits;
+      taken = taken;
+      stage = stage;
+      stations = so_far;
+    }) b
     ≡ None → fault_after limits past b ≡ None
     → StandsFor limits (record { limits = limits; taken = taken; stage = stage; stations = so_far })
     past → StandsFor limits

@@ -247,7 +247,8 @@ no_reading_lost limits h stations r whole are contained reading = by (face_at r)
       of_set = refl;
       of_target = refl;
       of_face = ap
-          (λ v. passes_at (is_of_face v) r) (sym e) ∙ has_face limits h r whole.blocks placed reading;
+          (λ v. passes_at (is_of_face v) r) (sym e) ∙ has_face limits h r whole.blocks placed
+          reading;
     };
   }
 

@@ -94,7 +94,8 @@ beside_second : (limits : FaceLimits) (past : History) (b : GsiBlock) (m : Place
     → reading_in faces.One (target b) (open_readings past) ≡ Some m
     → AreWithin limits (angles_at m) (angles b)
 beside_second limits past b m clean f g = record {
-  two_c = two_c_turned limits.two_c (angles b) (angles_at m) (angles_on_circle b) (place_on_circle m)
+  two_c = two_c_turned limits.two_c (angles b) (angles_at m) (angles_on_circle b)
+      (place_on_circle m)
       (rw (f, g) at clean.two_c);
   two_i = two_i_turned limits.two_i (angles b) (angles_at m) (rw (f, g) at clean.two_i);
 }
@@ -129,14 +130,16 @@ one_more limits past b clean ih name x y ex ey = elim (cases_Bool (bytes_eq (tar
             let found : Some (b ∷ past) ≡ Some x = rw (t, f) at ex in
             let here : b ∷ past ≡ x = cc in
             subst (λ (p : Place). AreWithin limits (angles_at p) (angles_at y)) here
-            (beside_first limits past b y clean (face_of faces.One b f) (ap (λ (n : List ℕ). reading_in faces.Two n
+            (beside_first limits past b y clean (face_of faces.One b f)
+            (ap (λ (n : List ℕ). reading_in faces.Two n
             (open_readings past)) own ∙ (rw (t, g) at ey)))
         | inr f ↦ elim (cases_Bool (is_of_face faces.Two b)) [
           | inl g ↦
               let found : Some (b ∷ past) ≡ Some y = rw (t, g) at ey in
               let here : b ∷ past ≡ y = cc in
               subst (λ (p : Place). AreWithin limits (angles_at x) (angles_at p)) here
-              (beside_second limits past b x clean (face_of faces.Two b g) (ap (λ (n : List ℕ). reading_in faces.One n
+              (beside_second limits past b x clean (face_of faces.Two b g)
+              (ap (λ (n : List ℕ). reading_in faces.One n
               (open_readings past)) own ∙ (rw (t, f) at ex)))
           | inr g ↦ ih name x y (rw (t, f) at ex) (rw (t, g) at ey)
         ]

@@ -75,7 +75,8 @@ closed_stage BetweenSets = BetweenSets
 closed_stage InSet = BetweenSets
 
 -- the fault of a measurement that says this, in an open set
-abbrev pub measured : FaceLimits → StationStates → Result (Option Reading) BookKind → Option BookKind
+abbrev pub measured : FaceLimits → StationStates → Result (Option Reading) BookKind
+    → Option BookKind
 measured limits so_far (Err k) = Some k
 measured limits so_far (Ok None) = None
 measured limits so_far (Ok (Some s)) = first_of (state_faults limits (last_of so_far) s)
@@ -93,7 +94,8 @@ fault_as Set k b = then_fault (ending k.stage k.stations)
     (then_fault (when (has_two 42 b) (kinds.WordTwice 42))
     (opening_fault k.stage k.stations (number b)))
 fault_as Close k b = ending k.stage k.stations
-fault_as Measurement k b = if has_open_set k.stage then measured k.limits k.stations (read b) else None
+fault_as Measurement k b = if has_open_set k.stage then measured k.limits k.stations
+    (read b) else None
 fault_as Other k b = None
 
 -- the fault of a block

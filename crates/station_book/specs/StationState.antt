@@ -60,7 +60,8 @@ is_new_to e s = is_none (place_of s.target e.targets)
 
 -- the fault of a target more, where a station has as many as it may have
 abbrev pub new_target_fault : List (List ℕ) → Option BookKind
-new_target_fault targets = first_of (when (nat_le MOST_TARGETS (length targets)) kinds.TooManyTargets ∷ [])
+new_target_fault targets = first_of (when (nat_le MOST_TARGETS (length targets))
+    kinds.TooManyTargets ∷ [])
 
 abbrev pub state_faults_at : FaceLimits → StationState → Reading → Option ℕ → List (Option BookKind)
 state_faults_at limits e s None = when

@@ -27,7 +27,8 @@ returns-clause-ok c =
     c.index_mut.ensures.value in
     on_ok_weaker c.take_reading.result
     (λ e. changed_last c.self.inside.stations.entries c.args.self.now c.len-last.result
-    c.len-last.ensures.len c.self.view_is c.requires.some (with_reading c.args.reading) c.take_reading.new.self
+    c.len-last.ensures.len c.self.view_is c.requires.some
+    (with_reading c.args.reading) c.take_reading.new.self
     (e ∙ ap (with_reading c.args.reading) last)) c.take_reading.ensures.ok
 
 pub returns-clause-fault : goal.returns-clause-fault
@@ -55,4 +56,5 @@ returns-clause-err c =
     c.index_mut.ensures.value in
     on_err_weaker c.take_reading.result
     (λ e. unchanged_last c.self.inside.stations.entries c.args.self.now c.len-last.result
-    c.len-last.ensures.len c.self.view_is c.requires.some c.take_reading.new.self (e ∙ last)) c.take_reading.ensures.err
+    c.len-last.ensures.len c.self.view_is c.requires.some c.take_reading.new.self (e ∙ last))
+    c.take_reading.ensures.err

@@ -48,9 +48,11 @@ unfolding entry_value
 returns-in-Vacant-clause-targets c =
     let es = c.self.inside.slots.entries in
     let one : List (List ℕ × Slot) = (c.args.name, c.args.first) ∷ [] in
-    let now : c.self-in-Vacant-2-1.given.0 ≡ map_with_value c.in-Ok.entry c.args.first = search rules in
+    let now : c.self-in-Vacant-2-1.given.0 ≡ map_with_value c.in-Ok.entry c.args.first = search
+    rules in
     let more = ap (λ m. m.entries) now ∙ c.in-Ok.ensures.update.1 c.args.first
-    ∙ added c.args.name c.args.first es (sym c.in-Ok.ensures.value ∙ ap entry_value c.in-Vacant.is) in
+    ∙ added c.args.name c.args.first es (sym c.in-Ok.ensures.value
+    ∙ ap entry_value c.in-Vacant.is) in
     (λ i. record { names = keys_of (more i); slots = values_of (more i) })
     ∙ (λ i. record {
       names = map-append (λ e. e.0) es one i;
