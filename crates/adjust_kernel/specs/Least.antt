@@ -10,17 +10,20 @@ abbrev pub sum_beside : Choice → Choice → List Reading → ℤ
 sum_beside other c readings =
     pos (other.denominator * other.denominator) *ℤ sum_of_squares c readings
 
--- the sum of squares of a choice over these readings is no larger than another's over others
+-- the sum of squares of a choice over these readings is no larger than another's over its readings
 abbrev pub IsNoLargerSum : Choice → List Reading → Choice → List Reading → Type 0
-IsNoLargerSum c readings other others = sum_beside other c readings ≤ℤ sum_beside c other others
+IsNoLargerSum c readings other other_readings =
+    sum_beside other c readings ≤ℤ sum_beside c other other_readings
 
 -- it is smaller
 abbrev pub IsSmallerSum : Choice → List Reading → Choice → List Reading → Type 0
-IsSmallerSum c readings other others = sum_beside other c readings <ℤ sum_beside c other others
+IsSmallerSum c readings other other_readings =
+    sum_beside other c readings <ℤ sum_beside c other other_readings
 
 -- it is the same
 abbrev pub IsSameSum : Choice → List Reading → Choice → List Reading → Type 0
-IsSameSum c readings other others = sum_beside other c readings ≡ sum_beside c other others
+IsSameSum c readings other other_readings =
+    sum_beside other c readings ≡ sum_beside c other other_readings
 
 -- no choice, over any denominator, has a smaller sum of squares
 abbrev pub IsLeast : Choice → List Reading → Type 0
@@ -34,7 +37,7 @@ pub record HasBetter (c : Choice) (readings : List Reading) : Type 0 where
   pub smaller : IsSmallerSum other readings c readings
 
 -- the two choices differ by one rotation of the whole circle; by none where the other's first
--- direction is 0 too
+-- direction is 0
 pub record DiffersByRotation (sets targets : ℕ) (c other : Choice) : Type 0 where
   pub rotation : ℤ
   pub directions : (t : ℕ) → t < targets
@@ -45,7 +48,9 @@ pub record DiffersByRotation (sets targets : ℕ) (c other : Choice) : Type 0 wh
       ≡ rotation
   pub none : other.direction 0 ≡ pos 0 → rotation ≡ pos 0
 
--- whatever choice reaches the same sum differs by one rotation
+-- Whatever choice reaches the same sum differs by one rotation. It is said of a choice whose first
+-- direction is 0, as that of an accepted sheet is: so where both first directions are 0, the two do
+-- not differ.
 abbrev pub IsUnique : ℕ → ℕ → Choice → List Reading → Type 0
 IsUnique sets targets c readings =
     (other : Choice) → 1 ≤ other.denominator → IsSameSum c readings other readings

@@ -54,11 +54,11 @@ impl Name {
         if !is_name(bytes) {
             return None;
         }
-        Some(Name::of_valid(bytes))
+        Some(Name::from_valid(bytes))
     }
 
     /// The name of these bytes, which are known to be those of a name: nothing is tested.
-    pub fn of_valid(bytes: &[u8]) -> Name
+    pub fn from_valid(bytes: &[u8]) -> Name
         requires { IsName bytes.now }
         ensures { result ≡ bytes.now }
     {
@@ -83,7 +83,7 @@ impl Name {
                 len: bytes.len() - from,
             };
         }
-        Name::of_valid(&bytes[from..])
+        Name::from_valid(&bytes[from..])
     }
 
     /// Its bytes.
@@ -189,7 +189,7 @@ mod tests {
         let name = Name::new(b"S1 ~").expect(&rt, "a name");
         assert_eq!(rt; name.to_string(rt.alloc())?.as_str(), "S1 ~");
         assert_eq!(rt; format!(in rt.alloc(); "{name:>6}")?.as_str(), "  S1 ~");
-        assert_eq!(rt; Name::of_valid(b"S1 ~"), name);
+        assert_eq!(rt; Name::from_valid(b"S1 ~"), name);
         assert_eq!(rt; Name::of_end(b"0000S1 ~", 4), name);
         assert_eq!(rt; Name::of_end(b"000000000000S1 ~", 12), name);
         assert!(rt; name.is_same(&Name::of_end(b"S1 ~", 0)));

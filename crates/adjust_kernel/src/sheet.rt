@@ -60,14 +60,14 @@ impl Sheet {
             && are_orientations(&orientations)
             && are_rows(&rows)
         {
-            return Some(Sheet::of_valid(name, denominator, directions, orientations, rows));
+            return Some(Sheet::from_valid(name, denominator, directions, orientations, rows));
         }
         None
     }
 
     /// The sheet with these parts, which are known to be within a sheet's limits: nothing is
     /// tested.
-    pub fn of_valid(
+    pub fn from_valid(
         name: Name,
         denominator: u64,
         directions: Vec<Direction>,

@@ -48,14 +48,14 @@ impl Station {
     {
         name.recall();
         if are_targets(&targets) && are_sets(&sets) && are_obs(&obs, sets.len(), targets.len()) {
-            return Some(Station::of_valid(name, targets, sets, obs));
+            return Some(Station::from_valid(name, targets, sets, obs));
         }
         None
     }
 
     /// The station with these parts, which are known to keep the rules of a station: nothing is
     /// tested.
-    pub fn of_valid(name: Name, targets: Vec<Name>, sets: Vec<u16>, obs: Vec<Obs>) -> Station
+    pub fn from_valid(name: Name, targets: Vec<Name>, sets: Vec<u16>, obs: Vec<Obs>) -> Station
         requires { IsStation (station_of name targets.items sets.items obs.items) }
         ensures { result ≡ station_of name targets.items sets.items obs.items }
     {

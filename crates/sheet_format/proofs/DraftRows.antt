@@ -16,16 +16,16 @@ use Rattle.adjust_kernel.specs.declared.row.Direction.{Direction}
 use Rattle.adjust_kernel.specs.declared.row.Orientation.{Orientation}
 use Rattle.adjust_kernel.specs.declared.row.Row.{Row}
 use Rattle.sheet_format.specs.Columns.{Fields, columns_of}
-use Rattle.sheet_format.specs.Drafts.{DraftValue, blank, direction_of, header_of, header_rows, last_of_draft, last_of_header, obs_row_of, orientation_of, rows_of_draft, said_by_draft, version_of_header, with_columns, with_fields, with_kind, with_row}
-use Rattle.sheet_format.specs.Faults.{columns_fault, fields_fault, kind_fault, obs_fault, row_fault, set_fault, sheet_row_fault, target_fault, unless, versioned_fault, by_version}
-use Rattle.sheet_format.specs.Kinds.{kind_of, kind_text, may_follow, names_kind}
+use Rattle.sheet_format.specs.Drafts.{DraftValue, blank, direction_of, header_of, header_rows, last_of_draft, last_of_header, obs_row_of, orientation_of, rows_of_draft, said_by_draft, version_of_header, with_columns, with_fields, with_row_type, with_row}
+use Rattle.sheet_format.specs.Faults.{columns_fault, fields_fault, row_type_fault, obs_fault, row_fault, set_fault, sheet_row_fault, target_fault, unless, versioned_fault, by_version}
+use Rattle.sheet_format.specs.RowTypes.{row_type_of, row_type_text, may_follow, names_row_type}
 use Rattle.sheet_format.specs.Numbers.{natural_of, value_of}
 use Rattle.sheet_format.specs.Rows.{obs_fields, set_fields, sheet_fields, target_fields}
 use Rattle.sheet_format.specs.Versions.{largest_angle, largest_denominator, version_of, version_text}
 use Rattle.sheet_format.specs.declared.entry.Header.{Header}
 use Rattle.sheet_format.specs.declared.fault.RowKind.{RowKind}
-use Rattle.sheet_format.specs.declared.kind.Kind.{Kind}
-use Rattle.sheet_format.specs.declared.kind.Kind.TheVariants as kind
+use Rattle.sheet_format.specs.declared.row_type.RowType.{RowType}
+use Rattle.sheet_format.specs.declared.row_type.RowType.TheVariants as row_type
 use Rattle.sheet_format.specs.declared.version.Version.{Version}
 use Rattle.sheet_format.specs.declared.version.Version.TheVariants as version
 use Rattle.sheet_format.proofs.NameTests.{name-found}
@@ -44,7 +44,7 @@ IsDirectionOf v d = IsName d.name × IsWithin (largest_angle v) d.value
 abbrev pub IsOrientationOf : Version → Orientation → Type 0
 IsOrientationOf v o = IsSetNumber o.set × IsWithin (largest_angle v) o.value
 
--- the entries of a draft are within their limits, and no kind of entry stands without the one before it
+-- the entries of a draft are within their limits, and no type of entry stands without the one before it
 pub record IsDraft (d : DraftValue) : Type 0 where
   pub header : IsVersionedHeader d.header
   pub bare : d.header ≡ None → IsBare d
@@ -89,42 +89,42 @@ columns-found (x ∷ y ∷ z ∷ v ∷ w ∷ []) c e =
     ap listed same
 columns-found (x ∷ y ∷ z ∷ v ∷ w ∷ u ∷ rest) c e = cc e
 
--- the kind that a field names
-kind-from : (a b c e : Bool) (k : Kind) → (if a then Some kind.Sheet else (if b then Some kind.Target else (if c then Some kind.Set else (if e then Some kind.Obs else None)))) ≡ Some k
-    → ((k ≡ kind.Sheet) × (a ≡ true)) ⊎ ((k ≡ kind.Target) × (b ≡ true)) ⊎ ((k ≡ kind.Set) × (c ≡ true)) ⊎ ((k ≡ kind.Obs) × (e ≡ true))
-kind-from true b c e k h = let same : kind.Sheet ≡ k = cc h in inl (sym same, refl)
-kind-from false true c e k h = let same : kind.Target ≡ k = cc h in inr (inl (sym same, refl))
-kind-from false false true e k h = let same : kind.Set ≡ k = cc h in inr (inr (inl (sym same, refl)))
-kind-from false false false true k h = let same : kind.Obs ≡ k = cc h in inr (inr (inr (sym same, refl)))
-kind-from false false false false k h = cc h
+-- the type that a field names
+row_type-from : (a b c e : Bool) (k : RowType) → (if a then Some row_type.Sheet else (if b then Some row_type.Target else (if c then Some row_type.Set else (if e then Some row_type.Obs else None)))) ≡ Some k
+    → ((k ≡ row_type.Sheet) × (a ≡ true)) ⊎ ((k ≡ row_type.Target) × (b ≡ true)) ⊎ ((k ≡ row_type.Set) × (c ≡ true)) ⊎ ((k ≡ row_type.Obs) × (e ≡ true))
+row_type-from true b c e k h = let same : row_type.Sheet ≡ k = cc h in inl (sym same, refl)
+row_type-from false true c e k h = let same : row_type.Target ≡ k = cc h in inr (inl (sym same, refl))
+row_type-from false false true e k h = let same : row_type.Set ≡ k = cc h in inr (inr (inl (sym same, refl)))
+row_type-from false false false true k h = let same : row_type.Obs ≡ k = cc h in inr (inr (inr (sym same, refl)))
+row_type-from false false false false k h = cc h
 
-kind-found : (bs : List ℕ) (k : Kind) → kind_of bs ≡ Some k → bs ≡ kind_text k
-kind-found bs k h = elim (kind-from (names_kind kind.Sheet bs) (names_kind kind.Target bs) (names_kind kind.Set bs) (names_kind kind.Obs bs) k h) [
-  | inl s ↦ (bytes_eq-Decides bs (codes "sheet")).0 s.1 ∙ ap kind_text (sym s.0)
+row_type-found : (bs : List ℕ) (k : RowType) → row_type_of bs ≡ Some k → bs ≡ row_type_text k
+row_type-found bs k h = elim (row_type-from (names_row_type row_type.Sheet bs) (names_row_type row_type.Target bs) (names_row_type row_type.Set bs) (names_row_type row_type.Obs bs) k h) [
+  | inl s ↦ (bytes_eq-Decides bs (codes "sheet")).0 s.1 ∙ ap row_type_text (sym s.0)
   | inr more ↦ elim more [
-    | inl t ↦ (bytes_eq-Decides bs (codes "target")).0 t.1 ∙ ap kind_text (sym t.0)
+    | inl t ↦ (bytes_eq-Decides bs (codes "target")).0 t.1 ∙ ap row_type_text (sym t.0)
     | inr later ↦ elim later [
-      | inl s ↦ (bytes_eq-Decides bs (codes "set")).0 s.1 ∙ ap kind_text (sym s.0)
-      | inr o ↦ (bytes_eq-Decides bs (codes "obs")).0 o.1 ∙ ap kind_text (sym o.0)
+      | inl s ↦ (bytes_eq-Decides bs (codes "set")).0 s.1 ∙ ap row_type_text (sym s.0)
+      | inr o ↦ (bytes_eq-Decides bs (codes "obs")).0 o.1 ∙ ap row_type_text (sym o.0)
     ]
   ]
 ]
 
--- what the kind of the next row says of a draft: `a`, `b` and `c` say that it has no rows, orientations, directions
-before-sheet : (a b c : Bool) (h : Option Header) → may_follow (if a then (if b then (if c then last_of_header h else Some kind.Target) else Some kind.Set) else Some kind.Obs) kind.Sheet ≡ true
+-- what the type of the next row says of a draft: `a`, `b` and `c` say that it has no rows, orientations, directions
+before-sheet : (a b c : Bool) (h : Option Header) → may_follow (if a then (if b then (if c then last_of_header h else Some row_type.Target) else Some row_type.Set) else Some row_type.Obs) row_type.Sheet ≡ true
     → (a ≡ true) × (b ≡ true) × (c ≡ true)
 before-sheet true true true h e = (refl, refl, refl)
 before-sheet true true false h e = cc e
 before-sheet true false c h e = cc e
 before-sheet false b c h e = cc e
 
-before-target : (a b c : Bool) (h : Option Header) → may_follow (if a then (if b then (if c then last_of_header h else Some kind.Target) else Some kind.Set) else Some kind.Obs) kind.Target ≡ true
+before-target : (a b c : Bool) (h : Option Header) → may_follow (if a then (if b then (if c then last_of_header h else Some row_type.Target) else Some row_type.Set) else Some row_type.Obs) row_type.Target ≡ true
     → (a ≡ true) × (b ≡ true)
 before-target true true c h e = (refl, refl)
 before-target true false c h e = cc e
 before-target false b c h e = cc e
 
-before-set : (a b c : Bool) (h : Option Header) → may_follow (if a then (if b then (if c then last_of_header h else Some kind.Target) else Some kind.Set) else Some kind.Obs) kind.Set ≡ true
+before-set : (a b c : Bool) (h : Option Header) → may_follow (if a then (if b then (if c then last_of_header h else Some row_type.Target) else Some row_type.Set) else Some row_type.Obs) row_type.Set ≡ true
     → (a ≡ true) × (b ≡ true → c ≡ false)
 before-set true true true None e = cc e
 before-set true true true (Some h) e = cc e
@@ -132,7 +132,7 @@ before-set true true false h e = (refl, λ z. refl)
 before-set true false c h e = (refl, λ z. cc z)
 before-set false b c h e = cc e
 
-before-obs : (a b c : Bool) (h : Option Header) → may_follow (if a then (if b then (if c then last_of_header h else Some kind.Target) else Some kind.Set) else Some kind.Obs) kind.Obs ≡ true
+before-obs : (a b c : Bool) (h : Option Header) → may_follow (if a then (if b then (if c then last_of_header h else Some row_type.Target) else Some row_type.Set) else Some row_type.Obs) row_type.Obs ≡ true
     → a ≡ true → b ≡ false
 before-obs true true true None e z = cc e
 before-obs true true true (Some h) e z = cc e
@@ -153,12 +153,12 @@ none-or-some xs = elim (cases_Bool (length xs == 0)) [
   | inr e ↦ inr (some-there xs e)
 ]
 
--- a row of a later kind is allowed after a first row alone
-headed : (d : DraftValue) → (d.header ≡ None → IsBare d) → (k : Kind) → may_follow None k ≡ false → may_follow (last_of_draft d) k ≡ true → d.header ≡ None → ⊥
+-- a row of a later type is allowed after a first row alone
+headed : (d : DraftValue) → (d.header ≡ None → IsBare d) → (k : RowType) → may_follow None k ≡ false → may_follow (last_of_draft d) k ≡ true → d.header ≡ None → ⊥
 headed d bare k first follows e =
     let (ds, os, rs) = bare e in
     let none : last_of_draft d ≡ None = rw (rs, os, ds, e) refl in
-    true≢false (sym follows ∙ ap (λ (o : Option Kind). may_follow o k) none ∙ first)
+    true≢false (sym follows ∙ ap (λ (o : Option RowType). may_follow o k) none ∙ first)
 
 -- one more row at the end
 pushed : {X : Type 0} (a b c e : List X) (x : X) → a ++ (b ++ (c ++ (e ++ (x ∷ [])))) ≡ (a ++ (b ++ (c ++ e))) ++ (x ∷ [])
@@ -208,7 +208,7 @@ circle-small = omega arith
 abbrev IsSheetRow : Fields → Header → Type 0
 IsSheetRow c h = (listed c ≡ sheet_fields h.version h.name h.denominator) × IsVersionedHeader (Some h)
 
-versioned-row : (v : Version) (c : Fields) → c.kind ≡ kind_text kind.Sheet → c.number ≡ version_text v → versioned_fault v c ≡ None
+versioned-row : (v : Version) (c : Fields) → c.kind ≡ row_type_text row_type.Sheet → c.number ≡ version_text v → versioned_fault v c ≡ None
     → IsSheetRow c (record { version = v; name = c.name; denominator = natural_of (value_of c.value) })
 versioned-row v c named version none =
     let (empty, t1) = or-none _ _ none in
@@ -218,7 +218,7 @@ versioned-row v c named version none =
     let n = natural-text 1 (largest_denominator v) c.value one-small (denominator-small v) (unless-none _ _ form) (unless-none _ _ range) in
     (rw (named, version, none-there c.turn (unless-none _ _ empty), n.text) refl, (name-found c.name (unless-none _ _ name), n.least, n.most))
 
-sheet-row : (c : Fields) → c.kind ≡ kind_text kind.Sheet → sheet_row_fault c ≡ None → IsSheetRow c (header_of c)
+sheet-row : (c : Fields) → c.kind ≡ row_type_text row_type.Sheet → sheet_row_fault c ≡ None → IsSheetRow c (header_of c)
 sheet-row c named none = by (version_of c.number) refl none
   where
     by : (o : Option Version) → version_of c.number ≡ o → by_version o c ≡ None → IsSheetRow c (header_of c)
@@ -227,7 +227,7 @@ sheet-row c named none = by (version_of c.number) refl none
         let same : record { version = v; name = c.name; denominator = natural_of (value_of c.value) } ≡ header_of c = rw x refl in
         subst (IsSheetRow c) same (versioned-row v c named (version-found c.number v x) e)
 
-target-row : (v : Version) (c : Fields) → c.kind ≡ kind_text kind.Target → target_fault v c ≡ None → (listed c ≡ target_fields (direction_of c)) × IsDirectionOf v (direction_of c)
+target-row : (v : Version) (c : Fields) → c.kind ≡ row_type_text row_type.Target → target_fault v c ≡ None → (listed c ≡ target_fields (direction_of c)) × IsDirectionOf v (direction_of c)
 target-row v c named none =
     let (empty, t1) = or-none _ _ none in
     let (name, t2) = or-none _ _ t1 in
@@ -237,7 +237,7 @@ target-row v c named none =
     let value = number-text (largest_angle v) c.value (angle-fits v) (unless-none _ _ form) (unless-none _ _ range) in
     (rw (named, none-there c.number number, none-there c.turn turn, value) refl, (name-found c.name (unless-none _ _ name), within-found (largest_angle v) (value_of c.value) (unless-none _ _ range)))
 
-set-row : (v : Version) (c : Fields) → c.kind ≡ kind_text kind.Set → set_fault v c ≡ None → (listed c ≡ set_fields (orientation_of c)) × IsOrientationOf v (orientation_of c)
+set-row : (v : Version) (c : Fields) → c.kind ≡ row_type_text row_type.Set → set_fault v c ≡ None → (listed c ≡ set_fields (orientation_of c)) × IsOrientationOf v (orientation_of c)
 set-row v c named none =
     let (empty, t1) = or-none _ _ none in
     let (form, t2) = or-none _ _ t1 in
@@ -249,7 +249,7 @@ set-row v c named none =
     let value = number-text (largest_angle v) c.value (angle-fits v) value_form value_range in
     (rw (named, none-there c.name name, none-there c.turn turn, n.text, value) refl, ((n.least, n.most), within-found (largest_angle v) (value_of c.value) value_range))
 
-obs-row : (c : Fields) → c.kind ≡ kind_text kind.Obs → obs_fault c ≡ None → (listed c ≡ obs_fields (obs_row_of c)) × IsRow (obs_row_of c)
+obs-row : (c : Fields) → c.kind ≡ row_type_text row_type.Obs → obs_fault c ≡ None → (listed c ≡ obs_fields (obs_row_of c)) × IsRow (obs_row_of c)
 obs-row c named none =
     let (name, t1) = or-none _ _ none in
     let (form, t2) = or-none _ _ t1 in
@@ -263,10 +263,10 @@ obs-row c named none =
     let turn = number-text LARGEST_TURN c.turn turn-fits turn_form turn_range in
     (rw (named, n.text, p.text, turn) refl, record { set = (n.least, n.most); target = name-found c.name (unless-none _ _ name); value = omega (arith, p.most); turn = within-found LARGEST_TURN (value_of c.turn) turn_range })
 
--- What a draft becomes by a row of each kind.
+-- What a draft becomes by a row of each type.
 
-sheet-taken : (d : DraftValue) (c : Fields) → IsDraft d → c.kind ≡ kind_text kind.Sheet → may_follow (last_of_draft d) kind.Sheet ≡ true → columns_fault (said_by_draft d) kind.Sheet c ≡ None
-    → Takes d (listed c) (with_columns kind.Sheet d c)
+sheet-taken : (d : DraftValue) (c : Fields) → IsDraft d → c.kind ≡ row_type_text row_type.Sheet → may_follow (last_of_draft d) row_type.Sheet ≡ true → columns_fault (said_by_draft d) row_type.Sheet c ≡ None
+    → Takes d (listed c) (with_columns row_type.Sheet d c)
 sheet-taken d c ok named follows none =
     let (row, header) = sheet-row c named none in
     let (no_rows, no_sets, no_targets) = before-sheet (length d.rows == 0) (length d.orientations == 0) (length d.directions == 0) d.header follows in
@@ -290,15 +290,15 @@ sheet-taken d c ok named follows none =
       };
     }
   where
-    no-header : (d : DraftValue) → d.rows ≡ [] → d.orientations ≡ [] → d.directions ≡ [] → may_follow (last_of_draft d) kind.Sheet ≡ true → d.header ≡ None
+    no-header : (d : DraftValue) → d.rows ≡ [] → d.orientations ≡ [] → d.directions ≡ [] → may_follow (last_of_draft d) row_type.Sheet ≡ true → d.header ≡ None
     no-header d rs os ds f = by d.header (rw (rs, os, ds) at f)
       where
-        by : (h : Option Header) → may_follow (last_of_header h) kind.Sheet ≡ true → h ≡ None
+        by : (h : Option Header) → may_follow (last_of_header h) row_type.Sheet ≡ true → h ≡ None
         by None e = refl
         by (Some h) e = cc e
 
-target-taken : (d : DraftValue) (c : Fields) → IsDraft d → c.kind ≡ kind_text kind.Target → may_follow (last_of_draft d) kind.Target ≡ true → columns_fault (said_by_draft d) kind.Target c ≡ None
-    → Takes d (listed c) (with_columns kind.Target d c)
+target-taken : (d : DraftValue) (c : Fields) → IsDraft d → c.kind ≡ row_type_text row_type.Target → may_follow (last_of_draft d) row_type.Target ≡ true → columns_fault (said_by_draft d) row_type.Target c ≡ None
+    → Takes d (listed c) (with_columns row_type.Target d c)
 target-taken d c ok named follows none =
     let (tests, room) = or-none _ _ none in
     let (row, entry) = target-row (version_of_header d.header) c named tests in
@@ -311,7 +311,7 @@ target-taken d c ok named follows none =
       rows = rw (rs, os) (targets-pushed (header_rows d.header) d.directions (direction_of c) ∙ ap (λ (r : List (List ℕ)). (header_rows d.header ++ (map target_fields d.directions ++ [])) ++ (r ∷ [])) (sym row));
       draft = record {
         header = ok.header;
-        bare = λ z. absurd (headed d ok.bare kind.Target refl follows z);
+        bare = λ z. absurd (headed d ok.bare row_type.Target refl follows z);
         directions = All-pushed (IsDirectionOf (version_of_header d.header)) d.directions (direction_of c) ok.directions entry;
         orientations = ok.orientations;
         rows = ok.rows;
@@ -323,8 +323,8 @@ target-taken d c ok named follows none =
       };
     }
 
-set-taken : (d : DraftValue) (c : Fields) → IsDraft d → c.kind ≡ kind_text kind.Set → may_follow (last_of_draft d) kind.Set ≡ true → columns_fault (said_by_draft d) kind.Set c ≡ None
-    → Takes d (listed c) (with_columns kind.Set d c)
+set-taken : (d : DraftValue) (c : Fields) → IsDraft d → c.kind ≡ row_type_text row_type.Set → may_follow (last_of_draft d) row_type.Set ≡ true → columns_fault (said_by_draft d) row_type.Set c ≡ None
+    → Takes d (listed c) (with_columns row_type.Set d c)
 set-taken d c ok named follows none =
     let (tests, room) = or-none _ _ none in
     let (row, entry) = set-row (version_of_header d.header) c named tests in
@@ -341,7 +341,7 @@ set-taken d c ok named follows none =
           ∙ ap (λ (r : List (List ℕ)). (header_rows d.header ++ (map target_fields d.directions ++ (map set_fields d.orientations ++ []))) ++ (r ∷ [])) (sym row));
       draft = record {
         header = ok.header;
-        bare = λ z. absurd (headed d ok.bare kind.Set refl follows z);
+        bare = λ z. absurd (headed d ok.bare row_type.Set refl follows z);
         directions = ok.directions;
         orientations = All-pushed (IsOrientationOf (version_of_header d.header)) d.orientations (orientation_of c) ok.orientations entry;
         rows = ok.rows;
@@ -353,8 +353,8 @@ set-taken d c ok named follows none =
       };
     }
 
-obs-taken : (d : DraftValue) (c : Fields) → IsDraft d → c.kind ≡ kind_text kind.Obs → may_follow (last_of_draft d) kind.Obs ≡ true → columns_fault (said_by_draft d) kind.Obs c ≡ None
-    → Takes d (listed c) (with_columns kind.Obs d c)
+obs-taken : (d : DraftValue) (c : Fields) → IsDraft d → c.kind ≡ row_type_text row_type.Obs → may_follow (last_of_draft d) row_type.Obs ≡ true → columns_fault (said_by_draft d) row_type.Obs c ≡ None
+    → Takes d (listed c) (with_columns row_type.Obs d c)
 obs-taken d c ok named follows none =
     let (tests, room) = or-none _ _ none in
     let (row, entry) = obs-row c named tests in
@@ -370,7 +370,7 @@ obs-taken d c ok named follows none =
           ∙ ap (λ (r : List (List ℕ)). rows_of_draft d ++ (r ∷ [])) (sym row);
       draft = record {
         header = ok.header;
-        bare = λ z. absurd (headed d ok.bare kind.Obs refl follows z);
+        bare = λ z. absurd (headed d ok.bare row_type.Obs refl follows z);
         directions = ok.directions;
         orientations = ok.orientations;
         rows = All-pushed IsRow d.rows (obs_row_of c) ok.rows entry;
@@ -382,13 +382,13 @@ obs-taken d c ok named follows none =
       };
     }
 
--- a row without a fault, of whatever kind
-by-kind : (d : DraftValue) (c : Fields) (k : Kind) → IsDraft d → c.kind ≡ kind_text k → may_follow (last_of_draft d) k ≡ true → columns_fault (said_by_draft d) k c ≡ None
+-- a row without a fault, of whatever type
+by-row_type : (d : DraftValue) (c : Fields) (k : RowType) → IsDraft d → c.kind ≡ row_type_text k → may_follow (last_of_draft d) k ≡ true → columns_fault (said_by_draft d) k c ≡ None
     → Takes d (listed c) (with_columns k d c)
-by-kind d c kind.Sheet ok named follows none = sheet-taken d c ok named follows none
-by-kind d c kind.Target ok named follows none = target-taken d c ok named follows none
-by-kind d c kind.Set ok named follows none = set-taken d c ok named follows none
-by-kind d c kind.Obs ok named follows none = obs-taken d c ok named follows none
+by-row_type d c row_type.Sheet ok named follows none = sheet-taken d c ok named follows none
+by-row_type d c row_type.Target ok named follows none = target-taken d c ok named follows none
+by-row_type d c row_type.Set ok named follows none = set-taken d c ok named follows none
+by-row_type d c row_type.Obs ok named follows none = obs-taken d c ok named follows none
 
 pub row-taken : (d : DraftValue) (row : List (List ℕ)) → IsDraft d → row_fault (said_by_draft d) row ≡ None → Takes d row (with_row d row)
 unfolding row_fault with_row
@@ -396,10 +396,10 @@ row-taken d row ok none = by (columns_of row) refl none
   where
     by : (o : Option Fields) → columns_of row ≡ o → fields_fault (said_by_draft d) o ≡ None → Takes d row (with_fields d o)
     by None x e = cc e
-    by (Some c) x e = at (kind_of c.kind) refl e
+    by (Some c) x e = at (row_type_of c.kind) refl e
       where
-        at : (k : Option Kind) → kind_of c.kind ≡ k → kind_fault (said_by_draft d) k c ≡ None → Takes d row (with_kind k d c)
+        at : (k : Option RowType) → row_type_of c.kind ≡ k → row_type_fault (said_by_draft d) k c ≡ None → Takes d row (with_row_type k d c)
         at None y f = cc f
         at (Some k) y f =
             let (follows, tests) = or-none _ _ f in
-            subst (λ (r : List (List ℕ)). Takes d r (with_columns k d c)) (sym (columns-found row c x)) (by-kind d c k ok (kind-found c.kind k y) (unless-none _ _ follows) tests)
+            subst (λ (r : List (List ℕ)). Takes d r (with_columns k d c)) (sym (columns-found row c x)) (by-row_type d c k ok (row_type-found c.kind k y) (unless-none _ _ follows) tests)

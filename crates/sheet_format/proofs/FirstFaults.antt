@@ -8,13 +8,13 @@ use Rattle.adjust_kernel.specs.declared.row.Direction.{Direction}
 use Rattle.adjust_kernel.specs.declared.row.Orientation.{Orientation}
 use Rattle.adjust_kernel.specs.Sheets.{IsDirection, IsOrientation, IsSheet, SheetValue}
 use Rattle.sheet_format.specs.Drafts.{DraftValue, IsOfDraft, HasParts, blank, header_rows, last_of_draft, last_of_header, rows_of_draft, said_by_draft, sheet_of, version_of_header, with_row}
-use Rattle.sheet_format.specs.Faults.{Before, IsFirstFault, NoFaultBefore, fault_at, fault_between, last_kind, row_fault, said_by}
-use Rattle.sheet_format.specs.Kinds.{may_end}
+use Rattle.sheet_format.specs.Faults.{Before, IsFirstFault, NoFaultBefore, fault_at, fault_between, last_row_type, row_fault, said_by}
+use Rattle.sheet_format.specs.RowTypes.{may_end}
 use Rattle.sheet_format.specs.Rows.{IsOfVersion, IsSheetText, body_rows, records_of, rows_of}
 use Rattle.sheet_format.specs.declared.entry.Header.{Header}
 use Rattle.sheet_format.specs.declared.fault.RowKind.{RowKind}
 use Rattle.sheet_format.specs.declared.fault.RowKind.TheVariants.{Unfinished}
-use Rattle.sheet_format.specs.declared.kind.Kind.TheVariants as kind
+use Rattle.sheet_format.specs.declared.row_type.RowType.TheVariants as row_type
 use Rattle.sheet_format.specs.declared.reading.TheConstants.{LONGEST_SHEET}
 use Rattle.sheet_format.specs.declared.version.Version.{Version}
 use Rattle.sheet_format.proofs.DraftRows.{IsDirectionOf, IsDraft, IsVersionedHeader, IsOrientationOf, blank-draft, none-or-some, row-taken}
@@ -78,7 +78,7 @@ directions-below v ds h k x below = let d = h k x below in record { name = d.0; 
 pub orientations-below : (v : Version) (os : List Orientation) → All (IsOrientationOf v) os → All IsOrientation os
 orientations-below v os h k x below = let o = h k x below in record { set = o.0; value = angle-below v (get_or os k x).value o.1 }
 
-some-rows : (a b c : Bool) (h : Option Header) → may_end (if a then (if b then (if c then last_of_header h else Some kind.Target) else Some kind.Set) else Some kind.Obs) ≡ true → a ≡ true → ⊥
+some-rows : (a b c : Bool) (h : Option Header) → may_end (if a then (if b then (if c then last_of_header h else Some row_type.Target) else Some row_type.Set) else Some row_type.Obs) ≡ true → a ≡ true → ⊥
 some-rows true true true None e z = cc e
 some-rows true true true (Some h) e z = cc e
 some-rows true true false h e z = cc e
@@ -130,7 +130,7 @@ whole-or-not d ok = elim (none-or-some d.rows) [
 pub read-end : (all : List (List (List ℕ))) (d : DraftValue) → HasRead all d [] → ((s : SheetValue) → IsOfDraft d s → IsSheet s → ⊥) → IsFirstFault all (length (rows_of_draft d)) Unfinished
 unfolding fault_between
 read-end all d read no_sheet =
-    let unfinished : may_end (last_kind (rows_of_draft d)) ≡ false = rw (ap (λ (b : Before). b.last) (said d read.draft.bare)) (by (may_end (last_of_draft d)) refl) in
+    let unfinished : may_end (last_row_type (rows_of_draft d)) ≡ false = rw (ap (λ (b : Before). b.last) (said d read.draft.bare)) (by (may_end (last_of_draft d)) refl) in
     record {
       here = ap (λ (rows : List (List (List ℕ))). fault_at rows (length (rows_of_draft d))) read.rows ∙ fault_at-seam (rows_of_draft d) [] ∙ rw unfinished refl;
       before = read.faultless;

@@ -5,8 +5,8 @@ use Rattle.std.proofs.lemmas.Bool.{cases_Bool, cases_lt, ltb-false, ltb-true, ne
 use Rattle.std.proofs.lemmas.List.{take_all, drop_all}
 use Rattle.adjust_kernel.specs.Sheets.{IsSheet, SheetValue}
 use Rattle.sheet_format.specs.Drafts.{DraftValue, blank, last_of_draft, rows_of_draft, said_by_draft, with_row}
-use Rattle.sheet_format.specs.Faults.{Before, IsFaultOrMemory, IsFirstFault, IsSheetFault, fault_at, fault_between, last_kind, row_fault}
-use Rattle.sheet_format.specs.Kinds.{may_end}
+use Rattle.sheet_format.specs.Faults.{Before, IsFaultOrMemory, IsFirstFault, IsSheetFault, fault_at, fault_between, last_row_type, row_fault}
+use Rattle.sheet_format.specs.RowTypes.{may_end}
 use Rattle.sheet_format.specs.Rows.{IsOfVersion, IsSheetText, body_rows, obs_fields, records_of, rows_of, set_fields, sheet_fields}
 use Rattle.sheet_format.specs.declared.entry.Header.{Header}
 use Rattle.sheet_format.specs.declared.fault.RowKind.{RowKind}
@@ -35,10 +35,10 @@ sheet-read v s whole within =
     obs-read all h s.directions s.orientations [] s.rows (ne_eqb _ _ (λ e. absurd (omega (arith, e, whole.orientations.some)))) sets whole.rows.each (omega (arith, whole.rows.few))
 
 -- no place of the rows of a sheet has a fault
-clean-end : (v : Version) (s : SheetValue) → IsSheet s → may_end (last_kind (rows_of v s)) ≡ true
+clean-end : (v : Version) (s : SheetValue) → IsSheet s → may_end (last_row_type (rows_of v s)) ≡ true
 clean-end v s whole =
     let d = draft (header_for v s) s.directions s.orientations s.rows in
-    let last : last_kind (rows_of v s) ≡ last_of_draft d = ap (λ (b : Before). b.last) (said d (λ e. cc e)) in
+    let last : last_row_type (rows_of v s) ≡ last_of_draft d = ap (λ (b : Before). b.last) (said d (λ e. cc e)) in
     let some : (length s.rows == 0) ≡ false = ne_eqb _ _ (λ e. absurd (omega (arith, e, whole.rows.some))) in
     rw (last, some) refl
 

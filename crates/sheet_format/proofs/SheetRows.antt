@@ -11,11 +11,11 @@ use Rattle.adjust_kernel.specs.declared.row.Orientation.{Orientation}
 use Rattle.adjust_kernel.specs.declared.row.Row.{Row}
 use Rattle.sheet_format.specs.Drafts.{DraftValue, blank, said_by_draft, with_row}
 use Rattle.sheet_format.specs.Faults.{row_fault}
-use Rattle.sheet_format.specs.Kinds.{may_follow}
+use Rattle.sheet_format.specs.RowTypes.{may_follow}
 use Rattle.sheet_format.specs.Rows.{obs_fields, set_fields, sheet_fields, target_fields}
 use Rattle.sheet_format.specs.Versions.{largest_angle, largest_denominator, version_of, version_text}
 use Rattle.sheet_format.specs.declared.entry.Header.{Header}
-use Rattle.sheet_format.specs.declared.kind.Kind.TheVariants as kind
+use Rattle.sheet_format.specs.declared.row_type.RowType.TheVariants as row_type
 use Rattle.sheet_format.specs.declared.version.Version.{Version}
 use Rattle.sheet_format.specs.declared.version.Version.TheVariants as version
 use Rattle.sheet_format.proofs.DraftRows.{IsDirectionOf, IsVersionedHeader, IsOrientationOf}
@@ -42,7 +42,7 @@ sheet-row-clean h ok =
     (rw (version-again h.version, name-test h.name ok.0, d.form, d.value, natural-within 1 (largest_denominator h.version) h.denominator ok.1 ok.2) refl, rw (version-again h.version, d.value) refl)
 
 -- the row of a target, after the first row or other targets
-target-follows : (a : Bool) → may_follow (if a then Some kind.Sheet else Some kind.Target) kind.Target ≡ true
+target-follows : (a : Bool) → may_follow (if a then Some row_type.Sheet else Some row_type.Target) row_type.Target ≡ true
 target-follows true = refl
 target-follows false = refl
 
@@ -64,7 +64,7 @@ targets-read all h ds (x ∷ xs) rest read ok room =
     (targets-read all h (ds ++ (x ∷ [])) xs rest next (All-tail (IsDirectionOf h.version) x xs ok) (omega (arith, room, length-append ds (x ∷ []))))
 
 -- the row of a set, after targets or other sets
-set-follows : (a b : Bool) → b ≡ false → may_follow (if a then (if b then Some kind.Sheet else Some kind.Target) else Some kind.Set) kind.Set ≡ true
+set-follows : (a b : Bool) → b ≡ false → may_follow (if a then (if b then Some row_type.Sheet else Some row_type.Target) else Some row_type.Set) row_type.Set ≡ true
 set-follows true true e = cc e
 set-follows true false e = refl
 set-follows false b e = refl
@@ -88,7 +88,7 @@ sets-read all h ds os (x ∷ xs) rest targets read ok room =
     (sets-read all h ds (os ++ (x ∷ [])) xs rest targets next (All-tail (IsOrientationOf h.version) x xs ok) (omega (arith, room, length-append os (x ∷ []))))
 
 -- the row of an observation, after sets or other observations
-obs-follows : (a b c : Bool) → b ≡ false → may_follow (if a then (if b then (if c then Some kind.Sheet else Some kind.Target) else Some kind.Set) else Some kind.Obs) kind.Obs ≡ true
+obs-follows : (a b c : Bool) → b ≡ false → may_follow (if a then (if b then (if c then Some row_type.Sheet else Some row_type.Target) else Some row_type.Set) else Some row_type.Obs) row_type.Obs ≡ true
 obs-follows true true c e = cc e
 obs-follows true false c e = refl
 obs-follows false b c e = refl

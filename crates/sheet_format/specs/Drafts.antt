@@ -9,7 +9,7 @@ use Rattle.adjust_kernel.specs.declared.row.Orientation.{Orientation}
 use Rattle.adjust_kernel.specs.declared.row.Row.{Row}
 use Rattle.sheet_format.specs.Columns.{Fields, columns_of}
 use Rattle.sheet_format.specs.Faults.{Before}
-use Rattle.sheet_format.specs.Kinds.{kind_of}
+use Rattle.sheet_format.specs.RowTypes.{row_type_of}
 use Rattle.sheet_format.specs.Numbers.{natural_of, value_of}
 use Rattle.sheet_format.specs.Rows.{body_rows, sheet_fields}
 use Rattle.sheet_format.specs.Versions.{version_of}
@@ -17,8 +17,8 @@ use Rattle.sheet_format.specs.declared.draft.Refusal.{Refusal}
 use Rattle.sheet_format.specs.declared.draft.Refusal.TheVariants.{Fault, Memory}
 use Rattle.sheet_format.specs.declared.entry.Header.{Header}
 use Rattle.sheet_format.specs.declared.fault.RowKind.{RowKind}
-use Rattle.sheet_format.specs.declared.kind.Kind.{Kind}
-use Rattle.sheet_format.specs.declared.kind.Kind.TheVariants as kind
+use Rattle.sheet_format.specs.declared.row_type.RowType.{RowType}
+use Rattle.sheet_format.specs.declared.row_type.RowType.TheVariants as row_type
 use Rattle.sheet_format.specs.declared.version.Version.{Version}
 use Rattle.sheet_format.specs.declared.version.Version.TheVariants as version
 
@@ -83,18 +83,18 @@ HasParts (Some h) d s = s ≡ sheet_of h d
 abbrev pub IsOfDraft : DraftValue → SheetValue → Type 0
 IsOfDraft d s = HasParts d.header d s
 
--- the kind of its last row
-abbrev pub last_of_header : Option Header → Option Kind
+-- the type of its last row
+abbrev pub last_of_header : Option Header → Option RowType
 last_of_header None = None
-last_of_header (Some h) = Some kind.Sheet
+last_of_header (Some h) = Some row_type.Sheet
 
-abbrev pub last_of_draft : DraftValue → Option Kind
+abbrev pub last_of_draft : DraftValue → Option RowType
 last_of_draft d =
     if length d.rows == 0
     then (if length d.orientations == 0
-    then (if length d.directions == 0 then last_of_header d.header else Some kind.Target)
-    else Some kind.Set)
-    else Some kind.Obs
+    then (if length d.directions == 0 then last_of_header d.header else Some row_type.Target)
+    else Some row_type.Set)
+    else Some row_type.Obs
 
 abbrev pub version_of_header : Option Header → Version
 version_of_header None = version.One
@@ -133,29 +133,29 @@ obs_row_of c = record {
 }
 
 -- the draft with the entry of one more row
-abbrev pub with_columns : Kind → DraftValue → Fields → DraftValue
-with_columns kind.Sheet d c =
+abbrev pub with_columns : RowType → DraftValue → Fields → DraftValue
+with_columns row_type.Sheet d c =
     record {
       header = Some (header_of c);
       directions = d.directions;
       orientations = d.orientations;
       rows = d.rows;
     }
-with_columns kind.Target d c =
+with_columns row_type.Target d c =
     record {
       header = d.header;
       directions = d.directions ++ (direction_of c ∷ []);
       orientations = d.orientations;
       rows = d.rows;
     }
-with_columns kind.Set d c =
+with_columns row_type.Set d c =
     record {
       header = d.header;
       directions = d.directions;
       orientations = d.orientations ++ (orientation_of c ∷ []);
       rows = d.rows;
     }
-with_columns kind.Obs d c =
+with_columns row_type.Obs d c =
     record {
       header = d.header;
       directions = d.directions;
@@ -163,13 +163,13 @@ with_columns kind.Obs d c =
       rows = d.rows ++ (obs_row_of c ∷ []);
     }
 
-abbrev pub with_kind : Option Kind → DraftValue → Fields → DraftValue
-with_kind None d c = d
-with_kind (Some k) d c = with_columns k d c
+abbrev pub with_row_type : Option RowType → DraftValue → Fields → DraftValue
+with_row_type None d c = d
+with_row_type (Some k) d c = with_columns k d c
 
 abbrev pub with_fields : DraftValue → Option Fields → DraftValue
 with_fields d None = d
-with_fields d (Some c) = with_kind (kind_of c.kind) d c
+with_fields d (Some c) = with_row_type (row_type_of c.kind) d c
 
 unfoldable pub with_row : DraftValue → List (List ℕ) → DraftValue
 with_row d row = with_fields d (columns_of row)

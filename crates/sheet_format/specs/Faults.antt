@@ -6,7 +6,7 @@ use Rattle.std.specs.Option.{option_or}
 use Rattle.adjust_kernel.specs.declared.limits.TheConstants.{LARGEST_SET_NUMBER, LARGEST_TURN, LONGEST_NAME, MOST_ROWS, MOST_SETS, MOST_TARGETS, TURN}
 use Rattle.adjust_kernel.specs.declared.name.TheConstants.{FIRST_PRINTABLE, LAST_PRINTABLE}
 use Rattle.sheet_format.specs.Columns.{Fields, columns_of}
-use Rattle.sheet_format.specs.Kinds.{kind_of, may_end, may_follow, names_kind}
+use Rattle.sheet_format.specs.RowTypes.{row_type_of, may_end, may_follow, names_row_type}
 use Rattle.sheet_format.specs.Numbers.{is_at_most, is_canonical, is_within, value_of}
 use Rattle.sheet_format.specs.Rows.{records_of}
 use Rattle.sheet_format.specs.Versions.{largest_angle, largest_denominator, version_of}
@@ -14,8 +14,8 @@ use Rattle.sheet_format.specs.declared.fault.RowKind.{RowKind}
 use Rattle.sheet_format.specs.declared.fault.RowKind.TheVariants as fault
 use Rattle.sheet_format.specs.declared.fault.SheetFault.{SheetFault}
 use Rattle.sheet_format.specs.declared.fault.SheetFault.TheVariants.{TooLong, Row, Memory}
-use Rattle.sheet_format.specs.declared.kind.Kind.{Kind}
-use Rattle.sheet_format.specs.declared.kind.Kind.TheVariants as kind
+use Rattle.sheet_format.specs.declared.row_type.RowType.{RowType}
+use Rattle.sheet_format.specs.declared.row_type.RowType.TheVariants as row_type
 use Rattle.sheet_format.specs.declared.reading.TheConstants.{LONGEST_SHEET}
 use Rattle.sheet_format.specs.declared.version.Version.{Version}
 use Rattle.sheet_format.specs.declared.version.Version.TheVariants as version
@@ -94,10 +94,10 @@ obs_fault c = first_fault (
     && is_at_most LARGEST_TURN (value_of c.turn)) fault.Range
     ∷ [])
 
--- what the rows before a row say of it: the kind of the last of them, the version of the sheet, and
--- how many of each kind they are
+-- what the rows before a row say of it: the type of the last of them, the version of the sheet, and
+-- how many of each type they are
 pub record Before : Type 0 where
-  pub last : Option Kind
+  pub last : Option RowType
   pub version : Version
   pub targets : ℕ
   pub sets : ℕ
@@ -108,9 +108,9 @@ abbrev pub first_field : List (List ℕ) → List ℕ
 first_field [] = []
 first_field (field ∷ others) = field
 
--- the kind of the last of these rows, if there is one and it names one
-abbrev pub last_kind : List (List (List ℕ)) → Option Kind
-last_kind rows = option_and_then (λ row. kind_of (first_field row)) (last_or None rows)
+-- the type of the last of these rows, if there is one and it names one
+abbrev pub last_row_type : List (List (List ℕ)) → Option RowType
+last_row_type rows = option_and_then (λ row. row_type_of (first_field row)) (last_or None rows)
 
 -- the version that the first of these rows names; where it names none, that row has a fault, which
 -- comes before any that the version given here could matter to
@@ -123,48 +123,48 @@ abbrev pub version_of_rows : List (List (List ℕ)) → Version
 version_of_rows [] = version.One
 version_of_rows (first ∷ others) = version_of_row (columns_of first)
 
--- how many of these rows are of a kind
-abbrev pub count_of : Kind → List (List (List ℕ)) → ℕ
-count_of k rows = count_by (λ row. names_kind k (first_field row)) rows
+-- how many of these rows are of a type
+abbrev pub count_of : RowType → List (List (List ℕ)) → ℕ
+count_of k rows = count_by (λ row. names_row_type k (first_field row)) rows
 
 -- what these rows say of one after them
 abbrev pub said_by : List (List (List ℕ)) → Before
 said_by rows = record {
-  last = last_kind rows;
+  last = last_row_type rows;
   version = version_of_rows rows;
-  targets = count_of kind.Target rows;
-  sets = count_of kind.Set rows;
-  obs = count_of kind.Obs rows;
+  targets = count_of row_type.Target rows;
+  sets = count_of row_type.Set rows;
+  obs = count_of row_type.Obs rows;
 }
 
--- the fault of the columns of a row of this kind, and then too many of its kind
-abbrev pub columns_fault : Before → Kind → Fields → Option RowKind
-columns_fault b kind.Sheet c = sheet_row_fault c
-columns_fault b kind.Target c =
+-- the fault of the columns of a row of this type, and then too many of its type
+abbrev pub columns_fault : Before → RowType → Fields → Option RowKind
+columns_fault b row_type.Sheet c = sheet_row_fault c
+columns_fault b row_type.Target c =
     option_or (target_fault b.version c) (unless (nat_lt b.targets MOST_TARGETS) fault.TooMany)
-columns_fault b kind.Set c =
+columns_fault b row_type.Set c =
     option_or (set_fault b.version c) (unless (nat_lt b.sets MOST_SETS) fault.TooMany)
-columns_fault b kind.Obs c = option_or (obs_fault c) (unless (nat_lt b.obs MOST_ROWS) fault.TooMany)
+columns_fault b row_type.Obs c = option_or (obs_fault c) (unless (nat_lt b.obs MOST_ROWS) fault.TooMany)
 
--- the fault of a row of five columns: its kind is none or may not stand there, and then its columns
-abbrev pub kind_fault : Before → Option Kind → Fields → Option RowKind
-kind_fault b None c = Some fault.Kind
-kind_fault b (Some k) c = option_or (unless (may_follow b.last k) fault.Kind) (columns_fault b k c)
+-- the fault of a row of five columns: its type is none or may not stand there, and then its columns
+abbrev pub row_type_fault : Before → Option RowType → Fields → Option RowKind
+row_type_fault b None c = Some fault.Kind
+row_type_fault b (Some k) c = option_or (unless (may_follow b.last k) fault.Kind) (columns_fault b k c)
 
 -- the fault of a row by the number of its columns, and then by what they hold
 abbrev pub fields_fault : Before → Option Fields → Option RowKind
 fields_fault b None = Some fault.Fields
-fields_fault b (Some c) = kind_fault b (kind_of c.kind) c
+fields_fault b (Some c) = row_type_fault b (row_type_of c.kind) c
 
 -- the fault of a row, if it has one, by what the rows before it say: the number of its columns, its
--- kind, and then its columns
+-- type, and then its columns
 unfoldable pub row_fault : Before → List (List ℕ) → Option RowKind
 row_fault b row = fields_fault b (columns_of row)
 
 -- the fault at a place, by the rows before it and those from there on: of the row there, or of the
 -- end
 unfoldable pub fault_between : List (List (List ℕ)) → List (List (List ℕ)) → Option RowKind
-fault_between before [] = unless (may_end (last_kind before)) fault.Unfinished
+fault_between before [] = unless (may_end (last_row_type before)) fault.Unfinished
 fault_between before (row ∷ others) = row_fault (said_by before) row
 
 -- the fault at a place of the rows, counted from 0

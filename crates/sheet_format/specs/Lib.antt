@@ -1,7 +1,7 @@
 pub mod Numbers
 pub mod Numerals
 pub mod Versions
-pub mod Kinds
+pub mod RowTypes
 pub mod Columns
 pub mod Rows
 pub mod Faults

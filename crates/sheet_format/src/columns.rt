@@ -27,7 +27,7 @@ fn field(row: &ByteRecord, at: usize) -> &[u8]
 
 impl<'a> Columns<'a> {
     /// The columns of a row, if it has five.
-    pub(crate) fn of(row: &'a ByteRecord) -> Option<Columns<'a>>
+    pub(crate) fn parse(row: &'a ByteRecord) -> Option<Columns<'a>>
         ensures { option_map columns_view result ≡ columns_of (fields_of row.now) }
     {
         if row.len() != COLUMNS {

@@ -11,12 +11,12 @@ ghost use Rattle.sheet_format.specs.Columns.{columns_view};
 ghost use Rattle.sheet_format.specs.Drafts as spec;
 ghost use Rattle.sheet_format.specs.Faults as faults;
 ghost use Rattle.sheet_format.specs.declared.draft.Refusal.TheVariants.{Fault, Memory};
-ghost use Rattle.sheet_format.specs.declared.kind.Kind.TheVariants as kind;
+ghost use Rattle.sheet_format.specs.declared.row_type.RowType.TheVariants as row_type;
 
 use crate::columns::Columns;
 use crate::entry::{Header, direction_of, header_of, obs_row_of, orientation_of};
 use crate::fault::RowKind;
-use crate::kind::Kind;
+use crate::row_type::RowType;
 use crate::version::Version;
 use adjust_kernel::{Direction, MOST_ROWS, MOST_SETS, MOST_TARGETS, Orientation, Row, Sheet};
 use csv::ByteRecord;
@@ -82,18 +82,18 @@ impl Draft {
         }
     }
 
-    /// The kind of the last row.
-    fn last(&self) -> Option<Kind>
+    /// The type of the last row.
+    fn last(&self) -> Option<RowType>
         ensures { result ≡ spec.last_of_draft self.now }
     {
         if !self.rows.is_empty() {
-            Some(Kind::Obs)
+            Some(RowType::Obs)
         } else if !self.orientations.is_empty() {
-            Some(Kind::Set)
+            Some(RowType::Set)
         } else if !self.directions.is_empty() {
-            Some(Kind::Target)
+            Some(RowType::Target)
         } else {
-            self.header.map(|_| Kind::Sheet)
+            self.header.map(|_| RowType::Sheet)
         }
     }
 
@@ -135,7 +135,7 @@ impl Draft {
         if directions.is_empty() || orientations.is_empty() || rows.is_empty() {
             return None;
         }
-        Some(Sheet::of_valid(
+        Some(Sheet::from_valid(
             header.name,
             header.denominator,
             directions,
@@ -154,32 +154,32 @@ impl Draft {
             (λ e. spec.ExplainsRow e
             (faults.row_fault (spec.said_by_draft self.old) (fields_of row.now))) }
     {
-        let Some(columns) = Columns::of(row) else {
+        let Some(columns) = Columns::parse(row) else {
             return Err(Refusal::Fault(RowKind::Fields));
         };
-        let Some(kind) = Kind::of(columns.kind) else {
+        let Some(row_type) = RowType::parse(columns.kind) else {
             return Err(Refusal::Fault(RowKind::Kind));
         };
-        if !kind.may_follow(self.last()) {
+        if !row_type.may_follow(self.last()) {
             return Err(Refusal::Fault(RowKind::Kind));
         }
-        match kind {
-            Kind::Sheet => self.take_header(&columns),
-            Kind::Target => self.take_target(&columns),
-            Kind::Set => self.take_set(&columns),
-            Kind::Obs => self.take_obs(&columns),
+        match row_type {
+            RowType::Sheet => self.take_header(&columns),
+            RowType::Target => self.take_target(&columns),
+            RowType::Set => self.take_set(&columns),
+            RowType::Obs => self.take_obs(&columns),
         }
     }
 
     fn take_header(&mut self, columns: &Columns<'_>) -> Result<(), Refusal>
         ensures faultless { OnOk result
-            (faults.columns_fault (spec.said_by_draft self.old) kind.Sheet
+            (faults.columns_fault (spec.said_by_draft self.old) row_type.Sheet
             (columns_view columns.now) ≡ None) }
         ensures taken { OnOk result
-            (self.new ≡ spec.with_columns kind.Sheet self.old (columns_view columns.now)) }
+            (self.new ≡ spec.with_columns row_type.Sheet self.old (columns_view columns.now)) }
         ensures err { IfErr result
             (λ e. spec.ExplainsRow e
-            (faults.columns_fault (spec.said_by_draft self.old) kind.Sheet
+            (faults.columns_fault (spec.said_by_draft self.old) row_type.Sheet
             (columns_view columns.now))) }
     {
         self.header = Some(header_of(columns)?);
@@ -188,13 +188,13 @@ impl Draft {
 
     fn take_target(&mut self, columns: &Columns<'_>) -> Result<(), Refusal>
         ensures faultless { OnOk result
-            (faults.columns_fault (spec.said_by_draft self.old) kind.Target
+            (faults.columns_fault (spec.said_by_draft self.old) row_type.Target
             (columns_view columns.now) ≡ None) }
         ensures taken { OnOk result
-            (self.new ≡ spec.with_columns kind.Target self.old (columns_view columns.now)) }
+            (self.new ≡ spec.with_columns row_type.Target self.old (columns_view columns.now)) }
         ensures err { IfErr result
             (λ e. spec.ExplainsRow e
-            (faults.columns_fault (spec.said_by_draft self.old) kind.Target
+            (faults.columns_fault (spec.said_by_draft self.old) row_type.Target
             (columns_view columns.now))) }
     {
         let direction = direction_of(columns, self.version())?;
@@ -207,13 +207,13 @@ impl Draft {
 
     fn take_set(&mut self, columns: &Columns<'_>) -> Result<(), Refusal>
         ensures faultless { OnOk result
-            (faults.columns_fault (spec.said_by_draft self.old) kind.Set (columns_view columns.now)
+            (faults.columns_fault (spec.said_by_draft self.old) row_type.Set (columns_view columns.now)
             ≡ None) }
         ensures taken { OnOk result
-            (self.new ≡ spec.with_columns kind.Set self.old (columns_view columns.now)) }
+            (self.new ≡ spec.with_columns row_type.Set self.old (columns_view columns.now)) }
         ensures err { IfErr result
             (λ e. spec.ExplainsRow e
-            (faults.columns_fault (spec.said_by_draft self.old) kind.Set
+            (faults.columns_fault (spec.said_by_draft self.old) row_type.Set
             (columns_view columns.now))) }
     {
         let orientation = orientation_of(columns, self.version())?;
@@ -226,13 +226,13 @@ impl Draft {
 
     fn take_obs(&mut self, columns: &Columns<'_>) -> Result<(), Refusal>
         ensures faultless { OnOk result
-            (faults.columns_fault (spec.said_by_draft self.old) kind.Obs (columns_view columns.now)
+            (faults.columns_fault (spec.said_by_draft self.old) row_type.Obs (columns_view columns.now)
             ≡ None) }
         ensures taken { OnOk result
-            (self.new ≡ spec.with_columns kind.Obs self.old (columns_view columns.now)) }
+            (self.new ≡ spec.with_columns row_type.Obs self.old (columns_view columns.now)) }
         ensures err { IfErr result
             (λ e. spec.ExplainsRow e
-            (faults.columns_fault (spec.said_by_draft self.old) kind.Obs
+            (faults.columns_fault (spec.said_by_draft self.old) row_type.Obs
             (columns_view columns.now))) }
     {
         let row = obs_row_of(columns)?;

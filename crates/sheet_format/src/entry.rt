@@ -96,7 +96,7 @@ pub(crate) fn header_of(columns: &Columns<'_>) -> Result<Header, RowKind>
     ensures err { IfErr result
         (λ kind. faults.sheet_row_fault (columns_view columns.now) ≡ Some kind) }
 {
-    let version = Version::of(columns.number).ok_or(RowKind::Version)?;
+    let version = Version::parse(columns.number).ok_or(RowKind::Version)?;
     if !columns.turn.is_empty() {
         return Err(RowKind::NotEmpty);
     }

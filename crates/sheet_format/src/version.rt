@@ -25,7 +25,7 @@ pub(crate) enum Version {
 
 impl Version {
     /// The version that a field names.
-    pub(crate) fn of(field: &[u8]) -> Option<Version>
+    pub(crate) fn parse(field: &[u8]) -> Option<Version>
         ensures { result ≡ spec.version_of field.now }
     {
         match field {

@@ -35,7 +35,7 @@ fn sheet_of(
     ensures small { HasSmallNumbers result }
 {
     let denominator = station.sets().len() as u64 * station.targets().len() as u64;
-    Sheet::of_valid(station.name(), denominator, directions, orientations, rows)
+    Sheet::from_valid(station.name(), denominator, directions, orientations, rows)
 }
 
 /// The sheet of means of a station: the least-squares adjustment of complete sets.

@@ -39,5 +39,5 @@ pub fn near_sheet(alloc: Global, station: &Station) -> Result<Sheet, NearFault>
     let angles = balance(first, sets, targets, station.obs(), &rows);
     let directions = directions_of(alloc, station, &angles)?;
     let orientations = orientations_of(alloc, station, &angles)?;
-    Ok(Sheet::of_valid(station.name(), DENOMINATOR, directions, orientations, rows))
+    Ok(Sheet::from_valid(station.name(), DENOMINATOR, directions, orientations, rows))
 }

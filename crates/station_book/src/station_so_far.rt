@@ -153,7 +153,7 @@ impl StationSoFar {
         let names = targets.names(alloc)?;
         let set = sets.len() as u32 - 1;
         push_pairs(set, targets.slots(), &mut obs, &mut faces)?;
-        let station = Station::of_valid(name, names, sets, obs);
+        let station = Station::from_valid(name, names, sets, obs);
         Ok(Surveyed { station, faces })
     }
 }

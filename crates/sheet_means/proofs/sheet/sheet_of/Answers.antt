@@ -6,8 +6,8 @@ use Rattle.sheet_means.specs.Means.{IsMeansSheet, IsUnturnedAtFirst}
 use Rattle.sheet_means.proofs.MeansSheetLaws.{is_sheet, is_means_sheet, is_unturned, targets_add_up, sets_add_up, holds_together, some_readings}
 use Rattle.sheet_means.proofs.sheet.sheet_of.Goals as goal
 
-pub of_valid-requires : goal.of_valid-requires
-of_valid-requires c =
+pub from_valid-requires : goal.from_valid-requires
+from_valid-requires c =
     let valid = c.name.ensures.valid in
     let sets = c.sets.ensures.value in
     let targets = c.targets.ensures.value in
@@ -18,7 +18,7 @@ of_valid-requires c =
 pub returns-clause-sheet : goal.returns-clause-sheet
 returns-clause-sheet c =
     subst (IsMeansSheet c.args.station.now)
-    (sym (c.of_valid.ensures ∙ (λ i. record { name = c.name.ensures.value i; denominator = length (c.sets.ensures.value i) * length (c.targets.ensures.value i); directions = c.args.directions.items; orientations = c.args.orientations.items; rows = c.args.rows.items })))
+    (sym (c.from_valid.ensures ∙ (λ i. record { name = c.name.ensures.value i; denominator = length (c.sets.ensures.value i) * length (c.targets.ensures.value i); directions = c.args.directions.items; orientations = c.args.orientations.items; rows = c.args.rows.items })))
     (is_means_sheet c.args.station.now c.name.ensures.valid c.requires.complete c.args.rows.items c.requires.rows c.args.directions.items c.requires.directions c.args.orientations.items c.requires.orientations)
 
 pub returns-clause-accepted : goal.returns-clause-accepted
@@ -29,7 +29,7 @@ returns-clause-accepted c =
     let directions = c.args.directions.items in
     let orientations = c.args.orientations.items in
     subst (λ (sheet : SheetValue). IsAcceptedSheet station sheet None)
-    (sym (c.of_valid.ensures ∙ (λ i. record { name = c.name.ensures.value i; denominator = length (c.sets.ensures.value i) * length (c.targets.ensures.value i); directions = directions; orientations = orientations; rows = rows })))
+    (sym (c.from_valid.ensures ∙ (λ i. record { name = c.name.ensures.value i; denominator = length (c.sets.ensures.value i) * length (c.targets.ensures.value i); directions = directions; orientations = orientations; rows = rows })))
     (accepted_sheet station (record { name = station.name; denominator = length station.sets * length station.targets; directions = directions; orientations = orientations; rows = rows }) None
     (is_means_sheet station valid c.requires.complete rows c.requires.rows directions c.requires.directions orientations c.requires.orientations).matches
     (targets_add_up station valid c.requires.complete rows c.requires.rows directions c.requires.directions orientations c.requires.orientations)
@@ -41,5 +41,5 @@ returns-clause-accepted c =
 pub returns-clause-unturned : goal.returns-clause-unturned
 returns-clause-unturned c =
     subst (IsUnturnedAtFirst c.args.station.now)
-    (sym (c.of_valid.ensures ∙ (λ i. record { name = c.name.ensures.value i; denominator = length (c.sets.ensures.value i) * length (c.targets.ensures.value i); directions = c.args.directions.items; orientations = c.args.orientations.items; rows = c.args.rows.items })))
+    (sym (c.from_valid.ensures ∙ (λ i. record { name = c.name.ensures.value i; denominator = length (c.sets.ensures.value i) * length (c.targets.ensures.value i); directions = c.args.directions.items; orientations = c.args.orientations.items; rows = c.args.rows.items })))
     (is_unturned c.args.station.now c.name.ensures.valid c.requires.complete c.args.rows.items c.requires.rows c.args.directions.items c.requires.directions c.args.orientations.items c.requires.orientations)

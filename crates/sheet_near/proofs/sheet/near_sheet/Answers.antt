@@ -23,8 +23,8 @@ returns-then-not-is_connected-clause-not_connected c =
     let rows = map any_row station.obs in
     (λ e tied. tied rows (length-map station.obs any_row) (divided rows), λ h. refl)
 
-pub of_valid-requires : goal.of_valid-requires
-of_valid-requires c =
+pub from_valid-requires : goal.from_valid-requires
+from_valid-requires c =
     let station = c.args.station.now in
     let valid = c.obs.ensures.valid in
     let few = c.obs.ensures.few in

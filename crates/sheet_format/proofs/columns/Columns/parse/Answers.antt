@@ -1,6 +1,6 @@
 use Rattle.std.proofs.Common.{refl, sym, ◌∙◌}
 use Rattle.sheet_format.proofs.FiveColumns.{five}
-use Rattle.sheet_format.proofs.columns.Columns.of.Goals as goal
+use Rattle.sheet_format.proofs.columns.Columns.parse.Goals as goal
 
 pub returns : goal.returns
 returns c =
