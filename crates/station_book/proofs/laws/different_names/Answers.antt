@@ -1,4 +1,4 @@
-use Rattle.station_book.proofs.NameLaws.{different_names}
+use Rattle.station_book.proofs.names.StationNames.{different_names}
 use Rattle.station_book.proofs.laws.different_names.Goals as goal
 
 pub returns : goal.returns

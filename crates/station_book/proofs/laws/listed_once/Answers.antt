@@ -1,4 +1,4 @@
-use Rattle.station_book.proofs.ListedOnce.{listed_once}
+use Rattle.station_book.proofs.recorded.ListedOnce.{listed_once}
 use Rattle.station_book.proofs.laws.listed_once.Goals as goal
 
 pub returns : goal.returns

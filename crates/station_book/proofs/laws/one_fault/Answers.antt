@@ -1,4 +1,4 @@
-use Rattle.station_book.proofs.FirstFault.{fault_or_none, no_first_fault, one_first_fault}
+use Rattle.station_book.proofs.faults.FirstFault.{fault_or_none, no_first_fault, one_first_fault}
 use Rattle.station_book.proofs.laws.one_fault.Goals as goal
 
 pub returns-clause-some : goal.returns-clause-some

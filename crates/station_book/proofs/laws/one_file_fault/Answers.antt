@@ -1,4 +1,4 @@
-use Rattle.station_book.proofs.WholeFile.{whole_or_fault, whole_has_none, one_file_fault}
+use Rattle.station_book.proofs.recorded.WholeFile.{whole_or_fault, whole_has_none, one_file_fault}
 use Rattle.station_book.proofs.laws.one_file_fault.Goals as goal
 
 pub returns-clause-some : goal.returns-clause-some

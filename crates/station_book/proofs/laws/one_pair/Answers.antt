@@ -1,4 +1,4 @@
-use Rattle.station_book.proofs.PairLaws.{one_two_c, one_two_face}
+use Rattle.station_book.proofs.two_faces.OnePair.{one_two_c, one_two_face}
 use Rattle.station_book.proofs.laws.one_pair.Goals as goal
 
 pub returns-clause-two_c : goal.returns-clause-two_c

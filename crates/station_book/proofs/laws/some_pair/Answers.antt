@@ -1,4 +1,4 @@
-use Rattle.station_book.proofs.PairTests.{a_two_c, a_two_i, a_two_face}
+use Rattle.station_book.proofs.two_faces.PairTests.{a_two_c, a_two_i, a_two_face}
 use Rattle.station_book.proofs.laws.some_pair.Goals as goal
 
 pub returns-clause-two_c : goal.returns-clause-two_c

@@ -1,4 +1,4 @@
-use Rattle.station_book.proofs.SomeSurvey.{some_survey}
+use Rattle.station_book.proofs.histories.SomeSurvey.{some_survey}
 use Rattle.station_book.proofs.laws.some_survey.Goals as goal
 
 pub returns : goal.returns

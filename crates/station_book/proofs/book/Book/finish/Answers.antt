@@ -1,4 +1,4 @@
-use Rattle.station_book.proofs.AnswerLaws.{end_clean, end_stations, end_fault}
+use Rattle.station_book.proofs.histories.Answers.{end_clean, end_stations, end_fault}
 use Rattle.station_book.proofs.book.Book.finish.Goals as goal
 
 pub returns-clause-clean : goal.returns-clause-clean

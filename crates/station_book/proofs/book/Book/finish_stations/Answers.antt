@@ -1,6 +1,6 @@
 use Rattle.std.proofs.Common.{rules, ◌≡◌, None}
 use Rattle.station_book.specs.State.{ending}
-use Rattle.station_book.proofs.BookLaws.{rest_all}
+use Rattle.station_book.proofs.states.BookInvariant.{rest_all}
 use Rattle.station_book.proofs.book.Book.finish_stations.Goals as goal
 
 pub finish-requires : goal.finish-requires

@@ -1,5 +1,5 @@
 use Rattle.gsi_word.specs.BlockViews.{block_of}
-use Rattle.station_book.proofs.BlockFaultLaws.{take_clean, take_taken, take_fault}
+use Rattle.station_book.proofs.faults.BlockFaults.{take_clean, take_taken, take_fault}
 use Rattle.station_book.proofs.book.Book.take.Goals as goal
 
 pub returns-clause-clean : goal.returns-clause-clean

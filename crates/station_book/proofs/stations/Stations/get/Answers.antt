@@ -1,6 +1,6 @@
 use Rattle.std.proofs.Common.{sym, ap, ◌∙◌}
 use Rattle.station_book.specs.Stations.{station_named}
-use Rattle.station_book.proofs.NameLaws.{found_named, none_named}
+use Rattle.station_book.proofs.names.StationNames.{found_named, none_named}
 use Rattle.station_book.proofs.stations.Stations.get.Goals as goal
 
 pub returns-in-Some : goal.returns-in-Some

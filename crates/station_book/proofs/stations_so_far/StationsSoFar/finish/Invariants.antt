@@ -1,5 +1,5 @@
 use Rattle.std.proofs.Common.{length, reverse}
-use Rattle.station_book.proofs.ClosingLaws.{IsClosing}
+use Rattle.station_book.proofs.states.ClosingStates.{IsClosing}
 use Rattle.station_book.proofs.stations_so_far.StationsSoFar.finish.Given as goal
 
 abbrev pub invariant-stations : goal.invariant-stations

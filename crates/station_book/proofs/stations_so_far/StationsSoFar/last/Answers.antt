@@ -1,4 +1,4 @@
-use Rattle.station_book.proofs.NewestLaws.{last_value}
+use Rattle.station_book.proofs.states.NewestState.{last_value}
 use Rattle.station_book.proofs.stations_so_far.StationsSoFar.last.Goals as goal
 
 pub returns : goal.returns

@@ -3,8 +3,8 @@ use Rattle.std.proofs.lemmas.Result.{on_ok_weaker, on_err_weaker}
 use Rattle.station_book.specs.Faults.{first_of}
 use Rattle.station_book.specs.StationState.{StationState, is_new_to, state_faults, with_reading}
 use Rattle.station_book.specs.Refusals.{ExplainsRefusal, WantsOnly}
-use Rattle.station_book.proofs.NameMaps.{if_err}
-use Rattle.station_book.proofs.NewestLaws.{last_value, changed_last, unchanged_last, older_may}
+use Rattle.station_book.proofs.lists.NameMaps.{if_err}
+use Rattle.station_book.proofs.states.NewestState.{last_value, changed_last, unchanged_last, older_may}
 use Rattle.station_book.proofs.stations_so_far.StationsSoFar.take_reading.Goals as goal
 
 pub invariant_of-self : goal.invariant_of-self

@@ -5,7 +5,7 @@ use Rattle.indexmap.specs.Entry.{entry_index, entry_map, entry_value, map_with_v
 use Rattle.station_book.specs.declared.slot.Slot.{Slot}
 use Rattle.station_book.specs.StationState.{place_of}
 use Rattle.station_book.specs.Targets.{TargetsValue, with_target}
-use Rattle.station_book.proofs.TargetLaws.{added, found_place, known_place, unknown_place, if_failed}
+use Rattle.station_book.proofs.states.TargetMaps.{added, found_place, known_place, unknown_place, if_failed}
 use Rattle.station_book.proofs.targets.Targets.search_or_add.Goals as goal
 
 pub returns-in_err-place-clause-absent : goal.returns-in_err-place-clause-absent

@@ -1,6 +1,6 @@
 use Rattle.std.proofs.Common.{slice_set, ap, ◌∙◌}
 use Rattle.station_book.specs.Targets.{TargetsValue}
-use Rattle.station_book.proofs.TargetLaws.{same_keys, set_value}
+use Rattle.station_book.proofs.states.TargetMaps.{same_keys, set_value}
 use Rattle.station_book.proofs.targets.Targets.set.Goals as goal
 
 pub returns-clause-names : goal.returns-clause-names

@@ -1,0 +1,3 @@
+-- The names of stations: `laws::different_names`, `its_station`.
+pub mod FirstOfName
+pub mod StationNames
