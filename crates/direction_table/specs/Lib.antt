@@ -1,7 +1,9 @@
+-- The public definitions, which public contracts and laws cite, in the order in which a reader
+-- needs them.
 pub mod Gons
-pub mod Texts
-pub mod TableTexts
 pub mod Rows
 pub mod Faults
 pub mod FaultNames
 pub mod Tables
+pub mod Texts
+pub mod TableTexts

@@ -1,3 +1,5 @@
+-- The public definitions, which public contracts and laws cite, in the order in which a reader
+-- needs them.
 pub mod Words
 pub mod Blocks
 pub mod LineFaults
@@ -5,6 +7,8 @@ pub mod Names
 pub mod Angles
 pub mod FaultNames
 pub mod FoundWords
-pub mod Layout
 pub mod BlockViews
 pub mod Shapes
+-- The inside: where the code finds the words of a line and the parts of a word. Lemmas join it to
+-- the definitions above.
+pub mod Layout

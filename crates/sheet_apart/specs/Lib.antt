@@ -1,3 +1,5 @@
-pub mod Apart
+-- The public definitions, which public contracts and laws cite, in the order in which a reader
+-- needs them.
 pub mod Arcs
+pub mod Apart
 pub mod Rounding

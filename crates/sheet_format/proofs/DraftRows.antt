@@ -2,7 +2,7 @@
 use Rattle.std.specs.Prelude.{if◌then◌else◌}
 use Rattle.std.proofs.Common.{◌≡◌, ℕ, ◌<◌, ◌≤◌, ◌^◌, Bool, true, false, List, [], ◌∷◌, ◌++◌, map, length, Option, Some, None, All, refl, ap, sym, subst, ◌∙◌, arith, ◌==◌, inl, inr, append_assoc, length-append}
 use Rattle.std.specs.Prelude.{◌⊎◌, ◌-◌, codes}
-use Rattle.std.specs.Option.{option_or}
+use Rattle.std.specs.Option.{option_map_or, option_or}
 use Rattle.std.proofs.lemmas.Bool.{and_parts, eqb-true, eqb-false, cases_Bool, ltb-true, true≢false}
 use Rattle.std.proofs.lemmas.List.{append-nil, map-append, nil_from_length}
 use Rattle.std.proofs.lemmas.List.Elements.{All-append, All-cons, All-nil}
@@ -17,13 +17,14 @@ use Rattle.adjust_kernel.specs.declared.row.Orientation.{Orientation}
 use Rattle.adjust_kernel.specs.declared.row.Row.{Row}
 use Rattle.sheet_format.specs.Columns.{Fields, columns_of}
 use Rattle.sheet_format.specs.Drafts.{DraftValue, blank, direction_of, header_of, header_rows, last_of_draft, last_of_header, obs_row_of, orientation_of, rows_of_draft, said_by_draft, version_of_header, with_columns, with_fields, with_row_type, with_row}
-use Rattle.sheet_format.specs.Faults.{columns_fault, fields_fault, row_type_fault, obs_fault, row_fault, set_fault, sheet_row_fault, target_fault, unless, versioned_fault, by_version}
+use Rattle.sheet_format.specs.Faults.{columns_fault, fields_fault, row_type_fault, obs_fault, row_fault, set_fault, sheet_row_fault, target_fault, unless, versioned_fault}
 use Rattle.sheet_format.specs.RowTypes.{row_type_of, row_type_text, may_follow, names_row_type}
 use Rattle.sheet_format.specs.Numbers.{natural_of, value_of}
 use Rattle.sheet_format.specs.Rows.{obs_fields, set_fields, sheet_fields, target_fields}
 use Rattle.sheet_format.specs.Versions.{largest_angle, largest_denominator, version_of, version_text}
 use Rattle.sheet_format.specs.declared.entry.Header.{Header}
 use Rattle.sheet_format.specs.declared.fault.RowKind.{RowKind}
+use Rattle.sheet_format.specs.declared.fault.RowKind.TheVariants as fault
 use Rattle.sheet_format.specs.declared.row_type.RowType.{RowType}
 use Rattle.sheet_format.specs.declared.row_type.RowType.TheVariants as row_type
 use Rattle.sheet_format.specs.declared.version.Version.{Version}
@@ -221,7 +222,9 @@ versioned-row v c named version none =
 sheet-row : (c : Fields) → c.kind ≡ row_type_text row_type.Sheet → sheet_row_fault c ≡ None → IsSheetRow c (header_of c)
 sheet-row c named none = by (version_of c.number) refl none
   where
-    by : (o : Option Version) → version_of c.number ≡ o → by_version o c ≡ None → IsSheetRow c (header_of c)
+    by : (o : Option Version) → version_of c.number ≡ o
+        → option_map_or (λ v. versioned_fault v c) o (Some fault.Version) ≡ None
+        → IsSheetRow c (header_of c)
     by None x e = cc e
     by (Some v) x e =
         let same : record { version = v; name = c.name; denominator = natural_of (value_of c.value) } ≡ header_of c = rw x refl in

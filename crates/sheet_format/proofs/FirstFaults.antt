@@ -160,4 +160,10 @@ read-whole bytes d s short read parts whole = by d.header refl parts
           directions = λ k x below. (directions k x below).1;
           orientations = λ k x below. (orientations k x below).1;
         } in
-        record { short = short; rows = subst (λ (x : SheetValue). (v : Version) × (records_of bytes ≡ rows_of v x) × IsOfVersion v x) (sym p) (h.version, rows, of_version); sheet = whole }
+        record {
+          short = short;
+          version = h.version;
+          rows = subst (λ (x : SheetValue). records_of bytes ≡ rows_of h.version x) (sym p) rows;
+          within = subst (IsOfVersion h.version) (sym p) of_version;
+          sheet = whole;
+        }

@@ -57,7 +57,9 @@ pub never-both : (bytes : List ℕ) (s : SheetValue) (f : SheetFault) → IsShee
 never-both bytes s TooLong text fault = omega (arith, text.short, fault)
 never-both bytes s (Row number kind) text fault =
     let (short, place, counted, found) = fault in
-    let (v, rows, within) = text.rows in
+    let v = text.version in
+    let rows = text.rows in
+    let within = text.within in
     none-some kind (sym (clean v s text.sheet within place) ∙ ap (λ (all : List (List (List ℕ))). fault_at all place) (sym rows) ∙ found.here)
 never-both bytes s Memory text fault = absurd fault
 
@@ -97,7 +99,9 @@ parts_of (Some h) d = record { name = h.name; denominator = h.denominator; direc
 
 made-of : (bytes : List ℕ) (s : SheetValue) → IsSheetText bytes s → parts_of (drafted blank (records_of bytes)).header (drafted blank (records_of bytes)) ≡ s
 made-of bytes s text =
-    let (v, rows, within) = text.rows in
+    let v = text.version in
+    let rows = text.rows in
+    let within = text.within in
     let made : drafted blank (records_of bytes) ≡ draft (header_for v s) s.directions s.orientations s.rows = ap (drafted blank) rows ∙ (sheet-read v s text.sheet within).made in
     ap (λ (d : DraftValue). parts_of d.header d) made
 

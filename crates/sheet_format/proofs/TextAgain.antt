@@ -91,4 +91,10 @@ within-version s ok = by (is_of_version One s) refl
     by false e = within-two s ok
 
 pub text-again : (s : SheetValue) → IsSheet s → IsSheetText (sheet_text s) s
-text-again s ok = record { short = text-short s ok; rows = (version_for s, records-again (version_for s) s, within-version s ok); sheet = ok }
+text-again s ok = record {
+  short = text-short s ok;
+  version = version_for s;
+  rows = records-again (version_for s) s;
+  within = within-version s ok;
+  sheet = ok;
+}

@@ -2,7 +2,7 @@
 use Rattle.std.specs.Prelude.{◌≡◌, ℕ, ◌+◌, ◌<◌, ◌≤◌, Bool, ◌&&◌, ◌==◌, if◌then◌else◌, nat_lt, nat_le, List, [], ◌∷◌, length, take, drop, ℤ, pos, Option, Some, None, unwrap_or, option_and_then, ◌-◌, ◌⊎◌}
 use Rattle.std.specs.Int.{is_in_range}
 use Rattle.std.specs.List.{count_by, last_or, list_all}
-use Rattle.std.specs.Option.{option_or}
+use Rattle.std.specs.Option.{option_map_or, option_or}
 use Rattle.adjust_kernel.specs.declared.limits.TheConstants.{LARGEST_SET_NUMBER, LARGEST_TURN, LONGEST_NAME, MOST_ROWS, MOST_SETS, MOST_TARGETS, TURN}
 use Rattle.adjust_kernel.specs.declared.name.TheConstants.{FIRST_PRINTABLE, LAST_PRINTABLE}
 use Rattle.sheet_format.specs.Columns.{Fields, columns_of}
@@ -49,7 +49,7 @@ is_circle_value number = is_within (pos 0) (pos (TURN - 1)) number
 -- The tests of a row's columns, in order: the columns that are to be empty, the name, the form of
 -- all its numbers, and then their ranges.
 
--- the first row, whose version was read
+-- the first row, of this version
 abbrev pub versioned_fault : Version → Fields → Option RowKind
 versioned_fault v c = first_fault (
     unless (is_empty c.turn) fault.NotEmpty
@@ -58,14 +58,10 @@ versioned_fault v c = first_fault (
     ∷ unless (is_within (pos 1) (pos (largest_denominator v)) (value_of c.value)) fault.Range
     ∷ [])
 
--- the same, by the version, where it names one
-abbrev pub by_version : Option Version → Fields → Option RowKind
-by_version None c = Some fault.Version
-by_version (Some v) c = versioned_fault v c
-
--- the first row
+-- the first row: it names no version, or has a fault of the version that it names
 abbrev pub sheet_row_fault : Fields → Option RowKind
-sheet_row_fault c = by_version (version_of c.number) c
+sheet_row_fault c =
+    option_map_or (λ v. versioned_fault v c) (version_of c.number) (Some fault.Version)
 
 -- the row of a target
 abbrev pub target_fault : Version → Fields → Option RowKind

@@ -1,11 +1,15 @@
+-- The public definitions, which public contracts and laws cite, in the order in which a reader
+-- needs them.
 pub mod Numbers
-pub mod Numerals
 pub mod Versions
 pub mod RowTypes
 pub mod Columns
 pub mod Rows
 pub mod Faults
 pub mod FaultNames
-pub mod Errors
-pub mod Drafts
 pub mod Texts
+pub mod Errors
+-- The inside: how the code keeps a number, and a sheet whose rows are still being read. Lemmas join
+-- it to the definitions above.
+pub mod Numerals
+pub mod Drafts

@@ -49,10 +49,12 @@ pub record IsOfVersion (version : Version) (s : SheetValue) : Type 0 where
 abbrev pub records_of : List ℕ → List (List (List ℕ))
 records_of bytes = records default_config (strip_bom bytes)
 
--- Bytes stand for a sheet: they are not too many, and their records are the sheet's rows, of a
--- version that the sheet is within. So the text is fixed but for quotes, line ends and empty lines,
--- which `csv` reads alike, and for the version of a small sheet.
+-- Bytes stand for a sheet: they are not too many, and their records are the sheet's rows of some
+-- version, within whose ranges the sheet is. So the text is fixed but for quotes, line ends and
+-- empty lines, which `csv` reads alike, and for the version of a small sheet.
 pub record IsSheetText (bytes : List ℕ) (s : SheetValue) : Type 0 where
   pub short : length bytes ≤ LONGEST_SHEET
-  pub rows : (version : Version) × (records_of bytes ≡ rows_of version s) × IsOfVersion version s
+  pub version : Version
+  pub rows : records_of bytes ≡ rows_of version s
+  pub within : IsOfVersion version s
   pub sheet : IsSheet s
