@@ -5,6 +5,7 @@ use Rattle.station_check.proofs.list.print_stations.Given as goal
 
 abbrev pub invariant-stations : goal.invariant-stations
 invariant-stations g l = record {
-  text : Partway (list_text l.stations) (flat_map surveyed_text (drop l.place l.stations)) (g.W.Sink.holds l.fn.writer) l.fn.page (g.W.Sink.holds l.writer) l.page;
+  text : Partway (list_text l.stations) (flat_map surveyed_text (drop l.place l.stations))
+      (g.W.Sink.holds l.fn.writer) l.fn.page (g.W.Sink.holds l.writer) l.page;
   failed : g.W.Sink.failed l.writer ≡ g.W.Sink.failed l.fn.writer;
 }
