@@ -1,5 +1,6 @@
 -- From the kernel's acceptance to what an acceptance of the check says.
-use Rattle.std.proofs.Common.{◌≡◌, ℕ, List, [], ◌∷◌, Option, Some, None, Result, Ok, Err, refl, sym, ap, subst, ◌∙◌, inl, inr}
+use Rattle.std.proofs.Common.{◌≡◌, ℕ, List, [], ◌∷◌, Option, Some, None, Result, Ok, Err, refl, sym}
+use Rattle.std.proofs.Common.{ap, subst, ◌∙◌, inl, inr}
 use Rattle.std.specs.Prelude.{◌↔◌, IfSome, IfOk, reverse}
 use mathlib.Core.List.{reverse_aux}
 use Rattle.std.specs.List.{AllZip, Contains}
@@ -20,16 +21,17 @@ use Rattle.station_book.specs.Recorded.{IsRecorded, IsRecordedWith}
 use Rattle.adjust_kernel.specs.Matching.{Key, observed}
 use Rattle.station_book.specs.Stations.{SurveyedStation, AreStations, station_named}
 use Rattle.station_check.specs.declared.fault.Fault.{Fault}
-use Rattle.station_check.specs.Records.{ComesTo, at_end}
+use Rattle.station_check.specs.Outcomes.{ComesTo, at_end}
 use Rattle.station_check.specs.Surveys.{IsSurvey}
 use Rattle.station_check.specs.Accepted.{IsAccepted}
 use Rattle.station_check.specs.Means.{HasStation}
 use Rattle.station_check.specs.StationOfFile.{IsStationOfFile}
-use Rattle.station_check.specs.Judged.{IsJudgedSheet, IfKernels}
+use Rattle.station_check.specs.KernelVerdicts.{IsJudgedSheet, IfKernels}
 
 -- Lines and the end after them come to these blocks: they are the blocks of the lines behind those
 -- before them, and no fault stands.
-pub record CameWell (limits : FaceLimits) (past : History) (lines : List (List ℕ)) (last : Option FileKind) (blocks : History) : Type 0 where
+pub record CameWell (limits : FaceLimits) (past : History) (lines : List (List ℕ))
+    (last : Option FileKind) (blocks : History) : Type 0 where
   pub more : List GsiBlock
   pub each : AllZip IsBlock lines more
   pub split : blocks ≡ reverse_aux more past
@@ -38,49 +40,73 @@ pub record CameWell (limits : FaceLimits) (past : History) (lines : List (List �
   pub closed : fault_at_end blocks ≡ None
 
 -- the end of the lines, where the fault of the end is this
-well_at_end : (limits : FaceLimits) (past blocks : History) (o : Option BookKind) → IsWithoutFault limits past → fault_at_end past ≡ o → Ok blocks ≡ at_end past o → CameWell limits past [] None blocks
+well_at_end : (limits : FaceLimits) (past blocks : History) (o : Option BookKind)
+    → IsWithoutFault limits past → fault_at_end past ≡ o → Ok blocks
+    ≡ at_end past o → CameWell limits past [] None blocks
 well_at_end limits past blocks None clean e h =
     let same : past ≡ blocks = cc in
-    subst (λ (b : History). CameWell limits past [] None b) same (record { more = []; each = tt; split = refl; ended = refl; faultless = clean; closed = e })
+    subst (λ (b : History). CameWell limits past [] None b) same
+    (record { more = []; each = tt; split = refl; ended = refl; faultless = clean; closed = e })
 well_at_end limits past blocks (Some kind) clean e h = cc
 
-pub came_well : (limits : FaceLimits) (past : History) (lines : List (List ℕ)) (last : Option FileKind) (blocks : History) → IsWithoutFault limits past → ComesTo limits past lines last (Ok blocks) → CameWell limits past lines last blocks
+pub came_well : (limits : FaceLimits) (past : History) (lines : List (List ℕ))
+    (last : Option FileKind) (blocks : History) → IsWithoutFault limits past
+    → ComesTo limits past lines last (Ok blocks) → CameWell limits past lines last blocks
 came_well limits past [] (Some kind) blocks clean h = cc
-came_well limits past [] None blocks clean h = well_at_end limits past blocks (fault_at_end past) clean refl h
+came_well limits past [] None blocks clean h =
+    well_at_end limits past blocks (fault_at_end past) clean refl h
 came_well limits past (line ∷ lines) last blocks clean (inl h) = let e = h.answer in cc
 came_well limits past (line ∷ lines) last blocks clean (inr (inl h)) = let e = h.answer in cc
 came_well limits past (line ∷ lines) last blocks clean (inr (inr h)) =
     let rest = came_well limits (h.block ∷ past) lines last blocks (h.clean, clean) h.after in
-    record { more = h.block ∷ rest.more; each = (h.is_block, rest.each); split = rest.split; ended = rest.ended; faultless = rest.faultless; closed = rest.closed }
+    record {
+      more = h.block ∷ rest.more;
+      each = (h.is_block, rest.each);
+      split = rest.split;
+      ended =
+          rest.ended;
+      faultless = rest.faultless;
+      closed = rest.closed;
+    }
 
 -- The station that a name finds is the only one that has it.
 abbrev pub FindsIts : Type 0
-FindsIts = (limits : FaceLimits) (h : History) (stations : List SurveyedStation) (name : List ℕ) (s : SurveyedStation) → IsWithoutFault limits h → AreStations limits h stations
+FindsIts = (limits : FaceLimits) (h : History) (stations : List SurveyedStation) (name : List ℕ)
+    (s : SurveyedStation) → IsWithoutFault limits h → AreStations limits h stations
     → (station_named name stations ≡ Some s) ↔ (Contains stations s × (s.station.name ≡ name))
 
 -- What is listed of a station is what the blocks recorded of it.
 abbrev pub IsJustRecorded : Type 0
-IsJustRecorded = (limits : FaceLimits) (h : History) (stations : List SurveyedStation) (s : SurveyedStation) (k : Key) → AreLimits limits → IsWithoutFault limits h → AreStations limits h stations → Contains stations s
+IsJustRecorded =
+    (limits : FaceLimits) (h : History) (stations : List SurveyedStation) (s : SurveyedStation)
+    (k : Key) → AreLimits limits → IsWithoutFault limits h → AreStations limits h stations
+    → Contains stations s
     → Contains (observed s.station) k ↔ IsRecorded limits h s.station.name k
 
 -- Beside what is listed of a station stand the face differences of the same readings.
 abbrev pub HasRecordedFaces : Type 0
-HasRecordedFaces = (limits : FaceLimits) (h : History) (stations : List SurveyedStation) (s : SurveyedStation) → AreStations limits h stations → Contains stations s
+HasRecordedFaces =
+    (limits : FaceLimits) (h : History) (stations : List SurveyedStation) (s : SurveyedStation)
+    → AreStations limits h stations → Contains stations s
     → AllZip (IsRecordedWith limits h s.station.name) (observed s.station) s.faces
 
 -- An accepted sheet keeps the residual limit.
 abbrev pub KeepsResiduals : Type 0
-KeepsResiduals = (station : StationValue) (sheet : SheetValue) (limit : Option ℕ) → IsAcceptedSheet station sheet limit → IfSome limit (KeepsLimit station sheet)
+KeepsResiduals = (station : StationValue) (sheet : SheetValue) (limit : Option ℕ)
+    → IsAcceptedSheet station sheet limit → IfSome limit (KeepsLimit station sheet)
 
 -- The station that a name finds is that of the lines of the file.
-pub station_found : FindsIts → IsJustRecorded → HasRecordedFaces → (limits : FaceLimits) (file : FileAnswers) (name : List ℕ) (its : SurveyedStation) → AreLimits limits → HasStation limits file name its
+pub station_found : FindsIts → IsJustRecorded → HasRecordedFaces
+    → (limits : FaceLimits) (file : FileAnswers) (name : List ℕ) (its : SurveyedStation)
+    → AreLimits limits → HasStation limits file name its
     → IsStationOfFile limits file name its
 station_found finds recorded beside limits file name its small has =
     let blocks = has.survey.blocks in
     let stations = has.stations in
     let surveyed = has.survey.stations_are in
     let well = came_well limits [] file.lines file.last blocks tt has.survey.file in
-    let in_order : well.more ≡ reverse blocks = sym (ap reverse well.split ∙ reverse-reverse well.more) in
+    let in_order : well.more
+    ≡ reverse blocks = sym (ap reverse well.split ∙ reverse-reverse well.more) in
     let found = (finds limits blocks stations name its well.faultless surveyed).0 has.named in
     record {
       blocks = blocks;
@@ -93,21 +119,35 @@ station_found finds recorded beside limits file name its small has =
       listed = found.0;
       named = found.1;
       only = λ other among same.
-          let e : Some other ≡ Some its = sym ((finds limits blocks stations name other well.faultless surveyed).1 (among, same)) ∙ has.named in cc;
-      exactly = λ k. subst (λ (n : List ℕ). Contains (observed its.station) k ↔ IsRecorded limits blocks n k) found.1 (recorded limits blocks stations its k small well.faultless surveyed found.0);
-      within = subst (λ (n : List ℕ). AllZip (IsRecordedWith limits blocks n) (observed its.station) its.faces) found.1 (beside limits blocks stations its surveyed found.0);
+          let e : Some other
+          ≡ Some its =
+          sym ((finds limits blocks stations name other well.faultless surveyed).1
+          (among, same)) ∙ has.named in cc;
+      exactly = λ k.
+          subst (λ (n : List ℕ).
+          Contains (observed its.station) k ↔ IsRecorded limits blocks n k) found.1
+          (recorded limits blocks stations its k small well.faultless surveyed found.0);
+      within = subst
+          (λ (n : List ℕ).
+          AllZip (IsRecordedWith limits blocks n) (observed its.station) its.faces) found.1
+          (beside limits blocks stations its surveyed found.0);
     }
 
 -- A sheet that was judged well is accepted.
-pub accepted_of : FindsIts → IsJustRecorded → HasRecordedFaces → KeepsResiduals → (limits : FaceLimits) (most : Option ℕ) (file : FileAnswers) (told : Told) (stations : List SurveyedStation) (a : Accepted) → AreLimits limits → IsSurvey limits file stations → IsJudgedSheet stations most told (Ok a)
+pub accepted_of : FindsIts → IsJustRecorded → HasRecordedFaces → KeepsResiduals
+    → (limits : FaceLimits) (most : Option ℕ) (file : FileAnswers) (told : Told)
+    (stations : List SurveyedStation) (a : Accepted) → AreLimits limits
+    → IsSurvey limits file stations → IsJudgedSheet stations most told (Ok a)
     → IsAccepted limits most file told a
 accepted_of finds recorded beside keeps limits most file told stations a small survey judged =
     let blocks = survey.blocks in
     let its = judged.judged.its in
     let name = judged.sheet.name in
     let well = came_well limits [] file.lines file.last blocks tt survey.file in
-    let in_order : well.more ≡ reverse blocks = sym (ap reverse well.split ∙ reverse-reverse well.more) in
-    let found = (finds limits blocks stations name its well.faultless survey.stations_are).0 judged.judged.named in
+    let in_order : well.more
+    ≡ reverse blocks = sym (ap reverse well.split ∙ reverse-reverse well.more) in
+    let found = (finds limits blocks stations name its well.faultless survey.stations_are).0
+    judged.judged.named in
     record {
       blocks = blocks;
       ended = well.ended;
@@ -122,15 +162,27 @@ accepted_of finds recorded beside keeps limits most file told stations a small s
       listed = found.0;
       named = found.1;
       only = λ other among same.
-          let e : Some other ≡ Some its = sym ((finds limits blocks stations name other well.faultless survey.stations_are).1 (among, same)) ∙ judged.judged.named in cc;
+          let e : Some other
+          ≡ Some its =
+          sym ((finds limits blocks stations name other well.faultless survey.stations_are).1
+          (among, same)) ∙ judged.judged.named in cc;
       exactly = λ k.
-          let just = recorded limits blocks stations its k small well.faultless survey.stations_are found.0 in
-          let by_name : Contains (observed its.station) k ↔ IsRecorded limits blocks name k = subst (λ (n : List ℕ). Contains (observed its.station) k ↔ IsRecorded limits blocks n k) found.1 just in
-          subst (λ (keys : List Key). Contains keys k ↔ IsRecorded limits blocks name k) (sym judged.judged.matches.rows) by_name;
+          let just = recorded limits blocks stations its k small well.faultless survey.stations_are
+          found.0 in
+          let by_name : Contains (observed its.station) k ↔ IsRecorded limits blocks name k =
+          subst (λ (n : List ℕ).
+          Contains (observed its.station) k ↔ IsRecorded limits blocks n k) found.1 just in
+          subst (λ (keys : List Key). Contains keys k ↔ IsRecorded limits blocks name k)
+          (sym judged.judged.matches.rows) by_name;
       matches = judged.judged.matches;
       within =
-          let by_name : AllZip (IsRecordedWith limits blocks name) (observed its.station) its.faces = subst (λ (n : List ℕ). AllZip (IsRecordedWith limits blocks n) (observed its.station) its.faces) found.1 (beside limits blocks stations its survey.stations_are found.0) in
-          subst (λ (keys : List Key). AllZip (IsRecordedWith limits blocks name) keys its.faces) (sym judged.judged.matches.rows) by_name;
+          let by_name : AllZip (IsRecordedWith limits blocks name)
+          (observed its.station) its.faces =
+          subst (λ (n : List ℕ).
+          AllZip (IsRecordedWith limits blocks n) (observed its.station) its.faces) found.1
+          (beside limits blocks stations its survey.stations_are found.0) in
+          subst (λ (keys : List Key). AllZip (IsRecordedWith limits blocks name) keys its.faces)
+          (sym judged.judged.matches.rows) by_name;
       least = judged.judged.squares.0.least;
       unique = judged.judged.squares.0.unique;
       limited = keeps its.station judged.sheet most (a, judged.judged.verdict);
@@ -140,10 +192,16 @@ accepted_of finds recorded beside keeps limits most file told stations a small s
 
 -- what the law `acceptance` says
 abbrev pub Accepts : Type 0
-Accepts = (limits : FaceLimits) (most : Option ℕ) (file : FileAnswers) (told : Told) (stations : List SurveyedStation) (a : Accepted) → AreLimits limits → IsSurvey limits file stations → IsJudgedSheet stations most told (Ok a) → IsAccepted limits most file told a
+Accepts = (limits : FaceLimits) (most : Option ℕ) (file : FileAnswers) (told : Told)
+    (stations : List SurveyedStation) (a : Accepted) → AreLimits limits
+    → IsSurvey limits file stations → IsJudgedSheet stations most told (Ok a)
+    → IsAccepted limits most file told a
 
 -- the same of an answer
-pub accepted_so : Accepts → (limits : FaceLimits) → AreLimits limits → (most : Option ℕ) (file : FileAnswers) (told : Told) (stations : List SurveyedStation) (r : Result Accepted Fault) → IsSurvey limits file stations
+pub accepted_so : Accepts → (limits : FaceLimits) → AreLimits limits
+    → (most : Option ℕ) (file : FileAnswers) (told : Told) (stations : List SurveyedStation)
+    (r : Result Accepted Fault) → IsSurvey limits file stations
     → IfKernels (IsJudgedSheet stations most told) r → IfOk r (IsAccepted limits most file told)
-accepted_so accepts limits small most file told stations (Ok a) s j = accepts limits most file told stations a small s j
+accepted_so accepts limits small most file told stations (Ok a) s j =
+    accepts limits most file told stations a small s j
 accepted_so accepts limits small most file told stations (Err fault) s j = tt

@@ -14,7 +14,7 @@ use Rattle.station_book.specs.Stations.{SurveyedStation}
 use Rattle.station_book.proofs.LawLemmas as book
 use Rattle.station_check.specs.declared.fault.Fault.{Fault}
 use Rattle.station_check.specs.Means.{HasStation}
-use Rattle.station_check.specs.Records.{FileComesTo}
+use Rattle.station_check.specs.Outcomes.{FileComesTo}
 use Rattle.station_check.specs.StationOfFile.{IsStationOfFile}
 use Rattle.station_check.specs.Verdicts.{IsWholeVerdict}
 use Rattle.station_check.proofs.Acceptance.{Accepts, accepted_of, station_found}

@@ -9,9 +9,11 @@ use Rattle.sheet_format.specs.declared.reading.TheConstants.{LONGEST_SHEET}
 use Rattle.station_book.specs.Limits.{FaceLimits, AreLimits}
 use Rattle.station_book.specs.Stations.{SurveyedStation}
 use Rattle.station_check.specs.declared.fault.Fault.{Fault}
-use Rattle.station_check.specs.declared.fault.Fault.TheVariants.{Gsi, Book, SheetRead, Sheet, NoStation, Means, Kernel, Write, Memory}
-use Rattle.station_check.specs.Causes.{IsOfFile, IsOfSheet}
-use Rattle.station_check.specs.Judged.{IsChecked}
+use Rattle.station_check.specs.declared.fault.Fault.TheVariants.{Gsi, Book, SheetRead, Sheet}
+use Rattle.station_check.specs.declared.fault.Fault.TheVariants.{NoStation, Means, Kernel, Write}
+use Rattle.station_check.specs.declared.fault.Fault.TheVariants.{Memory}
+use Rattle.station_check.specs.Answerable.{IsOfFile, IsOfSheet}
+use Rattle.station_check.specs.KernelVerdicts.{IsChecked}
 use Rattle.station_check.specs.Promise.{KeepsPromise}
 use Rattle.station_check.specs.Surveys.{Surveys, IsSurvey}
 use Rattle.station_check.specs.Verdicts.{BySheet, AnswersVerdict}
@@ -21,14 +23,21 @@ use Rattle.station_check.proofs.OneVerdict.{only_verdict}
 use Rattle.station_check.proofs.Refusals.{refused_so, told_of_file, none_first, first}
 
 -- the whole verdict on a sheet that was checked by a file's stations
-verdict_of : (limits : FaceLimits) (most : Option ℕ) (file : FileAnswers) (stated : Told) (stations : List SurveyedStation) (r : Result Accepted Fault) → IsSurvey limits file stations → IsChecked stations most stated r → AnswersVerdict limits most file stated r
+verdict_of : (limits : FaceLimits) (most : Option ℕ) (file : FileAnswers) (stated : Told)
+    (stations : List SurveyedStation) (r : Result Accepted Fault) → IsSurvey limits file stations
+    → IsChecked stations most stated r → AnswersVerdict limits most file stated r
 verdict_of limits most file stated stations r s c = by_checked c.verdict where
-  by_checked : (r ≡ Err Memory) ⊎ BySheet stations most (input_within LONGEST_SHEET stated) r → AnswersVerdict limits most file stated r
+  by_checked : (r ≡ Err Memory) ⊎ BySheet stations most (input_within LONGEST_SHEET stated) r
+      → AnswersVerdict limits most file stated r
   by_checked (inl e) = inl e
-  by_checked (inr h) = inr (record { came = Ok s.blocks; comes = s.file; verdict = (stations, s.stations_are, h) })
+  by_checked (inr h) =
+      inr (record { came = Ok s.blocks; comes = s.file; verdict = (stations, s.stations_are, h) })
 
 -- The promise, where the field file has stations.
-pub promise_by_sheet : (limits : FaceLimits) → AreLimits limits → (most : Option ℕ) (file : FileAnswers) (stated : Told) (stations : List SurveyedStation) (r : Result Accepted Fault) → IsSurvey limits file stations → IfErr r IsOfSheet → IsChecked stations most stated r
+pub promise_by_sheet : (limits : FaceLimits) → AreLimits limits
+    → (most : Option ℕ) (file : FileAnswers) (stated : Told) (stations : List SurveyedStation)
+    (r : Result Accepted Fault) → IsSurvey limits file stations → IfErr r IsOfSheet
+    → IsChecked stations most stated r
     → KeepsPromise limits most file stated r
 promise_by_sheet limits small most file stated stations r s o c =
     let verdict = verdict_of limits most file stated stations r s c in
@@ -41,19 +50,31 @@ promise_by_sheet limits small most file stated stations r s o c =
     }
 
 -- the whole verdict, where the field file has a fault
-file_verdict : (limits : FaceLimits) (most : Option ℕ) (file : FileAnswers) (stated : Told) (fault : Fault) → Surveys limits file (Err fault) → AnswersVerdict limits most file stated (Err fault)
+file_verdict : (limits : FaceLimits) (most : Option ℕ) (file : FileAnswers) (stated : Told)
+    (fault : Fault) → Surveys limits file (Err fault)
+    → AnswersVerdict limits most file stated (Err fault)
 file_verdict limits most file stated Memory h = inl refl
-file_verdict limits most file stated (Gsi fault) h = inr (record { came = Err (Gsi fault); comes = h; verdict = refl })
-file_verdict limits most file stated (Book fault) h = inr (record { came = Err (Book fault); comes = h; verdict = refl })
-file_verdict limits most file stated SheetRead h = inr (record { came = Err SheetRead; comes = h; verdict = refl })
-file_verdict limits most file stated (Sheet fault) h = inr (record { came = Err (Sheet fault); comes = h; verdict = refl })
-file_verdict limits most file stated NoStation h = inr (record { came = Err NoStation; comes = h; verdict = refl })
-file_verdict limits most file stated (Means fault) h = inr (record { came = Err (Means fault); comes = h; verdict = refl })
-file_verdict limits most file stated (Kernel fault) h = inr (record { came = Err (Kernel fault); comes = h; verdict = refl })
-file_verdict limits most file stated Write h = inr (record { came = Err Write; comes = h; verdict = refl })
+file_verdict limits most file stated (Gsi fault) h =
+    inr (record { came = Err (Gsi fault); comes = h; verdict = refl })
+file_verdict limits most file stated (Book fault) h =
+    inr (record { came = Err (Book fault); comes = h; verdict = refl })
+file_verdict limits most file stated SheetRead h =
+    inr (record { came = Err SheetRead; comes = h; verdict = refl })
+file_verdict limits most file stated (Sheet fault) h =
+    inr (record { came = Err (Sheet fault); comes = h; verdict = refl })
+file_verdict limits most file stated NoStation h =
+    inr (record { came = Err NoStation; comes = h; verdict = refl })
+file_verdict limits most file stated (Means fault) h =
+    inr (record { came = Err (Means fault); comes = h; verdict = refl })
+file_verdict limits most file stated (Kernel fault) h =
+    inr (record { came = Err (Kernel fault); comes = h; verdict = refl })
+file_verdict limits most file stated Write h =
+    inr (record { came = Err Write; comes = h; verdict = refl })
 
 -- The promise, where the field file has a fault.
-pub promise_by_file : (limits : FaceLimits) → AreLimits limits → (most : Option ℕ) (file : FileAnswers) (stated : Told) (fault : Fault) → IsOfFile fault → Surveys limits file (Err fault) → KeepsPromise limits most file stated (Err fault)
+pub promise_by_file : (limits : FaceLimits) → AreLimits limits
+    → (most : Option ℕ) (file : FileAnswers) (stated : Told) (fault : Fault) → IsOfFile fault
+    → Surveys limits file (Err fault) → KeepsPromise limits most file stated (Err fault)
 promise_by_file limits small most file stated fault o h =
     let verdict = file_verdict limits most file stated fault h in
     record {

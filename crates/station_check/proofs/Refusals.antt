@@ -1,5 +1,6 @@
 -- From what a field file and a sheet come to, to what a refusal says.
-use Rattle.std.proofs.Common.{◌≡◌, ℕ, List, [], Option, Some, None, Result, Ok, Err, refl, sym, subst, ◌∙◌, ◌⊎◌, inl, inr}
+use Rattle.std.proofs.Common.{◌≡◌, ℕ, List, [], Option, Some, None, Result, Ok, Err, refl, sym}
+use Rattle.std.proofs.Common.{subst, ◌∙◌, ◌⊎◌, inl, inr}
 use Rattle.std.specs.Prelude.{IfErr}
 use Rattle.byte_ends.specs.Source.{Told}
 use Rattle.byte_ends.specs.Input.{Input, input_within, Ended, BrokeOff, RanPast}
@@ -19,53 +20,67 @@ use Rattle.station_book.specs.Limits.{FaceLimits}
 use Rattle.station_book.specs.Places.{History}
 use Rattle.station_book.specs.Stations.{SurveyedStation, station_named}
 use Rattle.station_check.specs.declared.fault.Fault.{Fault}
-use Rattle.station_check.specs.declared.fault.Fault.TheVariants.{Gsi, Book, SheetRead, Sheet, NoStation, Means, Kernel, Write, Memory}
+use Rattle.station_check.specs.declared.fault.Fault.TheVariants.{Gsi, Book, SheetRead, Sheet}
+use Rattle.station_check.specs.declared.fault.Fault.TheVariants.{NoStation, Means, Kernel, Write}
+use Rattle.station_check.specs.declared.fault.Fault.TheVariants.{Memory}
 use Rattle.station_check.specs.Surveys.{IsSurvey, Surveys}
 use Rattle.station_check.specs.Verdicts.{ByStation, BySheet, by_kernel}
-use Rattle.station_check.specs.Judged.{IsJudgedSheet, IfKernels}
-use Rattle.station_check.specs.Causes.{IsOfFile, IsOfSheet, IsOfCheck}
-use Rattle.station_check.specs.Records.{FileComesTo}
-use Rattle.station_check.specs.Refused.{IsFaultOfInput, IsFileFirst, IsRefusedByName, IsRefusedByKernel, TellsOfRefusal}
+use Rattle.station_check.specs.KernelVerdicts.{IsJudgedSheet, IfKernels}
+use Rattle.station_check.specs.Answerable.{IsOfFile, IsOfSheet, IsOfCheck}
+use Rattle.station_check.specs.Outcomes.{FileComesTo}
+use Rattle.station_check.specs.Refused.{IsFaultOfInput, IsFileFirst, IsRefusedByName}
+use Rattle.station_check.specs.Refused.{IsRefusedByKernel, TellsOfRefusal}
 use Rattle.station_check.proofs.Acceptance.{FindsIts, came_well}
 use Rattle.station_check.proofs.FirstFaultLaws.{is_first}
 use Rattle.station_check.proofs.Named.{has_name}
 
 -- a refusal by the kernel's verdict is the kernel's
-by_kernel_alone : (fault : Fault) (v : Result Accepted KernelFault) → Err fault ≡ by_kernel v → (k : KernelFault) × (fault ≡ Kernel k)
+by_kernel_alone : (fault : Fault) (v : Result Accepted KernelFault) → Err fault
+    ≡ by_kernel v → (k : KernelFault) × (fault ≡ Kernel k)
 by_kernel_alone fault (Ok a) e = cc
 by_kernel_alone fault (Err k) e = (k, cc)
 
 -- A refusal by the station is that there is none, or the kernel's.
-by_station_alone : (its : Option SurveyedStation) (sheet : SheetValue) (most : Option ℕ) (fault : Fault) → ByStation its sheet most (Err fault)
+by_station_alone : (its : Option SurveyedStation) (sheet : SheetValue) (most : Option ℕ)
+    (fault : Fault) → ByStation its sheet most (Err fault)
     → ((its ≡ None) × (fault ≡ NoStation)) ⊎ ((k : KernelFault) × (fault ≡ Kernel k))
 by_station_alone None sheet most fault h = inl (refl, cc)
 by_station_alone (Some its) sheet most fault h = inr (by_kernel_alone fault h.0 h.2)
 
 -- The verdict by a sheet is no failed read, and no fault of the sheet's bytes.
-no_read : (its : Option SurveyedStation) (sheet : SheetValue) (most : Option ℕ) → ((its ≡ None) × (SheetRead ≡ NoStation)) ⊎ ((k : KernelFault) × (SheetRead ≡ Kernel k)) → ⊥
+no_read : (its : Option SurveyedStation) (sheet : SheetValue) (most : Option ℕ)
+    → ((its ≡ None) × (SheetRead ≡ NoStation)) ⊎ ((k : KernelFault) × (SheetRead ≡ Kernel k)) → ⊥
 no_read its sheet most (inl h) = let e = h.1 in cc
 no_read its sheet most (inr h) = let e = h.1 in cc
 
-no_text : (its : Option SurveyedStation) (sheet : SheetValue) (most : Option ℕ) (fault : SheetFault) → ((its ≡ None) × (Sheet fault ≡ NoStation)) ⊎ ((k : KernelFault) × (Sheet fault ≡ Kernel k)) → ⊥
+no_text : (its : Option SurveyedStation) (sheet : SheetValue) (most : Option ℕ) (fault : SheetFault)
+    → ((its ≡ None) × (Sheet fault ≡ NoStation)) ⊎ ((k : KernelFault) × (Sheet fault ≡ Kernel k))
+    → ⊥
 no_text its sheet most fault (inl h) = let e = h.1 in cc
 no_text its sheet most fault (inr h) = let e = h.1 in cc
 
 -- where a read failed, the sheet's reader broke off
-read_says : (stations : List SurveyedStation) (most : Option ℕ) (input : Input) → BySheet stations most input (Err SheetRead) → (bytes : List ℕ) × (input ≡ BrokeOff bytes)
+read_says : (stations : List SurveyedStation) (most : Option ℕ) (input : Input)
+    → BySheet stations most input (Err SheetRead) → (bytes : List ℕ) × (input ≡ BrokeOff bytes)
 read_says stations most (BrokeOff bytes) h = (bytes, refl)
 read_says stations most RanPast h = cc
 read_says stations most (Ended bytes) (inl h) = let e = h.answer in cc
-read_says stations most (Ended bytes) (inr h) = absurd (no_read (station_named h.sheet.name stations) h.sheet most (by_station_alone (station_named h.sheet.name stations) h.sheet most SheetRead h.verdict))
+read_says stations most (Ended bytes) (inr h) =
+    absurd (no_read (station_named h.sheet.name stations) h.sheet most
+    (by_station_alone (station_named h.sheet.name stations) h.sheet most SheetRead h.verdict))
 
 -- a fault of the sheet's bytes is theirs
-text_says : (stations : List SurveyedStation) (most : Option ℕ) (input : Input) (fault : SheetFault) → BySheet stations most input (Err (Sheet fault)) → IsFaultOfInput input fault
+text_says : (stations : List SurveyedStation) (most : Option ℕ) (input : Input) (fault : SheetFault)
+    → BySheet stations most input (Err (Sheet fault)) → IsFaultOfInput input fault
 text_says stations most (BrokeOff bytes) fault h = cc
 text_says stations most RanPast fault h = cc
 text_says stations most (Ended bytes) fault (inl h) =
     let e = h.answer in
     let same : h.fault ≡ fault = cc in
     subst (λ (f : SheetFault). IsSheetFault bytes f) same h.stands
-text_says stations most (Ended bytes) fault (inr h) = absurd (no_text (station_named h.sheet.name stations) h.sheet most fault (by_station_alone (station_named h.sheet.name stations) h.sheet most (Sheet fault) h.verdict))
+text_says stations most (Ended bytes) fault (inr h) =
+    absurd (no_text (station_named h.sheet.name stations) h.sheet most fault
+    (by_station_alone (station_named h.sheet.name stations) h.sheet most (Sheet fault) h.verdict))
 
 -- no station was found by the name of the sheet of these bytes
 record FindsNone (stations : List SurveyedStation) (input : Input) : Type 0 where
@@ -75,11 +90,13 @@ record FindsNone (stations : List SurveyedStation) (input : Input) : Type 0 wher
   pub states : IsSheetText bytes sheet
   pub none : station_named sheet.name stations ≡ None
 
-none_found : (its : Option SurveyedStation) → ((its ≡ None) × (NoStation ≡ NoStation)) ⊎ ((k : KernelFault) × (NoStation ≡ Kernel k)) → its ≡ None
+none_found : (its : Option SurveyedStation) → ((its ≡ None) × (NoStation ≡ NoStation))
+    ⊎ ((k : KernelFault) × (NoStation ≡ Kernel k)) → its ≡ None
 none_found its (inl h) = h.0
 none_found its (inr h) = let e = h.1 in cc
 
-name_says : (stations : List SurveyedStation) (most : Option ℕ) (input : Input) → BySheet stations most input (Err NoStation) → FindsNone stations input
+name_says : (stations : List SurveyedStation) (most : Option ℕ) (input : Input)
+    → BySheet stations most input (Err NoStation) → FindsNone stations input
 name_says stations most (BrokeOff bytes) h = cc
 name_says stations most RanPast h = cc
 name_says stations most (Ended bytes) (inl h) = let e = h.answer in cc
@@ -88,11 +105,15 @@ name_says stations most (Ended bytes) (inr h) = record {
   whole = refl;
   sheet = h.sheet;
   states = h.text;
-  none = none_found (station_named h.sheet.name stations) (by_station_alone (station_named h.sheet.name stations) h.sheet most NoStation h.verdict);
+  none = none_found (station_named h.sheet.name stations)
+      (by_station_alone (station_named h.sheet.name stations) h.sheet most NoStation h.verdict);
 }
 
 -- A sheet of a name that no station has is refused so.
-unnamed : FindsIts → (limits : FaceLimits) (file : FileAnswers) (told : Told) (stations : List SurveyedStation) → IsSurvey limits file stations → FindsNone stations (input_within LONGEST_SHEET told) → IsRefusedByName limits file told
+unnamed : FindsIts
+    → (limits : FaceLimits) (file : FileAnswers) (told : Told) (stations : List SurveyedStation)
+    → IsSurvey limits file stations → FindsNone stations (input_within LONGEST_SHEET told)
+    → IsRefusedByName limits file told
 unnamed finds limits file told stations survey found =
     let blocks = survey.blocks in
     let well = came_well limits [] file.lines file.last blocks tt survey.file in
@@ -102,11 +123,16 @@ unnamed finds limits file told stations survey found =
       sheet = found.sheet;
       states = record { bytes = found.bytes; whole = found.whole; states = found.states };
       absent = λ other among same.
-          let e : Some other ≡ None = sym ((finds limits blocks stations found.sheet.name other well.faultless survey.stations_are).1 (among, same)) ∙ found.none in cc;
+          let e : Some other
+          ≡ None = sym
+          ((finds limits blocks stations found.sheet.name other well.faultless
+          survey.stations_are).1 (among, same)) ∙ found.none in cc;
     }
 
 -- A sheet that was judged badly is refused so.
-judged_badly : (limits : FaceLimits) (most : Option ℕ) (file : FileAnswers) (told : Told) (stations : List SurveyedStation) (fault : KernelFault) → IsSurvey limits file stations → IsJudgedSheet stations most told (Err fault) → IsRefusedByKernel limits most file told fault
+judged_badly : (limits : FaceLimits) (most : Option ℕ) (file : FileAnswers) (told : Told)
+    (stations : List SurveyedStation) (fault : KernelFault) → IsSurvey limits file stations
+    → IsJudgedSheet stations most told (Err fault) → IsRefusedByKernel limits most file told fault
 judged_badly limits most file told stations fault survey judged = record {
   stations = stations;
   survey = survey;
@@ -119,42 +145,80 @@ judged_badly limits most file told stations fault survey judged = record {
 }
 
 -- what a refusal from the sheet on says
-pub refused_of : FindsIts → (limits : FaceLimits) (most : Option ℕ) (file : FileAnswers) (told : Told) (stations : List SurveyedStation) (fault : Fault) → IsSurvey limits file stations → IsOfSheet fault
-    → IfKernels (IsJudgedSheet stations most told) (Err fault) → BySheet stations most (input_within LONGEST_SHEET told) (Err fault) → TellsOfRefusal limits most file told fault
+pub refused_of : FindsIts
+    → (limits : FaceLimits) (most : Option ℕ) (file : FileAnswers) (told : Told)
+    (stations : List SurveyedStation) (fault : Fault) → IsSurvey limits file stations
+    → IsOfSheet fault
+    → IfKernels (IsJudgedSheet stations most told) (Err fault)
+    → BySheet stations most (input_within LONGEST_SHEET told) (Err fault)
+    → TellsOfRefusal limits most file told fault
 refused_of finds limits most file told stations (Gsi fault) s o j h = absurd o
 refused_of finds limits most file told stations (Book fault) s o j h = absurd o
-refused_of finds limits most file told stations SheetRead s o j h = record { stations = stations; survey = s; broke_off = read_says stations most (input_within LONGEST_SHEET told) h }
-refused_of finds limits most file told stations (Sheet fault) s o j h = record { stations = stations; survey = s; first = text_says stations most (input_within LONGEST_SHEET told) fault h }
-refused_of finds limits most file told stations NoStation s o j h = unnamed finds limits file told stations s (name_says stations most (input_within LONGEST_SHEET told) h)
+refused_of finds limits most file told stations SheetRead s o j h =
+    record {
+      stations = stations;
+      survey = s;
+      broke_off =
+          read_says stations most (input_within LONGEST_SHEET told) h;
+    }
+refused_of finds limits most file told stations (Sheet fault) s o j h =
+    record {
+      stations = stations;
+      survey = s;
+      first =
+          text_says stations most (input_within LONGEST_SHEET told) fault h;
+    }
+refused_of finds limits most file told stations NoStation s o j h =
+    unnamed finds limits file told stations s
+    (name_says stations most (input_within LONGEST_SHEET told) h)
 refused_of finds limits most file told stations (Means fault) s o j h = absurd o
-refused_of finds limits most file told stations (Kernel fault) s o j h = judged_badly limits most file told stations fault s j
+refused_of finds limits most file told stations (Kernel fault) s o j h =
+    judged_badly limits most file told stations fault s j
 refused_of finds limits most file told stations Write s o j h = absurd o
 refused_of finds limits most file told stations Memory s o j h = tt
 
 -- what the law `refusal` says
 abbrev pub Refuses : Type 0
-Refuses = (limits : FaceLimits) (most : Option ℕ) (file : FileAnswers) (told : Told) (stations : List SurveyedStation) (fault : Fault) → IsSurvey limits file stations → IsOfSheet fault
-    → IfKernels (IsJudgedSheet stations most told) (Err fault) → BySheet stations most (input_within LONGEST_SHEET told) (Err fault) → TellsOfRefusal limits most file told fault
+Refuses = (limits : FaceLimits) (most : Option ℕ) (file : FileAnswers) (told : Told)
+    (stations : List SurveyedStation) (fault : Fault) → IsSurvey limits file stations
+    → IsOfSheet fault
+    → IfKernels (IsJudgedSheet stations most told) (Err fault)
+    → BySheet stations most (input_within LONGEST_SHEET told) (Err fault)
+    → TellsOfRefusal limits most file told fault
 
 -- the answer by a sheet is its verdict, or that there was no memory
 abbrev pub AnswersSheet : List SurveyedStation → Option ℕ → Told → Result Accepted Fault → Type 0
-AnswersSheet stations most told r = (r ≡ Err Memory) ⊎ BySheet stations most (input_within LONGEST_SHEET told) r
+AnswersSheet stations most told r = (r ≡ Err Memory)
+    ⊎ BySheet stations most (input_within LONGEST_SHEET told) r
 
-by_answer : Refuses → (limits : FaceLimits) (most : Option ℕ) (file : FileAnswers) (told : Told) (stations : List SurveyedStation) (fault : Fault) → IsSurvey limits file stations → IsOfSheet fault
-    → IfKernels (IsJudgedSheet stations most told) (Err fault) → (◌≡◌ {A = Result Accepted Fault} (Err fault) (Err Memory)) ⊎ BySheet stations most (input_within LONGEST_SHEET told) (Err fault) → TellsOfRefusal limits most file told fault
+by_answer : Refuses
+    → (limits : FaceLimits) (most : Option ℕ) (file : FileAnswers) (told : Told)
+    (stations : List SurveyedStation) (fault : Fault) → IsSurvey limits file stations
+    → IsOfSheet fault
+    → IfKernels (IsJudgedSheet stations most told) (Err fault)
+    → (◌≡◌ {A = Result Accepted Fault} (Err fault) (Err Memory))
+    ⊎ BySheet stations most (input_within LONGEST_SHEET told) (Err fault)
+    → TellsOfRefusal limits most file told fault
 by_answer refuses limits most file told stations fault s o j (inl e) =
     let same : Memory ≡ fault = cc in
     subst (λ (f : Fault). TellsOfRefusal limits most file told f) same tt
-by_answer refuses limits most file told stations fault s o j (inr h) = refuses limits most file told stations fault s o j h
+by_answer refuses limits most file told stations fault s o j (inr h) =
+    refuses limits most file told stations fault s o j h
 
 -- A refusal of a sheet says so.
-pub refused_so : Refuses → (limits : FaceLimits) (most : Option ℕ) (file : FileAnswers) (told : Told) (stations : List SurveyedStation) (r : Result Accepted Fault) → IsSurvey limits file stations
-    → IfErr r IsOfSheet → IfKernels (IsJudgedSheet stations most told) r → AnswersSheet stations most told r → IfErr r (TellsOfRefusal limits most file told)
+pub refused_so : Refuses
+    → (limits : FaceLimits) (most : Option ℕ) (file : FileAnswers) (told : Told)
+    (stations : List SurveyedStation) (r : Result Accepted Fault) → IsSurvey limits file stations
+    → IfErr r IsOfSheet → IfKernels (IsJudgedSheet stations most told) r
+    → AnswersSheet stations most told r → IfErr r (TellsOfRefusal limits most file told)
 refused_so refuses limits most file told stations (Ok a) s o j h = tt
-refused_so refuses limits most file told stations (Err fault) s o j h = by_answer refuses limits most file told stations fault s o j h
+refused_so refuses limits most file told stations (Err fault) s o j h =
+    by_answer refuses limits most file told stations fault s o j h
 
 -- A fault of the field file is told.
-pub told_of_file : (limits : FaceLimits) (most : Option ℕ) (file : FileAnswers) (told : Told) (fault : Fault) → IsOfFile fault → Surveys limits file (Err fault) → TellsOfRefusal limits most file told fault
+pub told_of_file : (limits : FaceLimits) (most : Option ℕ) (file : FileAnswers) (told : Told)
+    (fault : Fault) → IsOfFile fault → Surveys limits file (Err fault)
+    → TellsOfRefusal limits most file told fault
 told_of_file limits most file told (Gsi fault) o h = is_first limits file (Gsi fault) h
 told_of_file limits most file told (Book fault) o h = is_first limits file (Book fault) h
 told_of_file limits most file told SheetRead o h = absurd o
@@ -167,19 +231,25 @@ told_of_file limits most file told Memory o h = tt
 
 -- A file comes to one thing at most.
 abbrev pub HasOneOutcome : Type 0
-HasOneOutcome = (limits : FaceLimits) (answers : FileAnswers) (r s : Result History Fault) → FileComesTo limits answers r → FileComesTo limits answers s → r ≡ s
+HasOneOutcome = (limits : FaceLimits) (answers : FileAnswers) (r s : Result History Fault)
+    → FileComesTo limits answers r → FileComesTo limits answers s → r ≡ s
 
 -- A file that ended without a fault comes to none.
-pub none_first : HasOneOutcome → (limits : FaceLimits) (file : FileAnswers) (stations : List SurveyedStation) (r : Result Accepted Fault) → IsSurvey limits file stations → IsFileFirst limits file r
+pub none_first : HasOneOutcome
+    → (limits : FaceLimits) (file : FileAnswers) (stations : List SurveyedStation)
+    (r : Result Accepted Fault) → IsSurvey limits file stations → IsFileFirst limits file r
 none_first one limits file stations r s =
-    λ fault h. let e : Ok s.blocks ≡ Err fault = one limits file (Ok s.blocks) (Err fault) s.file h in cc
+    λ fault h. let e : Ok s.blocks
+    ≡ Err fault = one limits file (Ok s.blocks) (Err fault) s.file h in cc
 
 -- The fault that is answered is the one that the file comes to.
-its_first : HasOneOutcome → (limits : FaceLimits) (file : FileAnswers) (fault : Fault) → FileComesTo limits file (Err fault) → IsFileFirst limits file (Err fault)
+its_first : HasOneOutcome → (limits : FaceLimits) (file : FileAnswers) (fault : Fault)
+    → FileComesTo limits file (Err fault) → IsFileFirst limits file (Err fault)
 its_first one limits file fault k =
     λ other h. let e : Err fault ≡ Err other = one limits file (Err fault) (Err other) k h in inr cc
 
-pub first : HasOneOutcome → (limits : FaceLimits) (file : FileAnswers) (fault : Fault) → Surveys limits file (Err fault) → IsFileFirst limits file (Err fault)
+pub first : HasOneOutcome → (limits : FaceLimits) (file : FileAnswers) (fault : Fault)
+    → Surveys limits file (Err fault) → IsFileFirst limits file (Err fault)
 first one limits file (Gsi fault) h = its_first one limits file (Gsi fault) h
 first one limits file (Book fault) h = its_first one limits file (Book fault) h
 first one limits file SheetRead h = its_first one limits file SheetRead h
@@ -191,8 +261,11 @@ first one limits file Write h = its_first one limits file Write h
 first one limits file Memory h = λ other k. inl refl
 
 -- The kernel's fault by the station of the sheet's name is never that the sheet is of another.
-pub of_its_station : (stations : List SurveyedStation) (its : SurveyedStation) (sheet : SheetValue) (most : Option ℕ) (fault : KernelFault) → station_named sheet.name stations ≡ Some its → IsVerdict its.station sheet most (Err fault) → IsOfSheet (Kernel fault)
-of_its_station stations its sheet most kernel.Name e v = absurd (v.0 (sym (has_name sheet.name stations its e)))
+pub of_its_station : (stations : List SurveyedStation) (its : SurveyedStation) (sheet : SheetValue)
+    (most : Option ℕ) (fault : KernelFault) → station_named sheet.name stations
+    ≡ Some its → IsVerdict its.station sheet most (Err fault) → IsOfSheet (Kernel fault)
+of_its_station stations its sheet most kernel.Name e v =
+    absurd (v.0 (sym (has_name sheet.name stations its e)))
 of_its_station stations its sheet most (kernel.TargetRow n) e v = tt
 of_its_station stations its sheet most (kernel.SetRow n) e v = tt
 of_its_station stations its sheet most (kernel.ObsRow n) e v = tt

@@ -18,7 +18,8 @@ use Rattle.sheet_means.specs.declared.fault.MeansFault.{MeansFault}
 use Rattle.sheet_means.specs.declared.fault.MeansFault.TheVariants as means
 use Rattle.station_check.specs.declared.fault.Fault.{Fault}
 use Rattle.station_check.specs.declared.fault.Fault.TheVariants.{Gsi, Book, SheetRead, Sheet}
-use Rattle.station_check.specs.declared.fault.Fault.TheVariants.{NoStation, Means, Kernel, Write, Memory}
+use Rattle.station_check.specs.declared.fault.Fault.TheVariants.{NoStation, Means, Kernel, Write}
+use Rattle.station_check.specs.declared.fault.Fault.TheVariants.{Memory}
 
 -- a fault of the lines as one of a run
 abbrev pub of_lines : FileFault → Fault

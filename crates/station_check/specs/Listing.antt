@@ -8,7 +8,7 @@ use Rattle.station_book.specs.Stations.{SurveyedStation}
 use Rattle.station_check.specs.declared.fault.Fault.{Fault}
 use Rattle.station_check.specs.declared.fault.Fault.TheVariants.{Write, Memory}
 use Rattle.station_check.specs.ListTexts.{list_text}
-use Rattle.station_check.specs.Records.{FileComesTo}
+use Rattle.station_check.specs.Outcomes.{FileComesTo}
 use Rattle.station_check.specs.Surveys.{IsSurvey}
 
 -- The file ended without a fault, and this is the list of its stations.

@@ -13,7 +13,7 @@ use Rattle.station_book.specs.Limits.{FaceLimits}
 use Rattle.station_book.specs.Stations.{SurveyedStation, station_named}
 use Rattle.station_check.specs.declared.fault.Fault.{Fault}
 use Rattle.station_check.specs.declared.fault.Fault.TheVariants.{NoStation, Means, Write, Memory}
-use Rattle.station_check.specs.Records.{FileComesTo}
+use Rattle.station_check.specs.Outcomes.{FileComesTo}
 use Rattle.station_check.specs.Surveys.{IsSurvey}
 use Rattle.station_check.specs.Verdicts.{IsWholeVerdict}
 

@@ -8,7 +8,7 @@ use Rattle.station_book.specs.Limits.{FaceLimits}
 use Rattle.station_check.specs.declared.fault.Fault.{Fault}
 use Rattle.station_check.specs.Accepted.{IsAccepted}
 use Rattle.station_check.specs.Came.{SomeLinesCame}
-use Rattle.station_check.specs.Causes.{IsOfCheck}
+use Rattle.station_check.specs.Answerable.{IsOfCheck}
 use Rattle.station_check.specs.Refused.{TellsOfRefusal, IsFileFirst, IsUnreadAtFileFault}
 use Rattle.station_check.specs.SheetInput.{LeavesReader}
 use Rattle.station_check.specs.Verdicts.{AnswersVerdict, IsOnlyVerdict}

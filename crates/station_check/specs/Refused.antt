@@ -20,7 +20,7 @@ use Rattle.station_check.specs.declared.fault.Fault.TheVariants.{Gsi, Book, Shee
 use Rattle.station_check.specs.declared.fault.Fault.TheVariants.{NoStation, Kernel, Memory}
 use Rattle.station_check.specs.Accepted.{StatesSheet}
 use Rattle.station_check.specs.FirstFault.{IsFirstFault}
-use Rattle.station_check.specs.Records.{FileComesTo}
+use Rattle.station_check.specs.Outcomes.{FileComesTo}
 use Rattle.station_check.specs.Surveys.{IsSurvey}
 
 -- A fault of the field file is its first, whatever the sheet is.
@@ -61,7 +61,8 @@ pub record IsRefusedByRead (limits : FaceLimits) (file : FileAnswers) (stated : 
   pub broke_off : BreaksOff stated
 
 -- The sheet's bytes have this first fault.
-pub record IsRefusedByText (limits : FaceLimits) (file : FileAnswers) (stated : Told) (fault : SheetFault)
+pub record IsRefusedByText (limits : FaceLimits) (file : FileAnswers) (stated : Told)
+    (fault : SheetFault)
     : Type 0 where
   -- The field file ended without a fault, and has these stations.
   pub stations : List SurveyedStation
@@ -104,6 +105,7 @@ TellsOfRefusal limits most file stated (Book fault) = TellsOfFile limits file (B
 TellsOfRefusal limits most file stated SheetRead = IsRefusedByRead limits file stated
 TellsOfRefusal limits most file stated (Sheet fault) = IsRefusedByText limits file stated fault
 TellsOfRefusal limits most file stated NoStation = IsRefusedByName limits file stated
-TellsOfRefusal limits most file stated (Kernel fault) = IsRefusedByKernel limits most file stated fault
+TellsOfRefusal limits most file stated (Kernel fault) =
+    IsRefusedByKernel limits most file stated fault
 TellsOfRefusal limits most file stated Memory = Unit {0}
 TellsOfRefusal limits most file stated fault = ⊥

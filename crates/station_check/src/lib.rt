@@ -11,8 +11,8 @@
 //! | `stations_of_file` | the stations of a field file, for what else is made of them |
 //! | `run_check`, `run_means`, `run_list`, `run_words` | the same as commands: a line of the verdict or the text, the line of a refusal, and the exit status |
 //!
-//! Each reads its bytes from a `Source` and writes to a `Sink`, which may be a file, a slice, or what
-//! a caller makes of them. The promise of the whole is the contract of `check_bytes`.
+//! Each reads its bytes from a `Source` and writes to a `Sink`, which may be a file, a slice, or
+//! what a caller makes of them. The promise of the whole is the contract of `check_bytes`.
 //!
 //! A caller who has a field file and a sheet at hand:
 //!

@@ -1,10 +1,12 @@
 //! The lines of a list, put into a page's room.
 
-ghost use Rattle.std.specs.Prelude.{◌≡◌, ◌<◌, ◌≤◌, ◌+◌, ◌++◌, ◌∷◌, [], length, take, decimal, codes};
+ghost use Rattle.std.specs.Prelude.{◌≡◌, ◌<◌, ◌≤◌, ◌+◌, ◌++◌, ◌∷◌, [], length, take, decimal};
+ghost use Rattle.std.specs.Prelude.{codes};
 ghost use Rattle.std.specs.Fmt.{signed_decimal};
 ghost use Rattle.adjust_kernel.specs.Matching.{key_of_obs};
 ghost use Rattle.adjust_kernel.specs.declared.limits.TheConstants.{LONGEST_NAME};
-ghost use Rattle.station_check.specs.ListTexts.{station_line, key_text, faces_text, observation_line};
+ghost use Rattle.station_check.specs.ListTexts.{station_line, key_text, faces_text};
+ghost use Rattle.station_check.specs.ListTexts.{observation_line};
 
 use crate::page::PAGE;
 use crate::put::{Room, put, put_bytes, put_number};

@@ -1,8 +1,14 @@
 -- A comparison of what was written as the station's own directions.
-use Rattle.std.proofs.Common.{◌≡◌, ℕ, zero, suc, ◌-◌, ◌^◌, ◌≤◌, ◌<◌, Bool, false, List, [], ◌∷◌, length, map, ℤ, pos, Err, arith, refl, ap, sym, subst, ◌∙◌, if◌then◌else◌}
+use Rattle.std.proofs.Common.{◌≡◌, ℕ, zero, suc, ◌-◌, ◌^◌, ◌≤◌, ◌<◌, Bool, false, List, [], ◌∷◌}
+use Rattle.std.proofs.Common.{length, map, ℤ, pos, Err, arith, refl, ap, sym, subst, ◌∙◌}
+use Rattle.std.proofs.Common.{if◌then◌else◌}
 use Rattle.std.proofs.lemmas.Bool.{le-ltb}
 use Rattle.adjust_kernel.specs.Stations.{StationValue}
-use Rattle.adjust_kernel.specs.declared.kernel_fault.KernelFault.TheVariants.{Name, TargetRow, SetRow, ObsRow, Datum, TargetSum, SetSum, NotConnected, Residual}
+use Rattle.adjust_kernel.specs.declared.kernel_fault.KernelFault.TheVariants.{Name, TargetRow}
+use Rattle.adjust_kernel.specs.declared.kernel_fault.KernelFault.TheVariants.{SetRow, ObsRow, Datum}
+use Rattle.adjust_kernel.specs.declared.kernel_fault.KernelFault.TheVariants.{TargetSum, SetSum}
+use Rattle.adjust_kernel.specs.declared.kernel_fault.KernelFault.TheVariants.{NotConnected}
+use Rattle.adjust_kernel.specs.declared.kernel_fault.KernelFault.TheVariants.{Residual}
 use Rattle.adjust_kernel.specs.declared.limits.TheConstants.{LARGEST_RESIDUAL_LIMIT}
 use Rattle.byte_ends.specs.Input.{Input, Ended, RanPast, input_within}
 use Rattle.byte_ends.specs.Source.{Told}
@@ -35,7 +41,8 @@ use Rattle.station_compare.specs.OwnDirections.{MayRefuse}
 use Rattle.station_compare.specs.declared.agreement.Agreement.{Agreement}
 use Rattle.station_compare.specs.declared.fault.CompareFault.{CompareFault}
 use Rattle.station_compare.specs.declared.fault.CompareFault.TheVariants.{File, TableRead, Table}
-use Rattle.station_compare.specs.declared.fault.CompareFault.TheVariants.{Adjust, Apart, Write, Memory}
+use Rattle.station_compare.specs.declared.fault.CompareFault.TheVariants.{Adjust, Apart, Write}
+use Rattle.station_compare.specs.declared.fault.CompareFault.TheVariants.{Memory}
 
 power_small : (k : ℕ) → k ≤ 3 → 10 ^ k ≤ 1_000
 power_small zero h = omega arith
@@ -54,23 +61,35 @@ read_as [] = refl
 read_as (row ∷ rows) = ap (λ ds. pos row.direction ∷ ds) (read_as rows)
 
 -- bytes that are not too many are read to their end
-read_whole : (bytes : List ℕ) → length bytes ≤ LONGEST_TABLE → input_within LONGEST_TABLE (record { bytes = bytes; fails = false }) ≡ Ended bytes
-read_whole bytes short = ap (λ (past : Bool). if past then RanPast else Ended bytes) (le-ltb LONGEST_TABLE (length bytes) short)
+read_whole : (bytes : List ℕ) → length bytes ≤ LONGEST_TABLE
+    → input_within LONGEST_TABLE (record { bytes = bytes; fails = false }) ≡ Ended bytes
+read_whole bytes short =
+    ap (λ (past : Bool). if past then RanPast else Ended bytes)
+    (le-ltb LONGEST_TABLE (length bytes) short)
 
 module _ (count : ℕ) (text : List ℕ) (many : 6 ≤ count) where
   -- own directions beside their station
   module _ (station : StationValue) (own : IsDirectionsText station count text) where
-    own_apart : (directions : List ℤ) (apart : ℕ) → IsTableText station.targets text directions → IsTold station LARGEST_RESIDUAL_LIMIT (stated_by directions) apart → apart ≤ 1
+    own_apart : (directions : List ℤ) (apart : ℕ) → IsTableText station.targets text directions
+        → IsTold station LARGEST_RESIDUAL_LIMIT (stated_by directions) apart → apart ≤ 1
     own_apart directions apart states told =
-        let same : directions ≡ map pos (numbers_of own.stated) = one_table station.targets text directions (directions_of own.stated) states own.reads ∙ read_as own.stated in
-        rounded station LARGEST_RESIDUAL_LIMIT LARGEST_RESIDUAL_LIMIT (step_of count) apart (numbers_of own.stated) own.told
-        (subst (λ ds. IsTold station LARGEST_RESIDUAL_LIMIT (stated_by ds) apart) same told) (small_step count many)
+        let same : directions
+        ≡ map pos (numbers_of own.stated) =
+        one_table station.targets text directions (directions_of own.stated) states own.reads
+        ∙ read_as own.stated in
+        rounded station LARGEST_RESIDUAL_LIMIT LARGEST_RESIDUAL_LIMIT (step_of count) apart
+        (numbers_of own.stated) own.told
+        (subst (λ ds. IsTold station LARGEST_RESIDUAL_LIMIT (stated_by ds) apart) same told)
+        (small_step count many)
 
     no_more : (within apart : ℕ) → within < apart → apart ≤ 1 → (within ≡ 0) × (apart ≡ 1)
     no_more within apart more few = (omega (arith, more, few), omega (arith, more, few))
 
-    unadjusted : (within : ℕ) (fault : AdjustFault) → IsAdjustFault station LARGEST_RESIDUAL_LIMIT fault → MayRefuse within (Adjust fault)
-    unadjusted within (adjust.Kernel NotConnected) h = h (measured_is_tied station LARGEST_RESIDUAL_LIMIT own.told.sheet own.told.nearness own.told.measured)
+    unadjusted : (within : ℕ) (fault : AdjustFault)
+        → IsAdjustFault station LARGEST_RESIDUAL_LIMIT fault → MayRefuse within (Adjust fault)
+    unadjusted within (adjust.Kernel NotConnected) h =
+        h (measured_is_tied station LARGEST_RESIDUAL_LIMIT own.told.sheet own.told.nearness
+        own.told.measured)
     unadjusted within (adjust.Kernel (Residual n)) h = tt
     unadjusted within (adjust.Kernel Name) h = h
     unadjusted within (adjust.Kernel (TargetRow n)) h = h
@@ -82,16 +101,20 @@ module _ (count : ℕ) (text : List ℕ) (many : 6 ≤ count) where
     unadjusted within adjust.Unclear h = tt
     unadjusted within adjust.Memory h = tt
 
-    by_table : (within : ℕ) (fault : CompareFault) → ByTable station within text (Err fault) → MayRefuse within fault
+    by_table : (within : ℕ) (fault : CompareFault) → ByTable station within text (Err fault)
+        → MayRefuse within fault
     by_table within (File fault) h = h
     by_table within TableRead h = h
-    by_table within (Table fault) h = absurd (never_both station.targets text (directions_of own.stated) fault own.reads h)
+    by_table within (Table fault) h =
+        absurd (never_both station.targets text (directions_of own.stated) fault own.reads h)
     by_table within (Adjust fault) h = unadjusted within fault h.fault_stands
-    by_table within (Apart apart) h = no_more within apart h.0 (own_apart h.1.directions apart h.1.states h.1.told)
+    by_table within (Apart apart) h =
+        no_more within apart h.0 (own_apart h.1.directions apart h.1.states h.1.told)
     by_table within Write h = h
     by_table within Memory h = tt
 
-  module _ (limits : FaceLimits) (small : AreLimits limits) (file : FileAnswers) (name : List ℕ) (own : StatesDirections limits file name count text) where
+  module _ (limits : FaceLimits) (small : AreLimits limits) (file : FileAnswers) (name : List ℕ)
+      (own : StatesDirections limits file name count text) where
     abbrev whole : Told
     whole = record { bytes = text; fails = false }
 
@@ -99,31 +122,51 @@ module _ (count : ℕ) (text : List ℕ) (many : 6 ≤ count) where
     read = read_whole text own.directions.reads.short
 
     -- the station that a comparison finds is that of the directions
-    its : (other : SurveyedStation) → IsStationOfFile limits file name other → IsDirectionsText other.station count text
-    its other s = subst (λ (o : SurveyedStation). IsDirectionsText o.station count text) (same_station limits small file name own.its other own.station s) own.directions
+    its : (other : SurveyedStation) → IsStationOfFile limits file name other
+        → IsDirectionsText other.station count text
+    its other s =
+        subst (λ (o : SurveyedStation). IsDirectionsText o.station count text)
+        (same_station limits small file name own.its other own.station s) own.directions
 
-    pub agrees_by_1 : (within : ℕ) (a : Agreement) → Agrees limits file whole name within a → a.apart ≤ 1
+    pub agrees_by_1 : (within : ℕ) (a : Agreement) → Agrees limits file whole name within a
+        → a.apart ≤ 1
     agrees_by_1 within a h =
         let ended : Ended text ≡ Ended h.bytes = sym read ∙ h.whole in
         let same : text ≡ h.bytes = cc in
-        own_apart h.its.station (its h.its h.station) h.directions a.apart (subst (λ bytes. IsTableText h.its.station.targets bytes h.directions) (sym same) h.states) h.told
+        own_apart h.its.station (its h.its h.station) h.directions a.apart
+        (subst (λ bytes. IsTableText h.its.station.targets bytes h.directions)
+        (sym same) h.states) h.told
 
-    refused_by_table : (within : ℕ) (fault : CompareFault) → IsRefusedByTable limits file whole name within fault → MayRefuse within fault
+    refused_by_table : (within : ℕ) (fault : CompareFault)
+        → IsRefusedByTable limits file whole name within fault → MayRefuse within fault
     refused_by_table within fault h =
-        by_table h.its.station (its h.its h.station) within fault (subst (λ (input : Input). ByInput h.its.station within input (Err fault)) read h.by_input)
+        by_table h.its.station (its h.its h.station) within fault
+        (subst (λ (input : Input).
+        ByInput h.its.station within input (Err fault)) read h.by_input)
 
-    refused_by_file : (within : ℕ) (fault : Fault) → Compares limits file whole name within (Err (File fault)) → ⊥
-    refused_by_file within lines.NoStation h = never_none limits small file name own.its own.station h
-    refused_by_file within (lines.Gsi fault) h = no_file_fault limits small file name own.its own.station (lines.Gsi fault) h
-    refused_by_file within (lines.Book fault) h = no_file_fault limits small file name own.its own.station (lines.Book fault) h
-    refused_by_file within lines.SheetRead h = no_file_fault limits small file name own.its own.station lines.SheetRead h
-    refused_by_file within (lines.Sheet fault) h = no_file_fault limits small file name own.its own.station (lines.Sheet fault) h
-    refused_by_file within (lines.Means fault) h = no_file_fault limits small file name own.its own.station (lines.Means fault) h
-    refused_by_file within (lines.Kernel fault) h = no_file_fault limits small file name own.its own.station (lines.Kernel fault) h
-    refused_by_file within lines.Write h = no_file_fault limits small file name own.its own.station lines.Write h
-    refused_by_file within lines.Memory h = no_file_fault limits small file name own.its own.station lines.Memory h
+    refused_by_file : (within : ℕ) (fault : Fault)
+        → Compares limits file whole name within (Err (File fault)) → ⊥
+    refused_by_file within lines.NoStation h =
+        never_none limits small file name own.its own.station h
+    refused_by_file within (lines.Gsi fault) h =
+        no_file_fault limits small file name own.its own.station (lines.Gsi fault) h
+    refused_by_file within (lines.Book fault) h =
+        no_file_fault limits small file name own.its own.station (lines.Book fault) h
+    refused_by_file within lines.SheetRead h =
+        no_file_fault limits small file name own.its own.station lines.SheetRead h
+    refused_by_file within (lines.Sheet fault) h =
+        no_file_fault limits small file name own.its own.station (lines.Sheet fault) h
+    refused_by_file within (lines.Means fault) h =
+        no_file_fault limits small file name own.its own.station (lines.Means fault) h
+    refused_by_file within (lines.Kernel fault) h =
+        no_file_fault limits small file name own.its own.station (lines.Kernel fault) h
+    refused_by_file within lines.Write h =
+        no_file_fault limits small file name own.its own.station lines.Write h
+    refused_by_file within lines.Memory h =
+        no_file_fault limits small file name own.its own.station lines.Memory h
 
-    pub may_refuse : (within : ℕ) (fault : CompareFault) → Compares limits file whole name within (Err fault) → MayRefuse within fault
+    pub may_refuse : (within : ℕ) (fault : CompareFault)
+        → Compares limits file whole name within (Err fault) → MayRefuse within fault
     may_refuse within (File fault) h = refused_by_file within fault h
     may_refuse within TableRead h = refused_by_table within TableRead h
     may_refuse within (Table fault) h = refused_by_table within (Table fault) h

@@ -6,25 +6,35 @@ use Rattle.gsi_file.specs.FileAnswers.{FileAnswers}
 use Rattle.station_book.specs.Limits.{FaceLimits}
 use Rattle.station_book.specs.Stations.{SurveyedStation}
 use Rattle.station_check.specs.StationOfFile.{IsStationOfFile}
-use Rattle.station_compare.specs.Directions.{HasNoDirections, HasNoTable, IsDirectionsText, StatesDirections}
+use Rattle.station_compare.specs.Directions.{HasNoDirections, HasNoTable, IsDirectionsText}
+use Rattle.station_compare.specs.Directions.{StatesDirections}
 use Rattle.station_compare.specs.declared.fault.CompareFault.{CompareFault}
 use Rattle.station_compare.specs.declared.fault.CompareFault.TheVariants.{File, TableRead, Table}
-use Rattle.station_compare.specs.declared.fault.CompareFault.TheVariants.{Adjust, Apart, Write, Memory}
+use Rattle.station_compare.specs.declared.fault.CompareFault.TheVariants.{Adjust, Apart, Write}
+use Rattle.station_compare.specs.declared.fault.CompareFault.TheVariants.{Memory}
 
 -- what holds of each element's part holds of each element by its part
-pub all_by_part : {X Y : Type 0} (P : Y → Type 0) (f : X → Y) (xs : List X) → All P (map f xs) → All (λ x. P (f x)) xs
+pub all_by_part : {X Y : Type 0} (P : Y → Type 0) (f : X → Y) (xs : List X) → All P (map f xs)
+    → All (λ x. P (f x)) xs
 all_by_part P f [] h = All-nil (λ x. P (f x))
-all_by_part P f (x ∷ xs) h = All-cons (λ x. P (f x)) x xs (All-head P (f x) (map f xs) h) (all_by_part P f xs (All-tail P (f x) (map f xs) h))
+all_by_part P f (x ∷ xs) h =
+    All-cons (λ x. P (f x)) x xs (All-head P (f x) (map f xs) h)
+    (all_by_part P f xs (All-tail P (f x) (map f xs) h))
 
 -- what is answered, where the station was found
-pub tells_by_station : {T : Type 0} (items : T → List ℕ) (limits : FaceLimits) (lines : FileAnswers) (name : List ℕ) (count : ℕ) (its : SurveyedStation) (r : Result T CompareFault) → IsStationOfFile limits lines name its
+pub tells_by_station : {T : Type 0} (items : T → List ℕ) (limits : FaceLimits) (lines : FileAnswers)
+    (name : List ℕ) (count : ℕ) (its : SurveyedStation) (r : Result T CompareFault)
+    → IsStationOfFile limits lines name its
     → MatchResult r (λ t. IsDirectionsText its.station count (items t)) (HasNoTable its.station)
-    → MatchResult r (λ t. StatesDirections limits lines name count (items t)) (HasNoDirections limits lines name)
-tells_by_station items limits lines name count its (Ok text) station h = record { its = its; station = station; directions = h }
+    → MatchResult r (λ t. StatesDirections limits lines name count (items t))
+    (HasNoDirections limits lines name)
+tells_by_station items limits lines name count its (Ok text) station h =
+    record { its = its; station = station; directions = h }
 tells_by_station items limits lines name count its (Err (File fault)) station h = absurd h
 tells_by_station items limits lines name count its (Err TableRead) station h = absurd h
 tells_by_station items limits lines name count its (Err (Table fault)) station h = absurd h
-tells_by_station items limits lines name count its (Err (Adjust fault)) station h = record { its = its; station = station; none = h }
+tells_by_station items limits lines name count its (Err (Adjust fault)) station h =
+    record { its = its; station = station; none = h }
 tells_by_station items limits lines name count its (Err (Apart apart)) station h = absurd h
 tells_by_station items limits lines name count its (Err Write) station h = absurd h
 tells_by_station items limits lines name count its (Err Memory) station h = tt

@@ -1,7 +1,7 @@
--- What an agreement says, in the order of the sentence: of the station of this name in the field file,
--- whose observations are its two-face directions within the limits, one rotation brings every
--- direction that the table states within so many units of 0.000001 gon of the least-squares one, least
--- over all directions, orientations and full turns.
+-- What an agreement says, in the order of the sentence: of the station of this name in the field
+-- file, whose observations are its two-face directions within the limits, one rotation brings every
+-- direction that the table states within so many units of 0.000001 gon of the least-squares one,
+-- least over all directions, orientations and full turns.
 use Rattle.std.specs.Prelude.{◌≡◌, ℕ, ◌≤◌, ◌-◌, List, length, ℤ}
 use Rattle.adjust_kernel.specs.Residuals.{Choice}
 use Rattle.adjust_kernel.specs.declared.limits.TheConstants.{LARGEST_RESIDUAL_LIMIT}
@@ -31,8 +31,8 @@ pub record Agrees (limits : FaceLimits) (file : FileAnswers) (stated : Told) (na
   pub whole : input_within LONGEST_TABLE stated ≡ Ended bytes
   pub directions : List ℤ
   pub states : IsTableText its.station.targets bytes directions
-  -- One rotation brings every stated direction so near to the least-squares one, whichever choice of
-  -- directions, orientations and full turns, over any denominator, is least.
+  -- One rotation brings every stated direction so near to the least-squares one, whichever choice
+  -- of directions, orientations and full turns, over any denominator, is least.
   pub brought : (c : Choice) (turns : List ℤ) → IsLeastOf its.station c turns
       → AreBroughtWithin (length its.station.targets) c (stated_by directions) a.apart
   -- And no rotation brings them nearer by 2 units.

@@ -1,4 +1,5 @@
--- What is answered of a field file and of a table of directions, and how the table's reader is left.
+-- What is answered of a field file and of a table of directions, and how the table's reader is
+-- left.
 use Rattle.std.specs.Prelude.{◌≡◌, ℕ, Bool, true, List, Option, Some, Result, Ok, Err}
 use Rattle.byte_ends.specs.Came.{IsReadOut}
 use Rattle.byte_ends.specs.Input.{input_within}
@@ -9,7 +10,7 @@ use Rattle.gsi_file.specs.FileAnswers.{FileAnswers}
 use Rattle.station_book.specs.Limits.{FaceLimits}
 use Rattle.station_book.specs.Stations.{SurveyedStation}
 use Rattle.station_check.specs.Means.{HasNoStation}
-use Rattle.station_check.specs.Records.{FileComesTo}
+use Rattle.station_check.specs.Outcomes.{FileComesTo}
 use Rattle.station_check.specs.StationOfFile.{IsStationOfFile}
 use Rattle.station_check.specs.declared.fault.Fault.TheVariants.{NoStation}
 use Rattle.station_compare.specs.Agreeing.{Agrees}
@@ -26,8 +27,9 @@ pub record IsRefusedByTable (limits : FaceLimits) (file : FileAnswers) (stated :
   pub station : IsStationOfFile limits file name its
   pub by_input : ByInput its.station within (input_within LONGEST_TABLE stated) (Err fault)
 
--- What is answered, for the station of a name: that the table agrees; or the first fault that stands,
--- in the order of the file, the station, the table, the adjustment and how far they are apart.
+-- What is answered, for the station of a name: that the table agrees; or the first fault that
+-- stands, in the order of the file, the station, the table, the adjustment and how far they are
+-- apart.
 abbrev pub Compares : FaceLimits → FileAnswers → Told → List ℕ → ℕ
     → Result Agreement CompareFault → Type 0
 Compares limits file stated name within (Ok a) = Agrees limits file stated name within a
@@ -42,9 +44,9 @@ abbrev pub IsUnreadAtFileFault : {Q : Type 0} → Result Agreement CompareFault 
 IsUnreadAtFileFault (Err (File fault)) old new = new ≡ old
 IsUnreadAtFileFault result old new = Unit {0}
 
--- How an answer leaves the table's reader: at `TableRead` a read of it failed, and it has broken off.
--- At a fault of its bytes, but that there are too many, and at each answer that comes after, it has
--- ended; and no read failed at any other.
+-- How an answer leaves the table's reader: at `TableRead` a read of it failed, and it has broken
+-- off. At a fault of its bytes, but that there are too many, and at each answer that comes after,
+-- it has ended; and no read failed at any other.
 abbrev pub LeavesTable :
     {A : Type 0} → Result A CompareFault → Option Told → Bool → Bool → Type 0
 LeavesTable (Ok a) told failed failed' = IsReadOut told failed failed'

@@ -17,8 +17,8 @@ use Rattle.station_compare.specs.declared.fault.CompareFault.TheVariants.{TableR
 use Rattle.station_compare.specs.declared.fault.CompareFault.TheVariants.{Adjust, Apart, Memory}
 
 -- So far are the directions of a table apart from the least-squares directions of a station: one
--- rotation brings every stated direction within so many units of 0.000001 gon of every least-squares
--- choice, and none brings them nearer by 2 units.
+-- rotation brings every stated direction within so many units of 0.000001 gon of every
+-- least-squares choice, and none brings them nearer by 2 units.
 pub record IsComparedWith (station : StationValue) (bytes : List ℕ) (apart : ℕ) : Type 0 where
   pub directions : List ℤ
   pub states : IsTableText station.targets bytes directions
@@ -26,8 +26,8 @@ pub record IsComparedWith (station : StationValue) (bytes : List ℕ) (apart : �
       → AreBroughtWithin (length station.targets) c (stated_by directions) apart
   pub no_nearer : 2 ≤ apart → (c : Choice) (turns : List ℤ) → IsLeastOf station c turns
       → ¬ AreBroughtWithin (length station.targets) c (stated_by directions) (apart - 2)
-  -- By a near sheet of the station that keeps the residual limit: half the spread, and what that sheet
-  -- leaves open, rounded up.
+  -- By a near sheet of the station that keeps the residual limit: half the spread, and what that
+  -- sheet leaves open, rounded up.
   pub told : IsTold station LARGEST_RESIDUAL_LIMIT (stated_by directions) apart
 
 -- The table agrees: its directions are no further apart than is asked for.

@@ -1,5 +1,6 @@
 -- The table of a station's least-squares directions, as it is printed, and why there is none.
-use Rattle.std.specs.Prelude.{◌≡◌, ℕ, ◌+◌, ◌*◌, List, All, length, map, slice_index_or, ℤ, Result, Ok, Err}
+use Rattle.std.specs.Prelude.{◌≡◌, ℕ, ◌+◌, ◌*◌, List, All, length, map, slice_index_or, ℤ, Result}
+use Rattle.std.specs.Prelude.{Ok, Err}
 use Rattle.adjust_kernel.specs.Residuals.{Choice}
 use Rattle.adjust_kernel.specs.Stations.{StationValue}
 use Rattle.adjust_kernel.specs.declared.limits.TheConstants.{LARGEST_RESIDUAL_LIMIT}
@@ -16,7 +17,7 @@ use Rattle.stated_directions.specs.Told.{AreTold, as_stated}
 use Rattle.station_book.specs.Limits.{FaceLimits}
 use Rattle.station_book.specs.Stations.{SurveyedStation}
 use Rattle.station_check.specs.Means.{HasNoStation}
-use Rattle.station_check.specs.Records.{FileComesTo}
+use Rattle.station_check.specs.Outcomes.{FileComesTo}
 use Rattle.station_check.specs.StationOfFile.{IsStationOfFile}
 use Rattle.station_check.specs.declared.fault.Fault.TheVariants.{NoStation}
 use Rattle.station_compare.specs.declared.fault.CompareFault.{CompareFault}
@@ -41,8 +42,8 @@ pub record IsDirectionsText (station : StationValue) (count : ℕ) (text : List 
   pub near : (c : Choice) (turns : List ℤ) → IsLeastOf station c turns
       → AreBroughtNear (length station.targets) c (as_stated (numbers_of stated))
       (step_of count + 2 * CLEAR_BELOW)
-  -- They are those of a near sheet of the station that keeps the residual limit, each rounded to its
-  -- last decimal; the middle of two goes up.
+  -- They are those of a near sheet of the station that keeps the residual limit, each rounded to
+  -- its last decimal; the middle of two goes up.
   pub told : AreTold station LARGEST_RESIDUAL_LIMIT (step_of count) (numbers_of stated)
   -- And the text is read as the table of these very directions.
   pub reads : IsTableText station.targets text (directions_of stated)
@@ -67,8 +68,8 @@ pub record IsWithoutTable (limits : FaceLimits) (file : FileAnswers) (name : Lis
   pub station : IsStationOfFile limits file name its
   pub none : HasNoTable its.station fault
 
--- Why no table is printed: the first fault that stands, in the order of the file, the station and the
--- adjustment.
+-- Why no table is printed: the first fault that stands, in the order of the file, the station and
+-- the adjustment.
 abbrev pub HasNoDirections :
     FaceLimits → FileAnswers → List ℕ → CompareFault → Type 0
 HasNoDirections limits file name (File NoStation) = HasNoStation limits file name

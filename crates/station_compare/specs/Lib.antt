@@ -1,9 +1,11 @@
-pub mod Faults
-pub mod Comparing
+-- The public definitions, which public contracts and laws cite, in the order in which a reader
+-- needs them.
 pub mod Agreeing
+pub mod Comparing
 pub mod Answers
 pub mod Directions
 pub mod OwnDirections
+pub mod Faults
 pub mod FaultNames
 pub mod FaultTexts
 pub mod Runs

@@ -4,7 +4,7 @@ use Rattle.byte_ends.specs.Came.{SomeBytesCame}
 use Rattle.byte_ends.specs.Source.{Told}
 use Rattle.station_book.specs.Limits.{FaceLimits}
 use Rattle.station_check.specs.Came.{SomeLinesCame}
-use Rattle.station_check.specs.Endings.{IsWritten, IsCutShort}
+use Rattle.station_check.specs.RunEndings.{IsWritten, IsCutShort}
 use Rattle.station_compare.specs.Answers.{Compares, IsUnreadAtFileFault, LeavesTable}
 use Rattle.station_compare.specs.Directions.{TellsDirections}
 use Rattle.station_compare.specs.FaultTexts.{agreement_line}
@@ -12,8 +12,8 @@ use Rattle.station_compare.specs.declared.agreement.Agreement.{Agreement}
 use Rattle.station_compare.specs.declared.fault.CompareFault.{CompareFault}
 use Rattle.station_compare.specs.declared.fault.CompareFault.TheVariants.{Write}
 
--- What an answer makes of `out`, and what the run then answers: its text, whole and handed on, or in
--- part where a call of `out` failed; at a refusal nothing is asked of `out`, and the refusal is
+-- What an answer makes of `out`, and what the run then answers: its text, whole and handed on, or
+-- in part where a call of `out` failed; at a refusal nothing is asked of `out`, and the refusal is
 -- answered.
 abbrev pub PrintsAnswer : {T A W : Type 0} → (T → List ℕ) → Result T CompareFault
     → (W → Bool) → (W → Option (List ℕ)) → (W → Bool) → W → W → Result A CompareFault → Type 0

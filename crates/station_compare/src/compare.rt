@@ -19,12 +19,12 @@ use station_check::laws::are_limits;
 use station_check::{Fault, stations_of_file};
 use std::alloc::Global;
 
-/// Whether the directions that a table states agree with the least-squares directions of the station
-/// of this name, within so many units of 0.000001 gon.
+/// Whether the directions that a table states agree with the least-squares directions of the
+/// station of this name, within so many units of 0.000001 gon.
 ///
-/// Where they agree, one rotation brings every stated direction so near to the least-squares one, least
-/// over all directions, orientations and full turns, and none brings them nearer by 2 units. No
-/// observation may lie further from the adjustment than 2,000 half units (0.005 mgon each).
+/// Where they agree, one rotation brings every stated direction so near to the least-squares one,
+/// least over all directions, orientations and full turns, and none brings them nearer by 2 units.
+/// No observation may lie further from the adjustment than 2,000 half units (0.005 mgon each).
 ///
 /// The field file is read to its end first, and the table's reader is not asked before.
 ///

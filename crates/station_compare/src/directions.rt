@@ -18,8 +18,8 @@ use station_check::laws::are_limits;
 use station_check::{Fault, stations_of_file, write_whole};
 use std::alloc::{AllocError, Global};
 
-/// The text of the table of the least-squares directions of the station of this name: a row for each
-/// target in their order, the first 0, each rounded to so many decimals of a gon.
+/// The text of the table of the least-squares directions of the station of this name: a row for
+/// each target in their order, the first 0, each rounded to so many decimals of a gon.
 ///
 /// One rotation brings every direction within half a unit of the last decimal, and an eighth of
 /// 0.000001 gon, of the least-squares one, least over all directions, orientations and full turns.
@@ -27,8 +27,8 @@ use std::alloc::{AllocError, Global};
 ///
 /// # Errors
 ///
-/// The first fault of the file; then `NoStation`; then that of the adjustment. `Memory` may stand in
-/// the place of any answer.
+/// The first fault of the file; then `NoStation`; then that of the adjustment. `Memory` may stand
+/// in the place of any answer.
 pub fn directions_text<R: Source>(
     alloc: Global,
     gsi: R,

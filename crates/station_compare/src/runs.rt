@@ -1,8 +1,8 @@
-//! The commands `compare` and `directions`, over sources of bytes and sinks: each makes its call, and
-//! answers the exit status.
+//! The commands `compare` and `directions`, over sources of bytes and sinks: each makes its call,
+//! and answers the exit status.
 
 ghost use Rattle.std.specs.Prelude.{◌≡◌};
-ghost use Rattle.station_check.specs.Endings.{EndsWith, WritesOrFails};
+ghost use Rattle.station_check.specs.RunEndings.{EndsWith, WritesOrFails};
 ghost use Rattle.station_compare.specs.FaultTexts.{refusal_line};
 ghost use Rattle.station_compare.specs.FaultTexts as spec;
 ghost use Rattle.station_compare.specs.Runs.{IsCompareRun, IsDirectionsRun, PrintsAnswer};
@@ -19,9 +19,9 @@ use station_check::{DONE, REFUSED, write_whole};
 use std::alloc::Global;
 
 /// Compares the directions that a table states with those of the station of this name, and answers
-/// the exit status: 0 where they agree within so many units of 0.000001 gon and their line was written
-/// to `out`, else 1, with the line of a refusal on `err`. Where `err` fails, the line is lost and the
-/// status stays.
+/// the exit status: 0 where they agree within so many units of 0.000001 gon and their line was
+/// written to `out`, else 1, with the line of a refusal on `err`. Where `err` fails, the line is
+/// lost and the status stays.
 pub fn run_compare<R: Source, Q: Source, W: Sink, E: Sink>(
     alloc: Global,
     gsi: R,
@@ -44,9 +44,9 @@ pub fn run_compare<R: Source, Q: Source, W: Sink, E: Sink>(
     }
 }
 
-/// Writes the table of the least-squares directions of the station of this name to `out`, each rounded
-/// to so many decimals of a gon, and answers the exit status: 0 where all was written, else 1, with the
-/// line of a refusal on `err`.
+/// Writes the table of the least-squares directions of the station of this name to `out`, each
+/// rounded to so many decimals of a gon, and answers the exit status: 0 where all was written, else
+/// 1, with the line of a refusal on `err`.
 pub fn run_directions<R: Source, W: Sink, E: Sink>(
     alloc: Global,
     gsi: R,

@@ -1,5 +1,6 @@
 -- What is printed of faults, and what the answer of a run that explains them says.
-use Rattle.std.specs.Prelude.{◌≡◌, ◌-◌, ◌∷◌, ◌++◌, [], ℕ, Bool, List, Option, Some, None, Result, OnOk, OnErr, IfErr, codes}
+use Rattle.std.specs.Prelude.{◌≡◌, ◌-◌, ◌∷◌, ◌++◌, [], ℕ, Bool, List, Option, Some, None, Result}
+use Rattle.std.specs.Prelude.{OnOk, OnErr, IfErr, codes}
 use Rattle.std.specs.Borrow.{Bor}
 use Rattle.std.specs.Fmt.{char_count}
 use Rattle.std.specs.List.{join_by, flat_map, repeat}
@@ -7,7 +8,7 @@ use Rattle.std.specs.Io.KnownBytes.{Appends}
 use Rattle.byte_ends.specs.Sink.{AppendsSome}
 use Rattle.station_check.specs.declared.fault.Fault.{Fault}
 use Rattle.station_check.specs.declared.fault.Fault.TheVariants.{Write, Memory}
-use Rattle.station_check.specs.Causes.{FailsAtWrite, IsUnwritten, HandsOn}
+use Rattle.station_check.specs.Answerable.{FailsAtWrite, IsUnwritten, HandsOn}
 use Rattle.station_explain.specs.declared.explanations.Explanation.{Explanation}
 
 -- What a fault means: its names, what it is, when it comes, a line that names it, and what to do.

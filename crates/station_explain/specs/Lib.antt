@@ -1,2 +1,4 @@
+-- The public definitions, which public contracts and laws cite, in the order in which a reader
+-- needs them.
 pub mod Naming
 pub mod Explaining

@@ -21,8 +21,8 @@ abbrev pub IsFaultIn : List ℕ → List ℕ → Type 0
 IsFaultIn line fault = (Lacks (codes ": ") line × (fault ≡ line))
     ⊎ ((front : List ℕ) × SplitsAtLast (codes ": ") line front fault)
 
--- All its characters are digits, where it has any: a blank at the end of a line is passed over, as a
--- number is.
+-- All its characters are digits, where it has any: a blank at the end of a line is passed over, as
+-- a number is.
 abbrev pub IsNumber : List ℕ → Type 0
 IsNumber word = All (λ c. IsTrue (is_ascii_digit c)) word
 

@@ -2,7 +2,7 @@
 
 ghost use Rattle.std.specs.Prelude.{◌≡◌, ◌++◌, IfOk, OnOk, IfNone, option_map, string_bytes};
 ghost use Rattle.std.specs.List.{flat_map};
-ghost use Rattle.station_check.specs.Endings.{EndsWith};
+ghost use Rattle.station_check.specs.RunEndings.{EndsWith};
 ghost use Rattle.station_check.specs.VerdictLines.{refusal_line};
 ghost use Rattle.station_explain.specs.Explaining.{meaning_text, name_line, name_lines, list_text};
 ghost use Rattle.station_explain.specs.Explaining.{Explains, IsExplainRun};

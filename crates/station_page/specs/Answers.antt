@@ -1,15 +1,15 @@
--- What each call answers, of the very bytes that it was given. `room` is how many bytes there is room
--- for, `answered` the status, and `shown` what was handed out.
+-- What each call answers, of the very bytes that it was given. `room` is how many bytes there is
+-- room for, `answered` the status, and `shown` what was handed out.
 use Rattle.std.specs.Prelude.{◌≢◌, ℕ, Bool, List, [], Some, Result, Err, IfErr}
 use Rattle.std.specs.Borrow.{Bor}
 use Rattle.gsi_file.specs.FileAnswers.{file_answers}
 use Rattle.adjust_kernel.specs.declared.accepted.Accepted.{Accepted}
 use Rattle.station_book.specs.Limits.{FaceLimits}
 use Rattle.station_check.specs.Came.{handed_in}
-use Rattle.station_check.specs.Causes.{IsOfCheck}
+use Rattle.station_check.specs.Answerable.{IsOfCheck}
 use Rattle.station_check.specs.declared.fault.Fault.{Fault}
 use Rattle.station_check.specs.declared.fault.Fault.TheVariants.{Write}
-use Rattle.station_check.specs.Endings.{status_of}
+use Rattle.station_check.specs.RunEndings.{status_of}
 use Rattle.station_check.specs.Listing.{WritesList}
 use Rattle.station_check.specs.Means.{WritesMeans}
 use Rattle.station_check.specs.Promise.{KeepsPromise}

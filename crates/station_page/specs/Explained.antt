@@ -10,8 +10,8 @@ use Rattle.station_explain.specs.declared.explanations.Explanation.{Explanation}
 use Rattle.station_page.specs.declared.explain.Unexplained.{Unexplained}
 use Rattle.station_page.specs.declared.explain.Unexplained.TheVariants.{NotUtf8, NoName, Memory}
 
--- The fault that a text asks for: the one that the name in it means; none, for the list of all names,
--- where the text is empty.
+-- The fault that a text asks for: the one that the name in it means; none, for the list of all
+-- names, where the text is empty.
 abbrev pub IsAskedFor : List (Bor (List Explanation)) → List ℕ → Option Explanation → Type 0
 IsAskedFor table line (Some e) =
     (line ≢ []) × (name : List ℕ) × Names line name × IsMeant table name e

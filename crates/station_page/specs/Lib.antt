@@ -1,5 +1,8 @@
+-- The public definitions, which public contracts and laws cite, in the order in which a reader
+-- needs them.
 pub mod Limits
+pub mod Answers
 pub mod HandedOut
 pub mod Explained
-pub mod Answers
+-- The inside: what a text in memory holds. No public contract cites it.
 pub mod Texts

@@ -1,7 +1,7 @@
 //! The check of a sheet, for a page.
 
 ghost use Rattle.std.specs.Prelude.{◌≡◌, ◌<◌, ◌≤◌, length, take, IfOk, IfErr};
-ghost use Rattle.station_check.specs.Endings.{status_of};
+ghost use Rattle.station_check.specs.RunEndings.{status_of};
 ghost use Rattle.station_check.specs.declared.verdict_line.TheConstants.{LONGEST_VERDICT_LINE};
 ghost use Rattle.station_page.specs.Answers.{IsCheckOf};
 ghost use Rattle.station_page.specs.HandedOut.{HandsOut, verdict_line};
@@ -17,11 +17,11 @@ use std::alloc::Global;
 /// Checks a sheet against a field file, both whole, and hands out the line of the verdict.
 ///
 /// The limits of 2c and 2i are in units of 0.00001 gon, at most 1,000,000; `residual` is the
-/// residual limit in half units (0.005 mgon each), at most 2,000, where `is_stated` says that one is
-/// stated, and else no matter what.
+/// residual limit in half units (0.005 mgon each), at most 2,000, where `is_stated` says that one
+/// is stated, and else no matter what.
 ///
-/// Answers 0 where the sheet is accepted, 1 where it is refused, 2 for a number out of its range, and
-/// 3 where `out` has too little room; 192 bytes are always enough.
+/// Answers 0 where the sheet is accepted, 1 where it is refused, 2 for a number out of its range,
+/// and 3 where `out` has too little room; 192 bytes are always enough.
 #[unsafe(no_mangle)]
 pub extern "C" fn station_page_check(
     alloc: Global,

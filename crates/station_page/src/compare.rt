@@ -3,7 +3,7 @@
 ghost use Rattle.std.specs.Prelude.{◌≡◌, ◌<◌, ◌≤◌, length, take};
 ghost use Rattle.gsi_file.specs.FileAnswers.{file_answers};
 ghost use Rattle.station_check.specs.Came.{handed_in};
-ghost use Rattle.station_check.specs.Endings.{status_of};
+ghost use Rattle.station_check.specs.RunEndings.{status_of};
 ghost use Rattle.station_check.specs.declared.verdict_line.TheConstants.{LONGEST_VERDICT_LINE};
 ghost use Rattle.station_compare.specs.Answers.{Compares};
 ghost use Rattle.station_page.specs.Answers.{IsComparisonOf};

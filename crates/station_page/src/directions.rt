@@ -16,12 +16,12 @@ use station_check::{DONE, REFUSED, handed_in};
 use station_compare::{CompareFault, directions_text, refusal_line};
 use std::alloc::Global;
 
-/// Hands out the table of the least-squares directions of the station of this name, of a whole field
-/// file, each rounded to so many decimals of a gon, or the line of the refusal.
+/// Hands out the table of the least-squares directions of the station of this name, of a whole
+/// field file, each rounded to so many decimals of a gon, or the line of the refusal.
 ///
-/// The limits of 2c and 2i are in units of 0.00001 gon, at most 1,000,000; there are 1 to 8 decimals.
-/// Answers 0 for the table, 1 for a refusal, 2 for a number out of its range, and 3 where `out` has
-/// too little room.
+/// The limits of 2c and 2i are in units of 0.00001 gon, at most 1,000,000; there are 1 to 8
+/// decimals. Answers 0 for the table, 1 for a refusal, 2 for a number out of its range, and 3 where
+/// `out` has too little room.
 #[unsafe(no_mangle)]
 pub extern "C" fn station_page_directions(
     alloc: Global,

@@ -1,7 +1,7 @@
 //! How a call hands out its text.
 
 ghost use Rattle.std.specs.Prelude.{◌≡◌, ◌≤◌, length, take};
-ghost use Rattle.station_check.specs.Endings.{status_of};
+ghost use Rattle.station_check.specs.RunEndings.{status_of};
 ghost use Rattle.station_page.specs.HandedOut.{HandsOut, text_or_refusal};
 
 use station_check::{DONE, Fault, REFUSED, refusal_line};

@@ -10,10 +10,10 @@
 //! | `station_page_compare` | compares a table of directions, and hands out the line of the answer |
 //! | `station_page_explain` | hands out what the fault means that a text names |
 //!
-//! Each is given whole files as slices, and numbers in the place of options. It hands out its text at
-//! the front of a slice, and how long that is. Its answer is the status of the program's command, 0
-//! or 1; where it could answer nothing it is one of its own: 2 for a number out of its range, 3 for a
-//! slice with too little room.
+//! Each is given whole files as slices, and numbers in the place of options. It hands out its text
+//! at the front of a slice, and how long that is. Its answer is the status of the program's
+//! command, 0 or 1; where it could answer nothing it is one of its own: 2 for a number out of its
+//! range, 3 for a slice with too little room.
 //!
 //! What a page does is this crate and what makes a module of it, which no contract speaks of.
 #![tactic(auto)]

@@ -18,8 +18,8 @@ use std::alloc::Global;
 
 /// Hands out the list of the stations of a whole field file, or the line of the refusal.
 ///
-/// The limits of 2c and 2i are in units of 0.00001 gon, at most 1,000,000. Answers 0 for the list, 1
-/// for a refusal, 2 for a number out of its range, and 3 where `out` has too little room.
+/// The limits of 2c and 2i are in units of 0.00001 gon, at most 1,000,000. Answers 0 for the list,
+/// 1 for a refusal, 2 for a number out of its range, and 3 where `out` has too little room.
 #[unsafe(no_mangle)]
 pub extern "C" fn station_page_list(
     alloc: Global,

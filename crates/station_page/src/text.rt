@@ -2,7 +2,8 @@
 
 ghost use Rattle.std.specs.Prelude.{◌≡◌, ◌<◌, [], Some, length};
 ghost use Rattle.std.specs.Io.KnownBytes.{WriteAppends};
-ghost use Rattle.byte_ends.specs.Sink.{TakesSome, failed_after, handed_on_by_write, handed_on_by_flush};
+ghost use Rattle.byte_ends.specs.Sink.{TakesSome, failed_after, handed_on_by_write};
+ghost use Rattle.byte_ends.specs.Sink.{handed_on_by_flush};
 ghost use Rattle.station_page.specs.Texts.{text_of, has_failed, is_handed_on};
 
 use byte_ends::{Failed, Sink};

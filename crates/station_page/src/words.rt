@@ -3,7 +3,7 @@
 ghost use Rattle.std.specs.Prelude.{◌≡◌, ◌≢◌, ◌≤◌, [], length, take, Some, Err};
 ghost use Rattle.gsi_file.specs.FileAnswers.{file_answers};
 ghost use Rattle.station_check.specs.Came.{handed_in};
-ghost use Rattle.station_check.specs.Endings.{status_of};
+ghost use Rattle.station_check.specs.RunEndings.{status_of};
 ghost use Rattle.station_check.specs.Words.{WritesWords};
 ghost use Rattle.station_check.specs.declared.fault.Fault.TheVariants.{Write};
 ghost use Rattle.station_page.specs.Answers.{IsWordsOf};

@@ -1,10 +1,14 @@
 -- What an argument more, or a command more, makes of a grammar.
-use Rattle.std.proofs.Common.{◌≡◌, ◌∙◌, true, false, not, ap, ap₂, is_some, List, [], None, Option, Some, option_map, refl, subst, true≢false}
+use Rattle.std.proofs.Common.{◌≡◌, ◌∙◌, true, false, not, ap, ap₂, is_some, List, [], None, Option}
+use Rattle.std.proofs.Common.{Some, option_map, refl, subst, true≢false}
 use Rattle.clap.proofs.SimpleLemmas.{is_false, plain_fields}
 use Rattle.clap.proofs.WalkLemmas.{both}
 use Rattle.clap.specs.Walk.{is_empty, is_simple_arg}
-use Rattle.clap.specs.Words.{AddsArg, AddsSubcommand, App, Rule, app_of, rule_of, with_rule, with_subcommand}
-use Rattle.clap.specs.Words.{HasKind, HasMatchesOf, Row, Text, fault_of, has_subcommand, is_simple, is_simple_and_free, rows_of, subcommand_name_of, subcommand_of, subcommand_rows, subcommand_rows_of}
+use Rattle.clap.specs.Words.{AddsArg, AddsSubcommand, App, Rule, app_of, rule_of, with_rule}
+use Rattle.clap.specs.Words.{with_subcommand}
+use Rattle.clap.specs.Words.{HasKind, HasMatchesOf, Row, Text, fault_of, has_subcommand, is_simple}
+use Rattle.clap.specs.Words.{is_simple_and_free, rows_of, subcommand_name_of, subcommand_of}
+use Rattle.clap.specs.Words.{subcommand_rows, subcommand_rows_of}
 use Rattle.clap.proofs.OnLiterals.{clap_on_literals}
 use Rattle.clap.specs.declared.builder.arg.Arg.{Arg}
 use Rattle.clap.specs.declared.builder.command.Command.{Command}
@@ -33,14 +37,17 @@ is_local a e =
     is_false _ x.1
 
 -- An argument of this rule, added to a command of this grammar.
-pub adds_rule : (old : Command) (a : Arg) (new : Command) (grammar : App) (r : Rule) → AddsArg old a new
+pub adds_rule : (old : Command) (a : Arg) (new : Command) (grammar : App) (r : Rule)
+    → AddsArg old a new
     → app_of old ≡ grammar → rule_of a ≡ r → r.is_simple ≡ true → app_of new ≡ with_rule grammar r
 adds_rule old a new grammar r added is_old is_rule simple =
-    added.shape (is_local a (ap (λ (x : Rule). x.is_simple) is_rule ∙ simple)) ∙ ap₂ with_rule is_old is_rule
+    added.shape (is_local a (ap (λ (x : Rule). x.is_simple) is_rule ∙ simple))
+    ∙ ap₂ with_rule is_old is_rule
 
 -- A command of this grammar, added to a program of that one.
 pub adds_command : (old sub new : Command) (grammar g : App) → AddsSubcommand old sub new
-    → app_of old ≡ grammar → app_of sub ≡ g → g.top.is_plain ≡ true → app_of new ≡ with_subcommand grammar g.top
+    → app_of old ≡ grammar → app_of sub ≡ g → g.top.is_plain ≡ true → app_of new
+    ≡ with_subcommand grammar g.top
 adds_command old sub new grammar g added is_old is_sub plain =
     added.shape (plain_fields sub (ap (λ (x : App). x.top.is_plain) is_sub ∙ plain)).globals
     ∙ ap₂ with_subcommand is_old (ap (λ (x : App). x.top) is_sub)
@@ -53,7 +60,8 @@ module _ {Z : Type 0} where
   -- The name and the rows of one subcommand.
   named_as : (sub : Option (Box SubCommand Z)) (name : Text) (rows : List Row)
       → option_map (λ b. (out-SubCommand (box_value b)).name.now) sub ≡ Some name
-      → option_map (λ p. p.1) (subcommand_rows sub) ≡ Some rows → subcommand_rows sub ≡ Some (name, rows)
+      → option_map (λ p. p.1) (subcommand_rows sub) ≡ Some rows → subcommand_rows sub
+      ≡ Some (name, rows)
   named_as (Some b) name rows is_name are_rows = ap₂ pair is_name are_rows
   named_as None name rows is_name are_rows = ap₂ pair is_name are_rows
 
@@ -71,11 +79,13 @@ module _ {Z : Type 0} where
 
 -- A parse met the subcommand of this name.
 pub meets : (m : ArgMatches) (name : Text) (found : Found) → subcommand_name_of m ≡ Some name
-    → option_map (λ p. p.1) (subcommand_rows_of m) ≡ Some (rows_of found) → Meets (subcommand_rows_of m) name found
+    → option_map (λ p. p.1) (subcommand_rows_of m)
+    ≡ Some (rows_of found) → Meets (subcommand_rows_of m) name found
 meets m name found = named_as (out-ArgMatches m).subcommand name (rows_of found)
 
 -- A parse that met a subcommand of this name has it.
-pub has_name : (m : ArgMatches) (name : Text) (found : Found) → Meets (subcommand_rows_of m) name found
+pub has_name : (m : ArgMatches) (name : Text) (found : Found)
+    → Meets (subcommand_rows_of m) name found
     → subcommand_name_of m ≡ Some name
 has_name m name found = name_with_rows (out-ArgMatches m).subcommand name (rows_of found)
 
@@ -94,19 +104,26 @@ unfolding clap_on_literals
 has_known_faults = refl
 
 -- A parse by a command of the program's grammar takes the words.
-pub taken_by : (a : App) (words : List Text) → a ≡ the_program → (is_simple_and_free a ≡ true → fault_of a words ≡ [])
+pub taken_by : (a : App) (words : List Text) → a
+    ≡ the_program → (is_simple_and_free a ≡ true → fault_of a words ≡ [])
     → fault_of the_program words ≡ []
-taken_by a words e taken = subst (λ (x : App). fault_of x words ≡ []) e (taken (ap is_simple_and_free e ∙ has_known_faults))
+taken_by a words e taken =
+    subst (λ (x : App). fault_of x words ≡ []) e
+    (taken (ap is_simple_and_free e ∙ has_known_faults))
 
 -- It meets the subcommand that the words name.
-pub met_by : (a : App) (words : List Text) (m : ArgMatches) → a ≡ the_program → HasMatchesOf a words m
+pub met_by : (a : App) (words : List Text) (m : ArgMatches) → a
+    ≡ the_program → HasMatchesOf a words m
     → subcommand_rows_of m ≡ named_by words
 met_by a words m e h = (h (ap is_simple e ∙ is_known)).1 ∙ ap (λ (x : App). subcommand_of x words) e
 
 -- Its error is of the kind that the grammar says.
 pub mistaken_by : (a : App) (words : List Text) (error : Error) → a ≡ the_program
-    → (is_simple_and_free a ≡ true → HasKind (fault_of a words) error) → HasKind (fault_of the_program words) error
-mistaken_by a words error e h = subst (λ (x : App). HasKind (fault_of x words) error) e (h (ap is_simple_and_free e ∙ has_known_faults))
+    → (is_simple_and_free a ≡ true → HasKind (fault_of a words) error)
+    → HasKind (fault_of the_program words) error
+mistaken_by a words error e h =
+    subst (λ (x : App). HasKind (fault_of x words) error) e
+    (h (ap is_simple_and_free e ∙ has_known_faults))
 
 -- What a parse's subcommand needs isn't found, whatever value is answered with none.
 pub lacks_need : {A : Type 0} → (value : Option A) → (m : ArgMatches) (name : Text) (found : Found)

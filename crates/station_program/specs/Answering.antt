@@ -11,7 +11,7 @@ use Rattle.clap.specs.declared.error.Error.{Error}
 use Rattle.clap.specs.declared.error.kind.ErrorKind.{ErrorKind}
 use Rattle.clap.specs.declared.error.kind.ErrorKind.TheVariants.{DisplayHelp, DisplayVersion}
 use Rattle.clap.specs.declared.error.kind.ErrorKind.TheVariants.{OutOfMemory}
-use Rattle.station_check.specs.Endings.{EndsWith}
+use Rattle.station_check.specs.RunEndings.{EndsWith}
 use Rattle.station_check.specs.Runs.{IsCheckRun, IsListRun, IsMeansRun, IsWordsRun}
 use Rattle.station_check.specs.VerdictLines.{refusal_line}
 use Rattle.station_compare.specs.FaultTexts.{refusal_line as compare_refusal_line}
@@ -29,7 +29,8 @@ abbrev pub IsRun : {R W E : Type 0} → List (Bor (List Explanation))
     → (R → Option Told) → (R → Bool) → Option Told
     → (W → Bool) → (W → Option (List ℕ)) → (W → Bool) → W → W
     → (E → Bool) → (E → Option (List ℕ)) → E → E → Request R → ℕ → Type 0
-IsRun {R} faults told read_failed input failed holds handed_on out out' err_failed err_holds err err'
+IsRun {R} faults told read_failed input failed holds handed_on out out' err_failed err_holds err
+    err'
     (request.Check gsi sheet limits residual) status =
     (sheet' : R) × EndsWith {A = Unit {0}} refusal_line (IsCheckRun limits residual (told gsi)
     told read_failed sheet sheet' failed holds handed_on out out')
@@ -42,9 +43,11 @@ IsRun faults told read_failed input failed holds handed_on out out' err_failed e
     (request.Directions gsi station limits decimals) status =
     EndsWith {A = Unit {0}} compare_refusal_line (IsDirectionsRun limits (told gsi) station.now
     decimals failed holds handed_on out out') status err_failed err_holds err err'
-IsRun {R} faults told read_failed input failed holds handed_on out out' err_failed err_holds err err'
+IsRun {R} faults told read_failed input failed holds handed_on out out' err_failed err_holds err
+    err'
     (request.Compare gsi station table limits within) status =
-    (table' : R) × EndsWith {A = Unit {0}} compare_refusal_line (IsCompareRun limits within (told gsi)
+    (table' : R)
+    × EndsWith {A = Unit {0}} compare_refusal_line (IsCompareRun limits within (told gsi)
     told read_failed table table' station.now failed holds handed_on out out')
     status err_failed err_holds err err'
 IsRun faults told read_failed input failed holds handed_on out out' err_failed err_holds err err'
@@ -71,7 +74,8 @@ pub record IsUnread {R : Type 0} (file : OfRead R) : Type 0 where
 
 -- The files of a request were opened, and all else of it is as it was asked for.
 abbrev pub IsOpened : {R : Type 0} → Asked → Request (OfRead R) → Type 0
-IsOpened (request.Check gsi sheet limits residual) (request.Check field_file stated limits' residual') =
+IsOpened (request.Check gsi sheet limits residual)
+    (request.Check field_file stated limits' residual') =
     IsUnread field_file × IsUnread stated × (limits' ≡ limits) × (residual' ≡ residual)
 IsOpened (request.Means gsi station limits) (request.Means field_file station' limits') =
     IsUnread field_file × (station'.now ≡ station.now) × (limits' ≡ limits)
@@ -136,9 +140,11 @@ IsStatusOfKind mistake status = status ≡ 2
 abbrev pub IsStatusOfWords : {W E : Type 0} → (R I : Type 0) → List (Bor (List Explanation))
     → (W → Bool) → (W → Option (List ℕ)) → (W → Bool) → W → W
     → (E → Bool) → (E → Option (List ℕ)) → E → E → List Text → ℕ → Type 0
-IsStatusOfWords R I faults failed holds handed_on out out' err_failed err_holds err err' words status =
+IsStatusOfWords R I faults failed holds handed_on out out' err_failed err_holds err err' words
+    status =
     ((asked : Asked) × IsAskedForBy words faults asked
-    × (IsAnswered R I faults failed holds handed_on out out' err_failed err_holds err err' asked status
+    × (IsAnswered R I faults failed holds handed_on out out' err_failed err_holds err err' asked
+    status
     ⊎ IsUnopened out out' err err' asked status))
     ⊎ ((error : Error) × IsMistakeIn words faults error × IsStatusOfKind (kind_of error) status
     × (out' ≡ out) × (err' ≡ err))

@@ -1,5 +1,5 @@
--- The grammar of the command line: the commands, and the arguments and options of each, in the order
--- in which they are read.
+-- The grammar of the command line: the commands, and the arguments and options of each, in the
+-- order in which they are read.
 use Rattle.std.specs.Prelude.{◌∷◌, [], ℕ, pos, true, false, List, Some, codes}
 use Rattle.clap.specs.Lexer.{usize_max}
 use Rattle.clap.specs.Simple.{new_shape}

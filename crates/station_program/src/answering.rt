@@ -48,7 +48,8 @@ pub fn answer<'a, W: Sink, E: Sink>(
     }
 }
 
-/// The request with its files open. At a terminal the user is told that what is typed there is read.
+/// The request with its files open. At a terminal the user is told that what is typed there is
+/// read.
 fn open_files<'a>(
     rt: &HostRuntime,
     request: &Request<'a, &'a str>,

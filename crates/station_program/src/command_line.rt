@@ -3,7 +3,8 @@
 
 ghost use Rattle.std.specs.Prelude.{◌≡◌, ◌≤◌, IfSome, IfNone, IfOk, IfErr, codes};
 ghost use Rattle.std.specs.Prelude.{map, string_bytes};
-ghost use Rattle.clap.specs.Words.{app_of, found_of, kind_of, rule_of, subcommand_rows_of, with_rule};
+ghost use Rattle.clap.specs.Words.{app_of, found_of, kind_of, rule_of, subcommand_rows_of};
+ghost use Rattle.clap.specs.Words.{with_rule};
 ghost use Rattle.station_program.specs.Commands.{alone, the_program, compare_words, check_words};
 ghost use Rattle.station_program.specs.Commands.{directions_words, means_words, list_words};
 ghost use Rattle.station_program.specs.Commands.{words_words, explain_words, given_rule};
@@ -11,8 +12,10 @@ ghost use Rattle.station_program.specs.Commands.{field_file_rule, station_rule, 
 ghost use Rattle.station_program.specs.Commands.{limit_rule, two_c_rule, two_i_rule, residual_rule};
 ghost use Rattle.station_program.specs.Commands.{within_rule, decimals_rule, fault_rule};
 ghost use Rattle.station_program.specs.CommandLine.{StatesLimits, StatesNumber, StatesResidual};
-ghost use Rattle.station_program.specs.CommandLine.{StatesNoLimits, StatesNoNumber, StatesNoResidual};
-ghost use Rattle.station_program.specs.CommandLine.{IsAskedFor, IsGiven, IsMissing, IsAskedForBy, IsMistakeIn};
+ghost use Rattle.station_program.specs.CommandLine.{StatesNoLimits, StatesNoNumber};
+ghost use Rattle.station_program.specs.CommandLine.{StatesNoResidual};
+ghost use Rattle.station_program.specs.CommandLine.{IsAskedFor, IsGiven, IsMissing, IsAskedForBy};
+ghost use Rattle.station_program.specs.CommandLine.{IsMistakeIn};
 ghost use Rattle.station_program.specs.CommandLine.{AsksToExplain, IsMistakenName, LacksNeed};
 
 use crate::help;

@@ -11,7 +11,8 @@ ghost use Rattle.std.specs.declared.rt.Stdin.{Stdin};
 ghost use Rattle.std.specs.declared.rt.Stdout.{Stdout};
 ghost use Rattle.std.specs.declared.rt.Stderr.{Stderr};
 ghost use Rattle.clap.specs.Words.{kind_of};
-ghost use Rattle.station_program.specs.Answering.{IsStatusOfKind, IsStatusOfWords, IsStatusOverStreams};
+ghost use Rattle.station_program.specs.Answering.{IsStatusOfKind, IsStatusOfWords};
+ghost use Rattle.station_program.specs.Answering.{IsStatusOverStreams};
 
 mod answering;
 mod command_line;

@@ -2,7 +2,7 @@ use Rattle.std.proofs.Common.{◌≡◌, Ok, Err, rules}
 use Rattle.byte_ends.specs.Source.{Told}
 use Rattle.gsi_file.specs.FileAnswers.{file_answers}
 use Rattle.byte_ends.specs.Came.{SomeBytesCame}
-use Rattle.station_check.specs.Judged.{IsChecked}
+use Rattle.station_check.specs.KernelVerdicts.{IsChecked}
 use Rattle.station_check.specs.Promise.{KeepsPromise}
 use Rattle.station_check.specs.Surveys.{Surveys}
 use Rattle.byte_ends.proofs.Coming.{came_so, anything_came}

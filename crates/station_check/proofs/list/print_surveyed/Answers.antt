@@ -3,16 +3,20 @@ use Rattle.adjust_kernel.specs.Matching.{key_of_obs}
 use Rattle.adjust_kernel.specs.Stations.{StationValue}
 use Rattle.station_check.specs.ListTexts.{observation_line, surveyed_text}
 use Rattle.station_check.proofs.ListLaws.{next_pair, no_pair_left}
-use Rattle.station_check.proofs.Partway.{in_any_case, partway_none, partway_more, partway_some, partway_all}
+use Rattle.station_check.proofs.Partway.{in_any_case, partway_none, partway_more, partway_some}
+use Rattle.station_check.proofs.Partway.{partway_all}
 use Rattle.station_check.proofs.list.print_surveyed.Goals as goal
 
 pub returns-in_err-make_room-clause-err : goal.returns-in_err-make_room-clause-err
 returns-in_err-make_room-clause-err g c =
-    in_any_case c.from_residual.result (partway_some _ _ _ _ _ _ _ (partway_none (surveyed_text c.args.surveyed.now) _ _) c.in_err-make_room.ensures.err)
+    in_any_case c.from_residual.result
+    (partway_some _ _ _ _ _ _ _
+    (partway_none (surveyed_text c.args.surveyed.now) _ _) c.in_err-make_room.ensures.err)
 
 pub returns-in_err-make_room-2-clause-err : goal.returns-in_err-make_room-2-clause-err
 returns-in_err-make_room-2-clause-err g c =
-    in_any_case c.from_residual-in_err-make_room-2.result (partway_some _ _ _ _ _ _ _ c.observations.invariant.text c.in_err-make_room-2.ensures.err)
+    in_any_case c.from_residual-in_err-make_room-2.result
+    (partway_some _ _ _ _ _ _ _ c.observations.invariant.text c.in_err-make_room-2.ensures.err)
 
 pub observations-preserved : goal.observations-preserved
 observations-preserved g c =
@@ -20,11 +24,19 @@ observations-preserved g c =
     let place = c.observations.place in
     let station_is = c.station-station.ensures in
     let o : slice_get s.station.obs place ≡ Some c.observation_at-observation.result =
-    ap (λ (t : StationValue). slice_get t.obs place) (sym station_is) ∙ c.observation_at-observation.ensures.here in
-    let f : slice_get s.faces place ≡ Some c.differences_at-differences.result = ap (λ (xs : _). slice_get xs place) (sym c.faces-faces.ensures.value) ∙ c.differences_at-differences.ensures in
+    ap (λ (t : StationValue). slice_get t.obs place) (sym station_is)
+    ∙ c.observation_at-observation.ensures.here in
+    let f : slice_get s.faces place
+    ≡ Some c.differences_at-differences.result =
+    ap (λ (xs : _). slice_get xs place) (sym c.faces-faces.ensures.value)
+    ∙ c.differences_at-differences.ensures in
     record {
-      text = partway_more _ _ _ _ _ _ _ _ _ c.make_room-in-observations.new.self _ c.observations.invariant.text c.in_ok-make_room-2.ensures.ok (rw station_is at c.add_observation.ensures)
-          (next_pair (key_of_obs s.station.sets s.station.targets) (λ o. observation_line o.0 o.1) s.station.obs s.faces place c.observation_at-observation.result c.differences_at-differences.result o f);
+      text = partway_more _ _ _ _ _ _ _ _ _ c.make_room-in-observations.new.self _
+          c.observations.invariant.text c.in_ok-make_room-2.ensures.ok
+          (rw station_is at c.add_observation.ensures)
+          (next_pair (key_of_obs s.station.sets s.station.targets)
+          (λ o. observation_line o.0 o.1) s.station.obs s.faces place
+          c.observation_at-observation.result c.differences_at-differences.result o f);
       failed = c.in_ok-make_room-2.ensures.failed ∙ c.observations.invariant.failed;
     }
 
@@ -32,4 +44,6 @@ pub returns-clause-ok : goal.returns-clause-ok
 returns-clause-ok g c =
     let s = c.args.surveyed.now in
     let past : length s.station.obs ≤ c.observations.place = search rules in
-    partway_all _ _ _ _ _ _ c.observations.invariant.text (no_pair_left (key_of_obs s.station.sets s.station.targets) (λ o. observation_line o.0 o.1) s.station.obs s.faces c.observations.place past)
+    partway_all _ _ _ _ _ _ c.observations.invariant.text
+    (no_pair_left (key_of_obs s.station.sets s.station.targets)
+    (λ o. observation_line o.0 o.1) s.station.obs s.faces c.observations.place past)

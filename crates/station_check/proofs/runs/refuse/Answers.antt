@@ -1,5 +1,5 @@
 use Rattle.std.proofs.Common.{◌≡◌, ℕ, List, subst, rules}
-use Rattle.station_check.specs.Endings.{WritesOrFails}
+use Rattle.station_check.specs.RunEndings.{WritesOrFails}
 use Rattle.station_check.specs.VerdictLines.{refusal_line}
 use Rattle.station_check.proofs.Partway.{written_or_failed}
 use Rattle.station_check.proofs.runs.refuse.Goals as goal
@@ -7,5 +7,8 @@ use Rattle.station_check.proofs.runs.refuse.Goals as goal
 pub returns-clause-line : goal.returns-clause-line
 returns-clause-line g c =
     let text : c.as_slice.result.now ≡ refusal_line c.args.fault = search rules in
-    subst (λ (line : List ℕ). WritesOrFails line g.E.Sink.failed g.E.Sink.holds c.args.err.now c.write_all.new.self) text
-    (written_or_failed g.E.Sink.failed g.E.Sink.holds c.args.err.now c.write_all.new.self c.as_slice.result.now c.write_all.result c.write_all.ensures.failed c.write_all.ensures.ok c.write_all.ensures.err)
+    subst (λ (line : List ℕ).
+    WritesOrFails line g.E.Sink.failed g.E.Sink.holds c.args.err.now c.write_all.new.self) text
+    (written_or_failed g.E.Sink.failed g.E.Sink.holds c.args.err.now c.write_all.new.self
+    c.as_slice.result.now c.write_all.result c.write_all.ensures.failed c.write_all.ensures.ok
+    c.write_all.ensures.err)

@@ -12,10 +12,16 @@ use Rattle.station_check.proofs.survey.survey.Goals as goal
 pub returns-in_err-lines-clause-surveys : goal.returns-in_err-lines-clause-surveys
 returns-in_err-lines-clause-surveys g c =
     let is_its : c.from_residual.result ≡ Err Memory = search rules in
-    rw is_its (anything_came _ (λ (gsi : Told). Surveys c.args.limits (file_answers gsi) (Err Memory)) (λ gsi. tt))
+    rw is_its (anything_came _
+    (λ (gsi : Told). Surveys c.args.limits (file_answers gsi) (Err Memory)) (λ gsi. tt))
 
 pub returns-clause-surveys : goal.returns-clause-surveys
-returns-clause-surveys g c = lines_came _ _ (λ (gsi : Told). to_come (gives gsi) c.in_ok-lines.lines) (λ (file : FileAnswers). Surveys c.args.limits file c.survey_lines.result) (ap g.R.Source.told c.in_ok-lines.ensures.unread) c.in_ok-lines.ensures.whatever c.survey_lines.ensures.surveys
+returns-clause-surveys g c =
+    lines_came _ _ (λ (gsi : Told). to_come (gives gsi) c.in_ok-lines.lines)
+    (λ (file : FileAnswers). Surveys c.args.limits file c.survey_lines.result)
+    (ap g.R.Source.told c.in_ok-lines.ensures.unread) c.in_ok-lines.ensures.whatever
+    c.survey_lines.ensures.surveys
 
 pub survey_lines-requires : goal.survey_lines-requires
-survey_lines-requires g c = λ gsi. ap (λ (next : ToCome). next.number) (c.in_ok-lines.ensures.whatever gsi)
+survey_lines-requires g c = λ gsi.
+    ap (λ (next : ToCome). next.number) (c.in_ok-lines.ensures.whatever gsi)

@@ -2,4 +2,12 @@ use Rattle.std.proofs.Common.{refl}
 use Rattle.station_compare.proofs.agreement.agreement_line.Goals as goal
 
 pub returns : goal.returns
-returns c = rw (c.add-3.ensures.items, c.add_numbered-2.ensures.items, c.add_numbered.ensures.items, c.add-2.ensures.items, c.bytes.ensures.value, c.add.ensures.items, c.new-line.ensures) refl
+returns c = rw (
+  c.add-3.ensures.items,
+  c.add_numbered-2.ensures.items,
+  c.add_numbered.ensures.items,
+  c.add-2.ensures.items,
+  c.bytes.ensures.value,
+  c.add.ensures.items,
+  c.new-line.ensures,
+) refl

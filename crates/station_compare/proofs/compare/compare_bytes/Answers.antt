@@ -22,13 +22,31 @@ returns-clause-compares g c =
     let its = c.in-Some.surveyed.now in
     let answer = c.compare_station.result in
     came_so _ (λ (gsi : Told). Surveys c.args.limits (file_answers gsi) (Ok stations))
-    (λ (gsi : Told). SomeBytesCame (g.Q.Source.told c.args.table.now) (λ (stated : Told). Compares c.args.limits (file_answers gsi) stated c.args.name.now c.args.within answer))
+    (λ (gsi : Told).
+    SomeBytesCame (g.Q.Source.told c.args.table.now)
+    (λ (stated : Told).
+    Compares c.args.limits (file_answers gsi) stated c.args.name.now c.args.within answer))
     c.in_ok-stations.ensures.surveys
-    (λ gsi survey. came_so _ (λ (stated : Told). ByInput its.station c.args.within (input_within LONGEST_TABLE stated) answer)
-    (λ (stated : Told). Compares c.args.limits (file_answers gsi) stated c.args.name.now c.args.within answer)
-    (subst (λ (station : StationValue). SomeBytesCame (g.Q.Source.told c.args.table.now) (λ (stated : Told). ByInput station c.args.within (input_within LONGEST_TABLE stated) answer)) c.station.ensures c.compare_station.ensures.compares)
-    (λ stated by_input. compares_by_table c.args.limits (file_answers gsi) stated c.args.name.now c.args.within its answer
-    ((station_of_file c.args.limits (file_answers gsi) c.args.name.now its c.are_limits.ensures).0 (record { stations = stations; survey = survey; named = sym c.get.ensures ∙ ap option_copied c.in-Some.is }))
+    (λ gsi survey.
+    came_so _ (λ (stated : Told).
+    ByInput its.station c.args.within (input_within LONGEST_TABLE stated) answer)
+    (λ (stated : Told).
+    Compares c.args.limits (file_answers gsi) stated c.args.name.now c.args.within answer)
+    (subst (λ (station : StationValue).
+    SomeBytesCame (g.Q.Source.told c.args.table.now)
+    (λ (stated : Told).
+    ByInput station c.args.within (input_within LONGEST_TABLE stated) answer)) c.station.ensures
+    c.compare_station.ensures.compares)
+    (λ stated by_input.
+    compares_by_table c.args.limits
+    (file_answers gsi) stated c.args.name.now c.args.within its answer
+    ((station_of_file c.args.limits (file_answers gsi) c.args.name.now its c.are_limits.ensures).0
+    (record {
+      stations = stations;
+      survey = survey;
+      named = sym c.get.ensures
+          ∙ ap option_copied c.in-Some.is;
+    }))
     by_input))
 
 pub returns-in_err-stations-clause-compares : goal.returns-in_err-stations-clause-compares
@@ -37,15 +55,32 @@ returns-in_err-stations-clause-compares g c =
     let answer = c.from_residual.result in
     let is_its : Err (of_file fault) ≡ answer = search rules in
     came_so _ (λ (gsi : Told). Surveys c.args.limits (file_answers gsi) (Err fault))
-    (λ (gsi : Told). SomeBytesCame (g.Q.Source.told c.args.table.now) (λ (stated : Told). Compares c.args.limits (file_answers gsi) stated c.args.name.now c.args.within answer))
+    (λ (gsi : Told).
+    SomeBytesCame (g.Q.Source.told c.args.table.now)
+    (λ (stated : Told).
+    Compares c.args.limits (file_answers gsi) stated c.args.name.now c.args.within answer))
     c.in_err-stations.ensures.surveys
-    (λ gsi survey. anything_came _ (λ (stated : Told). Compares c.args.limits (file_answers gsi) stated c.args.name.now c.args.within answer)
-    (λ stated. subst (λ (r : Result Agreement CompareFault). Compares c.args.limits (file_answers gsi) stated c.args.name.now c.args.within r) is_its
-    (compares_by_file c.args.limits (file_answers gsi) stated c.args.name.now c.args.within fault c.in_err-stations.ensures.of_file survey)))
+    (λ gsi survey.
+    anything_came _
+    (λ (stated : Told).
+    Compares c.args.limits (file_answers gsi) stated c.args.name.now c.args.within answer)
+    (λ stated. subst
+    (λ (r : Result Agreement CompareFault).
+    Compares c.args.limits (file_answers gsi) stated c.args.name.now c.args.within r) is_its
+    (compares_by_file c.args.limits
+    (file_answers gsi) stated c.args.name.now c.args.within fault
+    c.in_err-stations.ensures.of_file survey)))
 
 pub returns-in_default-clause-compares : goal.returns-in_default-clause-compares
 returns-in_default-clause-compares g c =
     let stations = c.in_ok-stations.stations in
     came_so _ (λ (gsi : Told). Surveys c.args.limits (file_answers gsi) (Ok stations)) _
     c.in_ok-stations.ensures.surveys
-    (λ gsi survey. anything_came _ _ (λ stated. record { stations = stations; survey = survey; none = sym c.get.ensures ∙ ap option_copied c.in_default.is }))
+    (λ gsi survey.
+    anything_came _ _
+    (λ stated. record {
+      stations = stations;
+      survey = survey;
+      none = sym c.get.ensures
+          ∙ ap option_copied c.in_default.is;
+    }))

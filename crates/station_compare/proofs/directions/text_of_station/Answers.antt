@@ -24,6 +24,8 @@ returns c =
       whole = whole;
       near = search rules;
       told = search rules;
-      reads = subst (λ (t : List ℕ). IsTableText station.targets t (directions_of rows)) (sym text_is)
-          (table_reads_back station.targets count rows c.targets.ensures.valid.targets named (search rules) (all_by_part (IsWhole count) (λ row. row.direction) rows whole));
+      reads = subst (λ (t : List ℕ). IsTableText station.targets t (directions_of rows))
+          (sym text_is)
+          (table_reads_back station.targets count rows c.targets.ensures.valid.targets named
+          (search rules) (all_by_part (IsWhole count) (λ row. row.direction) rows whole));
     }

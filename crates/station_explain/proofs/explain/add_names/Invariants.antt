@@ -5,5 +5,7 @@ use Rattle.station_explain.proofs.explain.add_names.Given as goal
 
 abbrev pub invariant-loop-name : goal.invariant-loop-name
 invariant-loop-name l = IfNone l.near
-    (string_bytes l.text ++ flat_map (λ name. name_line name.now l.entry.meaning.now) (drop l.name-index l.entry.names.now)
+    (string_bytes l.text
+    ++ flat_map (λ name. name_line name.now l.entry.meaning.now)
+    (drop l.name-index l.entry.names.now)
     ≡ string_bytes l.fn.text ++ name_lines l.entry)

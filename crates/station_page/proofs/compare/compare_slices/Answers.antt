@@ -6,4 +6,8 @@ use Rattle.station_page.proofs.compare.compare_slices.Goals as goal
 
 pub returns : goal.returns
 returns c =
-    both_told _ _ _ _ (λ (gsi table : Told). Compares c.args.limits (file_answers gsi) table c.args.name.now c.args.within c.compare_bytes.result) c.compare_bytes.ensures.compares c.handed_in.ensures c.handed_in-2.ensures
+    both_told _ _ _ _
+    (λ (gsi table : Told).
+    Compares c.args.limits
+    (file_answers gsi) table c.args.name.now c.args.within c.compare_bytes.result)
+    c.compare_bytes.ensures.compares c.handed_in.ensures c.handed_in-2.ensures

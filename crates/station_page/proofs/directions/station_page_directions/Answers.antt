@@ -9,7 +9,11 @@ returns-in-Ok-clause-directions c face decimals = record {
   limits = c.in-Some.limits;
   states = record { states_two_c = search rules; states_two_i = search rules };
   answer = Ok c.in-Ok.table.items;
-  tells = subst (λ (count : ℕ). StatesDirections c.in-Some.limits (file_answers (handed_in c.args.gsi.now)) c.args.name.now count c.in-Ok.table.items) c.in-Some-new.ensures.some c.in-Ok.ensures;
+  tells = subst
+      (λ (count : ℕ).
+      StatesDirections c.in-Some.limits
+      (file_answers (handed_in c.args.gsi.now)) c.args.name.now count c.in-Ok.table.items)
+      c.in-Some-new.ensures.some c.in-Ok.ensures;
   hands_out = search rules;
 }
 

@@ -9,4 +9,7 @@ pub returns-clause-words : goal.returns-clause-words
 returns-clause-words c =
     let named : app_of c.after_help.result ≡ new_app (codes "list") = search rules in
     let filed = adds_rule _ _ _ _ _ c.in_ok-command.ensures named c.field_file.ensures refl in
-    IfOk-weaker c.with_limits.result _ _ (λ a limits. limits ∙ ap (λ (x : App). with_rule (with_rule x two_c_rule) two_i_rule) filed) c.with_limits.ensures.limits
+    IfOk-weaker c.with_limits.result _ _
+    (λ a limits. limits
+    ∙ ap (λ (x : App). with_rule (with_rule x two_c_rule) two_i_rule) filed)
+    c.with_limits.ensures.limits

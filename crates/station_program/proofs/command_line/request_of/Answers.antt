@@ -3,51 +3,62 @@ use Rattle.clap.specs.Words.{found_of}
 use Rattle.station_program.proofs.CommandsLaws.{lacks_need, meets, meets_none}
 use Rattle.station_program.proofs.command_line.request_of.Goals as goal
 
-pub returns-in_ok-residual_of-in-Some-check-default-clause-asked : goal.returns-in_ok-residual_of-in-Some-check-default-clause-asked
+pub returns-in_ok-residual_of-in-Some-check-default-clause-asked :
+    goal.returns-in_ok-residual_of-in-Some-check-default-clause-asked
 returns-in_ok-residual_of-in-Some-check-default-clause-asked c = record {
   found = found_of c.in-Some-check-default.found.now;
-  met = meets c.args.matches.now (codes "check") (found_of c.in-Some-check-default.found.now) (search rules) (search rules);
+  met = meets c.args.matches.now (codes "check") (found_of c.in-Some-check-default.found.now)
+      (search rules) (search rules);
   field_file = search rules;
   of_sheet = search rules;
   of_limits = search rules;
   of_residual = search rules;
 }
 
-pub returns-in_ok-limits_of-in-Some-means-default-clause-asked : goal.returns-in_ok-limits_of-in-Some-means-default-clause-asked
+pub returns-in_ok-limits_of-in-Some-means-default-clause-asked :
+    goal.returns-in_ok-limits_of-in-Some-means-default-clause-asked
 returns-in_ok-limits_of-in-Some-means-default-clause-asked c = record {
   found = found_of c.in-Some-means-default.found.now;
-  met = meets c.args.matches.now (codes "means") (found_of c.in-Some-means-default.found.now) (search rules) (search rules);
+  met = meets c.args.matches.now (codes "means") (found_of c.in-Some-means-default.found.now)
+      (search rules) (search rules);
   field_file = search rules;
   of_station = search rules;
   of_limits = search rules;
 }
 
-pub returns-in_ok-limits_of-in-Some-list-default-clause-asked : goal.returns-in_ok-limits_of-in-Some-list-default-clause-asked
+pub returns-in_ok-limits_of-in-Some-list-default-clause-asked :
+    goal.returns-in_ok-limits_of-in-Some-list-default-clause-asked
 returns-in_ok-limits_of-in-Some-list-default-clause-asked c = record {
   found = found_of c.in-Some-list-default.found.now;
-  met = meets c.args.matches.now (codes "list") (found_of c.in-Some-list-default.found.now) (search rules) (search rules);
+  met = meets c.args.matches.now (codes "list") (found_of c.in-Some-list-default.found.now)
+      (search rules) (search rules);
   field_file = search rules;
   of_limits = search rules;
 }
 
-pub returns-in_ok-get_str-in-Some-words-default-clause-asked : goal.returns-in_ok-get_str-in-Some-words-default-clause-asked
+pub returns-in_ok-get_str-in-Some-words-default-clause-asked :
+    goal.returns-in_ok-get_str-in-Some-words-default-clause-asked
 returns-in_ok-get_str-in-Some-words-default-clause-asked c = record {
   found = found_of c.in-Some-words-default.found.now;
-  met = meets c.args.matches.now (codes "words") (found_of c.in-Some-words-default.found.now) (search rules) (search rules);
+  met = meets c.args.matches.now (codes "words") (found_of c.in-Some-words-default.found.now)
+      (search rules) (search rules);
   field_file = search rules;
 }
 
-pub returns-in_ok-decimals_of-in-Some-directions-default-clause-asked : goal.returns-in_ok-decimals_of-in-Some-directions-default-clause-asked
+pub returns-in_ok-decimals_of-in-Some-directions-default-clause-asked :
+    goal.returns-in_ok-decimals_of-in-Some-directions-default-clause-asked
 returns-in_ok-decimals_of-in-Some-directions-default-clause-asked c = record {
   found = found_of c.in-Some-directions-default.found.now;
-  met = meets c.args.matches.now (codes "directions") (found_of c.in-Some-directions-default.found.now) (search rules) (search rules);
+  met = meets c.args.matches.now (codes "directions")
+      (found_of c.in-Some-directions-default.found.now) (search rules) (search rules);
   field_file = search rules;
   of_station = search rules;
   of_limits = search rules;
   of_decimals = search rules;
 }
 
-pub returns-in_ok-within_of-in-Some-compare-default-clause-asked : goal.returns-in_ok-within_of-in-Some-compare-default-clause-asked
+pub returns-in_ok-within_of-in-Some-compare-default-clause-asked :
+    goal.returns-in_ok-within_of-in-Some-compare-default-clause-asked
 returns-in_ok-within_of-in-Some-compare-default-clause-asked c = record {
   found = found_of c.in-Some-compare-default.found.now;
   met = meets c.args.matches.now (codes "compare") (found_of c.in-Some-compare-default.found.now)
@@ -63,87 +74,168 @@ returns-in_ok-within_of-in-Some-compare-default-clause-asked c = record {
 pub returns-in-None-clause-asked : goal.returns-in-None-clause-asked
 returns-in-None-clause-asked c = meets_none c.args.matches.now (search rules)
 
-pub returns-in_err-get_str-in-Some-check-default-clause-none : goal.returns-in_err-get_str-in-Some-check-default-clause-none
-returns-in_err-get_str-in-Some-check-default-clause-none c = lacks_need c.from_residual.result c.args.matches.now (codes "check") (found_of c.in-Some-check-default.found.now) (search rules) (search rules)
+pub returns-in_err-get_str-in-Some-check-default-clause-none :
+    goal.returns-in_err-get_str-in-Some-check-default-clause-none
+returns-in_err-get_str-in-Some-check-default-clause-none c =
+    lacks_need c.from_residual.result c.args.matches.now (codes "check")
+    (found_of c.in-Some-check-default.found.now) (search rules) (search rules)
     (inl (refl, inl (search rules)))
 
-pub returns-in_err-get_str-in-Some-check-default-2-clause-none : goal.returns-in_err-get_str-in-Some-check-default-2-clause-none
-returns-in_err-get_str-in-Some-check-default-2-clause-none c = lacks_need c.from_residual-in_err-get_str-in-Some-check-default-2.result c.args.matches.now (codes "check") (found_of c.in-Some-check-default.found.now) (search rules) (search rules)
+pub returns-in_err-get_str-in-Some-check-default-2-clause-none :
+    goal.returns-in_err-get_str-in-Some-check-default-2-clause-none
+returns-in_err-get_str-in-Some-check-default-2-clause-none c =
+    lacks_need c.from_residual-in_err-get_str-in-Some-check-default-2.result c.args.matches.now
+    (codes "check") (found_of c.in-Some-check-default.found.now) (search rules) (search rules)
     (inl (refl, inr (inl (search rules))))
 
-pub returns-in_err-limits_of-in-Some-check-default-clause-none : goal.returns-in_err-limits_of-in-Some-check-default-clause-none
-returns-in_err-limits_of-in-Some-check-default-clause-none c = lacks_need c.from_residual-in_err-limits_of-in-Some-check-default.result c.args.matches.now (codes "check") (found_of c.in-Some-check-default.found.now) (search rules) (search rules)
+pub returns-in_err-limits_of-in-Some-check-default-clause-none :
+    goal.returns-in_err-limits_of-in-Some-check-default-clause-none
+returns-in_err-limits_of-in-Some-check-default-clause-none c =
+    lacks_need c.from_residual-in_err-limits_of-in-Some-check-default.result c.args.matches.now
+    (codes "check") (found_of c.in-Some-check-default.found.now) (search rules) (search rules)
     (inl (refl, inr (inr (inl (search rules)))))
 
-pub returns-in_err-residual_of-in-Some-check-default-clause-none : goal.returns-in_err-residual_of-in-Some-check-default-clause-none
-returns-in_err-residual_of-in-Some-check-default-clause-none c = lacks_need c.from_residual-in_err-residual_of-in-Some-check-default.result c.args.matches.now (codes "check") (found_of c.in-Some-check-default.found.now) (search rules) (search rules)
+pub returns-in_err-residual_of-in-Some-check-default-clause-none :
+    goal.returns-in_err-residual_of-in-Some-check-default-clause-none
+returns-in_err-residual_of-in-Some-check-default-clause-none c =
+    lacks_need c.from_residual-in_err-residual_of-in-Some-check-default.result c.args.matches.now
+    (codes "check") (found_of c.in-Some-check-default.found.now) (search rules) (search rules)
     (inl (refl, inr (inr (inr (search rules)))))
 
-pub returns-in_err-get_str-in-Some-means-default-clause-none : goal.returns-in_err-get_str-in-Some-means-default-clause-none
-returns-in_err-get_str-in-Some-means-default-clause-none c = lacks_need c.from_residual-in_err-get_str-in-Some-means-default.result c.args.matches.now (codes "means") (found_of c.in-Some-means-default.found.now) (search rules) (search rules)
+pub returns-in_err-get_str-in-Some-means-default-clause-none :
+    goal.returns-in_err-get_str-in-Some-means-default-clause-none
+returns-in_err-get_str-in-Some-means-default-clause-none c =
+    lacks_need c.from_residual-in_err-get_str-in-Some-means-default.result c.args.matches.now
+    (codes "means") (found_of c.in-Some-means-default.found.now) (search rules) (search rules)
     (inr (inl (refl, inl (search rules))))
 
-pub returns-in_err-station_of-in-Some-means-default-clause-none : goal.returns-in_err-station_of-in-Some-means-default-clause-none
-returns-in_err-station_of-in-Some-means-default-clause-none c = lacks_need c.from_residual-in_err-station_of-in-Some-means-default.result c.args.matches.now (codes "means") (found_of c.in-Some-means-default.found.now) (search rules) (search rules)
+pub returns-in_err-station_of-in-Some-means-default-clause-none :
+    goal.returns-in_err-station_of-in-Some-means-default-clause-none
+returns-in_err-station_of-in-Some-means-default-clause-none c =
+    lacks_need c.from_residual-in_err-station_of-in-Some-means-default.result c.args.matches.now
+    (codes "means") (found_of c.in-Some-means-default.found.now) (search rules) (search rules)
     (inr (inl (refl, inr (inl (search rules)))))
 
-pub returns-in_err-limits_of-in-Some-means-default-clause-none : goal.returns-in_err-limits_of-in-Some-means-default-clause-none
-returns-in_err-limits_of-in-Some-means-default-clause-none c = lacks_need c.from_residual-in_err-limits_of-in-Some-means-default.result c.args.matches.now (codes "means") (found_of c.in-Some-means-default.found.now) (search rules) (search rules)
+pub returns-in_err-limits_of-in-Some-means-default-clause-none :
+    goal.returns-in_err-limits_of-in-Some-means-default-clause-none
+returns-in_err-limits_of-in-Some-means-default-clause-none c =
+    lacks_need c.from_residual-in_err-limits_of-in-Some-means-default.result c.args.matches.now
+    (codes "means") (found_of c.in-Some-means-default.found.now) (search rules) (search rules)
     (inr (inl (refl, inr (inr (search rules)))))
 
-pub returns-in_err-get_str-in-Some-list-default-clause-none : goal.returns-in_err-get_str-in-Some-list-default-clause-none
-returns-in_err-get_str-in-Some-list-default-clause-none c = lacks_need c.from_residual-in_err-get_str-in-Some-list-default.result c.args.matches.now (codes "list") (found_of c.in-Some-list-default.found.now) (search rules) (search rules)
+pub returns-in_err-get_str-in-Some-list-default-clause-none :
+    goal.returns-in_err-get_str-in-Some-list-default-clause-none
+returns-in_err-get_str-in-Some-list-default-clause-none c =
+    lacks_need c.from_residual-in_err-get_str-in-Some-list-default.result c.args.matches.now
+    (codes "list") (found_of c.in-Some-list-default.found.now) (search rules) (search rules)
     (inr (inr (inl (refl, inl (search rules)))))
 
-pub returns-in_err-limits_of-in-Some-list-default-clause-none : goal.returns-in_err-limits_of-in-Some-list-default-clause-none
-returns-in_err-limits_of-in-Some-list-default-clause-none c = lacks_need c.from_residual-in_err-limits_of-in-Some-list-default.result c.args.matches.now (codes "list") (found_of c.in-Some-list-default.found.now) (search rules) (search rules)
+pub returns-in_err-limits_of-in-Some-list-default-clause-none :
+    goal.returns-in_err-limits_of-in-Some-list-default-clause-none
+returns-in_err-limits_of-in-Some-list-default-clause-none c =
+    lacks_need c.from_residual-in_err-limits_of-in-Some-list-default.result c.args.matches.now
+    (codes "list") (found_of c.in-Some-list-default.found.now) (search rules) (search rules)
     (inr (inr (inl (refl, inr (search rules)))))
 
-pub returns-in_err-get_str-in-Some-words-default-clause-none : goal.returns-in_err-get_str-in-Some-words-default-clause-none
-returns-in_err-get_str-in-Some-words-default-clause-none c = lacks_need c.from_residual-in_err-get_str-in-Some-words-default.result c.args.matches.now (codes "words") (found_of c.in-Some-words-default.found.now) (search rules) (search rules)
+pub returns-in_err-get_str-in-Some-words-default-clause-none :
+    goal.returns-in_err-get_str-in-Some-words-default-clause-none
+returns-in_err-get_str-in-Some-words-default-clause-none c =
+    lacks_need c.from_residual-in_err-get_str-in-Some-words-default.result c.args.matches.now
+    (codes "words") (found_of c.in-Some-words-default.found.now) (search rules) (search rules)
     (inr (inr (inr (inl (refl, search rules)))))
 
-pub returns-in_err-get_str-in-Some-directions-default-clause-none : goal.returns-in_err-get_str-in-Some-directions-default-clause-none
-returns-in_err-get_str-in-Some-directions-default-clause-none c = lacks_need c.from_residual-in_err-get_str-in-Some-directions-default.result c.args.matches.now (codes "directions") (found_of c.in-Some-directions-default.found.now) (search rules) (search rules)
+pub returns-in_err-get_str-in-Some-directions-default-clause-none :
+    goal.returns-in_err-get_str-in-Some-directions-default-clause-none
+returns-in_err-get_str-in-Some-directions-default-clause-none c =
+    lacks_need c.from_residual-in_err-get_str-in-Some-directions-default.result c.args.matches.now
+    (codes "directions") (found_of c.in-Some-directions-default.found.now) (search rules)
+    (search rules)
     (inr (inr (inr (inr (inl (refl, inl (search rules)))))))
 
-pub returns-in_err-station_of-in-Some-directions-default-clause-none : goal.returns-in_err-station_of-in-Some-directions-default-clause-none
-returns-in_err-station_of-in-Some-directions-default-clause-none c = lacks_need c.from_residual-in_err-station_of-in-Some-directions-default.result c.args.matches.now (codes "directions") (found_of c.in-Some-directions-default.found.now) (search rules) (search rules)
+pub returns-in_err-station_of-in-Some-directions-default-clause-none :
+    goal.returns-in_err-station_of-in-Some-directions-default-clause-none
+returns-in_err-station_of-in-Some-directions-default-clause-none c =
+    lacks_need c.from_residual-in_err-station_of-in-Some-directions-default.result
+    c.args.matches.now (codes "directions") (found_of c.in-Some-directions-default.found.now)
+    (search rules) (search rules)
     (inr (inr (inr (inr (inl (refl, inr (inl (search rules))))))))
 
-pub returns-in_err-limits_of-in-Some-directions-default-clause-none : goal.returns-in_err-limits_of-in-Some-directions-default-clause-none
-returns-in_err-limits_of-in-Some-directions-default-clause-none c = lacks_need c.from_residual-in_err-limits_of-in-Some-directions-default.result c.args.matches.now (codes "directions") (found_of c.in-Some-directions-default.found.now) (search rules) (search rules)
+pub returns-in_err-limits_of-in-Some-directions-default-clause-none :
+    goal.returns-in_err-limits_of-in-Some-directions-default-clause-none
+returns-in_err-limits_of-in-Some-directions-default-clause-none c =
+    lacks_need c.from_residual-in_err-limits_of-in-Some-directions-default.result c.args.matches.now
+    (codes "directions") (found_of c.in-Some-directions-default.found.now) (search rules)
+    (search rules)
     (inr (inr (inr (inr (inl (refl, inr (inr (inl (search rules)))))))))
 
-pub returns-in_err-decimals_of-in-Some-directions-default-clause-none : goal.returns-in_err-decimals_of-in-Some-directions-default-clause-none
-returns-in_err-decimals_of-in-Some-directions-default-clause-none c = lacks_need c.from_residual-in_err-decimals_of-in-Some-directions-default.result c.args.matches.now (codes "directions") (found_of c.in-Some-directions-default.found.now) (search rules) (search rules)
+pub returns-in_err-decimals_of-in-Some-directions-default-clause-none :
+    goal.returns-in_err-decimals_of-in-Some-directions-default-clause-none
+returns-in_err-decimals_of-in-Some-directions-default-clause-none c =
+    lacks_need c.from_residual-in_err-decimals_of-in-Some-directions-default.result
+    c.args.matches.now (codes "directions") (found_of c.in-Some-directions-default.found.now)
+    (search rules) (search rules)
     (inr (inr (inr (inr (inl (refl, inr (inr (inr (search rules)))))))))
 
-pub returns-in_err-get_str-in-Some-compare-default-clause-none : goal.returns-in_err-get_str-in-Some-compare-default-clause-none
-returns-in_err-get_str-in-Some-compare-default-clause-none c = lacks_need c.from_residual-in_err-get_str-in-Some-compare-default.result c.args.matches.now (codes "compare") (found_of c.in-Some-compare-default.found.now) (search (rules, c.in-Some-compare-default.ensures.name, c.in-Some-compare-default.is-compare)) (search (rules, c.in-Some-compare-default.ensures.rows))
+pub returns-in_err-get_str-in-Some-compare-default-clause-none :
+    goal.returns-in_err-get_str-in-Some-compare-default-clause-none
+returns-in_err-get_str-in-Some-compare-default-clause-none c =
+    lacks_need c.from_residual-in_err-get_str-in-Some-compare-default.result c.args.matches.now
+    (codes "compare") (found_of c.in-Some-compare-default.found.now)
+    (search (rules, c.in-Some-compare-default.ensures.name, c.in-Some-compare-default.is-compare))
+    (search (rules, c.in-Some-compare-default.ensures.rows))
     (inr (inr (inr (inr (inr (inl (refl, inl (search rules))))))))
 
-pub returns-in_err-station_of-in-Some-compare-default-clause-none : goal.returns-in_err-station_of-in-Some-compare-default-clause-none
-returns-in_err-station_of-in-Some-compare-default-clause-none c = lacks_need c.from_residual-in_err-station_of-in-Some-compare-default.result c.args.matches.now (codes "compare") (found_of c.in-Some-compare-default.found.now) (search (rules, c.in-Some-compare-default.ensures.name, c.in-Some-compare-default.is-compare)) (search (rules, c.in-Some-compare-default.ensures.rows))
+pub returns-in_err-station_of-in-Some-compare-default-clause-none :
+    goal.returns-in_err-station_of-in-Some-compare-default-clause-none
+returns-in_err-station_of-in-Some-compare-default-clause-none c =
+    lacks_need c.from_residual-in_err-station_of-in-Some-compare-default.result c.args.matches.now
+    (codes "compare") (found_of c.in-Some-compare-default.found.now)
+    (search (rules, c.in-Some-compare-default.ensures.name, c.in-Some-compare-default.is-compare))
+    (search (rules, c.in-Some-compare-default.ensures.rows))
     (inr (inr (inr (inr (inr (inl (refl, inr (inl (search rules)))))))))
 
-pub returns-in_err-get_str-in-Some-compare-default-2-clause-none : goal.returns-in_err-get_str-in-Some-compare-default-2-clause-none
-returns-in_err-get_str-in-Some-compare-default-2-clause-none c = lacks_need c.from_residual-in_err-get_str-in-Some-compare-default-2.result c.args.matches.now (codes "compare") (found_of c.in-Some-compare-default.found.now) (search (rules, c.in-Some-compare-default.ensures.name, c.in-Some-compare-default.is-compare)) (search (rules, c.in-Some-compare-default.ensures.rows))
+pub returns-in_err-get_str-in-Some-compare-default-2-clause-none :
+    goal.returns-in_err-get_str-in-Some-compare-default-2-clause-none
+returns-in_err-get_str-in-Some-compare-default-2-clause-none c =
+    lacks_need c.from_residual-in_err-get_str-in-Some-compare-default-2.result c.args.matches.now
+    (codes "compare") (found_of c.in-Some-compare-default.found.now)
+    (search (rules, c.in-Some-compare-default.ensures.name, c.in-Some-compare-default.is-compare))
+    (search (rules, c.in-Some-compare-default.ensures.rows))
     (inr (inr (inr (inr (inr (inl (refl, inr (inr (inl (search rules))))))))))
 
-pub returns-in_err-limits_of-in-Some-compare-default-clause-none : goal.returns-in_err-limits_of-in-Some-compare-default-clause-none
-returns-in_err-limits_of-in-Some-compare-default-clause-none c = lacks_need c.from_residual-in_err-limits_of-in-Some-compare-default.result c.args.matches.now (codes "compare") (found_of c.in-Some-compare-default.found.now) (search (rules, c.in-Some-compare-default.ensures.name, c.in-Some-compare-default.is-compare)) (search (rules, c.in-Some-compare-default.ensures.rows))
+pub returns-in_err-limits_of-in-Some-compare-default-clause-none :
+    goal.returns-in_err-limits_of-in-Some-compare-default-clause-none
+returns-in_err-limits_of-in-Some-compare-default-clause-none c =
+    lacks_need c.from_residual-in_err-limits_of-in-Some-compare-default.result c.args.matches.now
+    (codes "compare") (found_of c.in-Some-compare-default.found.now)
+    (search (rules, c.in-Some-compare-default.ensures.name, c.in-Some-compare-default.is-compare))
+    (search (rules, c.in-Some-compare-default.ensures.rows))
     (inr (inr (inr (inr (inr (inl (refl, inr (inr (inr (inl (search rules)))))))))))
 
-pub returns-in_err-within_of-in-Some-compare-default-clause-none : goal.returns-in_err-within_of-in-Some-compare-default-clause-none
-returns-in_err-within_of-in-Some-compare-default-clause-none c = lacks_need c.from_residual-in_err-within_of-in-Some-compare-default.result c.args.matches.now (codes "compare") (found_of c.in-Some-compare-default.found.now) (search (rules, c.in-Some-compare-default.ensures.name, c.in-Some-compare-default.is-compare)) (search (rules, c.in-Some-compare-default.ensures.rows))
+pub returns-in_err-within_of-in-Some-compare-default-clause-none :
+    goal.returns-in_err-within_of-in-Some-compare-default-clause-none
+returns-in_err-within_of-in-Some-compare-default-clause-none c =
+    lacks_need c.from_residual-in_err-within_of-in-Some-compare-default.result c.args.matches.now
+    (codes "compare") (found_of c.in-Some-compare-default.found.now)
+    (search (rules, c.in-Some-compare-default.ensures.name, c.in-Some-compare-default.is-compare))
+    (search (rules, c.in-Some-compare-default.ensures.rows))
     (inr (inr (inr (inr (inr (inl (refl, inr (inr (inr (inr (search rules)))))))))))
 
 pub returns-in-Some-clause-none : goal.returns-in-Some-clause-none
 returns-in-Some-clause-none c =
-    let met = meets c.args.matches.now c.in-Some.field-0.0.now (found_of c.in-Some.field-0.1.now) (search rules) (search rules) in record {
+    let met = meets c.args.matches.now c.in-Some.field-0.0.now (found_of c.in-Some.field-0.1.now)
+    (search rules) (search rules) in record {
       name = c.in-Some.field-0.0.now;
       found = found_of c.in-Some.field-0.1.now;
       met = met;
-      lacks = inr (inr (inr (inr (inr (inr (search rules, search rules, search rules, search rules, search rules, search rules))))));
+      lacks = inr (inr
+          (inr (inr (inr
+          (inr (
+            search rules,
+            search rules,
+            search rules,
+            search rules,
+            search rules,
+            search rules,
+          ))))));
     }
