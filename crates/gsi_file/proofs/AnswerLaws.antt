@@ -10,22 +10,28 @@ no_read : (b : Bool) → Some (cond b FileTooLong LineTooLong) ≡ Some Read →
 no_read true e = cc
 no_read false e = cc
 
-failing_by : (room : ℕ) (bytes : List ℕ) (fails : Bool) (place : Option ℕ) → (answers_by room bytes fails place).last ≡ Some Read → fails ≡ true
+failing_by : (room : ℕ) (bytes : List ℕ) (fails : Bool) (place : Option ℕ)
+    → (answers_by room bytes fails place).last ≡ Some Read → fails ≡ true
 failing_by room bytes true front e = refl
 failing_by room bytes false None e = cc
 failing_by room bytes false (Some x) e = absurd (no_read (nat_lt room x) e)
 
-all_by : (room : ℕ) (bytes : List ℕ) (fails : Bool) (place : Option ℕ) → (answers_by room bytes fails place).last ≡ Some Read → (answers_by room bytes fails place).lines ≡ ended_lines bytes
+all_by : (room : ℕ) (bytes : List ℕ) (fails : Bool) (place : Option ℕ)
+    → (answers_by room bytes fails place).last ≡ Some Read
+    → (answers_by room bytes fails place).lines ≡ ended_lines bytes
 all_by room bytes true None e = refl
 all_by room bytes false None e = cc
 all_by room bytes fails (Some x) e = absurd (no_read (nat_lt room x) e)
 
 -- before a failed read all lines that the bytes end are answered
-pub all_answered : (room : ℕ) (bytes : List ℕ) (fails : Bool) → (answers_within room bytes fails).last ≡ Some Read → (answers_within room bytes fails).lines ≡ ended_lines bytes
+pub all_answered : (room : ℕ) (bytes : List ℕ) (fails : Bool)
+    → (answers_within room bytes fails).last ≡ Some Read
+    → (answers_within room bytes fails).lines ≡ ended_lines bytes
 unfolding answers_within
 all_answered room bytes fails e = all_by room bytes fails (first_break room bytes) e
 
 -- a failed read comes of a source that fails
-pub failing : (room : ℕ) (bytes : List ℕ) (fails : Bool) → (answers_within room bytes fails).last ≡ Some Read → fails ≡ true
+pub failing : (room : ℕ) (bytes : List ℕ) (fails : Bool)
+    → (answers_within room bytes fails).last ≡ Some Read → fails ≡ true
 unfolding answers_within
 failing room bytes fails e = failing_by room bytes fails (first_break room bytes) e

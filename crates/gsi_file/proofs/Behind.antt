@@ -6,30 +6,39 @@ use Rattle.byte_ends.specs.Source.{Told, Reads, AfterRead, TellsOver, MayGive, T
 use Rattle.byte_ends.specs.declared.failed.Failed.{Failed}
 use Rattle.gsi_file.specs.Filling.{Grows, GivesTold, FailsTold}
 
-take_behind : (pre ys : List ℕ) (held n : ℕ) → length pre ≡ held → take (held + n) (pre ++ ys) ≡ pre ++ take n ys
+take_behind : (pre ys : List ℕ) (held n : ℕ) → length pre ≡ held
+    → take (held + n) (pre ++ ys) ≡ pre ++ take n ys
 take_behind [] ys held n e = let z : held + n ≡ n = omega arith in ap (λ k. take k ys) z
 take_behind (x ∷ pre) ys held n e =
     let s : held + n ≡ suc (length pre + n) = omega arith in
-    ap (λ k. take k (x ∷ (pre ++ ys))) s ∙ ap (λ zs. x ∷ zs) (take_behind pre ys (length pre) n refl)
+    ap (λ k. take k (x ∷ (pre ++ ys))) s ∙ ap (λ zs. x ∷ zs)
+        (take_behind pre ys (length pre) n refl)
 
-gives_told : (old new : Option Told) (mid : List ℕ) (n : ℕ) → 0 < length mid → Reads {E = Failed} old new (Ok n) mid → GivesTold old new (take n mid)
+gives_told : (old new : Option Told) (mid : List ℕ) (n : ℕ) → 0 < length mid
+    → Reads {E = Failed} old new (Ok n) mid → GivesTold old new (take n mid)
 gives_told None new mid n some h = tt
 gives_told (Some old) None mid n some h = h
-gives_told (Some old) (Some new) mid n some h = record { next = h.next; same = h.same; end = λ e lt. h.end e some }
+gives_told (Some old) (Some new) mid n some h =
+    record { next = h.next; same = h.same; end = λ e lt. h.end e some }
 
-fails_told : (old new : Option Told) (mid : List ℕ) (e : Failed) → 0 < length mid → Reads {E = Failed} old new (Err e) mid → FailsTold old new
+fails_told : (old new : Option Told) (mid : List ℕ) (e : Failed) → 0 < length mid
+    → Reads {E = Failed} old new (Err e) mid → FailsTold old new
 fails_told None new mid e some h = tt
 fails_told (Some old) None mid e some h = h
 fails_told (Some old) (Some new) mid e some h =
     let same : new ≡ old = h.unchanged in
     let end = h.end in
-    ((sym (ap (λ (t : Told). t.bytes) same) ∙ end.0, sym (ap (λ (t : Told). t.fails) same) ∙ end.1), same)
+    ((sym (ap (λ (t : Told). t.bytes) same) ∙ end.0, sym (ap (λ (t : Told). t.fails) same) ∙ end.1),
+        same)
 
-pub reads_behind : (old new : Option Told) (pre mid post : List ℕ) (held : ℕ) (r : Result ℕ Failed) → length pre ≡ held → 0 < length mid → IfOk r (λ n. n ≤ length mid) → Reads old new r mid →
-    MatchResult r (λ n. Grows old new pre (take (held + n) (pre ++ (mid ++ post))) n) (λ _. (take held (pre ++ (mid ++ post)) ≡ pre) × FailsTold old new)
+pub reads_behind : (old new : Option Told) (pre mid post : List ℕ) (held : ℕ) (r : Result ℕ Failed)
+    → length pre ≡ held → 0 < length mid → IfOk r (λ n. n ≤ length mid) → Reads old new r mid →
+    MatchResult r (λ n. Grows old new pre (take (held + n) (pre ++ (mid ++ post))) n)
+        (λ _. (take held (pre ++ (mid ++ post)) ≡ pre) × FailsTold old new)
 reads_behind old new pre mid post held (Ok n) e some le h = record {
   given = take n mid;
-  now = take_behind pre (mid ++ post) held n e ∙ ap (λ zs. pre ++ zs) (take-append-le n mid post le);
+  now = take_behind pre (mid ++ post) held n e
+      ∙ ap (λ zs. pre ++ zs) (take-append-le n mid post le);
   count = omega (arith, length-take n mid);
   told = gives_told old new mid n some h;
 }
@@ -42,7 +51,8 @@ reads_behind old new pre mid post held (Err e') e some le h =
         let s : k ≡ suc (length xs) = omega arith in
         ap (λ j. take j (x ∷ (xs ++ ys))) s ∙ ap (λ zs. x ∷ zs) (take_whole xs ys (length xs) refl)
 
-pub slice_range_behind : (xs : List ℕ) (a e n : ℕ) → a + n ≤ e → slice_range xs (a + n) e ≡ drop n (slice_range xs a e)
+pub slice_range_behind : (xs : List ℕ) (a e n : ℕ) → a + n ≤ e
+    → slice_range xs (a + n) e ≡ drop n (slice_range xs a e)
 slice_range_behind xs a e n le =
     let whole : n + (e - (a + n)) ≡ e - a = omega arith in
     ap (take (e - (a + n))) (sym (drop-drop n a xs))
@@ -59,7 +69,9 @@ range_of_take xs a e le =
     sym (drop-take a (e - a) xs) ∙ ap (λ k. drop a (take k xs)) whole
 
 -- a read behind the first bytes of the room, as one behind those in hand
-pub grows_behind : (old new : Option Told) (buf buf' hand : List ℕ) (a e n : ℕ) → a ≤ e → e ≤ length buf → slice_range buf a e ≡ hand → Grows old new (take e buf) (take (e + n) buf') n → Grows old new hand (slice_range buf' a (e + n)) n
+pub grows_behind : (old new : Option Told) (buf buf' hand : List ℕ) (a e n : ℕ) → a ≤ e
+    → e ≤ length buf → slice_range buf a e ≡ hand → Grows old new (take e buf) (take (e + n) buf') n
+    → Grows old new hand (slice_range buf' a (e + n)) n
 grows_behind old new buf buf' hand a e n le inside same g = record {
   given = g.given;
   now =
@@ -72,7 +84,8 @@ grows_behind old new buf buf' hand a e n le inside same g = record {
 }
 
 -- a read, of whatever the source gives after it
-over_known : (new : Option Told) (end after : Told) → new ≡ Some end → MayGive new after → after ≡ end
+over_known : (new : Option Told) (end after : Told) → new ≡ Some end → MayGive new after
+    → after ≡ end
 over_known None end after e may = cc
 over_known (Some t) end after e may = may ∙ some_is e
   where
@@ -82,18 +95,23 @@ over_known (Some t) end after e may = may ∙ some_is e
 no_bytes : (n : ℕ) (buf : List ℕ) → take n buf ≡ [] → 0 < length buf → n ≡ 0
 no_bytes n buf e some = omega (arith, ap length e, length-take n buf)
 
-pub reads_as : (old new : Option Told) (buf : List ℕ) (r : Result ℕ Failed) → Reads old new r buf → TellsOver new r (length buf) → Through old new (λ o n. AfterRead o n r buf)
+pub reads_as : (old new : Option Told) (buf : List ℕ) (r : Result ℕ Failed) → Reads old new r buf
+    → TellsOver new r (length buf) → Through old new (λ o n. AfterRead o n r buf)
 reads_as None new buf (Ok n) h over after may = (
   record { bytes = take n buf ++ after.bytes; fails = after.fails },
   tt,
   record {
     next = refl;
     same = refl;
-    end = λ none some. let e : after ≡ ended = over_known new ended after (over (no_bytes n buf none some) some) may in (ap (λ (t : Told). t.bytes) e, ap (λ (t : Told). t.fails) e);
+    end = λ none some. let e : after ≡ ended =
+        over_known new ended after (over (no_bytes n buf none some) some) may in
+        (ap (λ (t : Told). t.bytes) e, ap (λ (t : Told). t.fails) e);
   },
 )
 reads_as None new buf (Err e') h over after may =
     let e : after ≡ broken_off = over_known new broken_off after over may in
-    (after, tt, record { unchanged = refl; end = (ap (λ (t : Told). t.bytes) e, ap (λ (t : Told). t.fails) e) })
+    (after, tt, record { unchanged = refl; end =
+        (ap (λ (t : Told). t.bytes) e, ap (λ (t : Told). t.fails) e) })
 reads_as (Some o) None buf r h over after may = absurd h
-reads_as (Some o) (Some n) buf r h over after may = (o, refl, subst (λ (t : Told). AfterRead o t r buf) (sym may) h)
+reads_as (Some o) (Some n) buf r h over after may =
+    (o, refl, subst (λ (t : Told). AfterRead o t r buf) (sym may) h)

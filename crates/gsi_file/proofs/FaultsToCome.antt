@@ -11,17 +11,27 @@ use Rattle.gsi_file.specs.ToCome.{IsFileFault, FaultIsNext}
 use Rattle.gsi_file.specs.Finding.{answers_in, FindsLine, HasFound}
 use Rattle.gsi_file.specs.Standing.{comes_in, settled_in}
 
-next_at_fault : (before after : Told) (room line used room' : ℕ) (hand hand' : List ℕ) (last : Bool) (kind : FileKind)
-    → FindsLine (Some before) (Some after) room hand hand' line used room' last → IsFileFault (take line hand') kind → FaultIsNext (answers_in room hand before) kind
-next_at_fault before after room line used room' hand hand' true kind e fault = inr (take line hand', [], ap (λ (a : FileAnswers). a.lines) e, fault)
-next_at_fault before after room line used room' hand hand' false kind e fault = inr (take line hand', _, ap (λ (a : FileAnswers). a.lines) e, fault)
+next_at_fault : (before after : Told) (room line used room' : ℕ) (hand hand' : List ℕ) (last : Bool)
+    (kind : FileKind)
+    → FindsLine (Some before) (Some after) room hand hand' line used room' last
+    → IsFileFault (take line hand') kind → FaultIsNext (answers_in room hand before) kind
+next_at_fault before after room line used room' hand hand' true kind e fault =
+    inr (take line hand', [], ap (λ (a : FileAnswers). a.lines) e, fault)
+next_at_fault before after room line used room' hand hand' false kind e fault =
+    inr (take line hand', _, ap (λ (a : FileAnswers). a.lines) e, fault)
 
-pub fault_to_come : (state : State) (count room room' : ℕ) (hand hand' rest : List ℕ) (before after : Told) (f : FoundLine) (kind : FileKind)
-    → settled_in state ≡ false → count + 1 ≤ LONGEST_FILE → HasFound (Some before) (Some after) room hand hand' f → IsFileFault (take f.line hand') kind
+pub fault_to_come : (state : State) (count room room' : ℕ) (hand hand' rest : List ℕ)
+    (before after : Told) (f : FoundLine) (kind : FileKind)
+    → settled_in state ≡ false → count + 1 ≤ LONGEST_FILE
+    → HasFound (Some before) (Some after) room hand hand' f → IsFileFault (take f.line hand') kind
     → IfSome (comes_in state count room hand (Some before)).answers (λ a. FaultIsNext a kind)
-    × ((comes_in state count room' rest (Some after)).number ≡ (comes_in state count room hand (Some before)).number)
+    × ((comes_in state count room' rest (Some after)).number
+    ≡ (comes_in state count room hand (Some before)).number)
     × ((comes_in state count room hand (Some before)).number + 1 ≤ LONGEST_FILE)
 fault_to_come Open count room room' hand hand' rest before after f kind unsettled fits found fault =
-    (next_at_fault before after room f.line f.used f.room hand hand' f.last kind found.told fault, refl, fits)
-fault_to_come End count room room' hand hand' rest before after f kind unsettled fits found fault = cc
-fault_to_come (Failed k) count room room' hand hand' rest before after f kind unsettled fits found fault = cc
+    (next_at_fault before after room f.line f.used f.room hand hand' f.last kind found.told fault,
+        refl, fits)
+fault_to_come End count room room' hand hand' rest before after f kind unsettled fits found fault =
+    cc
+fault_to_come (Failed k) count room room' hand hand' rest before after f kind unsettled fits found
+    fault = cc

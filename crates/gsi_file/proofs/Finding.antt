@@ -18,16 +18,20 @@ none_of [] e = refl
 none_of (x ∷ xs) e = absurd (omega arith)
 
 -- bytes cut at a place
-cut : (h : List ℕ) (line : ℕ) (more : List ℕ) → line < length h → h ++ more ≡ take line h ++ (slice_index h line ∷ (drop (line + 1) h ++ more))
+cut : (h : List ℕ) (line : ℕ) (more : List ℕ) → line < length h
+    → h ++ more ≡ take line h ++ (slice_index h line ∷ (drop (line + 1) h ++ more))
 cut h line more lt =
-    ap (λ zs. zs ++ more) (sym (take-append-drop line h) ∙ ap (λ zs. take line h ++ zs) (drop-cons h line 0 lt ∙ ap (λ k. slice_index h line ∷ drop k h) (sym (add-one line))))
+    ap (λ zs. zs ++ more) (sym (take-append-drop line h)
+        ∙ ap (λ zs. take line h ++ zs) (drop-cons h line 0 lt
+        ∙ ap (λ k. slice_index h line ∷ drop k h) (sym (add-one line))))
     ∙ append_assoc (take line h) (slice_index h line ∷ drop (line + 1) h) more
 
 taken : (line : ℕ) (h : List ℕ) → line ≤ length h → length (take line h) ≡ line
 taken line h le = omega (arith, length-take line h)
 
 -- what every step of the search keeps
-pub record Searching (told0 told : Option Told) (room : ℕ) (h0 : List ℕ) (left line : ℕ) (h : List ℕ) : Type 0 where
+pub record Searching (told0 told : Option Told) (room : ℕ) (h0 : List ℕ) (left line : ℕ)
+    (h : List ℕ) : Type 0 where
   pub short : line ≤ 1024
   pub inside : line ≤ length h
   pub fits : line ≤ left
@@ -36,8 +40,10 @@ pub record Searching (told0 told : Option Told) (room : ℕ) (h0 : List ℕ) (le
   pub same : SameAnswers told0 room h0 told left h
 
 -- the end of the source
-at_end : (a b c : Told) (room : ℕ) (h0 : List ℕ) (left line : ℕ) (h h' : List ℕ) → line ≡ length h → Searching (Some a) (Some b) room h0 left line h → Grows (Some b) (Some c) h h' 0 →
-    answers_in room h0 a ≡ record { lines = cond (has_ink (take line h')) (take line h' ∷ []) []; last = None }
+at_end : (a b c : Told) (room : ℕ) (h0 : List ℕ) (left line : ℕ) (h h' : List ℕ) → line ≡ length h
+    → Searching (Some a) (Some b) room h0 left line h → Grows (Some b) (Some c) h h' 0 →
+    answers_in room h0 a ≡ record { lines = cond (has_ink (take line h')) (take line h' ∷ []) [];
+        last = None }
 at_end a b c room h0 left line h h' e s g =
     let none : g.given ≡ [] = none_of g.given g.count in
     let end = g.told.end none (omega arith) in
@@ -51,23 +57,31 @@ at_end a b c room h0 left line h h' e s g =
     ∙ ap (λ zs. answers_within left zs b.fails) (append-nil h)
     ∙ ap (answers_within left h) fails
     ∙ answers_end left h plain (omega (arith, s.short)) (omega (arith, s.fits))
-    ∙ ap (λ (zs : List ℕ). record { lines = cond (has_ink zs) (zs ∷ []) []; last = None }) (sym (ap (take line) kept ∙ whole))
+    ∙ ap (λ (zs : List ℕ). record { lines = cond (has_ink zs) (zs ∷ []) []; last = None })
+    (sym (ap (take line) kept ∙ whole))
 
-pub ends : (told0 told told' : Option Told) (room : ℕ) (h0 : List ℕ) (left line : ℕ) (h h' : List ℕ) → line ≡ length h → Searching told0 told room h0 left line h → Grows told told' h h' 0 →
-    AnswersAre told0 room h0 told' (record { lines = cond (has_ink (take line h')) (take line h' ∷ []) []; last = None })
+pub ends : (told0 told told' : Option Told) (room : ℕ) (h0 : List ℕ) (left line : ℕ) (h h' : List ℕ)
+    → line ≡ length h → Searching told0 told room h0 left line h → Grows told told' h h' 0 →
+    AnswersAre told0 room h0 told' (record { lines =
+        cond (has_ink (take line h')) (take line h' ∷ []) []; last = None })
 ends None told told' room h0 left line h h' e s g = tt
 ends (Some a) None told' room h0 left line h h' e s g = absurd s.same
 ends (Some a) (Some b) None room h0 left line h h' e s g = absurd g.told
-ends (Some a) (Some b) (Some c) room h0 left line h h' e s g = at_end a b c room h0 left line h h' e s g
+ends (Some a) (Some b) (Some c) room h0 left line h h' e s g =
+    at_end a b c room h0 left line h h' e s g
 
 -- a failed read comes of a source that has broken off
-pub breaks_off : (told0 told told' : Option Told) (room : ℕ) (h0 : List ℕ) (left line : ℕ) (h : List ℕ) → Searching told0 told room h0 left line h → FailsTold told told' → BreaksOff told0 told'
+pub breaks_off : (told0 told told' : Option Told) (room : ℕ) (h0 : List ℕ) (left line : ℕ)
+    (h : List ℕ) → Searching told0 told room h0 left line h → FailsTold told told'
+    → BreaksOff told0 told'
 breaks_off None told told' room h0 left line h s f = tt
 breaks_off (Some a) None told' room h0 left line h s f = absurd s.same
 breaks_off (Some a) (Some b) None room h0 left line h s f = absurd f
-breaks_off (Some a) (Some b) (Some c) room h0 left line h s f = subst (λ (t : Told). HasBrokenOff t) (sym f.1) f.0
+breaks_off (Some a) (Some b) (Some c) room h0 left line h s f =
+    subst (λ (t : Told). HasBrokenOff t) (sym f.1) f.0
 
-pub fails : (told0 told told' : Option Told) (room : ℕ) (h0 : List ℕ) (left line : ℕ) (h : List ℕ) → line ≡ length h → Searching told0 told room h0 left line h → FailsTold told told' →
+pub fails : (told0 told told' : Option Told) (room : ℕ) (h0 : List ℕ) (left line : ℕ) (h : List ℕ)
+    → line ≡ length h → Searching told0 told room h0 left line h → FailsTold told told' →
     AnswersAre told0 room h0 told' (record { lines = []; last = Some Read })
 fails None told told' room h0 left line h e s f = tt
 fails (Some a) None told' room h0 left line h e s f = absurd s.same
@@ -82,24 +96,31 @@ fails (Some a) (Some b) (Some c) room h0 left line h e s f =
     ∙ answers_failed left h plain (omega (arith, s.short)) (omega (arith, s.fits))
 
 -- one byte too many in the file
-pub file_too_long : (told0 told : Option Told) (room : ℕ) (h0 : List ℕ) (left line : ℕ) (h : List ℕ) → line < length h → line ≡ left → Searching told0 told room h0 left line h →
+pub file_too_long : (told0 told : Option Told) (room : ℕ) (h0 : List ℕ) (left line : ℕ) (h : List ℕ)
+    → line < length h → line ≡ left → Searching told0 told room h0 left line h →
     AnswersAre told0 room h0 told (record { lines = []; last = Some FileTooLong })
 file_too_long None told room h0 left line h lt e s = tt
 file_too_long (Some a) None room h0 left line h lt e s = absurd s.same
 file_too_long (Some a) (Some b) room h0 left line h lt e s =
     s.same
     ∙ ap (λ zs. answers_within left zs b.fails) (cut h line b.bytes lt)
-    ∙ answers_long_file left (take line h) (slice_index h line) (drop (line + 1) h ++ b.bytes) b.fails s.plain (omega (arith, taken line h s.inside, s.short)) (taken line h s.inside ∙ e)
+    ∙ answers_long_file left (take line h) (slice_index h line) (drop (line + 1) h ++ b.bytes)
+    b.fails s.plain (omega (arith, taken line h s.inside, s.short)) (taken line h s.inside ∙ e)
 
 -- of more bytes without an end, the longest line and a byte that doesn't end it
-plain_at : (h : List ℕ) (line : ℕ) → 1024 < line → line ≤ length h → HasNoEnd (take line h) → HasNoEnd (take 1024 h) × (is_line_end (slice_index h 1024) ≡ false)
+plain_at : (h : List ℕ) (line : ℕ) → 1024 < line → line ≤ length h → HasNoEnd (take line h)
+    → HasNoEnd (take 1024 h) × (is_line_end (slice_index h 1024) ≡ false)
 plain_at h line long inside plain = (
-  subst (λ (zs : List ℕ). HasNoEnd zs) (take-take 1024 line h (omega arith)) (All-take (λ b. is_line_end b ≡ false) 1024 (take line h) plain),
-  ap is_line_end (sym (get_or-take line h 1024 0 long)) ∙ plain 1024 0 (omega (arith, taken line h inside)),
+  subst (λ (zs : List ℕ). HasNoEnd zs) (take-take 1024 line h (omega arith))
+      (All-take (λ b. is_line_end b ≡ false) 1024 (take line h) plain),
+  ap is_line_end (sym (get_or-take line h 1024 0 long))
+      ∙ plain 1024 0 (omega (arith, taken line h inside)),
 )
 
 -- one byte too many in the line
-pub line_too_long : (told0 told : Option Told) (room : ℕ) (h0 : List ℕ) (left from line : ℕ) (h : List ℕ) → 1024 < line → line ≤ left → line ≤ length h → HasNoEnd (take line h) → Searching told0 told room h0 left from h →
+pub line_too_long : (told0 told : Option Told) (room : ℕ) (h0 : List ℕ) (left from line : ℕ)
+    (h : List ℕ) → 1024 < line → line ≤ left → line ≤ length h → HasNoEnd (take line h)
+    → Searching told0 told room h0 left from h →
     AnswersAre told0 room h0 told (record { lines = []; last = Some LineTooLong })
 line_too_long None told room h0 left from line h long fits inside plain s = tt
 line_too_long (Some a) None room h0 left from line h long fits inside plain s = absurd s.same
@@ -108,54 +129,76 @@ line_too_long (Some a) (Some b) room h0 left from line h long fits inside plain 
     let full : length (take 1024 h) ≡ 1024 = taken 1024 h (omega arith) in
     s.same
     ∙ ap (λ zs. answers_within left zs b.fails) (cut h 1024 b.bytes (omega arith))
-    ∙ answers_long_line left (take 1024 h) (slice_index h 1024) (drop 1025 h ++ b.bytes) b.fails front.0 front.1 full (omega (arith, full))
+    ∙ answers_long_line left (take 1024 h) (slice_index h 1024) (drop 1025 h ++ b.bytes) b.fails
+    front.0 front.1 full (omega (arith, full))
 
 -- a part that ended
-part_ended : (a b : Told) (room : ℕ) (h0 : List ℕ) (left line : ℕ) (h : List ℕ) → line < length h → line < left → is_line_end (slice_index h line) ≡ true → Searching (Some a) (Some b) room h0 left line h →
-    answers_in room h0 a ≡ with_line (take line h) (answers_in (left - (line + 1)) (drop (line + 1) h) b)
+part_ended : (a b : Told) (room : ℕ) (h0 : List ℕ) (left line : ℕ) (h : List ℕ) → line < length h
+    → line < left → is_line_end (slice_index h line) ≡ true
+    → Searching (Some a) (Some b) room h0 left line h →
+    answers_in room h0 a ≡ with_line (take line h)
+        (answers_in (left - (line + 1)) (drop (line + 1) h) b)
 part_ended a b room h0 left line h lt less end s =
     s.same
     ∙ ap (λ zs. answers_within left zs b.fails) (cut h line b.bytes lt)
-    ∙ answers_line left (take line h) (slice_index h line) (drop (line + 1) h ++ b.bytes) b.fails s.plain end (omega (arith, taken line h s.inside, s.short)) (omega (arith, taken line h s.inside))
-    ∙ ap (λ (n : ℕ). with_line (take line h) (answers_within (left - (n + 1)) (drop (line + 1) h ++ b.bytes) b.fails)) (taken line h s.inside)
+    ∙ answers_line left (take line h) (slice_index h line) (drop (line + 1) h ++ b.bytes) b.fails
+    s.plain end (omega (arith, taken line h s.inside, s.short))
+    (omega (arith, taken line h s.inside))
+    ∙ ap (λ (n : ℕ). with_line (take line h) (answers_within (left - (n + 1))
+    (drop (line + 1) h ++ b.bytes) b.fails)) (taken line h s.inside)
 
 -- with ink it is the next line
-pub finds : (told0 told : Option Told) (room : ℕ) (h0 : List ℕ) (left line : ℕ) (h : List ℕ) → line < length h → line < left → is_line_end (slice_index h line) ≡ true → has_ink (take line h) ≡ true → Searching told0 told room h0 left line h →
+pub finds : (told0 told : Option Told) (room : ℕ) (h0 : List ℕ) (left line : ℕ) (h : List ℕ)
+    → line < length h → line < left → is_line_end (slice_index h line) ≡ true
+    → has_ink (take line h) ≡ true → Searching told0 told room h0 left line h →
     AnswersBegin told0 room h0 told (take line h) (left - (line + 1)) (drop (line + 1) h)
 finds None told room h0 left line h lt less end ink s = tt
 finds (Some a) None room h0 left line h lt less end ink s = absurd s.same
 finds (Some a) (Some b) room h0 left line h lt less end ink s =
     let o = answers_in (left - (line + 1)) (drop (line + 1) h) b in
     part_ended a b room h0 left line h lt less end s
-    ∙ ap (λ (t : Bool). record { lines = cond t (take line h ∷ o.lines) o.lines; last = o.last }) ink
+    ∙ ap (λ (t : Bool). record { lines = cond t (take line h ∷ o.lines) o.lines; last = o.last })
+    ink
 
 -- without ink it is passed over
-pub passes : (told0 told : Option Told) (room : ℕ) (h0 : List ℕ) (left line : ℕ) (h : List ℕ) → line < length h → line < left → is_line_end (slice_index h line) ≡ true → has_ink (take line h) ≡ false → Searching told0 told room h0 left line h →
+pub passes : (told0 told : Option Told) (room : ℕ) (h0 : List ℕ) (left line : ℕ) (h : List ℕ)
+    → line < length h → line < left → is_line_end (slice_index h line) ≡ true
+    → has_ink (take line h) ≡ false → Searching told0 told room h0 left line h →
     SameAnswers told0 room h0 told (left - (line + 1)) (drop (line + 1) h)
 passes None told room h0 left line h lt less end ink s = tt
 passes (Some a) None room h0 left line h lt less end ink s = absurd s.same
 passes (Some a) (Some b) room h0 left line h lt less end ink s =
     let o = answers_in (left - (line + 1)) (drop (line + 1) h) b in
     part_ended a b room h0 left line h lt less end s
-    ∙ ap (λ (t : Bool). record { lines = cond t (take line h ∷ o.lines) o.lines; last = o.last }) ink
+    ∙ ap (λ (t : Bool). record { lines = cond t (take line h ∷ o.lines) o.lines; last = o.last })
+    ink
 
 -- no byte, so no end
 pub none_plain : (h : List ℕ) → HasNoEnd (take 0 h)
 none_plain h = All-nil (λ b. is_line_end b ≡ false)
 
 -- An end behind an end stands after an empty part, which is passed over.
-past_next_end : (told0 told : Option Told) (room : ℕ) (h0 part : List ℕ) (left line : ℕ) (h : List ℕ) → line + 1 < length h → line + 1 < left → is_line_end (slice_index h (line + 1)) ≡ true →
-    AnswersBegin told0 room h0 told part (left - (line + 1)) (drop (line + 1) h) → AnswersBegin told0 room h0 told part (left - (line + 2)) (drop (line + 2) h)
+past_next_end : (told0 told : Option Told) (room : ℕ) (h0 part : List ℕ) (left line : ℕ)
+    (h : List ℕ) → line + 1 < length h → line + 1 < left
+    → is_line_end (slice_index h (line + 1)) ≡ true →
+    AnswersBegin told0 room h0 told part (left - (line + 1)) (drop (line + 1) h)
+        → AnswersBegin told0 room h0 told part (left - (line + 2)) (drop (line + 2) h)
 past_next_end None told room h0 part left line h lt less end begin = tt
 past_next_end (Some a) None room h0 part left line h lt less end begin = begin
 past_next_end (Some a) (Some b) room h0 part left line h lt less end begin =
     let left1 = left - (line + 1) in
     let h1 = drop (line + 1) h in
-    let s : Searching (Some b) (Some b) left1 h1 left1 0 h1 = record { short = omega arith; inside = omega arith; fits = omega arith; most = omega arith; plain = none_plain h1; same = refl } in
-    let here : is_line_end (slice_index h1 0) ≡ true = ap is_line_end (get_or-drop (line + 1) h 0 0 ∙ ap (λ k. slice_index h k) (omega arith)) ∙ end in
+    let s : Searching (Some b) (Some b) left1 h1 left1 0 h1 =
+        record { short = omega arith; inside = omega arith; fits = omega arith; most =
+        omega arith; plain = none_plain h1; same = refl } in
+    let here : is_line_end (slice_index h1 0) ≡ true =
+        ap is_line_end (get_or-drop (line + 1) h 0 0 ∙ ap (λ k. slice_index h k) (omega arith))
+        ∙ end in
     begin
-    ∙ ap (line_before part) (part_ended b b left1 h1 left1 0 h1 (omega (arith, length-drop (line + 1) h)) (omega arith) here s)
-    ∙ ap (λ zs. line_before part (answers_in (left1 - 1) zs b)) (drop-drop 1 (line + 1) h ∙ ap (λ k. drop k h) (omega arith))
+    ∙ ap (line_before part) (part_ended b b left1 h1 left1 0 h1
+    (omega (arith, length-drop (line + 1) h)) (omega arith) here s)
+    ∙ ap (λ zs. line_before part (answers_in (left1 - 1) zs b)) (drop-drop 1 (line + 1) h
+    ∙ ap (λ k. drop k h) (omega arith))
     ∙ ap (λ n. line_before part (answers_in n (drop (line + 2) h) b)) (omega arith)
 
 -- ink needs a byte
@@ -164,32 +207,55 @@ some_byte zero h e = let f : false ≡ true = e in cc
 some_byte (suc n) h e = omega arith
 
 -- the end of the source, by whether the last part has ink
-pub ends_by : (told0 told told' : Option Told) (room : ℕ) (h0 : List ℕ) (left line : ℕ) (h h' : List ℕ) (n : ℕ) (ink : Bool) → line ≡ length h → n ≡ 0 → has_ink (take line h') ≡ ink → Searching told0 told room h0 left line h → Grows told told' h h' n →
+pub ends_by : (told0 told told' : Option Told) (room : ℕ) (h0 : List ℕ) (left line : ℕ)
+    (h h' : List ℕ) (n : ℕ) (ink : Bool) → line ≡ length h → n ≡ 0 → has_ink (take line h') ≡ ink
+    → Searching told0 told room h0 left line h → Grows told told' h h' n →
     AnswersAre told0 room h0 told' (record { lines = cond ink (take line h' ∷ []) []; last = None })
 ends_by told0 told told' room h0 left line h h' n ink e z i s g =
-    subst (λ (b : Bool). AnswersAre told0 room h0 told' (record { lines = cond b (take line h' ∷ []) []; last = None })) i
-    (ends told0 told told' room h0 left line h h' e s (subst (λ (k : ℕ). Grows told told' h h' k) z g))
+    subst (λ (b : Bool). AnswersAre told0 room h0 told'
+        (record { lines = cond b (take line h' ∷ []) []; last = None })) i
+    (ends told0 told told' room h0 left line h h' e s
+        (subst (λ (k : ℕ). Grows told told' h h' k) z g))
 
-pub grown_length : (told told' : Option Told) (h h' : List ℕ) (n : ℕ) → Grows told told' h h' n → length h ≤ length h'
+pub grown_length : (told told' : Option Told) (h h' : List ℕ) (n : ℕ) → Grows told told' h h' n
+    → length h ≤ length h'
 grown_length told told' h h' n g = omega (arith, ap length g.now, length-append h g.given)
 
 -- the line found by its end, which is used up with it, and so may be the end behind it
-pub found_ended : (told0 told : Option Told) (room : ℕ) (h0 : List ℕ) (left line used : ℕ) (printable : Bool) (h : List ℕ) → line < length h → line < left → used ≤ length h → used ≤ left → is_line_end (slice_index h line) ≡ true → has_ink (take line h) ≡ true → (printable ≡ true → All IsPrintable (take line h))
-    → (used ≡ line + 1) ⊎ ((used ≡ line + 2) × (is_line_end (slice_index h (line + 1)) ≡ true)) → Searching told0 told room h0 left line h →
-    HasFound told0 told room h0 h (record { line = line; used = used; room = left - used; last = false; printable = printable })
-found_ended told0 told room h0 left line used printable h lt less inside fits end ink tested next s =
+pub found_ended : (told0 told : Option Told) (room : ℕ) (h0 : List ℕ) (left line used : ℕ)
+    (printable : Bool) (h : List ℕ) → line < length h → line < left → used ≤ length h → used ≤ left
+    → is_line_end (slice_index h line) ≡ true → has_ink (take line h) ≡ true
+    → (printable ≡ true → All IsPrintable (take line h))
+    → (used ≡ line + 1) ⊎ ((used ≡ line + 2) × (is_line_end (slice_index h (line + 1)) ≡ true))
+    → Searching told0 told room h0 left line h →
+    HasFound told0 told room h0 h (record { line = line; used = used; room = left - used; last =
+        false; printable = printable })
+found_ended told0 told room h0 left line used printable h lt less inside fits end ink tested next
+    s =
     let some : 0 < line = some_byte line h ink in
     let begin = finds told0 told room h0 left line h lt less end ink s in
-    let more : line < used = elim next [ inl one ↦ omega (arith, one) | inr two ↦ omega (arith, two.0) ] in
-    let after : AnswersBegin told0 room h0 told (take line h) (left - used) (drop used h) = elim next [
-      | inl one ↦ subst (λ (k : ℕ). AnswersBegin told0 room h0 told (take line h) (left - k) (drop k h)) (sym one) begin
-      | inr two ↦ subst (λ (k : ℕ). AnswersBegin told0 room h0 told (take line h) (left - k) (drop k h)) (sym two.0) (past_next_end told0 told room h0 (take line h) left line h (omega (arith, two.0)) (omega (arith, two.0)) two.1 begin)
+    let more : line < used = elim next [ inl one ↦ omega (arith, one) | inr two ↦
+        omega (arith, two.0) ] in
+    let after : AnswersBegin told0 room h0 told (take line h) (left - used) (drop used h) =
+        elim next [
+      | inl one ↦ subst (λ (k : ℕ). AnswersBegin told0 room h0 told (take line h) (left - k)
+          (drop k h)) (sym one) begin
+      | inr two ↦ subst (λ (k : ℕ). AnswersBegin told0 room h0 told (take line h) (left - k)
+          (drop k h)) (sym two.0) (past_next_end told0 told room h0 (take line h) left line h
+          (omega (arith, two.0)) (omega (arith, two.0)) two.1 begin)
     ] in
-    record { line = omega arith; used = inside; ended = λ e. more; takes = omega (arith, s.most, more, some); told = after; printable = tested }
+    record { line = omega arith; used = inside; ended = λ e. more; takes =
+        omega (arith, s.most, more, some); told = after; printable = tested }
 
 -- the line found by the end of the source
-pub found_at_end : (told0 told told' : Option Told) (room : ℕ) (h0 : List ℕ) (left line : ℕ) (h h' : List ℕ) (n : ℕ) → line ≡ length h → n ≡ 0 → has_ink (take line h') ≡ true → Searching told0 told room h0 left line h → Grows told told' h h' n →
-    HasFound told0 told' room h0 h' (record { line = line; used = line; room = 0; last = true; printable = false })
+pub found_at_end : (told0 told told' : Option Told) (room : ℕ) (h0 : List ℕ) (left line : ℕ)
+    (h h' : List ℕ) (n : ℕ) → line ≡ length h → n ≡ 0 → has_ink (take line h') ≡ true
+    → Searching told0 told room h0 left line h → Grows told told' h h' n →
+    HasFound told0 told' room h0 h' (record { line = line; used = line; room = 0; last =
+        true; printable = false })
 found_at_end told0 told told' room h0 left line h h' n e z ink s g =
     let some : 0 < line = some_byte line h' ink in
-    record { line = omega arith; used = omega (arith, grown_length told told' h h' n g); ended = λ e. absurd (true≢false e); takes = omega (arith, s.most, s.fits); told = ends_by told0 told told' room h0 left line h h' n true e z ink s g; printable = λ e. absurd (false≢true e) }
+    record { line = omega arith; used = omega (arith, grown_length told told' h h' n g); ended =
+        λ e. absurd (true≢false e); takes = omega (arith, s.most, s.fits); told =
+        ends_by told0 told told' room h0 left line h h' n true e z ink s g; printable =
+        λ e. absurd (false≢true e) }

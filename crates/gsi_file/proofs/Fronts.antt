@@ -14,22 +14,31 @@ map_same : (o : Option (List ℕ)) → o ≡ option_map (λ f. f) o
 map_same None = refl
 map_same (Some f) = refl
 
-map_behind : (x : ℕ) (front : List ℕ) (o : Option (List ℕ)) → option_map (λ f. x ∷ f) (option_map (λ f. front ++ f) o) ≡ option_map (λ f. x ∷ (front ++ f)) o
+map_behind : (x : ℕ) (front : List ℕ) (o : Option (List ℕ))
+    → option_map (λ f. x ∷ f) (option_map (λ f. front ++ f) o)
+    ≡ option_map (λ f. x ∷ (front ++ f)) o
 map_behind x front None = refl
 map_behind x front (Some f) = refl
 
 -- tests that agree pass the same first bytes
-pub same_first : (p q : List ℕ → Bool) (xs : List ℕ) → ((f : List ℕ) → p f ≡ q f) → shortest_front p xs ≡ shortest_front q xs
+pub same_first : (p q : List ℕ → Bool) (xs : List ℕ) → ((f : List ℕ) → p f ≡ q f)
+    → shortest_front p xs ≡ shortest_front q xs
 same_first p q [] h = ap (λ b. cond b (Some []) None) (h [])
 same_first p q (x ∷ xs) h =
     ap (λ b. cond b (Some []) (option_map (λ f. x ∷ f) (shortest_front (λ f. p (x ∷ f)) xs))) (h [])
-    ∙ ap (λ o. cond (q []) (Some []) (option_map (λ f. x ∷ f) o)) (same_first (λ f. p (x ∷ f)) (λ f. q (x ∷ f)) xs (λ f. h (x ∷ f)))
+    ∙ ap (λ o. cond (q []) (Some []) (option_map (λ f. x ∷ f) o))
+    (same_first (λ f. p (x ∷ f)) (λ f. q (x ∷ f)) xs (λ f. h (x ∷ f)))
 
 -- behind bytes of which no shorter first bytes pass
-pub first_after : (p : List ℕ → Bool) (front rest : List ℕ) → ((i : ℕ) → i < length front → p (take i front) ≡ false) → shortest_front p (front ++ rest) ≡ option_map (λ f. front ++ f) (shortest_front (λ f. p (front ++ f)) rest)
+pub first_after : (p : List ℕ → Bool) (front rest : List ℕ)
+    → ((i : ℕ) → i < length front → p (take i front) ≡ false)
+    → shortest_front p (front ++ rest) ≡ option_map (λ f. front ++ f)
+    (shortest_front (λ f. p (front ++ f)) rest)
 first_after p [] rest h = map_same (shortest_front p rest)
 first_after p (x ∷ front) rest h =
     let here : p [] ≡ false = h 0 (omega arith) in
-    ap (λ b. cond b (Some []) (option_map (λ f. x ∷ f) (shortest_front (λ f. p (x ∷ f)) (front ++ rest)))) here
-    ∙ ap (option_map (λ f. x ∷ f)) (first_after (λ f. p (x ∷ f)) front rest (λ i lt. h (suc i) (omega arith)))
+    ap (λ b. cond b (Some []) (option_map (λ f. x ∷ f)
+        (shortest_front (λ f. p (x ∷ f)) (front ++ rest)))) here
+    ∙ ap (option_map (λ f. x ∷ f)) (first_after (λ f. p (x ∷ f)) front rest
+    (λ i lt. h (suc i) (omega arith)))
     ∙ map_behind x front (shortest_front (λ f. p (x ∷ (front ++ f))) rest)

@@ -14,7 +14,8 @@ as_file_fault l (line.Byte at) h = h
 as_file_fault l (line.Word nth) h = h
 as_file_fault l line.FirstWord h = h
 
-as_line_fault : (l : List ℕ) (kind : FileKind) → IsFileFault l kind → (f : LineFault) × IsLineFault l f × (kind ≡ kind_of f)
+as_line_fault : (l : List ℕ) (kind : FileKind) → IsFileFault l kind → (f : LineFault)
+    × IsLineFault l f × (kind ≡ kind_of f)
 as_line_fault l Read h = absurd h
 as_line_fault l FileTooLong h = absurd h
 as_line_fault l LineTooLong h = absurd h
@@ -33,7 +34,8 @@ pub no_kind : ((l : List ℕ) (b : GsiBlock) (a : LineFault) → IsBlock l b →
     → (l : List ℕ) (a : FileKind) (b : GsiBlock) → IsFileFault l a → ¬ IsBlock l b
 no_kind none l a b h k = let x = as_line_fault l a h in none l b x.0 k x.1
 
-pub block_or_kind : ((l : List ℕ) → ((b : GsiBlock) × IsBlock l b) ⊎ ((a : LineFault) × IsLineFault l a))
+pub block_or_kind : ((l : List ℕ) → ((b : GsiBlock) × IsBlock l b)
+    ⊎ ((a : LineFault) × IsLineFault l a))
     → (l : List ℕ) → ((b : GsiBlock) × IsBlock l b) ⊎ ((kind : FileKind) × IsFileFault l kind)
 block_or_kind either l = elim (either l) [
   | inl block ↦ inl block

@@ -4,7 +4,8 @@ use Rattle.std.proofs.Math.Nat.{pow-suc}
 
 -- fewer digits write no greater numbers
 power_below : (i k : ℕ) → 10 ^ i ≤ 10 ^ (i + k)
-power_below i zero = let e : i ≡ i + 0 = omega arith in subst (λ (n : ℕ). 10 ^ i ≤ 10 ^ n) e (omega arith)
+power_below i zero = let e : i ≡ i + 0 = omega arith in
+    subst (λ (n : ℕ). 10 ^ i ≤ 10 ^ n) e (omega arith)
 power_below i (suc k) =
     let e : suc (i + k) ≡ i + suc k = omega arith in
     subst (λ (n : ℕ). 10 ^ i ≤ 10 ^ n) e (omega (arith, power_below i k, pow-suc 10 (i + k)))

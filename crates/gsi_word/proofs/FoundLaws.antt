@@ -10,25 +10,35 @@ use Rattle.gsi_word.specs.FoundWords.{words_with, found_among}
 use Rattle.gsi_word.specs.declared.found.Found.TheVariants.{Absent, One, Twice}
 
 -- a word of another index
-pub words_with_other : (index : ℕ) (words : List GsiWord) (i : ℕ) (w : GsiWord) → i < length words → slice_get words i ≡ Some w → w.index ≢ index → words_with index (take (i + 1) words) ≡ words_with index (take i words)
+pub words_with_other : (index : ℕ) (words : List GsiWord) (i : ℕ) (w : GsiWord) → i < length words
+    → slice_get words i ≡ Some w → w.index ≢ index
+    → words_with index (take (i + 1) words) ≡ words_with index (take i words)
 words_with_other index words i w lt at ne =
     filter_more (λ (v : GsiWord). eqb v.index index) words i w lt
-    ∙ ap (λ (v : GsiWord). words_with index (take i words) ++ (if eqb v.index index then v ∷ [] else [])) (get_or_from_slice_get words i w w at)
-    ∙ ap (λ (t : Bool). words_with index (take i words) ++ (if t then w ∷ [] else [])) (ne_eqb w.index index ne)
+    ∙ ap (λ (v : GsiWord). words_with index (take i words)
+    ++ (if eqb v.index index then v ∷ [] else [])) (get_or_from_slice_get words i w w at)
+    ∙ ap (λ (t : Bool). words_with index (take i words) ++ (if t then w ∷ [] else []))
+    (ne_eqb w.index index ne)
     ∙ append-nil (words_with index (take i words))
 
 -- a word of the index
-pub words_with_one : (index : ℕ) (words : List GsiWord) (i : ℕ) (w : GsiWord) → i < length words → slice_get words i ≡ Some w → w.index ≡ index → words_with index (take (i + 1) words) ≡ words_with index (take i words) ++ w ∷ []
+pub words_with_one : (index : ℕ) (words : List GsiWord) (i : ℕ) (w : GsiWord) → i < length words
+    → slice_get words i ≡ Some w → w.index ≡ index
+    → words_with index (take (i + 1) words) ≡ words_with index (take i words) ++ w ∷ []
 words_with_one index words i w lt at e =
     filter_more (λ (v : GsiWord). eqb v.index index) words i w lt
-    ∙ ap (λ (v : GsiWord). words_with index (take i words) ++ (if eqb v.index index then v ∷ [] else [])) (get_or_from_slice_get words i w w at)
-    ∙ ap (λ (t : Bool). words_with index (take i words) ++ (if t then w ∷ [] else [])) (eq-eqb w.index index e)
+    ∙ ap (λ (v : GsiWord). words_with index (take i words)
+    ++ (if eqb v.index index then v ∷ [] else [])) (get_or_from_slice_get words i w w at)
+    ∙ ap (λ (t : Bool). words_with index (take i words) ++ (if t then w ∷ [] else []))
+    (eq-eqb w.index index e)
 
 none_some : (w : GsiWord) → ◌≡◌ {A = Option GsiWord} None (Some w) → ⊥
 none_some w e = cc
 
-pub below : (words : List GsiWord) (i : ℕ) (w : GsiWord) → slice_get words i ≡ Some w → i < length words
-below words i w at = elim (slice_get_cases words i).1 [ inl found ↦ found.1 | inr past ↦ absurd (none_some w (sym past.1 ∙ at)) ]
+pub below : (words : List GsiWord) (i : ℕ) (w : GsiWord) → slice_get words i ≡ Some w
+    → i < length words
+below words i w at = elim (slice_get_cases words i).1 [ inl found ↦ found.1 | inr past ↦
+    absurd (none_some w (sym past.1 ∙ at)) ]
 
 none_found : (ws : List GsiWord) → Absent ≡ found_among ws → ws ≡ []
 none_found [] e = refl
@@ -36,28 +46,43 @@ none_found (w ∷ []) e = absurd cc
 none_found (w ∷ v ∷ ws) e = absurd cc
 
 -- the first word of the index
-pub found_first : (index : ℕ) (words : List GsiWord) (i : ℕ) (w : GsiWord) → Absent ≡ found_among (words_with index (take i words)) → slice_get words i ≡ Some w → w.index ≡ index → One w ≡ found_among (words_with index (take (i + 1) words))
+pub found_first : (index : ℕ) (words : List GsiWord) (i : ℕ) (w : GsiWord)
+    → Absent ≡ found_among (words_with index (take i words)) → slice_get words i ≡ Some w
+    → w.index ≡ index → One w ≡ found_among (words_with index (take (i + 1) words))
 found_first index words i w none at e =
-    let before : words_with index (take i words) ≡ [] = none_found (words_with index (take i words)) none in
-    ap found_among (ap (λ (ws : List GsiWord). ws ++ w ∷ []) (sym before) ∙ sym (words_with_one index words i w (below words i w at) at e))
+    let before : words_with index (take i words) ≡ [] =
+        none_found (words_with index (take i words)) none in
+    ap found_among (ap (λ (ws : List GsiWord). ws ++ w ∷ []) (sym before)
+        ∙ sym (words_with_one index words i w (below words i w at) at e))
 
-twice : (before : List GsiWord) (w : GsiWord) → found_among before ≢ Absent → Twice ≡ found_among (before ++ w ∷ [])
+twice : (before : List GsiWord) (w : GsiWord) → found_among before ≢ Absent
+    → Twice ≡ found_among (before ++ w ∷ [])
 twice [] w some = absurd (some refl)
 twice (x ∷ []) w some = refl
 twice (x ∷ y ∷ before) w some = refl
 
 -- a further word of the index
-pub found_further : (index : ℕ) (words : List GsiWord) (i : ℕ) (w : GsiWord) → found_among (words_with index (take i words)) ≢ Absent → slice_get words i ≡ Some w → w.index ≡ index → Twice ≡ found_among (words_with index (take (i + 1) words))
+pub found_further : (index : ℕ) (words : List GsiWord) (i : ℕ) (w : GsiWord)
+    → found_among (words_with index (take i words)) ≢ Absent → slice_get words i ≡ Some w
+    → w.index ≡ index → Twice ≡ found_among (words_with index (take (i + 1) words))
 found_further index words i w some at e =
-    twice (words_with index (take i words)) w some ∙ ap found_among (sym (words_with_one index words i w (below words i w at) at e))
+    twice (words_with index (take i words)) w some
+        ∙ ap found_among (sym (words_with_one index words i w (below words i w at) at e))
 
 -- one word of another index
-pub found_other : (index : ℕ) (words : List GsiWord) (i : ℕ) (w : GsiWord) → slice_get words i ≡ Some w → w.index ≢ index → found_among (words_with index (take i words)) ≡ found_among (words_with index (take (i + 1) words))
-found_other index words i w at ne = ap found_among (sym (words_with_other index words i w (below words i w at) at ne))
+pub found_other : (index : ℕ) (words : List GsiWord) (i : ℕ) (w : GsiWord)
+    → slice_get words i ≡ Some w → w.index ≢ index
+    → found_among (words_with index (take i words))
+    ≡ found_among (words_with index (take (i + 1) words))
+found_other index words i w at ne = ap found_among
+    (sym (words_with_other index words i w (below words i w at) at ne))
 
 pub past : (words : List GsiWord) (i : ℕ) → slice_get words i ≡ None → length words ≤ i
-past words i at = elim (slice_get_cases words i).1 [ inl found ↦ absurd (none_some found.0 (sym at ∙ found.2)) | inr out ↦ out.0 ]
+past words i at = elim (slice_get_cases words i).1
+    [ inl found ↦ absurd (none_some found.0 (sym at ∙ found.2)) | inr out ↦ out.0 ]
 
 -- past the last word
-pub found_all : (index : ℕ) (words : List GsiWord) (i : ℕ) → slice_get words i ≡ None → found_among (words_with index (take i words)) ≡ found_among (words_with index words)
-found_all index words i at = ap (λ (ws : List GsiWord). found_among (words_with index ws)) (take_all i words (past words i at))
+pub found_all : (index : ℕ) (words : List GsiWord) (i : ℕ) → slice_get words i ≡ None
+    → found_among (words_with index (take i words)) ≡ found_among (words_with index words)
+found_all index words i at = ap (λ (ws : List GsiWord). found_among (words_with index ws))
+    (take_all i words (past words i at))

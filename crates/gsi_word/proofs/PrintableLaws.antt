@@ -15,20 +15,27 @@ printable b h = let p = and_parts _ _ h in (leb-true _ _ p.0, leb-true _ _ p.1)
 true_test : (b : ℕ) → IsPrintable b → is_printable b ≡ true
 true_test b h = and_from _ _ (le-leb _ _ h.0) (le-leb _ _ h.1)
 
-pub printable_from_test : (bytes : List ℕ) → list_all is_printable bytes ≡ true → All IsPrintable bytes
-printable_from_test bytes h = All-weaker (λ b. is_printable b ≡ true) IsPrintable printable bytes (AllPass-from_list_all is_printable bytes h)
+pub printable_from_test : (bytes : List ℕ) → list_all is_printable bytes ≡ true
+    → All IsPrintable bytes
+printable_from_test bytes h = All-weaker (λ b. is_printable b ≡ true) IsPrintable printable bytes
+    (AllPass-from_list_all is_printable bytes h)
 
-pub test_from_printable : (bytes : List ℕ) → All IsPrintable bytes → list_all is_printable bytes ≡ true
-test_from_printable bytes h = list_all-from_AllPass is_printable bytes (All-weaker IsPrintable (λ b. is_printable b ≡ true) true_test bytes h)
+pub test_from_printable : (bytes : List ℕ) → All IsPrintable bytes
+    → list_all is_printable bytes ≡ true
+test_from_printable bytes h = list_all-from_AllPass is_printable bytes
+    (All-weaker IsPrintable (λ b. is_printable b ≡ true) true_test bytes h)
 
 pub no_printable : (b : ℕ) → is_printable b ≡ false → ¬ IsPrintable b
 no_printable b e h = false≢true (sym e ∙ true_test b h)
 
 -- The first n bytes, and those from a place among them or behind them on, are all bytes.
-pub all_of_both : (bytes : List ℕ) (n from : ℕ) → from ≤ n → All IsPrintable (take n bytes) → All IsPrintable (drop from bytes) → All IsPrintable bytes
+pub all_of_both : (bytes : List ℕ) (n from : ℕ) → from ≤ n → All IsPrintable (take n bytes)
+    → All IsPrintable (drop from bytes) → All IsPrintable bytes
 all_of_both bytes n from le front rest =
-    let before = subst (All IsPrintable) (take-take from n bytes le) (All-take IsPrintable from (take n bytes) front) in
-    subst (All IsPrintable) (take-append-drop from bytes) (All-append IsPrintable (take from bytes) (drop from bytes) before rest)
+    let before = subst (All IsPrintable) (take-take from n bytes le)
+        (All-take IsPrintable from (take n bytes) front) in
+    subst (All IsPrintable) (take-append-drop from bytes)
+        (All-append IsPrintable (take from bytes) (drop from bytes) before rest)
 
 -- whether a byte may not stand in a line
 abbrev pub is_stray : ℕ → Bool
@@ -38,9 +45,12 @@ none_past : (bytes : List ℕ) → length bytes ≤ position_or_len is_stray byt
 none_past [] le = All-nil IsPrintable
 none_past (b ∷ bytes) le = by (is_printable b) refl le (none_past bytes)
   where
-    by : (t : Bool) → is_printable b ≡ t → suc (length bytes) ≤ cond (not (not t)) (1 + position_or_len is_stray bytes) 0
-        → (length bytes ≤ position_or_len is_stray bytes → All IsPrintable bytes) → All IsPrintable (b ∷ bytes)
-    by true e past later = All-cons IsPrintable b bytes (printable b e) (later (omega (arith, past)))
+    by : (t : Bool) → is_printable b ≡ t → suc (length bytes)
+        ≤ cond (not (not t)) (1 + position_or_len is_stray bytes) 0
+        → (length bytes ≤ position_or_len is_stray bytes → All IsPrintable bytes)
+        → All IsPrintable (b ∷ bytes)
+    by true e past later = All-cons IsPrintable b bytes (printable b e)
+        (later (omega (arith, past)))
     by false e past later = absurd (omega (arith, past))
 
 not_within : (n m : ℕ) → cond (nat_lt n m) (Some n) None ≡ None → m ≤ n

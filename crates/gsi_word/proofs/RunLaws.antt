@@ -1,4 +1,5 @@
--- A run of words from the front of some bytes, each with its blank: what a loop over words has passed.
+-- A run of words from the front of some bytes, each with its blank: what a loop over words has
+-- passed.
 use Rattle.std.proofs.Common.{◌≡◌, ◌≢◌, ℕ, zero, suc, ◌+◌, ◌*◌, ◌<◌, ◌≤◌, true, false, List, [], ◌∷◌, ◌++◌, length, take, drop, map, replicate, All, Any, ◌⊎◌, inl, inr, refl, sym, ap, subst, ◌∙◌, append_assoc, arith, add-one}
 use Rattle.std.specs.List.{flat_map, join_with_byte}
 use Rattle.std.proofs.lemmas.List.{length-drop, drop-drop, take-append-drop, nil_from_length}
@@ -13,36 +14,52 @@ use Rattle.gsi_word.proofs.WordLaws.{Front, front, no_word, long_of, word_bytes_
 -- The bytes begin with this many words, and after them and their blanks stands the rest.
 abbrev pub Runs : ℕ → ℕ → List ℕ → List ℕ → Type 0
 Runs width zero bytes rest = rest ≡ bytes
-Runs width (suc n) bytes rest = (begins_word width bytes ≡ true) × Runs width n (drop (8 + width) bytes) rest
+Runs width (suc n) bytes rest = (begins_word width bytes ≡ true)
+    × Runs width n (drop (8 + width) bytes) rest
 
-runs_suc : (width n : ℕ) (bytes rest : List ℕ) → Runs width n bytes rest → begins_word width rest ≡ true → Runs width (suc n) bytes (drop (8 + width) rest)
-runs_suc width zero bytes rest is e = (ap (λ (r : List ℕ). begins_word width r) (sym is) ∙ e, ap (λ (r : List ℕ). drop (8 + width) r) is)
-runs_suc width (suc n) bytes rest run e = (run.0, runs_suc width n (drop (8 + width) bytes) rest run.1 e)
+runs_suc : (width n : ℕ) (bytes rest : List ℕ) → Runs width n bytes rest
+    → begins_word width rest ≡ true → Runs width (suc n) bytes (drop (8 + width) rest)
+runs_suc width zero bytes rest is e = (ap (λ (r : List ℕ). begins_word width r) (sym is)
+    ∙ e, ap (λ (r : List ℕ). drop (8 + width) r) is)
+runs_suc width (suc n) bytes rest run e = (run.0,
+    runs_suc width n (drop (8 + width) bytes) rest run.1 e)
 
 -- one more word
-pub runs_more : (width n : ℕ) (bytes rest : List ℕ) → Runs width n bytes rest → begins_word width rest ≡ true → Runs width (n + 1) bytes (drop (8 + width) rest)
-runs_more width n bytes rest run e = subst (λ (k : ℕ). Runs width k bytes (drop (8 + width) rest)) (sym (add-one n)) (runs_suc width n bytes rest run e)
+pub runs_more : (width n : ℕ) (bytes rest : List ℕ) → Runs width n bytes rest
+    → begins_word width rest ≡ true → Runs width (n + 1) bytes (drop (8 + width) rest)
+runs_more width n bytes rest run e = subst (λ (k : ℕ). Runs width k bytes (drop (8 + width) rest))
+    (sym (add-one n)) (runs_suc width n bytes rest run e)
 
 blank_first : (rest : List ℕ) → EndsWord rest → 0 < length rest → rest ≡ 32 ∷ drop 1 rest
 blank_first [] e lt = absurd (omega arith)
 blank_first (b ∷ rest) e lt = ap (λ (x : ℕ). x ∷ rest) e
 
-after_blank : (width : ℕ) (bytes : List ℕ) → drop 1 (drop (7 + width) bytes) ≡ drop (8 + width) bytes
+after_blank : (width : ℕ) (bytes : List ℕ) → drop 1 (drop (7 + width) bytes)
+    ≡ drop (8 + width) bytes
 after_blank width bytes = drop-drop 1 (7 + width) bytes ∙ ap (λ (k : ℕ). drop k bytes) (omega arith)
 
 -- a word, and what follows it
-split_front : (width : ℕ) (bytes : List ℕ) → Front width bytes → bytes ≡ spelled (word_of (take (7 + width) bytes)) ++ drop (7 + width) bytes
-split_front width bytes f = sym (take-append-drop (7 + width) bytes) ∙ ap (λ (w : List ℕ). w ++ drop (7 + width) bytes) f.text
+split_front : (width : ℕ) (bytes : List ℕ) → Front width bytes
+    → bytes ≡ spelled (word_of (take (7 + width) bytes)) ++ drop (7 + width) bytes
+split_front width bytes f = sym (take-append-drop (7 + width) bytes)
+    ∙ ap (λ (w : List ℕ). w ++ drop (7 + width) bytes) f.text
 
 -- a word with its blank, and what follows them, where something does
-split_followed : (width : ℕ) (bytes : List ℕ) → Front width bytes → 0 < length (drop (8 + width) bytes) → bytes ≡ spelled (word_of (take (7 + width) bytes)) ++ 32 ∷ drop (8 + width) bytes
+split_followed : (width : ℕ) (bytes : List ℕ) → Front width bytes
+    → 0 < length (drop (8 + width) bytes) → bytes ≡ spelled (word_of (take (7 + width) bytes)) ++ 32
+    ∷ drop (8 + width) bytes
 split_followed width bytes f more =
-    let longer : 0 < length (drop (7 + width) bytes) = omega (arith, length-drop (8 + width) bytes, length-drop (7 + width) bytes, more) in
-    let blank : drop (7 + width) bytes ≡ 32 ∷ drop (8 + width) bytes = blank_first (drop (7 + width) bytes) f.ends longer ∙ ap (λ (r : List ℕ). 32 ∷ r) (after_blank width bytes) in
-    split_front width bytes f ∙ ap (λ (r : List ℕ). spelled (word_of (take (7 + width) bytes)) ++ r) blank
+    let longer : 0 < length (drop (7 + width) bytes) =
+        omega (arith, length-drop (8 + width) bytes, length-drop (7 + width) bytes, more) in
+    let blank : drop (7 + width) bytes ≡ 32 ∷ drop (8 + width) bytes =
+        blank_first (drop (7 + width) bytes) f.ends longer
+        ∙ ap (λ (r : List ℕ). 32 ∷ r) (after_blank width bytes) in
+    split_front width bytes f ∙ ap (λ (r : List ℕ). spelled (word_of (take (7 + width) bytes)) ++ r)
+        blank
 
 -- Where a run goes on, or something stands behind it, something stands behind its first word.
-runs_length : (width n : ℕ) (bytes rest : List ℕ) → Runs width n bytes rest → (0 < n) ⊎ (0 < length rest) → 0 < length bytes
+runs_length : (width n : ℕ) (bytes rest : List ℕ) → Runs width n bytes rest → (0 < n)
+    ⊎ (0 < length rest) → 0 < length bytes
 runs_length width zero bytes rest is (inl lt) = absurd (omega arith)
 runs_length width zero bytes rest is (inr lt) = omega (arith, ap length is, lt)
 runs_length width (suc n) bytes rest run some = omega (arith, long_of width bytes run.0)
@@ -52,15 +69,20 @@ record Ends (bytes rest : List ℕ) : Type 0 where
   pub blanks : ℕ
   pub text : bytes ≡ replicate blanks 32
 
-last_blanks : (back rest : List ℕ) → EndsWord back → drop 1 back ≡ rest → rest ≡ replicate (length rest) 32 → Ends back rest
+last_blanks : (back rest : List ℕ) → EndsWord back → drop 1 back ≡ rest
+    → rest ≡ replicate (length rest) 32 → Ends back rest
 last_blanks [] rest e is blank = record { blanks = 0; text = refl }
-last_blanks (b ∷ back) rest e is blank = record { blanks = suc (length rest); text = ap (λ (x : ℕ). x ∷ back) e ∙ ap (λ (r : List ℕ). 32 ∷ r) (is ∙ blank) }
+last_blanks (b ∷ back) rest e is blank = record { blanks = suc (length rest); text =
+    ap (λ (x : ℕ). x ∷ back) e ∙ ap (λ (r : List ℕ). 32 ∷ r) (is ∙ blank) }
 
-run_is_words : (width n : ℕ) (bytes rest : List ℕ) → Runs width (suc n) bytes rest → All IsPrintable bytes → rest ≡ replicate (length rest) 32 → AreWords width bytes (words_from width (suc n) bytes)
+run_is_words : (width n : ℕ) (bytes rest : List ℕ) → Runs width (suc n) bytes rest
+    → All IsPrintable bytes → rest ≡ replicate (length rest) 32
+    → AreWords width bytes (words_from width (suc n) bytes)
 run_is_words width zero bytes rest run h blank =
     let f = front width bytes run.0 h in
     let w = word_of (take (7 + width) bytes) in
-    let e = last_blanks (drop (7 + width) bytes) rest f.ends (after_blank width bytes ∙ sym run.1) blank in
+    let e = last_blanks (drop (7 + width) bytes) rest f.ends (after_blank width bytes ∙ sym run.1)
+        blank in
     record {
       some_word = omega arith;
       each = All-cons (IsWord width) w [] f.word (All-nil (IsWord width));
@@ -71,28 +93,34 @@ run_is_words width (suc n) bytes rest run h blank =
     let f = front width bytes run.0 h in
     let w = word_of (take (7 + width) bytes) in
     let next = drop (8 + width) bytes in
-    let tail = run_is_words width n next rest run.1 (All-drop IsPrintable (8 + width) bytes h) blank in
+    let tail = run_is_words width n next rest run.1 (All-drop IsPrintable (8 + width) bytes h)
+        blank in
     let rest_text = join_with_byte 32 (map spelled (words_from width (suc n) next)) in
     record {
       some_word = omega arith;
       each = All-cons (IsWord width) w (words_from width (suc n) next) f.word tail.each;
       blanks = tail.blanks;
-      text = split_followed width bytes f (runs_length width (suc n) next rest run.1 (inl (omega arith)))
+      text = split_followed width bytes f (runs_length width (suc n) next rest run.1
+          (inl (omega arith)))
           ∙ ap (λ (r : List ℕ). spelled w ++ 32 ∷ r) tail.text
           ∙ sym (append_assoc (spelled w) (32 ∷ rest_text) (replicate tail.blanks 32));
     }
 
 -- A run of words with nothing but blanks behind it is all of the bytes.
-pub run_are_words : (width n : ℕ) (bytes rest : List ℕ) → Runs width n bytes rest → 0 < n → All IsPrintable bytes → rest ≡ replicate (length rest) 32 → AreWords width bytes (words_from width n bytes)
+pub run_are_words : (width n : ℕ) (bytes rest : List ℕ) → Runs width n bytes rest → 0 < n
+    → All IsPrintable bytes → rest ≡ replicate (length rest) 32
+    → AreWords width bytes (words_from width n bytes)
 run_are_words width zero bytes rest run some h blank = absurd (omega arith)
-run_are_words width (suc n) bytes rest run some h blank = run_is_words width n bytes rest run h blank
+run_are_words width (suc n) bytes rest run some h blank =
+    run_is_words width n bytes rest run h blank
 
 -- The words of a run, each with its blank, and the rest are the bytes.
 pub record Begun (width n : ℕ) (bytes rest : List ℕ) : Type 0 where
   pub each : All (IsWord width) (words_from width n bytes)
   pub text : bytes ≡ flat_map followed (words_from width n bytes) ++ rest
 
-run_begun : (width n : ℕ) (bytes rest : List ℕ) → Runs width n bytes rest → All IsPrintable bytes → (n ≡ 0) ⊎ (0 < length rest) → Begun width n bytes rest
+run_begun : (width n : ℕ) (bytes rest : List ℕ) → Runs width n bytes rest → All IsPrintable bytes
+    → (n ≡ 0) ⊎ (0 < length rest) → Begun width n bytes rest
 run_begun width zero bytes rest is h some = record { each = All-nil (IsWord width); text = sym is }
 run_begun width (suc n) bytes rest run h (inl none) = absurd (omega arith)
 run_begun width (suc n) bytes rest run h (inr some) =
@@ -100,11 +128,14 @@ run_begun width (suc n) bytes rest run h (inr some) =
     let w = word_of (take (7 + width) bytes) in
     let next = drop (8 + width) bytes in
     let words = words_from width n next in
-    let tail = run_begun width n next rest run.1 (All-drop IsPrintable (8 + width) bytes h) (inr some) in
+    let tail = run_begun width n next rest run.1 (All-drop IsPrintable (8 + width) bytes h)
+        (inr some) in
     record {
       each = All-cons (IsWord width) w words f.word tail.each;
-      text = split_followed width bytes f (runs_length width n next rest run.1 (inr some)) ∙ ap (λ (r : List ℕ). spelled w ++ 32 ∷ r) tail.text
-          ∙ sym (append_assoc (spelled w) (32 ∷ []) (flat_map followed words ++ rest)) ∙ sym (append_assoc (followed w) (flat_map followed words) rest);
+      text = split_followed width bytes f (runs_length width n next rest run.1 (inr some))
+          ∙ ap (λ (r : List ℕ). spelled w ++ 32 ∷ r) tail.text
+          ∙ sym (append_assoc (spelled w) (32 ∷ []) (flat_map followed words ++ rest))
+          ∙ sym (append_assoc (followed w) (flat_map followed words) rest);
     }
 
 pub length_words_from : (width n : ℕ) (bytes : List ℕ) → length (words_from width n bytes) ≡ n
@@ -112,9 +143,12 @@ length_words_from width zero bytes = refl
 length_words_from width (suc n) bytes = ap suc (length_words_from width n (drop (8 + width) bytes))
 
 -- Behind a run of words stands no word.
-pub run_has_fault : (width n : ℕ) (bytes rest : List ℕ) → Runs width n bytes rest → All IsPrintable bytes → begins_word width rest ≡ false → (n ≡ 0) ⊎ Any (λ b. b ≢ 32) rest → IsWordFault width bytes (n + 1)
+pub run_has_fault : (width n : ℕ) (bytes rest : List ℕ) → Runs width n bytes rest
+    → All IsPrintable bytes → begins_word width rest ≡ false → (n ≡ 0) ⊎ Any (λ b. b ≢ 32) rest
+    → IsWordFault width bytes (n + 1)
 run_has_fault width n bytes rest run h e some =
-    let begun = run_begun width n bytes rest run h (elim some [ inl none ↦ inl none | inr ink ↦ inr (omega (arith, ink.2)) ]) in
+    let begun = run_begun width n bytes rest run h
+        (elim some [ inl none ↦ inl none | inr ink ↦ inr (omega (arith, ink.2)) ]) in
     record {
       words = words_from width n bytes;
       rest = rest;
@@ -122,28 +156,37 @@ run_has_fault width n bytes rest run h e some =
       text = begun.text;
       place = omega (arith, length_words_from width n bytes);
       fault = no_word width rest e;
-      goes_on = elim some [ inl none ↦ inl (nil_from_length (words_from width n bytes) (length_words_from width n bytes ∙ none)) | inr ink ↦ inr ink ];
+      goes_on = elim some [ inl none ↦ inl (nil_from_length (words_from width n bytes)
+          (length_words_from width n bytes ∙ none)) | inr ink ↦ inr ink ];
     }
 
 -- the bytes after some words and their blanks
-pub drop_words : (width i : ℕ) (bytes : List ℕ) → drop ((8 + width) * i) (drop (8 + width) bytes) ≡ drop ((8 + width) * suc i) bytes
-drop_words width i bytes = drop-drop ((8 + width) * i) (8 + width) bytes ∙ ap (λ (k : ℕ). drop k bytes) (omega (arith, mul-suc (8 + width) i))
+pub drop_words : (width i : ℕ) (bytes : List ℕ)
+    → drop ((8 + width) * i) (drop (8 + width) bytes) ≡ drop ((8 + width) * suc i) bytes
+drop_words width i bytes = drop-drop ((8 + width) * i) (8 + width) bytes
+    ∙ ap (λ (k : ℕ). drop k bytes) (omega (arith, mul-suc (8 + width) i))
 
 -- Each word of a run has its bytes at its place.
-pub run_places : (width n : ℕ) (bytes rest : List ℕ) → Runs width n bytes rest → All IsPrintable bytes → (i : ℕ) → i < n → IsWordBytes width (take (7 + width) (drop ((8 + width) * i) bytes))
+pub run_places : (width n : ℕ) (bytes rest : List ℕ) → Runs width n bytes rest
+    → All IsPrintable bytes → (i : ℕ) → i < n
+    → IsWordBytes width (take (7 + width) (drop ((8 + width) * i) bytes))
 run_places width zero bytes rest run h i lt = absurd (omega arith)
 run_places width (suc n) bytes rest run h zero lt =
     let none : 0 ≡ (8 + width) * 0 = omega arith in
-    subst (λ (k : ℕ). IsWordBytes width (take (7 + width) (drop k bytes))) none (word_bytes_of width bytes run.0 h)
+    subst (λ (k : ℕ). IsWordBytes width (take (7 + width) (drop k bytes))) none
+        (word_bytes_of width bytes run.0 h)
 run_places width (suc n) bytes rest run h (suc i) lt =
     subst (λ (r : List ℕ). IsWordBytes width (take (7 + width) r)) (drop_words width i bytes)
-    (run_places width n (drop (8 + width) bytes) rest run.1 (All-drop IsPrintable (8 + width) bytes h) i (omega arith))
+    (run_places width n (drop (8 + width) bytes) rest run.1
+        (All-drop IsPrintable (8 + width) bytes h) i (omega arith))
 
 -- The words of a run have room in the bytes; the blank after the last may be missing.
-pub run_room : (width n : ℕ) (bytes rest : List ℕ) → Runs width n bytes rest → (8 + width) * n ≤ length bytes + 1
+pub run_room : (width n : ℕ) (bytes rest : List ℕ) → Runs width n bytes rest
+    → (8 + width) * n ≤ length bytes + 1
 run_room width zero bytes rest run = omega arith
 run_room width (suc zero) bytes rest run = omega (arith, long_of width bytes run.0)
 run_room width (suc (suc n)) bytes rest run =
     let next = drop (8 + width) bytes in
     let longer : 7 + width ≤ length next = long_of width next run.1.0 in
-    omega (arith, run_room width (suc n) next rest run.1, longer, length-drop (8 + width) bytes, mul-suc (8 + width) (suc n))
+    omega (arith, run_room width (suc n) next rest run.1, longer, length-drop (8 + width) bytes,
+        mul-suc (8 + width) (suc n))

@@ -6,8 +6,11 @@ use Rattle.gsi_file.proofs.search.find_line.Given as goal
 
 abbrev pub invariant-search : goal.invariant-search
 invariant-search g l = record {
-  searching : Searching (g.R.Source.told l.fn.reader) (g.R.Source.told l.reader) l.fn.room l.fn.buffer l.left l.line l.buffer;
-  through : Through (g.R.Source.told l.fn.reader) (g.R.Source.told l.reader) (λ before after. SameAnswers (Some before) l.fn.room l.fn.buffer (Some after) l.left l.buffer);
+  searching : Searching (g.R.Source.told l.fn.reader) (g.R.Source.told l.reader) l.fn.room
+      l.fn.buffer l.left l.line l.buffer;
+  through : Through (g.R.Source.told l.fn.reader) (g.R.Source.told l.reader)
+      (λ before after. SameAnswers (Some before) l.fn.room l.fn.buffer (Some after) l.left
+      l.buffer);
   unfailed : g.R.Source.failed l.reader ≡ g.R.Source.failed l.fn.reader;
 }
 

@@ -10,6 +10,9 @@ returns-then-has_no_unprintable c =
     let bytes = c.args.bytes.now in
     let last = length bytes - 16 in
     let rest = take_rest bytes last in (
-      λ yes. all_of_both bytes (length bytes / 16 * 16) last (omega arith) (search rules) (subst (All IsPrintable) rest (c.has_no_unprintable-then-has_no_unprintable.ensures.0 yes)),
-      λ all. c.has_no_unprintable-then-has_no_unprintable.ensures.1 (subst (All IsPrintable) (sym rest) (All-drop IsPrintable last bytes all)),
+      λ yes. all_of_both bytes (length bytes / 16 * 16) last (omega arith) (search rules)
+          (subst (All IsPrintable) rest (c.has_no_unprintable-then-has_no_unprintable.ensures.0
+          yes)),
+      λ all. c.has_no_unprintable-then-has_no_unprintable.ensures.1
+          (subst (All IsPrintable) (sym rest) (All-drop IsPrintable last bytes all)),
     )

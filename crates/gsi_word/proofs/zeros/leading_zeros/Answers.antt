@@ -12,7 +12,8 @@ returns-then-content-eq-GSI_8 c =
     let v = chunk 0 8 c.args.content.now in
     let all = length-chunk 0 8 c.args.content.now (omega (arith, is)) in
     c.lowest_lane.ensures
-    ∙ ap (λ (m : ℕ). if m == 0 then 8 else trailing_zeros w64 m) (bitmask_splat w8 (λ a b. not (a == b)) v 8 48 all (omega arith))
+    ∙ ap (λ (m : ℕ). if m == 0 then 8 else trailing_zeros w64 m)
+    (bitmask_splat w8 (λ a b. not (a == b)) v 8 48 all (omega arith))
     ∙ first_set_mask_l (λ (b : ℕ). not (b == 48)) v 8 all (omega arith)
     ∙ zeros_in_load 8 c.args.content.now is
 
@@ -22,6 +23,7 @@ returns-else-content-eq-GSI_8 c =
     let v = chunk 0 16 c.args.content.now in
     let all = length-chunk 0 16 c.args.content.now (omega (arith, is)) in
     c.lowest_lane-else-content-eq-GSI_8.ensures
-    ∙ ap (λ (m : ℕ). if m == 0 then 16 else trailing_zeros w64 m) (bitmask_splat w8 (λ a b. not (a == b)) v 16 48 all (omega arith))
+    ∙ ap (λ (m : ℕ). if m == 0 then 16 else trailing_zeros w64 m)
+    (bitmask_splat w8 (λ a b. not (a == b)) v 16 48 all (omega arith))
     ∙ first_set_mask_l (λ (b : ℕ). not (b == 48)) v 16 all (omega arith)
     ∙ zeros_in_load 16 c.args.content.now is
