@@ -12,16 +12,22 @@ pub record IsBalanced (c : Choice) (readings : List Reading) : Type 0 where
   pub targets : (t : ℕ) → target_sum c readings t ≡ pos 0
   pub sets : (s : ℕ) → set_sum c readings s ≡ pos 0
 
-none_pass : {X : Type 0} (key : X → ℕ) (f : X → ℤ) (n : ℕ) (xs : List X) → AllByRecursion (λ x. key x < n) xs → (k : ℕ) → n ≤ k → int_sum_where (λ x. eqb (key x) k) f xs ≡ pos 0
+none_pass : {X : Type 0} (key : X → ℕ) (f : X → ℤ) (n : ℕ) (xs : List X)
+    → AllByRecursion (λ x. key x < n) xs → (k : ℕ) → n ≤ k
+    → int_sum_where (λ x. eqb (key x) k) f xs ≡ pos 0
 none_pass key f n [] h k le = refl
 none_pass key f n (x ∷ xs) h k le =
     let lt : key x < n = h.0 in
-    λ i. cond (ne_eqb (key x) k (λ e. apart (key x) k n e lt le) i) (f x) (pos 0) +ℤ none_pass key f n xs h.1 k le i
+    λ i. cond (ne_eqb (key x) k (λ e. apart (key x) k n e lt le) i) (f x) (pos 0)
+        +ℤ none_pass key f n xs h.1 k le i
   where
     apart : (a k n : ℕ) → a ≡ k → a < n → n ≤ k → ⊥
     apart a k n e l m = omega arith
 
-pub all_vanish : {X : Type 0} (key : X → ℕ) (f : X → ℤ) (n : ℕ) (xs : List X) → AllByRecursion (λ x. key x < n) xs → ((k : ℕ) → k < n → int_sum_where (λ x. eqb (key x) k) f xs ≡ pos 0) → (k : ℕ) → int_sum_where (λ x. eqb (key x) k) f xs ≡ pos 0
+pub all_vanish : {X : Type 0} (key : X → ℕ) (f : X → ℤ) (n : ℕ) (xs : List X)
+    → AllByRecursion (λ x. key x < n) xs → ((k : ℕ) → k < n
+    → int_sum_where (λ x. eqb (key x) k) f xs ≡ pos 0) → (k : ℕ)
+    → int_sum_where (λ x. eqb (key x) k) f xs ≡ pos 0
 all_vanish key f n xs h v k = by (dec_lt k n)
   where
     by : Dec (k < n) → int_sum_where (λ x. eqb (key x) k) f xs ≡ pos 0

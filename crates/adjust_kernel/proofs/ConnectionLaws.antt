@@ -29,7 +29,8 @@ merged a b n = cond (eqb n a) b n
 
 abbrev label : List Reading → ℕ ⊎ ℕ → ℕ
 label [] x = own_label x
-label (r ∷ readings) x = merged (label readings (inl r.set)) (label readings (inr r.target)) (label readings x)
+label (r ∷ readings) x = merged (label readings (inl r.set)) (label readings (inr r.target))
+    (label readings x)
 
 merged_is : (a b n : ℕ) → n ≡ a → merged a b n ≡ b
 merged_is a b n e = grind (arith, nat_tests)
@@ -44,13 +45,17 @@ merged_both a b = merged_is a b a refl ∙ sym (by (ℕ_discrete b a)) where
   by (no f) = merged_other a b b f
 
 -- the set and the target of a reading have one label
-joined : (readings : List Reading) → AllByRecursion (λ r. label readings (inl r.set) ≡ label readings (inr r.target)) readings
+joined : (readings : List Reading) → AllByRecursion
+    (λ r. label readings (inl r.set) ≡ label readings (inr r.target)) readings
 joined [] = tt
 joined (r ∷ readings) =
     let a = label readings (inl r.set) in
     let b = label readings (inr r.target) in (
       merged_both a b,
-      AllByRecursion-map (λ (x : Reading). label readings (inl x.set) ≡ label readings (inr x.target)) (λ x. label (r ∷ readings) (inl x.set) ≡ label (r ∷ readings) (inr x.target)) (λ x e. ap (merged a b) e) readings (joined readings),
+      AllByRecursion-map (λ (x : Reading). label readings (inl x.set)
+          ≡ label readings (inr x.target)) (λ x. label (r ∷ readings) (inl x.set)
+          ≡ label (r ∷ readings) (inr x.target)) (λ x e. ap (merged a b) e) readings
+          (joined readings),
     )
 
 module _ (p q : ℕ → Bool) where
@@ -62,20 +67,30 @@ module _ (p q : ℕ → Bool) where
 
   -- something in the same part that had this label before this reading was taken
   abbrev HadLabel : Reading → List Reading → ℕ ⊎ ℕ → Type 0
-  HadLabel r readings x = (y : ℕ ⊎ ℕ) × (label readings y ≡ label (r ∷ readings) x) × (part p q y ≡ part p q x)
+  HadLabel r readings x = (y : ℕ ⊎ ℕ) × (label readings y ≡ label (r ∷ readings) x)
+      × (part p q y ≡ part p q x)
 
   -- what has one label lies in one part, where no reading stands between the parts
-  one_part : (readings : List Reading) → AllWithin p q readings → (x y : ℕ ⊎ ℕ) → label readings x ≡ label readings y → part p q x ≡ part p q y
+  one_part : (readings : List Reading) → AllWithin p q readings → (x y : ℕ ⊎ ℕ)
+      → label readings x ≡ label readings y → part p q x ≡ part p q y
   one_part [] w x y e = own_part x y e
   one_part (r ∷ readings) w x y e = by (one_part readings w.1) w.0 where
-    before : ((x y : ℕ ⊎ ℕ) → label readings x ≡ label readings y → part p q x ≡ part p q y) → p r.set ≡ q r.target → (x : ℕ ⊎ ℕ) → Dec (label readings x ≡ label readings (inl r.set)) → HadLabel r readings x
-    before same k x (yes e) = (inr r.target, sym (merged_is (label readings (inl r.set)) (label readings (inr r.target)) (label readings x) e), sym k ∙ same (inl r.set) x (sym e))
-    before same k x (no f) = (x, sym (merged_other (label readings (inl r.set)) (label readings (inr r.target)) (label readings x) f), refl)
+    before : ((x y : ℕ ⊎ ℕ) → label readings x ≡ label readings y → part p q x ≡ part p q y)
+        → p r.set ≡ q r.target → (x : ℕ ⊎ ℕ) → Dec (label readings x ≡ label readings (inl r.set))
+        → HadLabel r readings x
+    before same k x (yes e) = (inr r.target, sym
+        (merged_is (label readings (inl r.set)) (label readings (inr r.target)) (label readings x)
+        e), sym k ∙ same (inl r.set) x (sym e))
+    before same k x (no f) = (x, sym (merged_other (label readings (inl r.set))
+        (label readings (inr r.target)) (label readings x) f), refl)
 
-    by : ((x y : ℕ ⊎ ℕ) → label readings x ≡ label readings y → part p q x ≡ part p q y) → p r.set ≡ q r.target → part p q x ≡ part p q y
+    by : ((x y : ℕ ⊎ ℕ) → label readings x ≡ label readings y → part p q x ≡ part p q y)
+        → p r.set ≡ q r.target → part p q x ≡ part p q y
     by same k =
-        let (u, l, m) = before same k x (ℕ_discrete (label readings x) (label readings (inl r.set))) in
-        let (v, l', m') = before same k y (ℕ_discrete (label readings y) (label readings (inl r.set))) in
+        let (u, l, m) = before same k x (ℕ_discrete (label readings x)
+            (label readings (inl r.set))) in
+        let (v, l', m') = before same k y (ℕ_discrete (label readings y)
+            (label readings (inl r.set))) in
         sym m ∙ same u v (l ∙ e ∙ sym l') ∙ m'
 
 module _ (sets targets : ℕ) where
@@ -83,7 +98,8 @@ module _ (sets targets : ℕ) where
   IsMember (inl s) = s < sets
   IsMember (inr t) = t < targets
 
-  member : (p q : ℕ → Bool) (side : Bool) (x : ℕ ⊎ ℕ) → IsMember x → part p q x ≡ side → HasMember sets targets p q side
+  member : (p q : ℕ → Bool) (side : Bool) (x : ℕ ⊎ ℕ) → IsMember x → part p q x ≡ side
+      → HasMember sets targets p q side
   member p q side (inl s) h e = inl (s, h, e)
   member p q side (inr t) h e = inr (t, h, e)
 
@@ -95,7 +111,8 @@ module _ (sets targets : ℕ) where
     abbrev alike : ℕ ⊎ ℕ → Bool
     alike x = eqb (label readings x) first_label
 
-    split : (x : ℕ ⊎ ℕ) → IsMember x → label readings x ≢ first_label → IsDivided sets targets readings
+    split : (x : ℕ ⊎ ℕ) → IsMember x → label readings x ≢ first_label
+        → IsDivided sets targets readings
     split x h f =
         let p : ℕ → Bool = λ s. alike (inl s) in
         let q : ℕ → Bool = λ t. alike (inr t) in
@@ -103,7 +120,9 @@ module _ (sets targets : ℕ) where
           part_of_set = p;
           part_of_target = q;
           none_between = All-from_recursion (λ (r : Reading). p r.set ≡ q r.target) readings
-              (AllByRecursion-map (λ (r : Reading). label readings (inl r.set) ≡ label readings (inr r.target)) (λ r. p r.set ≡ q r.target) (λ r e. ap (λ n. eqb n first_label) e) readings (joined readings));
+              (AllByRecursion-map (λ (r : Reading). label readings (inl r.set)
+                  ≡ label readings (inr r.target)) (λ r. p r.set ≡ q r.target)
+                  (λ r e. ap (λ n. eqb n first_label) e) readings (joined readings));
           first_part = member p q true first inside (side first ∙ itself first_label);
           second_part = member p q false x h (side x ∙ ne_eqb (label readings x) first_label f);
         }
@@ -115,14 +134,21 @@ module _ (sets targets : ℕ) where
         side (inl s) = refl
         side (inr t) = refl
 
-    whole : ((s : ℕ) → s < sets → label readings (inl s) ≡ first_label) → ((t : ℕ) → t < targets → label readings (inr t) ≡ first_label) → IsConnected sets targets readings
-    whole of_sets of_targets d = let e : true ≡ false = at true d.first_part ∙ sym (at false d.second_part) in cc where
+    whole : ((s : ℕ) → s < sets → label readings (inl s) ≡ first_label)
+        → ((t : ℕ) → t < targets → label readings (inr t) ≡ first_label)
+        → IsConnected sets targets readings
+    whole of_sets of_targets d = let e : true ≡ false = at true d.first_part
+        ∙ sym (at false d.second_part) in cc where
       within : AllWithin d.part_of_set d.part_of_target readings
-      within = recursion_from_All (λ (r : Reading). d.part_of_set r.set ≡ d.part_of_target r.target) readings d.none_between
+      within = recursion_from_All (λ (r : Reading). d.part_of_set r.set ≡ d.part_of_target r.target)
+          readings d.none_between
 
-      at : (side : Bool) → HasMember sets targets d.part_of_set d.part_of_target side → side ≡ part d.part_of_set d.part_of_target first
-      at side (inl (s, h, e)) = sym e ∙ one_part d.part_of_set d.part_of_target readings within (inl s) first (of_sets s h)
-      at side (inr (t, h, e)) = sym e ∙ one_part d.part_of_set d.part_of_target readings within (inr t) first (of_targets t h)
+      at : (side : Bool) → HasMember sets targets d.part_of_set d.part_of_target side
+          → side ≡ part d.part_of_set d.part_of_target first
+      at side (inl (s, h, e)) = sym e ∙ one_part d.part_of_set d.part_of_target readings within
+          (inl s) first (of_sets s h)
+      at side (inr (t, h, e)) = sym e ∙ one_part d.part_of_set d.part_of_target readings within
+          (inr t) first (of_targets t h)
 
     -- the label of a set or of a target is another
     abbrev Other : (ℕ → ℕ ⊎ ℕ) → ℕ → Type 0
@@ -132,8 +158,12 @@ module _ (sets targets : ℕ) where
     other node n = dec_not (ℕ_discrete (label readings (node n)) first_label)
 
     told : IsConnected sets targets readings ⊎ IsDivided sets targets readings
-    told = by (none_or_first (Other inl) (other inl) sets) (none_or_first (Other inr) (other inr) targets) where
-      by : ((s : ℕ) → s < sets → Other inl s → ⊥) ⊎ ((s : ℕ) × IsFirstWhere (Other inl) sets s) → ((t : ℕ) → t < targets → Other inr t → ⊥) ⊎ ((t : ℕ) × IsFirstWhere (Other inr) targets t) → IsConnected sets targets readings ⊎ IsDivided sets targets readings
+    told = by (none_or_first (Other inl) (other inl) sets)
+        (none_or_first (Other inr) (other inr) targets) where
+      by : ((s : ℕ) → s < sets → Other inl s → ⊥) ⊎ ((s : ℕ) × IsFirstWhere (Other inl) sets s)
+          → ((t : ℕ) → t < targets → Other inr t → ⊥)
+          ⊎ ((t : ℕ) × IsFirstWhere (Other inr) targets t) → IsConnected sets targets readings
+          ⊎ IsDivided sets targets readings
       by (inl f) (inl g) = inl (whole
           (λ s h. by_not_not (ℕ_discrete (label readings (inl s)) first_label) (f s h))
           (λ t h. by_not_not (ℕ_discrete (label readings (inr t)) first_label) (g t h)))
@@ -141,10 +171,12 @@ module _ (sets targets : ℕ) where
       by (inl f) (inr (t, g)) = inr (split (inr t) g.inside g.here)
 
 -- the readings hold all together, or leave two parts
-pub connected_or_divided : (sets targets : ℕ) (readings : List Reading) → IsConnected sets targets readings ⊎ IsDivided sets targets readings
+pub connected_or_divided : (sets targets : ℕ) (readings : List Reading)
+    → IsConnected sets targets readings ⊎ IsDivided sets targets readings
 connected_or_divided zero zero readings = inl (λ d. none d.first_part) where
   none : {p q : ℕ → Bool} → HasMember 0 0 p q true → ⊥
   none (inl (s, h, e)) = omega arith
   none (inr (t, h, e)) = omega arith
-connected_or_divided sets (suc targets) readings = told sets (suc targets) readings (inr 0) (omega arith)
+connected_or_divided sets (suc targets) readings =
+    told sets (suc targets) readings (inr 0) (omega arith)
 connected_or_divided (suc sets) zero readings = told (suc sets) 0 readings (inl 0) (omega arith)

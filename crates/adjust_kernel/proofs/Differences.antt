@@ -7,7 +7,8 @@ use Rattle.std.proofs.lemmas.Option.{slice_get_past, slice_get-get_or}
 use Rattle.adjust_kernel.specs.Firsts.{IsFirstDifference}
 
 module _ {X : Type 0} where
-  agree_suc : (xs ys : List X) (i : ℕ) → take i xs ≡ take i ys → slice_get xs i ≡ slice_get ys i → take (suc i) xs ≡ take (suc i) ys
+  agree_suc : (xs ys : List X) (i : ℕ) → take i xs ≡ take i ys → slice_get xs i ≡ slice_get ys i
+      → take (suc i) xs ≡ take (suc i) ys
   agree_suc [] [] i e f = refl
   agree_suc [] (y ∷ ys) zero e f = cc
   agree_suc [] (y ∷ ys) (suc i) e f = cc
@@ -19,28 +20,39 @@ module _ {X : Type 0} where
       let h : take i xs ≡ take i ys = cc in
       λ j. g j ∷ agree_suc xs ys i h f j
 
-  pub agree_more : (xs ys : List X) (i : ℕ) → take i xs ≡ take i ys → slice_get xs i ≡ slice_get ys i → take (i + 1) xs ≡ take (i + 1) ys
+  pub agree_more : (xs ys : List X) (i : ℕ) → take i xs ≡ take i ys
+      → slice_get xs i ≡ slice_get ys i → take (i + 1) xs ≡ take (i + 1) ys
   agree_more xs ys i e f = rw (add-one i) (agree_suc xs ys i e f)
 
-  agree_to : (xs ys : List X) (n : ℕ) → ((k : ℕ) → k < n → slice_get xs k ≡ slice_get ys k) → take n xs ≡ take n ys
+  agree_to : (xs ys : List X) (n : ℕ) → ((k : ℕ) → k < n → slice_get xs k ≡ slice_get ys k)
+      → take n xs ≡ take n ys
   agree_to xs ys zero h = refl
-  agree_to xs ys (suc n) h = agree_suc xs ys n (agree_to xs ys n (λ k below. h k (omega arith))) (h n (omega arith))
+  agree_to xs ys (suc n) h = agree_suc xs ys n (agree_to xs ys n (λ k below. h k (omega arith)))
+      (h n (omega arith))
 
   -- what a search from 0 on finds, up to where both have ended
   pub first_difference : (xs ys : List X) (n : ℕ) (r : Option ℕ) → length xs ≤ n → length ys ≤ n
-      → MatchOption r ((k : ℕ) → 0 ≤ k → k < n → slice_get xs k ≡ slice_get ys k) (λ i. (0 ≤ i) × (i < n) × (slice_get xs i ≢ slice_get ys i) × ((k : ℕ) → 0 ≤ k → k < i → slice_get xs k ≡ slice_get ys k))
+      → MatchOption r ((k : ℕ) → 0 ≤ k → k < n → slice_get xs k ≡ slice_get ys k) (λ i. (0 ≤ i)
+      × (i < n) × (slice_get xs i ≢ slice_get ys i)
+      × ((k : ℕ) → 0 ≤ k → k < i → slice_get xs k ≡ slice_get ys k))
       → IfNone r (xs ≡ ys) × IfSome r (IsFirstDifference xs ys)
-  first_difference xs ys n None a b h = (sym (take_all n xs a) ∙ agree_to xs ys n (λ k below. h k (omega arith) below) ∙ take_all n ys b, tt)
-  first_difference xs ys n (Some i) a b h = (tt, record { before = agree_to xs ys i (λ k below. h.3 k (omega arith) below); differ = h.2 })
+  first_difference xs ys n None a b h = (sym (take_all n xs a)
+      ∙ agree_to xs ys n (λ k below. h k (omega arith) below) ∙ take_all n ys b, tt)
+  first_difference xs ys n (Some i) a b h = (tt,
+      record { before = agree_to xs ys i (λ k below. h.3 k (omega arith) below); differ = h.2 })
 
   -- lists that agree at each place before both end are one
-  pub same_lists : (xs ys : List X) (n : ℕ) → length xs ≤ n → length ys ≤ n → ((k : ℕ) → k < n → slice_get xs k ≡ slice_get ys k) → xs ≡ ys
+  pub same_lists : (xs ys : List X) (n : ℕ) → length xs ≤ n → length ys ≤ n
+      → ((k : ℕ) → k < n → slice_get xs k ≡ slice_get ys k) → xs ≡ ys
   same_lists xs ys n a b h = sym (take_all n xs a) ∙ agree_to xs ys n h ∙ take_all n ys b
 
   -- lists that agree before a place differ first at it, where they do
-  pub differ_at : (xs ys : List X) (n : ℕ) → ((k : ℕ) → k < n → slice_get xs k ≡ slice_get ys k) → slice_get xs n ≢ slice_get ys n → IsFirstDifference xs ys n
+  pub differ_at : (xs ys : List X) (n : ℕ) → ((k : ℕ) → k < n → slice_get xs k ≡ slice_get ys k)
+      → slice_get xs n ≢ slice_get ys n → IsFirstDifference xs ys n
   differ_at xs ys n h d = record { before = agree_to xs ys n h; differ = d }
 
   -- one list has ended where the other has not
-  pub ended_first : (xs ys : List X) (n : ℕ) → X → length xs ≤ n → n < length ys → slice_get xs n ≢ slice_get ys n
-  ended_first xs ys n d a b e = let f : None ≡ Some (get_or ys n d) = sym (slice_get_past xs n a) ∙ e ∙ slice_get-get_or ys n d b in cc
+  pub ended_first : (xs ys : List X) (n : ℕ) → X → length xs ≤ n → n < length ys
+      → slice_get xs n ≢ slice_get ys n
+  ended_first xs ys n d a b e = let f : None ≡ Some (get_or ys n d) = sym (slice_get_past xs n a)
+      ∙ e ∙ slice_get-get_or ys n d b in cc

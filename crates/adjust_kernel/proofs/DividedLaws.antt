@@ -21,10 +21,12 @@ lift_same : (b : Bool) → lift b b ≡ pos 0
 lift_same true = refl
 lift_same false = refl
 
-unlike : (z : ℤ) (b side : Bool) → side ≡ b → (b0 : Bool) → lift b0 b ≡ pos 1 → z +ℤ lift b0 side ≢ z
+unlike : (z : ℤ) (b side : Bool) → side ≡ b → (b0 : Bool) → lift b0 b ≡ pos 1
+    → z +ℤ lift b0 side ≢ z
 unlike z b side e b0 k h = let m : lift b0 side ≡ pos 1 = ap (lift b0) e ∙ k in omega (arith, ints)
 
-module _ (sets targets : ℕ) (c : Choice) (readings : List Reading) (datum : c.direction 0 ≡ pos 0) (d : IsDivided sets targets readings) where
+module _ (sets targets : ℕ) (c : Choice) (readings : List Reading) (datum : c.direction 0 ≡ pos 0)
+    (d : IsDivided sets targets readings) where
   abbrev b0 : Bool
   b0 = d.part_of_target 0
 
@@ -35,19 +37,27 @@ module _ (sets targets : ℕ) (c : Choice) (readings : List Reading) (datum : c.
     orientation = λ s. c.orientation s +ℤ lift b0 (d.part_of_set s);
   }
 
-  at_row : (r : Reading) → d.part_of_set r.set ≡ d.part_of_target r.target → squared (residual turned r) ≡ squared (residual c r)
-  at_row r e = let k : lift b0 (d.part_of_set r.set) ≡ lift b0 (d.part_of_target r.target) = ap (lift b0) e in
-      ap squared (cancel (c.direction r.target) (c.orientation r.set) (lift b0 (d.part_of_target r.target)) (lift b0 (d.part_of_set r.set)) (pos c.denominator *ℤ unrolled r) k)
+  at_row : (r : Reading) → d.part_of_set r.set ≡ d.part_of_target r.target
+      → squared (residual turned r) ≡ squared (residual c r)
+  at_row r e = let k : lift b0 (d.part_of_set r.set) ≡ lift b0 (d.part_of_target r.target) =
+      ap (lift b0) e in
+      ap squared (cancel (c.direction r.target) (c.orientation r.set)
+          (lift b0 (d.part_of_target r.target)) (lift b0 (d.part_of_set r.set))
+          (pos c.denominator *ℤ unrolled r) k)
     where
       cancel : (a o l l' y : ℤ) → l' ≡ l → (a +ℤ l) -ℤ (o +ℤ l') -ℤ y ≡ a -ℤ o -ℤ y
       cancel a o l l' y e = omega (arith, ints)
 
   abbrev Differ : Type 0
-  Differ = ((s : ℕ) × (s < sets) × (turned.orientation s ≢ c.orientation s)) ⊎ ((t : ℕ) × (t < targets) × (turned.direction t ≢ c.direction t))
+  Differ = ((s : ℕ) × (s < sets) × (turned.orientation s ≢ c.orientation s))
+      ⊎ ((t : ℕ) × (t < targets) × (turned.direction t ≢ c.direction t))
 
-  moves : (side : Bool) → lift b0 side ≡ pos 1 → HasMember sets targets d.part_of_set d.part_of_target side → Differ
-  moves side k (inl n) = inl (n.0, n.1, unlike (c.orientation n.0) side (d.part_of_set n.0) n.2 b0 k)
-  moves side k (inr n) = inr (n.0, n.1, unlike (c.direction n.0) side (d.part_of_target n.0) n.2 b0 k)
+  moves : (side : Bool) → lift b0 side ≡ pos 1
+      → HasMember sets targets d.part_of_set d.part_of_target side → Differ
+  moves side k (inl n) = inl (n.0, n.1, unlike (c.orientation n.0) side (d.part_of_set n.0) n.2 b0
+      k)
+  moves side k (inr n) = inr (n.0, n.1, unlike (c.direction n.0) side (d.part_of_target n.0) n.2 b0
+      k)
 
   different : (b : Bool) → d.part_of_target 0 ≡ b → Differ
   different true e = moves false (ap (λ b. lift b false) e) d.second_part
@@ -59,5 +69,8 @@ module _ (sets targets : ℕ) (c : Choice) (readings : List Reading) (datum : c.
     denominator = refl;
     first = let e = lift_same b0 in omega (arith, ints, datum);
     different = different b0 refl;
-    same_sum = int_sum_by-same_at (λ r. squared (residual turned r)) (λ r. squared (residual c r)) readings (AllByRecursion-map _ _ at_row readings (recursion_from_All (λ r. d.part_of_set r.set ≡ d.part_of_target r.target) readings d.none_between));
+    same_sum = int_sum_by-same_at (λ r. squared (residual turned r)) (λ r. squared (residual c r))
+        readings (AllByRecursion-map _ _ at_row readings
+        (recursion_from_All (λ r. d.part_of_set r.set ≡ d.part_of_target r.target) readings
+        d.none_between));
   }

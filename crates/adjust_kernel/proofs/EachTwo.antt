@@ -7,5 +7,7 @@ module _ {X : Type 0} where
   PairsBelow R xs n = (j : ℕ) → j < n → (i : ℕ) (d : X) → i < j → R (get_or xs i d) (get_or xs j d)
 
   -- one more element, of which R holds with each earlier one
-  pub pairs_more : (R : X → X → Type 0) (xs : List X) (n : ℕ) → PairsBelow R xs n → ((i : ℕ) (d : X) → i < n → R (get_or xs i d) (get_or xs n d)) → PairsBelow R xs (n + 1)
-  pairs_more R xs n h new = below_more (λ j. (i : ℕ) (d : X) → i < j → R (get_or xs i d) (get_or xs j d)) n h new
+  pub pairs_more : (R : X → X → Type 0) (xs : List X) (n : ℕ) → PairsBelow R xs n
+      → ((i : ℕ) (d : X) → i < n → R (get_or xs i d) (get_or xs n d)) → PairsBelow R xs (n + 1)
+  pairs_more R xs n h new = below_more (λ j. (i : ℕ) (d : X) → i < j
+      → R (get_or xs i d) (get_or xs j d)) n h new

@@ -11,10 +11,12 @@ row s t p k = record { set = s; target = t; value = p; turn = k }
 
 -- two sets of two targets
 abbrev pair : List Reading
-pair = row 0 0 6 (pos 0) ∷ row 0 1 10_000_010 (pos 0) ∷ row 1 0 20_000_004 (pos 0) ∷ row 1 1 30_000_012 (pos 0) ∷ []
+pair = row 0 0 6 (pos 0) ∷ row 0 1 10_000_010 (pos 0) ∷ row 1 0 20_000_004 (pos 0)
+    ∷ row 1 1 30_000_012 (pos 0) ∷ []
 
 abbrev pair_sheet : Choice
-pair_sheet = choice_of 4 (pos 0 ∷ pos 40_000_024 ∷ []) (neg_ℤ (pos 20) ∷ neg_ℤ (pos 80_000_020) ∷ [])
+pair_sheet = choice_of 4 (pos 0 ∷ pos 40_000_024 ∷ [])
+    (neg_ℤ (pos 20) ∷ neg_ℤ (pos 80_000_020) ∷ [])
 
 pair_residuals : map (residual pair_sheet) pair ≡ neg_ℤ (pos 4) ∷ pos 4 ∷ pos 4 ∷ neg_ℤ (pos 4) ∷ []
 pair_residuals = refl
@@ -30,7 +32,8 @@ pair_set_sums = refl
 
 -- the second direction one more
 abbrev moved_direction : Choice
-moved_direction = choice_of 4 (pos 0 ∷ pos 40_000_025 ∷ []) (neg_ℤ (pos 20) ∷ neg_ℤ (pos 80_000_020) ∷ [])
+moved_direction = choice_of 4 (pos 0 ∷ pos 40_000_025 ∷ [])
+    (neg_ℤ (pos 20) ∷ neg_ℤ (pos 80_000_020) ∷ [])
 
 moved_direction_squares : sum_of_squares moved_direction pair ≡ pos 66
 moved_direction_squares = refl
@@ -40,25 +43,30 @@ moved_direction_sum = refl
 
 -- the orientations one more and one less
 abbrev moved_orientations : Choice
-moved_orientations = choice_of 4 (pos 0 ∷ pos 40_000_024 ∷ []) (neg_ℤ (pos 19) ∷ neg_ℤ (pos 80_000_021) ∷ [])
+moved_orientations = choice_of 4 (pos 0 ∷ pos 40_000_024 ∷ [])
+    (neg_ℤ (pos 19) ∷ neg_ℤ (pos 80_000_021) ∷ [])
 
 moved_orientations_squares : sum_of_squares moved_orientations pair ≡ pos 68
 moved_orientations_squares = refl
 
-moved_orientations_sums : map (set_sum moved_orientations pair) (0 ∷ 1 ∷ []) ≡ neg_ℤ (pos 2) ∷ pos 2 ∷ []
+moved_orientations_sums : map (set_sum moved_orientations pair) (0 ∷ 1 ∷ []) ≡ neg_ℤ (pos 2) ∷ pos 2
+    ∷ []
 moved_orientations_sums = refl
 
 -- three sets that each miss one of three targets
 abbrev triangle : List Reading
-triangle = row 0 0 0 (pos 0) ∷ row 0 1 100 (pos 0) ∷ row 1 1 0 (pos 0) ∷ row 1 2 100 (pos 0) ∷ row 2 0 79_999_806 (neg_ℤ (pos 1)) ∷ row 2 2 0 (pos 0) ∷ []
+triangle = row 0 0 0 (pos 0) ∷ row 0 1 100 (pos 0) ∷ row 1 1 0 (pos 0) ∷ row 1 2 100 (pos 0)
+    ∷ row 2 0 79_999_806 (neg_ℤ (pos 1)) ∷ row 2 2 0 (pos 0) ∷ []
 
 abbrev triangle_sheet : Choice
 triangle_sheet = choice_of 1 (pos 0 ∷ pos 98 ∷ pos 196 ∷ []) (neg_ℤ (pos 1) ∷ pos 97 ∷ pos 195 ∷ [])
 
-triangle_residuals : map (residual triangle_sheet) triangle ≡ pos 1 ∷ neg_ℤ (pos 1) ∷ pos 1 ∷ neg_ℤ (pos 1) ∷ neg_ℤ (pos 1) ∷ pos 1 ∷ []
+triangle_residuals : map (residual triangle_sheet) triangle ≡ pos 1 ∷ neg_ℤ (pos 1) ∷ pos 1
+    ∷ neg_ℤ (pos 1) ∷ neg_ℤ (pos 1) ∷ pos 1 ∷ []
 triangle_residuals = refl
 
-triangle_sums : map (target_sum triangle_sheet triangle) (0 ∷ 1 ∷ 2 ∷ []) ≡ pos 0 ∷ pos 0 ∷ pos 0 ∷ []
+triangle_sums : map (target_sum triangle_sheet triangle) (0 ∷ 1 ∷ 2 ∷ []) ≡ pos 0 ∷ pos 0 ∷ pos 0
+    ∷ []
 triangle_sums = refl
 
 -- two sets with two targets each and none in common
@@ -69,7 +77,8 @@ two_pairs_divided : IsDivided 2 4 two_pairs
 two_pairs_divided = record {
   part_of_set = first_set;
   part_of_target = first_targets;
-  none_between = All-from_recursion (λ (r : Reading). first_set r.set ≡ first_targets r.target) two_pairs (refl, (refl, (refl, (refl, tt))));
+  none_between = All-from_recursion (λ (r : Reading). first_set r.set ≡ first_targets r.target)
+      two_pairs (refl, (refl, (refl, (refl, tt))));
   first_part = inl (0, (omega arith), refl);
   second_part = inl (1, (omega arith), refl);
 }
@@ -84,8 +93,10 @@ two_pairs_divided = record {
     first_targets (suc (suc n)) = false
 
 -- both choices of the divided station reach the sum 0
-two_pairs_squares : sum_of_squares (choice_of 1 (pos 0 ∷ pos 100 ∷ pos 0 ∷ pos 100 ∷ []) (pos 0 ∷ pos 0 ∷ [])) two_pairs ≡ pos 0
+two_pairs_squares : sum_of_squares (choice_of 1 (pos 0 ∷ pos 100 ∷ pos 0 ∷ pos 100 ∷ [])
+    (pos 0 ∷ pos 0 ∷ [])) two_pairs ≡ pos 0
 two_pairs_squares = refl
 
-two_pairs_turned_squares : sum_of_squares (choice_of 1 (pos 0 ∷ pos 100 ∷ pos 1 ∷ pos 101 ∷ []) (pos 0 ∷ pos 1 ∷ [])) two_pairs ≡ pos 0
+two_pairs_turned_squares : sum_of_squares (choice_of 1 (pos 0 ∷ pos 100 ∷ pos 1 ∷ pos 101 ∷ [])
+    (pos 0 ∷ pos 1 ∷ [])) two_pairs ≡ pos 0
 two_pairs_turned_squares = refl

@@ -17,8 +17,10 @@ size_within m (negsuc n) h = omega (arith, ints)
 
 -- what isn't above a size is within it
 pub within_size : (m : ℕ) (z : ℤ) → (m < unsigned_abs z → ⊥) → IsWithin (pos m) z
-within_size m (pos n) h = let le : n ≤ m = omega (arith, h) in record { low = omega (arith, ints); high = omega (arith, ints) }
-within_size m (negsuc n) h = let le : suc n ≤ m = omega (arith, h) in record { low = omega (arith, ints); high = omega (arith, ints) }
+within_size m (pos n) h = let le : n ≤ m = omega (arith, h) in
+    record { low = omega (arith, ints); high = omega (arith, ints) }
+within_size m (negsuc n) h = let le : suc n ≤ m = omega (arith, h) in
+    record { low = omega (arith, ints); high = omega (arith, ints) }
 
 -- the greatest size of a residual, reading by reading
 abbrev pub greatest_from : Choice → ℕ → List Reading → ℕ
@@ -30,55 +32,72 @@ greatest_size c readings = greatest_from c 0 readings
 module _ (c : Choice) where
   grows : (known : ℕ) (readings : List Reading) → known ≤ greatest_from c known readings
   grows known [] = omega arith
-  grows known (r ∷ readings) = let e = grows (max known (unsigned_abs (residual c r))) readings in omega arith
+  grows known (r ∷ readings) = let e = grows (max known (unsigned_abs (residual c r))) readings in
+      omega arith
 
-  bounds : (known : ℕ) (readings : List Reading) → All (λ r. IsWithin (pos (greatest_from c known readings)) (residual c r)) readings
+  bounds : (known : ℕ) (readings : List Reading)
+      → All (λ r. IsWithin (pos (greatest_from c known readings)) (residual c r)) readings
   bounds known [] = All-nil (λ (r : Reading). IsWithin (pos known) (residual c r))
   bounds known (r ∷ readings) =
       let next = max known (unsigned_abs (residual c r)) in
       let e = grows next readings in
-      All-cons (λ (r : Reading). IsWithin (pos (greatest_from c next readings)) (residual c r)) r readings
-      (within_size (greatest_from c next readings) (residual c r) (λ above. absurd (omega arith))) (bounds next readings)
+      All-cons (λ (r : Reading). IsWithin (pos (greatest_from c next readings)) (residual c r)) r
+          readings
+      (within_size (greatest_from c next readings) (residual c r) (λ above. absurd (omega arith)))
+          (bounds next readings)
 
   -- some reading has this size
   abbrev IsReached : ℕ → List Reading → Type 0
   IsReached size readings = Any (λ r. pos (unsigned_abs (residual c r)) ≡ pos size) readings
 
   -- the greatest is what was known before, or is reached
-  reaches : (known : ℕ) (readings : List Reading) → (greatest_from c known readings ≡ known) ⊎ IsReached (greatest_from c known readings) readings
+  reaches : (known : ℕ) (readings : List Reading) → (greatest_from c known readings ≡ known)
+      ⊎ IsReached (greatest_from c known readings) readings
   reaches known [] = inl refl
-  reaches known (r ∷ readings) = by (greatest_from c (max known (unsigned_abs (residual c r))) readings) (reaches (max known (unsigned_abs (residual c r))) readings) (dec_le (unsigned_abs (residual c r)) known) where
-    by : (size : ℕ) → (size ≡ max known (unsigned_abs (residual c r))) ⊎ IsReached size readings → Dec (unsigned_abs (residual c r) ≤ known) → (size ≡ known) ⊎ IsReached size (r ∷ readings)
+  reaches known (r ∷ readings) = by (greatest_from c (max known (unsigned_abs (residual c r)))
+      readings) (reaches (max known (unsigned_abs (residual c r))) readings)
+      (dec_le (unsigned_abs (residual c r)) known) where
+    by : (size : ℕ) → (size ≡ max known (unsigned_abs (residual c r))) ⊎ IsReached size readings
+        → Dec (unsigned_abs (residual c r) ≤ known) → (size ≡ known) ⊎ IsReached size (r ∷ readings)
     by size (inr (k, x, inside, at, e)) d = inr (suc k, x, omega (arith, inside), at, e)
     by size (inl e) (yes le) = inl (omega (arith, e, le))
     by size (inl e) (no f) = inr (0, r, omega arith, refl, ap pos (omega (arith, e, f)))
 
   -- of some readings, this is the greatest
-  pub greatest_is : (readings : List Reading) → 1 ≤ length readings → IsGreatest c readings (pos (greatest_size c readings))
+  pub greatest_is : (readings : List Reading) → 1 ≤ length readings
+      → IsGreatest c readings (pos (greatest_size c readings))
   greatest_is [] h = absurd (omega arith)
-  greatest_is (r ∷ readings) h = record { bound = bounds 0 (r ∷ readings); reached = by (reaches 0 (r ∷ readings)) } where
-    by : (greatest_size c (r ∷ readings) ≡ 0) ⊎ IsReached (greatest_size c (r ∷ readings)) (r ∷ readings) → IsReached (greatest_size c (r ∷ readings)) (r ∷ readings)
+  greatest_is (r ∷ readings) h = record { bound = bounds 0 (r ∷ readings); reached =
+      by (reaches 0 (r ∷ readings)) } where
+    by : (greatest_size c (r ∷ readings) ≡ 0)
+        ⊎ IsReached (greatest_size c (r ∷ readings)) (r ∷ readings)
+        → IsReached (greatest_size c (r ∷ readings)) (r ∷ readings)
     by (inr a) = a
     by (inl e) =
         let g = grows (max 0 (unsigned_abs (residual c r))) readings in
         (0, r, omega arith, refl, ap pos (omega (arith, e, g)))
 
   -- a greatest size is no larger than another
-  no_larger : (readings : List Reading) (a b : ℤ) → IsGreatest c readings a → IsGreatest c readings b → (n : ℕ) → a ≡ pos n → pos n ≤ℤ b
+  no_larger : (readings : List Reading) (a b : ℤ) → IsGreatest c readings a
+      → IsGreatest c readings b → (n : ℕ) → a ≡ pos n → pos n ≤ℤ b
   no_larger readings a b f g n e =
       let (k, r, inside, at, size) = f.reached in
       let w = g.bound k r inside in
-      at_most (residual c r) n b (size ∙ e) (subst (λ (r : Reading). IsWithin b (residual c r)) at w)
+      at_most (residual c r) n b (size ∙ e) (subst
+          (λ (r : Reading). IsWithin b (residual c r)) at w)
     where
       at_most : (z : ℤ) (n : ℕ) (b : ℤ) → pos (unsigned_abs z) ≡ pos n → IsWithin b z → pos n ≤ℤ b
       at_most (pos m) n b e w = let h = w.high in omega (arith, ints, e)
       at_most (negsuc m) n b e w = let l = w.low in omega (arith, ints, e)
 
   -- there is one greatest size
-  pub one_greatest : (readings : List Reading) (a b : ℤ) → IsGreatest c readings a → IsGreatest c readings b → a ≡ b
+  pub one_greatest : (readings : List Reading) (a b : ℤ) → IsGreatest c readings a
+      → IsGreatest c readings b → a ≡ b
   one_greatest readings a b f g =
-      let m = no_larger readings a b f g (unsigned_abs (residual c f.reached.1)) (sym f.reached.4) in
-      let n = no_larger readings b a g f (unsigned_abs (residual c g.reached.1)) (sym g.reached.4) in
+      let m = no_larger readings a b f g (unsigned_abs (residual c f.reached.1))
+          (sym f.reached.4) in
+      let n = no_larger readings b a g f (unsigned_abs (residual c g.reached.1))
+          (sym g.reached.4) in
       let p = f.reached.4 in
       let q = g.reached.4 in
       omega (arith, ints, m, n, p, q)

@@ -27,15 +27,18 @@ on_false false f p = f p
 
 -- no observation stands between the two parts
 abbrev pub AllObsWithin : (ℕ → Bool) → (ℕ → Bool) → List Obs → Type 0
-AllObsWithin part_of_set part_of_target obs = AllByRecursion (λ o. part_of_set o.set ≡ part_of_target o.target) obs
+AllObsWithin part_of_set part_of_target obs =
+    AllByRecursion (λ o. part_of_set o.set ≡ part_of_target o.target) obs
 
 -- full turns make no difference to the parts
-obs_within : (p q : ℕ → Bool) (obs : List Obs) (rows : List Row) → length rows ≡ length obs → AllWithin p q (readings_of obs rows) → AllObsWithin p q obs
+obs_within : (p q : ℕ → Bool) (obs : List Obs) (rows : List Row) → length rows ≡ length obs
+    → AllWithin p q (readings_of obs rows) → AllObsWithin p q obs
 obs_within p q [] rows e w = tt
 obs_within p q (o ∷ obs) [] e w = cc
 obs_within p q (o ∷ obs) (r ∷ rows) e w = (w.0, obs_within p q obs rows (omega (arith, e)) w.1)
 
-readings_within : (p q : ℕ → Bool) (obs : List Obs) (rows : List Row) → AllObsWithin p q obs → AllWithin p q (readings_of obs rows)
+readings_within : (p q : ℕ → Bool) (obs : List Obs) (rows : List Row) → AllObsWithin p q obs
+    → AllWithin p q (readings_of obs rows)
 readings_within p q [] rows w = tt
 readings_within p q (o ∷ obs) [] w = tt
 readings_within p q (o ∷ obs) (r ∷ rows) w = (w.0, readings_within p q obs rows w.1)
@@ -49,7 +52,8 @@ target_node sets t p q =
     let f : ltb (sets + t) sets ≡ false = grind (arith, nat_tests) in
     ap (λ b. cond b (p (sets + t)) (q (sets + t - sets))) f ∙ ap q e
 
-mark_after : (marks : List Bool) (n k : ℕ) → n < length marks → mark (set marks n true) k ≡ true → (k ≡ n) ⊎ (mark marks k ≡ true)
+mark_after : (marks : List Bool) (n k : ℕ) → n < length marks → mark (set marks n true) k ≡ true
+    → (k ≡ n) ⊎ (mark marks k ≡ true)
 mark_after marks n k h e = by (ℕ_discrete k n)
   where
     by : Dec (k ≡ n) → (k ≡ n) ⊎ (mark marks k ≡ true)
@@ -57,7 +61,8 @@ mark_after marks n k h e = by (ℕ_discrete k n)
     by (no f) = inr (sym (get_or-set_other marks n k true false f) ∙ e)
 
 -- a mark is kept where another is set
-mark_kept : (marks : List Bool) (n k : ℕ) → n < length marks → mark marks k ≡ true → mark (set marks n true) k ≡ true
+mark_kept : (marks : List Bool) (n k : ℕ) → n < length marks → mark marks k ≡ true
+    → mark (set marks n true) k ≡ true
 mark_kept marks n k h e = by (ℕ_discrete k n)
   where
     by : Dec (k ≡ n) → mark (set marks n true) k ≡ true
@@ -65,11 +70,13 @@ mark_kept marks n k h e = by (ℕ_discrete k n)
     by (no f) = get_or-set_other marks n k true false f ∙ e
 
 -- and where two are
-both_kept : (marks : List Bool) (a b k : ℕ) → a < length marks → b < length (set marks a true) → mark marks k ≡ true → mark (set (set marks a true) b true) k ≡ true
+both_kept : (marks : List Bool) (a b k : ℕ) → a < length marks → b < length (set marks a true)
+    → mark marks k ≡ true → mark (set (set marks a true) b true) k ≡ true
 both_kept marks a b k h j e = mark_kept (set marks a true) b k j (mark_kept marks a k h e)
 
 -- one mark more is one unmarked node fewer
-one_fewer_unmarked : (marks : List Bool) (n : ℕ) → n < length marks → mark marks n ≡ false → count_by not (set marks n true) < count_by not marks
+one_fewer_unmarked : (marks : List Bool) (n : ℕ) → n < length marks → mark marks n ≡ false
+    → count_by not (set marks n true) < count_by not marks
 one_fewer_unmarked marks n h e =
     let s = sum_by-set (λ b. cond (not b) 1 0) marks n true false h in
     let one : ℕ = 1 in
@@ -82,7 +89,8 @@ none_marked k e = by (dec_lt k 140)
   where
     by : Dec (k < 140) → ⊥
     by (yes l) = let f : false ≡ true = sym (get_or-replicate 140 k false false l) ∙ e in cc
-    by (no n) = let f : false ≡ true = sym (get_or_past (replicate 140 false) k false (let g = length-replicate {A = Bool} 140 false in omega arith)) ∙ e in cc
+    by (no n) = let f : false ≡ true = sym (get_or_past (replicate 140 false) k false
+        (let g = length-replicate {A = Bool} 140 false in omega arith)) ∙ e in cc
 
 module _ (sets targets : ℕ) (obs : List Obs) where
   -- the first observations of a sweep are done
@@ -93,24 +101,31 @@ module _ (sets targets : ℕ) (obs : List Obs) where
     pub alike : OnFalse any (All (AreAlike marks sets) (take n obs))
 
   pub none_swept : (marks : List Bool) → IsSwept marks marks false 0
-  none_swept marks = record { spread = λ s. s; at_most = omega arith; fewer = tt; alike = λ k d h. absurd (omega arith) }
+  none_swept marks = record { spread = λ s. s; at_most = omega arith; fewer = tt; alike =
+      λ k d h. absurd (omega arith) }
 
   -- the marks of the first observations' sets and targets
   pub record AreSeen (marks : List Bool) (n : ℕ) : Type 0 where
     pub long : length marks ≡ 140
-    pub marked : (i : ℕ) → i < n → (d : Obs) → (mark marks (get_or obs i d).set ≡ true) × (mark marks (sets + (get_or obs i d).target) ≡ true)
-    pub only : (k : ℕ) → mark marks k ≡ true → (i : ℕ) × (o : Obs) × (i < length obs) × (get_or obs i o ≡ o) × ((o.set ≡ k) ⊎ (sets + o.target ≡ k))
+    pub marked : (i : ℕ) → i < n → (d : Obs) → (mark marks (get_or obs i d).set ≡ true)
+        × (mark marks (sets + (get_or obs i d).target) ≡ true)
+    pub only : (k : ℕ) → mark marks k ≡ true → (i : ℕ) × (o : Obs) × (i < length obs)
+        × (get_or obs i o ≡ o) × ((o.set ≡ k) ⊎ (sets + o.target ≡ k))
 
   pub none_seen : AreSeen (replicate 140 false) 0
-  none_seen = record { long = length-replicate 140 false; marked = λ i h d. absurd (omega arith); only = λ k e. absurd (none_marked k e) }
+  none_seen = record { long = length-replicate 140 false; marked =
+      λ i h d. absurd (omega arith); only = λ k e. absurd (none_marked k e) }
 
 module _ (sets targets : ℕ) (obs : List Obs) (placed : All (IsObs sets targets) obs) where
   -- a mark that is carried along an observation stays in the part of the first target
-  spread_one : (marks : List Bool) (i : ℕ) (d : Obs) → i < length obs → (n : ℕ) → IsOpenEnd marks sets (get_or obs i d) n → IsSpread sets targets obs marks → IsSpread sets targets obs (set marks n true)
+  spread_one : (marks : List Bool) (i : ℕ) (d : Obs) → i < length obs → (n : ℕ)
+      → IsOpenEnd marks sets (get_or obs i d) n → IsSpread sets targets obs marks
+      → IsSpread sets targets obs (set marks n true)
   spread_one marks i d inside n open_end s = record {
     first = mark_kept marks n sets open_end.inside s.first;
     long = length-set marks n true ∙ s.long;
-    one_part = λ p q u k e. ⊎_elim (λ j. ap (part_of sets p q) j ∙ new_part p q u) (λ j. s.one_part p q u k j) (mark_after marks n k open_end.inside e);
+    one_part = λ p q u k e. ⊎_elim (λ j. ap (part_of sets p q) j ∙ new_part p q u)
+        (λ j. s.one_part p q u k j) (mark_after marks n k open_end.inside e);
   }
     where
       new_part : (p q : ℕ → Bool) → All (λ o. p o.set ≡ q o.target) obs → part_of sets p q n ≡ q 0
@@ -119,30 +134,42 @@ module _ (sets targets : ℕ) (obs : List Obs) (placed : All (IsObs sets targets
           let same : p r.set ≡ q r.target = u i d inside in
           let at : IsObs sets targets r = placed i d inside in
           let set_is : part_of sets p q r.set ≡ p r.set = set_node sets r.set p q at.set in
-          let target_is : part_of sets p q (sets + r.target) ≡ q r.target = target_node sets r.target p q in
+          let target_is : part_of sets p q (sets + r.target) ≡ q r.target =
+              target_node sets r.target p q in
           ⊎_elim
-          (λ j. ap (part_of sets p q) j.0 ∙ set_is ∙ same ∙ sym target_is ∙ s.one_part p q u (sets + r.target) j.1)
-          (λ j. ap (part_of sets p q) j.0 ∙ target_is ∙ sym same ∙ sym set_is ∙ s.one_part p q u r.set j.1)
+          (λ j. ap (part_of sets p q) j.0 ∙ set_is ∙ same ∙ sym target_is
+              ∙ s.one_part p q u (sets + r.target) j.1)
+          (λ j. ap (part_of sets p q) j.0 ∙ target_is ∙ sym same ∙ sym set_is
+              ∙ s.one_part p q u r.set j.1)
           open_end.joined
 
   -- one more observation
-  pub swept_more : (before marks new : List Bool) (any carried : Bool) (i : ℕ) (d : Obs) → i < length obs
-      → OnTrue carried ((n : ℕ) × IsOpenEnd marks sets (get_or obs i d) n × (new ≡ set marks n true))
+  pub swept_more : (before marks new : List Bool) (any carried : Bool) (i : ℕ) (d : Obs)
+      → i < length obs
+      → OnTrue carried ((n : ℕ) × IsOpenEnd marks sets (get_or obs i d) n
+      × (new ≡ set marks n true))
       → OnFalse carried ((new ≡ marks) × AreAlike marks sets (get_or obs i d))
-      → IsSwept sets targets obs before marks any i → IsSwept sets targets obs before new (any || carried) (i + 1)
+      → IsSwept sets targets obs before marks any i
+      → IsSwept sets targets obs before new (any || carried) (i + 1)
   swept_more before marks new any true i d inside (n, open_end, e) f w =
-      let less : count_by not new < count_by not marks = subst (λ (l : List Bool). count_by not l < count_by not marks) (sym e) (one_fewer_unmarked marks n open_end.inside open_end.unmarked) in
+      let less : count_by not new < count_by not marks =
+          subst (λ (l : List Bool). count_by not l < count_by not marks) (sym e)
+          (one_fewer_unmarked marks n open_end.inside open_end.unmarked) in
       by any w less
     where
-      by : (any : Bool) → IsSwept sets targets obs before marks any i → count_by not new < count_by not marks → IsSwept sets targets obs before new (any || true) (i + 1)
+      by : (any : Bool) → IsSwept sets targets obs before marks any i
+          → count_by not new < count_by not marks
+          → IsSwept sets targets obs before new (any || true) (i + 1)
       by true w less = record {
-        spread = λ s. subst (IsSpread sets targets obs) (sym e) (spread_one marks i d inside n open_end (w.spread s));
+        spread = λ s. subst (IsSpread sets targets obs) (sym e)
+            (spread_one marks i d inside n open_end (w.spread s));
         at_most = omega (arith, less, w.at_most);
         fewer = omega (arith, less, w.at_most);
         alike = tt;
       }
       by false w less = record {
-        spread = λ s. subst (IsSpread sets targets obs) (sym e) (spread_one marks i d inside n open_end (w.spread s));
+        spread = λ s. subst (IsSpread sets targets obs) (sym e)
+            (spread_one marks i d inside n open_end (w.spread s));
         at_most = omega (arith, less, w.at_most);
         fewer = omega (arith, less, w.at_most);
         alike = tt;
@@ -157,26 +184,43 @@ module _ (sets targets : ℕ) (obs : List Obs) (placed : All (IsObs sets targets
     spread = λ s. subst (IsSpread sets targets obs) (sym e) (w.spread s);
     at_most = subst (λ (l : List Bool). count_by not l ≤ count_by not before) (sym e) w.at_most;
     fewer = tt;
-    alike = subst (λ (l : List Bool). All (AreAlike l sets) (take (i + 1) obs)) (sym e) (All-more (AreAlike marks sets) obs i d inside w.alike alike);
+    alike = subst (λ (l : List Bool). All (AreAlike l sets) (take (i + 1) obs)) (sym e)
+        (All-more (AreAlike marks sets) obs i d inside w.alike alike);
   }
 
   -- one more observation
-  seen_at : (marks : List Bool) (i : ℕ) (o : Obs) → i < length obs → ((d : Obs) → get_or obs i d ≡ o) → o.set < length marks → sets + o.target < length (set marks o.set true)
-      → AreSeen sets targets obs marks i → AreSeen sets targets obs (set (set marks o.set true) (sets + o.target) true) (i + 1)
+  seen_at : (marks : List Bool) (i : ℕ) (o : Obs) → i < length obs
+      → ((d : Obs) → get_or obs i d ≡ o) → o.set < length marks
+      → sets + o.target < length (set marks o.set true)
+      → AreSeen sets targets obs marks i → AreSeen sets targets obs
+      (set (set marks o.set true) (sets + o.target) true) (i + 1)
   seen_at marks i o inside at set_in target_in s = record {
-    long = length-set (set marks o.set true) (sets + o.target) true ∙ length-set marks o.set true ∙ s.long;
-    marked = below_more (λ k. (d : Obs) → (mark (set (set marks o.set true) (sets + o.target) true) (get_or obs k d).set ≡ true) × (mark (set (set marks o.set true) (sets + o.target) true) (sets + (get_or obs k d).target) ≡ true)) i
-        (λ k below d. let m = s.marked k below d in (both_kept marks o.set (sets + o.target) (get_or obs k d).set set_in target_in m.0, both_kept marks o.set (sets + o.target) (sets + (get_or obs k d).target) set_in target_in m.1))
-        (λ d. subst (λ (x : Obs). (mark (set (set marks o.set true) (sets + o.target) true) x.set ≡ true) × (mark (set (set marks o.set true) (sets + o.target) true) (sets + x.target) ≡ true)) (sym (at d))
-        (mark_kept (set marks o.set true) (sets + o.target) o.set target_in (get_or-set_same marks o.set true false set_in), get_or-set_same (set marks o.set true) (sets + o.target) true false target_in));
+    long = length-set (set marks o.set true) (sets + o.target) true ∙ length-set marks o.set true
+        ∙ s.long;
+    marked = below_more (λ k. (d : Obs) → (mark (set (set marks o.set true) (sets + o.target) true)
+        (get_or obs k d).set ≡ true) × (mark (set (set marks o.set true) (sets + o.target) true)
+        (sets + (get_or obs k d).target) ≡ true)) i
+        (λ k below d. let m = s.marked k below d in
+            (both_kept marks o.set (sets + o.target) (get_or obs k d).set set_in target_in m.0,
+            both_kept marks o.set (sets + o.target) (sets + (get_or obs k d).target) set_in
+            target_in m.1))
+        (λ d. subst (λ (x : Obs). (mark (set (set marks o.set true) (sets + o.target) true) x.set
+            ≡ true) × (mark (set (set marks o.set true) (sets + o.target) true) (sets + x.target)
+            ≡ true)) (sym (at d))
+        (mark_kept (set marks o.set true) (sets + o.target) o.set target_in
+            (get_or-set_same marks o.set true false set_in),
+            get_or-set_same (set marks o.set true) (sets + o.target) true false target_in));
     only = λ k e. ⊎_elim
         (λ f. (i, o, inside, at o, inr (sym f)))
-        (λ f. ⊎_elim (λ g. (i, o, inside, at o, inl (sym g))) (λ g. s.only k g) (mark_after marks o.set k set_in f))
+        (λ f. ⊎_elim (λ g. (i, o, inside, at o, inl (sym g))) (λ g. s.only k g)
+            (mark_after marks o.set k set_in f))
         (mark_after (set marks o.set true) (sets + o.target) k target_in e);
   }
 
-  pub seen_more : (marks : List Bool) (i : ℕ) (d : Obs) → i < length obs → sets + targets ≤ 140 → AreSeen sets targets obs marks i
-      → AreSeen sets targets obs (set (set marks (get_or obs i d).set true) (sets + (get_or obs i d).target) true) (i + 1)
+  pub seen_more : (marks : List Bool) (i : ℕ) (d : Obs) → i < length obs → sets + targets ≤ 140
+      → AreSeen sets targets obs marks i
+      → AreSeen sets targets obs (set (set marks (get_or obs i d).set true)
+      (sets + (get_or obs i d).target) true) (i + 1)
   seen_more marks i d inside few s =
       let p = placed i d inside in
       let a = p.set in
@@ -184,13 +228,18 @@ module _ (sets targets : ℕ) (obs : List Obs) (placed : All (IsObs sets targets
       let long = s.long in
       let e = length-set marks (get_or obs i d).set true in
       let set_in : (get_or obs i d).set < length marks = omega (arith, long, few, a) in
-      let target_in : sets + (get_or obs i d).target < length (set marks (get_or obs i d).set true) = omega (arith, long, few, b, e) in
-      seen_at marks i (get_or obs i d) inside (λ d2. get_or_default obs i d2 d inside) set_in target_in s
+      let target_in : sets + (get_or obs i d).target
+          < length (set marks (get_or obs i d).set true) = omega (arith, long, few, b, e) in
+      seen_at marks i (get_or obs i d) inside (λ d2. get_or_default obs i d2 d inside) set_in
+          target_in s
 
   -- where all nodes are marked, each set and target was observed
-  pub each_observed : (marks : List Bool) → AreSeen sets targets obs marks (length obs) → ((n : ℕ) → n < sets + targets → mark marks n ≡ true) → EachSetObserved sets obs × EachTargetObserved targets obs
+  pub each_observed : (marks : List Bool) → AreSeen sets targets obs marks (length obs)
+      → ((n : ℕ) → n < sets + targets → mark marks n ≡ true) → EachSetObserved sets obs
+      × EachTargetObserved targets obs
   each_observed marks s all = (
-    λ k h. let (i, o, inside, at, ends) = s.only k (all k (omega arith)) in (i, o, inside, at, ⊎_elim (λ e. e) (λ e. absurd (omega arith)) ends),
+    λ k h. let (i, o, inside, at, ends) = s.only k (all k (omega arith)) in
+        (i, o, inside, at, ⊎_elim (λ e. e) (λ e. absurd (omega arith)) ends),
     λ t h. let (i, o, inside, at, ends) = s.only (sets + t) (all (sets + t) (omega arith)) in
         let p = subst (IsObs sets targets) at (placed i o inside) in
         let a = p.set in
@@ -198,26 +247,33 @@ module _ (sets targets : ℕ) (obs : List Obs) (placed : All (IsObs sets targets
   )
 
   -- where a node isn't, its set or target wasn't
-  pub some_unobserved : (marks : List Bool) → AreSeen sets targets obs marks (length obs) → (n : ℕ) → n < sets + targets → mark marks n ≡ false → EachSetObserved sets obs × EachTargetObserved targets obs → ⊥
+  pub some_unobserved : (marks : List Bool) → AreSeen sets targets obs marks (length obs) → (n : ℕ)
+      → n < sets + targets → mark marks n ≡ false → EachSetObserved sets obs
+      × EachTargetObserved targets obs → ⊥
   some_unobserved marks s n h e (of_sets, of_targets) = by (dec_lt n sets)
     where
       no_mark : (k : ℕ) → k ≡ n → mark marks k ≡ true → ⊥
       no_mark k f g = let a : true ≡ false = sym g ∙ ap (mark marks) f ∙ e in cc
 
       by : Dec (n < sets) → ⊥
-      by (yes l) = let (i, o, inside, at, is) = of_sets n l in no_mark (get_or obs i o).set (ap (λ (x : Obs). x.set) at ∙ is) (s.marked i inside o).0
+      by (yes l) = let (i, o, inside, at, is) = of_sets n l in
+          no_mark (get_or obs i o).set (ap (λ (x : Obs). x.set) at ∙ is) (s.marked i inside o).0
       by (no f) =
           let (i, o, inside, at, is) = of_targets (n - sets) (omega arith) in
           let there : sets + (n - sets) ≡ n = omega arith in
-          no_mark (sets + (get_or obs i o).target) (ap (λ (x : Obs). sets + x.target) at ∙ ap (λ (t : ℕ). sets + t) is ∙ there) (s.marked i inside o).1
+          no_mark (sets + (get_or obs i o).target)
+              (ap (λ (x : Obs). sets + x.target) at ∙ ap (λ (t : ℕ). sets + t) is ∙ there)
+              (s.marked i inside o).1
 
 -- at first only the first target is marked
-pub spread_start : (sets targets : ℕ) (obs : List Obs) → sets < 140 → IsSpread sets targets obs (set (replicate 140 false) sets true)
+pub spread_start : (sets targets : ℕ) (obs : List Obs) → sets < 140
+    → IsSpread sets targets obs (set (replicate 140 false) sets true)
 spread_start sets targets obs h = record {
   first = get_or-set_same (replicate 140 false) sets true false long;
   long = length-set (replicate 140 false) sets true ∙ length-replicate 140 false;
   one_part = λ p q u k e. ⊎_elim
-      (λ j. ap (part_of sets p q) j ∙ ap (part_of sets p q) (sym (add-zero sets)) ∙ target_node sets 0 p q)
+      (λ j. ap (part_of sets p q) j ∙ ap (part_of sets p q) (sym (add-zero sets))
+          ∙ target_node sets 0 p q)
       (λ j. absurd (none_marked k j))
       (mark_after (replicate 140 false) sets k long e);
 }
@@ -226,29 +282,44 @@ spread_start sets targets obs h = record {
     long = let e = length-replicate 140 false in omega arith
 
 -- where all are marked, no division is left
-pub marked_is_whole : (sets targets : ℕ) (obs : List Obs) (marks : List Bool) → IsSpread sets targets obs marks → ((n : ℕ) → n < sets + targets → mark marks n ≡ true)
-    → (rows : List Row) → length rows ≡ length obs → IsDivided sets targets (readings_of obs rows) → ⊥
+pub marked_is_whole : (sets targets : ℕ) (obs : List Obs) (marks : List Bool)
+    → IsSpread sets targets obs marks → ((n : ℕ) → n < sets + targets → mark marks n ≡ true)
+    → (rows : List Row) → length rows ≡ length obs → IsDivided sets targets (readings_of obs rows)
+    → ⊥
 marked_is_whole sets targets obs marks s all rows same_length d =
-    let u = All-from_recursion (λ (o : Obs). d.part_of_set o.set ≡ d.part_of_target o.target) obs (obs_within d.part_of_set d.part_of_target obs rows same_length (recursion_from_All (λ (r : Reading). d.part_of_set r.set ≡ d.part_of_target r.target) (readings_of obs rows) d.none_between)) in
-    let at : (b : Bool) → HasMember sets targets d.part_of_set d.part_of_target b → b ≡ d.part_of_target 0 = λ b n. ⊎_elim
-    (λ m. sym m.2 ∙ sym (set_node sets m.0 d.part_of_set d.part_of_target m.1) ∙ s.one_part d.part_of_set d.part_of_target u m.0 (all m.0 (omega (arith, m.1))))
-    (λ m. sym m.2 ∙ sym (target_node sets m.0 d.part_of_set d.part_of_target) ∙ s.one_part d.part_of_set d.part_of_target u (sets + m.0) (all (sets + m.0) (omega (arith, m.1))))
+    let u = All-from_recursion (λ (o : Obs). d.part_of_set o.set ≡ d.part_of_target o.target) obs
+        (obs_within d.part_of_set d.part_of_target obs rows same_length
+        (recursion_from_All (λ (r : Reading). d.part_of_set r.set ≡ d.part_of_target r.target)
+        (readings_of obs rows) d.none_between)) in
+    let at : (b : Bool) → HasMember sets targets d.part_of_set d.part_of_target b
+        → b ≡ d.part_of_target 0 = λ b n. ⊎_elim
+    (λ m. sym m.2 ∙ sym (set_node sets m.0 d.part_of_set d.part_of_target m.1)
+        ∙ s.one_part d.part_of_set d.part_of_target u m.0 (all m.0 (omega (arith, m.1))))
+    (λ m. sym m.2 ∙ sym (target_node sets m.0 d.part_of_set d.part_of_target)
+        ∙ s.one_part d.part_of_set d.part_of_target u (sets + m.0)
+        (all (sets + m.0) (omega (arith, m.1))))
     n in
     let e : true ≡ false = at true d.first_part ∙ sym (at false d.second_part) in
     cc
 
--- where no observation has an open end, the first target is marked and a node isn't, the marks divide
-pub marks_divide : (sets targets : ℕ) (obs : List Obs) (marks : List Bool) → 0 < targets → IsSpread sets targets obs marks → All (AreAlike marks sets) obs
-    → (n : ℕ) → n < sets + targets → mark marks n ≡ false → (rows : List Row) → IsDivided sets targets (readings_of obs rows)
+-- where no observation has an open end, the first target is marked and a node isn't, the marks
+-- divide
+pub marks_divide : (sets targets : ℕ) (obs : List Obs) (marks : List Bool) → 0 < targets
+    → IsSpread sets targets obs marks → All (AreAlike marks sets) obs
+    → (n : ℕ) → n < sets + targets → mark marks n ≡ false → (rows : List Row)
+    → IsDivided sets targets (readings_of obs rows)
 marks_divide sets targets obs marks some s alike n h e rows = record {
   part_of_set = mark marks;
   part_of_target = λ t. mark marks (sets + t);
-  none_between = All-from_recursion (λ (r : Reading). mark marks r.set ≡ mark marks (sets + r.target)) (readings_of obs rows)
-      (readings_within (mark marks) (λ t. mark marks (sets + t)) obs rows (recursion_from_All (AreAlike marks sets) obs alike));
+  none_between = All-from_recursion (λ (r : Reading). mark marks r.set
+      ≡ mark marks (sets + r.target)) (readings_of obs rows)
+      (readings_within (mark marks) (λ t. mark marks (sets + t)) obs rows
+          (recursion_from_All (AreAlike marks sets) obs alike));
   first_part = inr (0, some, ap (mark marks) (add-zero sets) ∙ s.first);
   second_part = by (dec_lt n sets);
 }
   where
     by : Dec (n < sets) → HasMember sets targets (mark marks) (λ t. mark marks (sets + t)) false
     by (yes l) = inl (n, l, e)
-    by (no f) = inr (n - sets, omega arith, let k : sets + (n - sets) ≡ n = omega arith in ap (mark marks) k ∙ e)
+    by (no f) = inr (n - sets, omega arith, let k : sets + (n - sets) ≡ n = omega arith in
+        ap (mark marks) k ∙ e)

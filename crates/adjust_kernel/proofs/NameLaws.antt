@@ -10,9 +10,12 @@ use Rattle.std.proofs.lemmas.Slice.Eq.{bytes_eq-Decides, slice_eq-Decides}
 use Rattle.adjust_kernel.specs.Names.{IsName, IsPrintable, padded}
 use lib.Pointwise.{pointwise}
 
-pub made : (bytes kept : List ℕ) → kept ≡ bytes ++ drop (length bytes) (replicate 16 0) → IsName bytes → (kept ≡ padded (take (length bytes) kept)) × (length bytes ≡ length (take (length bytes) kept)) × IsName (take (length bytes) kept)
+pub made : (bytes kept : List ℕ) → kept ≡ bytes ++ drop (length bytes) (replicate 16 0)
+    → IsName bytes → (kept ≡ padded (take (length bytes) kept))
+    × (length bytes ≡ length (take (length bytes) kept)) × IsName (take (length bytes) kept)
 made bytes kept e h =
-    let t : take (length bytes) kept ≡ bytes = ap (take (length bytes)) e ∙ take_at bytes (drop (length bytes) (replicate 16 0)) (length bytes) refl in (
+    let t : take (length bytes) kept ≡ bytes = ap (take (length bytes)) e
+        ∙ take_at bytes (drop (length bytes) (replicate 16 0)) (length bytes) refl in (
       e ∙ ap (λ (s : List ℕ). bytes ++ s) (drop-replicate (length bytes) 16 0) ∙ sym (ap padded t),
       sym (ap length t),
       subst IsName (sym t) h,

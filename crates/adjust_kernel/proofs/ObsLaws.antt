@@ -13,21 +13,32 @@ before_both a b c (inr e) (inl f) = inl (omega arith)
 before_both a b c (inr e) (inr f) = inr (omega arith, omega arith)
 
 -- one more observation, before which the last one comes; d is any default
-pub ordered_more : (obs : List Obs) (n : ℕ) (d : Obs) → 1 ≤ n → n < length obs → PairsBelow IsBefore obs n → IsBefore (get_or obs (n - 1) d) (get_or obs n d) → PairsBelow IsBefore obs (n + 1)
+pub ordered_more : (obs : List Obs) (n : ℕ) (d : Obs) → 1 ≤ n → n < length obs
+    → PairsBelow IsBefore obs n → IsBefore (get_or obs (n - 1) d) (get_or obs n d)
+    → PairsBelow IsBefore obs (n + 1)
 ordered_more obs n d some inside h last = pairs_more IsBefore obs n h new where
   last_at : (e : Obs) → IsBefore (get_or obs (n - 1) e) (get_or obs n e)
-  last_at e = rw (get_or_default obs (n - 1) e d (omega arith), get_or_default obs n e d inside) last
+  last_at e = rw (get_or_default obs (n - 1) e d (omega arith), get_or_default obs n e d inside)
+      last
 
   new : (i : ℕ) (e : Obs) → i < n → IsBefore (get_or obs i e) (get_or obs n e)
   new i e below =
-      below_more (λ k. IsBefore (get_or obs k e) (get_or obs n e)) (n - 1) (λ k lt. before_both (get_or obs k e) (get_or obs (n - 1) e) (get_or obs n e) (h (n - 1) (omega arith) k e lt) (last_at e)) (last_at e) i (omega arith)
+      below_more (λ k. IsBefore (get_or obs k e) (get_or obs n e)) (n - 1)
+          (λ k lt. before_both (get_or obs k e) (get_or obs (n - 1) e) (get_or obs n e)
+          (h (n - 1) (omega arith) k e lt) (last_at e)) (last_at e) i (omega arith)
 
-module _ (sets targets : ℕ) (obs : List Obs) (h : AreObs sets targets obs) (few_sets : sets ≤ MOST_SETS) (few_targets : targets ≤ MOST_TARGETS) where
-  at_least_place : (n : ℕ) (d : Obs) → n < length obs → n ≤ (get_or obs n d).set * MOST_TARGETS + (get_or obs n d).target
+module _ (sets targets : ℕ) (obs : List Obs) (h : AreObs sets targets obs)
+    (few_sets : sets ≤ MOST_SETS) (few_targets : targets ≤ MOST_TARGETS) where
+  at_least_place : (n : ℕ) (d : Obs) → n < length obs
+      → n ≤ (get_or obs n d).set * MOST_TARGETS + (get_or obs n d).target
   at_least_place zero d inside = omega arith
   at_least_place (suc n) d inside =
-      by (h.ordered n (suc n) d (omega arith) inside) (at_least_place n d (omega arith)) (h.within n d (omega arith)) where
-        by : IsBefore (get_or obs n d) (get_or obs (suc n) d) → n ≤ (get_or obs n d).set * MOST_TARGETS + (get_or obs n d).target → IsObs sets targets (get_or obs n d) → suc n ≤ (get_or obs (suc n) d).set * MOST_TARGETS + (get_or obs (suc n) d).target
+      by (h.ordered n (suc n) d (omega arith) inside) (at_least_place n d (omega arith))
+          (h.within n d (omega arith)) where
+        by : IsBefore (get_or obs n d) (get_or obs (suc n) d)
+            → n ≤ (get_or obs n d).set * MOST_TARGETS + (get_or obs n d).target
+            → IsObs sets targets (get_or obs n d)
+            → suc n ≤ (get_or obs (suc n) d).set * MOST_TARGETS + (get_or obs (suc n) d).target
         by (inl e) earlier o = let t = o.target in omega (arith, t, few_targets)
         by (inr e) earlier o = omega arith
 

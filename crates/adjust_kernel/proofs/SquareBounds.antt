@@ -12,15 +12,20 @@ use Rattle.adjust_kernel.specs.Within.{IsWithin}
 use native.Mathlib.Decide.{dec_le}
 
 module _ {X : Type 0} where
-  pub int_sum_by-at_most : (f : X → ℤ) (m : ℕ) (xs : List X) → AllByRecursion (λ x. f x ≤ℤ pos m) xs → int_sum_by f xs ≤ℤ pos (length xs * m)
+  pub int_sum_by-at_most : (f : X → ℤ) (m : ℕ) (xs : List X) → AllByRecursion (λ x. f x ≤ℤ pos m) xs
+      → int_sum_by f xs ≤ℤ pos (length xs * m)
   int_sum_by-at_most f m [] h = omega (arith, ints)
-  int_sum_by-at_most f m (x ∷ xs) h = let e = int_sum_by-at_most f m xs h.1 in let k = h.0 in omega (arith, ints)
+  int_sum_by-at_most f m (x ∷ xs) h = let e = int_sum_by-at_most f m xs h.1 in let k = h.0 in
+      omega (arith, ints)
 
-  pub int_sum_by-below : (f g : X → ℤ) → ((x : X) → f x ≤ℤ g x) → (xs : List X) → int_sum_by f xs ≤ℤ int_sum_by g xs
+  pub int_sum_by-below : (f g : X → ℤ) → ((x : X) → f x ≤ℤ g x) → (xs : List X)
+      → int_sum_by f xs ≤ℤ int_sum_by g xs
   int_sum_by-below f g h [] = omega (arith, ints)
-  int_sum_by-below f g h (x ∷ xs) = let e = int_sum_by-below f g h xs in let k = h x in omega (arith, ints)
+  int_sum_by-below f g h (x ∷ xs) = let e = int_sum_by-below f g h xs in let k = h x in
+      omega (arith, ints)
 
-  pub each-at_most : (f : X → ℤ) → ((x : X) → pos 0 ≤ℤ f x) → (m : ℤ) (xs : List X) → int_sum_by f xs ≤ℤ m → AllByRecursion (λ x. f x ≤ℤ m) xs
+  pub each-at_most : (f : X → ℤ) → ((x : X) → pos 0 ≤ℤ f x) → (m : ℤ) (xs : List X)
+      → int_sum_by f xs ≤ℤ m → AllByRecursion (λ x. f x ≤ℤ m) xs
   each-at_most f h m [] e = tt
   each-at_most f h m (x ∷ xs) e =
       let k = h x in
@@ -31,7 +36,8 @@ module _ {X : Type 0} where
 pub squared_difference : (p q : ℤ) → squared (p -ℤ q) ≤ℤ (pos 2 *ℤ squared p +ℤ pos 2 *ℤ squared q)
 squared_difference p q =
     let e : pos 2 *ℤ squared p +ℤ pos 2 *ℤ squared q ≡ squared (p -ℤ q) +ℤ squared (p +ℤ q) =
-    same_value (num (pos 2) ⊗ (num p ⊗ num p) ⊕ num (pos 2) ⊗ (num q ⊗ num q)) ((num p ⊖ num q) ⊗ (num p ⊖ num q) ⊕ (num p ⊕ num q) ⊗ (num p ⊕ num q)) (omega arith) in
+    same_value (num (pos 2) ⊗ (num p ⊗ num p) ⊕ num (pos 2) ⊗ (num q ⊗ num q))
+        ((num p ⊖ num q) ⊗ (num p ⊖ num q) ⊕ (num p ⊕ num q) ⊗ (num p ⊕ num q)) (omega arith) in
     let h = squared-not_negative (p +ℤ q) in
     omega (arith, ints)
 
@@ -40,15 +46,19 @@ square_at_most a m h = mul-le-mul h h
 
 pub within_squared : (m : ℕ) (z : ℤ) → IsWithin (pos m) z → squared z ≤ℤ pos (m * m)
 within_squared m (pos a) h = let k = square_at_most a m (omega (arith, ints)) in omega (arith, ints)
-within_squared m (negsuc a) h = let k = square_at_most (suc a) m (omega (arith, ints)) in omega (arith, ints)
+within_squared m (negsuc a) h = let k = square_at_most (suc a) m (omega (arith, ints)) in
+    omega (arith, ints)
 
 root_below : (a m : ℕ) → a * a ≤ m * m → a ≤ m
 root_below a m h = by (dec_le a m)
   where
     by : Dec (a ≤ m) → a ≤ m
     by (yes e) = e
-    by (no f) = let k : suc m * suc m ≤ a * a = square_at_most (suc m) a (omega arith) in omega arith
+    by (no f) = let k : suc m * suc m ≤ a * a = square_at_most (suc m) a (omega arith) in
+        omega arith
 
 pub squared_within : (m : ℕ) (z : ℤ) → squared z ≤ℤ pos (m * m) → IsWithin (pos m) z
-squared_within m (pos a) h = let k = root_below a m (omega (arith, ints)) in record { low = omega (arith, ints); high = omega (arith, ints) }
-squared_within m (negsuc a) h = let k = root_below (suc a) m (omega (arith, ints)) in record { low = omega (arith, ints); high = omega (arith, ints) }
+squared_within m (pos a) h = let k = root_below a m (omega (arith, ints)) in
+    record { low = omega (arith, ints); high = omega (arith, ints) }
+squared_within m (negsuc a) h = let k = root_below (suc a) m (omega (arith, ints)) in
+    record { low = omega (arith, ints); high = omega (arith, ints) }

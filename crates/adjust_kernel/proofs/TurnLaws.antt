@@ -28,7 +28,8 @@ use Rattle.adjust_kernel.proofs.NearLaws.{IsNear, EndsAreNear, AllAreNear, all_n
 use native.Mathlib.Decide.{dec_lt}
 
 -- what stands where a sheet's sets and targets are held together and its residuals keep a limit
-pub record IsHeldUnder (limit sets targets : ℕ) (c : Choice) (readings : List Reading) : Type 0 where
+pub record IsHeldUnder (limit sets targets : ℕ) (c : Choice) (readings : List Reading) :
+    Type 0 where
   pub denominator : 1 ≤ c.denominator
   pub some : 0 < targets
   pub sets_in : sets ≤ MOST_SETS
@@ -40,12 +41,14 @@ pub record IsHeldUnder (limit sets targets : ℕ) (c : Choice) (readings : List 
   pub limited : IsLimited limit c readings
 
 -- what stands where a sheet is accepted under a residual limit
-pub record IsAcceptedUnder (limit sets targets : ℕ) (c : Choice) (readings : List Reading) : Type 0 where
+pub record IsAcceptedUnder (limit sets targets : ℕ) (c : Choice) (readings : List Reading) :
+    Type 0 where
   pub held : IsHeldUnder limit sets targets c readings
   pub balanced : IsBalanced c readings
 
 change_is : (d e v : ℕ) (a a' o o' k k' : ℤ)
-    → pos d *ℤ (a' -ℤ o' -ℤ pos e *ℤ (pos v +ℤ pos TURN *ℤ k')) -ℤ pos e *ℤ (a -ℤ o -ℤ pos d *ℤ (pos v +ℤ pos TURN *ℤ k))
+    → pos d *ℤ (a' -ℤ o' -ℤ pos e *ℤ (pos v +ℤ pos TURN *ℤ k'))
+    -ℤ pos e *ℤ (a -ℤ o -ℤ pos d *ℤ (pos v +ℤ pos TURN *ℤ k))
     ≡ (pos d *ℤ a' -ℤ pos e *ℤ a) -ℤ (pos d *ℤ o' -ℤ pos e *ℤ o) -ℤ pos (d * e * TURN) *ℤ (k' -ℤ k)
 change_is d e v a a' o o' k k' =
     let d' = num (pos d) in
@@ -53,11 +56,13 @@ change_is d e v a a' o o' k k' =
     let y = λ (z : ℤ). num (pos v) ⊕ num (pos TURN) ⊗ num z in
     same_value
     (d' ⊗ (num a' ⊖ num o' ⊖ e' ⊗ y k') ⊖ e' ⊗ (num a ⊖ num o ⊖ d' ⊗ y k))
-    ((d' ⊗ num a' ⊖ e' ⊗ num a) ⊖ (d' ⊗ num o' ⊖ e' ⊗ num o) ⊖ num (pos (d * e * TURN)) ⊗ (num k' ⊖ num k))
+    ((d' ⊗ num a' ⊖ e' ⊗ num a) ⊖ (d' ⊗ num o' ⊖ e' ⊗ num o)
+        ⊖ num (pos (d * e * TURN)) ⊗ (num k' ⊖ num k))
     (omega arith)
 
 -- a whole number of turns that is less than one turn is none
-no_turn : (unit j : ℕ) (z : ℤ) → 1 ≤ unit → j ≤ 279 → IsWithin (pos (j * (MOST_CHANGE * unit))) (pos (unit * TURN) *ℤ z) → z ≡ pos 0
+no_turn : (unit j : ℕ) (z : ℤ) → 1 ≤ unit → j ≤ 279
+    → IsWithin (pos (j * (MOST_CHANGE * unit))) (pos (unit * TURN) *ℤ z) → z ≡ pos 0
 no_turn unit j (pos zero) h k w = refl
 no_turn unit j (pos (suc n)) h k w =
     let m : j * (MOST_CHANGE * unit) ≤ 279 * (MOST_CHANGE * unit) = mul-le-mul k (omega arith) in
@@ -68,18 +73,25 @@ no_turn unit j (negsuc n) h k w =
     let l = w.low in
     absurd (omega (arith, ints))
 
-around : (q : ℕ) (t s o k mt ms : ℤ) → pos q *ℤ (k -ℤ mt +ℤ ms) ≡ (t -ℤ o -ℤ pos q *ℤ mt) -ℤ (s -ℤ o -ℤ pos q *ℤ ms) -ℤ (t -ℤ s -ℤ pos q *ℤ k)
+around : (q : ℕ) (t s o k mt ms : ℤ) → pos q *ℤ (k -ℤ mt +ℤ ms) ≡ (t -ℤ o -ℤ pos q *ℤ mt)
+    -ℤ (s -ℤ o -ℤ pos q *ℤ ms) -ℤ (t -ℤ s -ℤ pos q *ℤ k)
 around q t s o k mt ms =
     let q' = num (pos q) in
-    same_value (q' ⊗ (num k ⊖ num mt ⊕ num ms)) ((num t ⊖ num o ⊖ q' ⊗ num mt) ⊖ (num s ⊖ num o ⊖ q' ⊗ num ms) ⊖ (num t ⊖ num s ⊖ q' ⊗ num k)) (omega arith)
+    same_value (q' ⊗ (num k ⊖ num mt ⊕ num ms))
+        ((num t ⊖ num o ⊖ q' ⊗ num mt) ⊖ (num s ⊖ num o ⊖ q' ⊗ num ms)
+        ⊖ (num t ⊖ num s ⊖ q' ⊗ num k)) (omega arith)
 
-within_three : (j u : ℕ) (x y z : ℤ) → IsWithin (pos (j * u)) x → IsWithin (pos (j * u)) y → IsWithin (pos u) z → IsWithin (pos ((j + j + 1) * u)) (x -ℤ y -ℤ z)
+within_three : (j u : ℕ) (x y z : ℤ) → IsWithin (pos (j * u)) x → IsWithin (pos (j * u)) y
+    → IsWithin (pos u) z → IsWithin (pos ((j + j + 1) * u)) (x -ℤ y -ℤ z)
 within_three j u x y z a b c =
-    let p = a.low in let q = a.high in let r = b.low in let s = b.high in let v = c.low in let w = c.high in
+    let p = a.low in let q = a.high in let r = b.low in let s = b.high in let v = c.low in let w =
+        c.high in
     record { low = omega (arith, ints); high = omega (arith, ints) }
 
-module _ (limit sets targets : ℕ) (c : Choice) (readings : List Reading) (a : IsHeldUnder limit sets targets c readings)
-    (other : Choice) (turns : List ℤ) (long : length turns ≡ length readings) (fraction : 1 ≤ other.denominator)
+module _ (limit sets targets : ℕ) (c : Choice) (readings : List Reading)
+    (a : IsHeldUnder limit sets targets c readings)
+    (other : Choice) (turns : List ℤ) (long : length turns ≡ length readings)
+        (fraction : 1 ≤ other.denominator)
     (not_greater : IsNoLargerSum other (with_turns readings turns) c readings) where
   abbrev unit : ℕ
   unit = c.denominator * other.denominator
@@ -89,32 +101,51 @@ module _ (limit sets targets : ℕ) (c : Choice) (readings : List Reading) (a : 
 
   -- the change of a reading's residual, with what its turns change taken off, is that of its ends
   abbrev EndsNear : Reading → Type 0
-  EndsNear = EndsAreNear sets targets (unit * TURN) (MOST_CHANGE * unit) (moved_direction c other) (moved_orientation c other)
+  EndsNear = EndsAreNear sets targets (unit * TURN) (MOST_CHANGE * unit) (moved_direction c other)
+      (moved_orientation c other)
 
   ends_near : AllByRecursion (λ (x : Pair). EndsNear (difference x)) pairs
-  ends_near = AllByRecursion-map (λ (x : Pair). IsWithin (pos (MOST_CHANGE * unit)) (pos c.denominator *ℤ residual other (retuned x) -ℤ pos other.denominator *ℤ residual c x.0)) (λ (x : Pair). EndsNear (difference x))
-      (λ (x : Pair) w. subst (IsWithin (pos (MOST_CHANGE * unit))) (change_is c.denominator other.denominator x.0.value (c.direction x.0.target) (other.direction x.0.target) (c.orientation x.0.set) (other.orientation x.0.set) x.0.turn x.1) w)
-      pairs (changes_in c.denominator other.denominator limit (λ (x : Pair). residual c x.0) (λ (x : Pair). residual other (retuned x)) pairs few a.limit_in
-      (paired-all (λ r. IsWithin (pos (limit * c.denominator)) (residual c r)) readings turns (recursion_from_All (λ r. IsWithin (pos (limit * c.denominator)) (residual c r)) readings a.limited)) sums)
+  ends_near = AllByRecursion-map (λ (x : Pair).
+      IsWithin (pos (MOST_CHANGE * unit)) (pos c.denominator *ℤ residual other (retuned x)
+      -ℤ pos other.denominator *ℤ residual c x.0)) (λ (x : Pair). EndsNear (difference x))
+      (λ (x : Pair) w. subst (IsWithin (pos (MOST_CHANGE * unit)))
+          (change_is c.denominator other.denominator x.0.value (c.direction x.0.target)
+          (other.direction x.0.target) (c.orientation x.0.set) (other.orientation x.0.set) x.0.turn
+          x.1) w)
+      pairs (changes_in c.denominator other.denominator limit (λ (x : Pair). residual c x.0)
+          (λ (x : Pair). residual other (retuned x)) pairs few a.limit_in
+      (paired-all (λ r. IsWithin (pos (limit * c.denominator)) (residual c r)) readings turns
+          (recursion_from_All (λ r. IsWithin (pos (limit * c.denominator)) (residual c r)) readings
+          a.limited)) sums)
     where
       few : length pairs ≤ MOST_ROWS
       few = let e = length-paired readings turns in let h = a.readings_in in omega arith
 
-      sums : (pos (c.denominator * c.denominator) *ℤ int_sum_by (λ (x : Pair). squared (residual other (retuned x))) pairs) ≤ℤ (pos (other.denominator * other.denominator) *ℤ int_sum_by (λ (x : Pair). squared (residual c x.0)) pairs)
+      sums : (pos (c.denominator * c.denominator) *ℤ int_sum_by
+          (λ (x : Pair). squared (residual other (retuned x))) pairs)
+          ≤ℤ (pos (other.denominator * other.denominator) *ℤ int_sum_by
+          (λ (x : Pair). squared (residual c x.0)) pairs)
       sums =
-          let e = ap (λ z. pos (other.denominator * other.denominator) *ℤ z) (own_squares c readings turns long) in
-          let f = ap (λ z. pos (c.denominator * c.denominator) *ℤ z) (other_squares other readings turns) in
+          let e = ap (λ z. pos (other.denominator * other.denominator) *ℤ z)
+              (own_squares c readings turns long) in
+          let f = ap (λ z. pos (c.denominator * c.denominator) *ℤ z)
+              (other_squares other readings turns) in
           omega (arith, ints, not_greater)
 
   placed_pairs : AllByRecursion (λ (x : Pair). IsPlaced sets targets x.0) pairs
-  placed_pairs = paired-all (IsPlaced sets targets) readings turns (recursion_from_All (IsPlaced sets targets) readings a.placed)
+  placed_pairs = paired-all (IsPlaced sets targets) readings turns
+      (recursion_from_All (IsPlaced sets targets) readings a.placed)
 
-  near : AllAreNear sets targets (unit * TURN) (MOST_CHANGE * unit) (moved_direction c other) (moved_orientation c other) (sets + targets - 1)
-  near = all_near sets targets (unit * TURN) (MOST_CHANGE * unit) (moved_direction c other) (moved_orientation c other) (map difference pairs) a.some
+  near : AllAreNear sets targets (unit * TURN) (MOST_CHANGE * unit) (moved_direction c other)
+      (moved_orientation c other) (sets + targets - 1)
+  near = all_near sets targets (unit * TURN) (MOST_CHANGE * unit) (moved_direction c other)
+      (moved_orientation c other) (map difference pairs) a.some
       (differences-all (λ r. IsPlaced sets targets r × EndsNear r) pairs
-      (AllByRecursion-map (λ (x : Pair). IsPlaced sets targets x.0 × EndsNear (difference x)) (λ (x : Pair). IsPlaced sets targets (difference x) × EndsNear (difference x))
+      (AllByRecursion-map (λ (x : Pair). IsPlaced sets targets x.0 × EndsNear (difference x))
+          (λ (x : Pair). IsPlaced sets targets (difference x) × EndsNear (difference x))
       (λ (x : Pair) h. (record { set_in = h.0.set_in; target_in = h.0.target_in }, h.1)) pairs
-      (AllByRecursion-both (λ (x : Pair). IsPlaced sets targets x.0) (λ (x : Pair). EndsNear (difference x)) pairs placed_pairs ends_near)))
+      (AllByRecursion-both (λ (x : Pair). IsPlaced sets targets x.0)
+          (λ (x : Pair). EndsNear (difference x)) pairs placed_pairs ends_near)))
       (λ d. a.connected (differences-divided sets targets readings turns long d))
 
   abbrev turns_where : {P : Type 0} → (P → ℤ) → Dec P → ℤ
@@ -122,7 +153,8 @@ module _ (limit sets targets : ℕ) (c : Choice) (readings : List Reading) (a : 
   turns_where f (no n) = pos 0
 
   abbrev Node : ℤ → Type 0
-  Node = IsNear sets targets (unit * TURN) (MOST_CHANGE * unit) (moved_direction c other) (moved_orientation c other) (sets + targets - 1)
+  Node = IsNear sets targets (unit * TURN) (MOST_CHANGE * unit) (moved_direction c other)
+      (moved_orientation c other) (sets + targets - 1)
 
   -- the whole turns of a target and of a set
   of_target : ℕ → ℤ
@@ -132,13 +164,15 @@ module _ (limit sets targets : ℕ) (c : Choice) (readings : List Reading) (a : 
   of_set s = turns_where (λ h. (near.sets_near s h).turns) (dec_lt s sets)
 
   abbrev IsClose : ℤ → ℤ → Type 0
-  IsClose z k = IsWithin (pos ((sets + targets - 1) * (MOST_CHANGE * unit))) (z -ℤ moved_direction c other 0 -ℤ pos (unit * TURN) *ℤ k)
+  IsClose z k = IsWithin (pos ((sets + targets - 1) * (MOST_CHANGE * unit)))
+      (z -ℤ moved_direction c other 0 -ℤ pos (unit * TURN) *ℤ k)
 
   target_close : (t : ℕ) → t < targets → IsClose (moved_direction c other t) (of_target t)
   unfolding of_target
   target_close t h = by (dec_lt t targets)
     where
-      by : (d : Dec (t < targets)) → IsClose (moved_direction c other t) (turns_where (λ h. (near.targets_near t h).turns) d)
+      by : (d : Dec (t < targets)) → IsClose (moved_direction c other t)
+          (turns_where (λ h. (near.targets_near t h).turns) d)
       by (yes l) = (near.targets_near t l).close
       by (no n) = absurd (n h)
 
@@ -146,11 +180,13 @@ module _ (limit sets targets : ℕ) (c : Choice) (readings : List Reading) (a : 
   unfolding of_set
   set_close s h = by (dec_lt s sets)
     where
-      by : (d : Dec (s < sets)) → IsClose (moved_orientation c other s) (turns_where (λ h. (near.sets_near s h).turns) d)
+      by : (d : Dec (s < sets)) → IsClose (moved_orientation c other s)
+          (turns_where (λ h. (near.sets_near s h).turns) d)
       by (yes l) = (near.sets_near s l).close
       by (no n) = absurd (n h)
 
-  turned_pair : (x : Pair) → EndsNear (difference x) → IsPlaced sets targets x.0 → x.1 ≡ x.0.turn +ℤ of_target x.0.target -ℤ of_set x.0.set
+  turned_pair : (x : Pair) → EndsNear (difference x) → IsPlaced sets targets x.0
+      → x.1 ≡ x.0.turn +ℤ of_target x.0.target -ℤ of_set x.0.set
   turned_pair x w p =
       let n = sets + targets - 1 in
       let m : n ≤ 139 = omega (arith, a.sets_in, a.targets_in) in
@@ -160,9 +196,13 @@ module _ (limit sets targets : ℕ) (c : Choice) (readings : List Reading) (a : 
       let o = moved_direction c other 0 in
       let mt = of_target x.0.target in
       let ms = of_set x.0.set in
-      let close = within_three n (MOST_CHANGE * unit) (t -ℤ o -ℤ pos (unit * TURN) *ℤ mt) (s -ℤ o -ℤ pos (unit * TURN) *ℤ ms) (t -ℤ s -ℤ pos (unit * TURN) *ℤ k) (target_close x.0.target p.target_in) (set_close x.0.set p.set_in) w in
-      let y = subst (IsWithin (pos ((n + n + 1) * (MOST_CHANGE * unit)))) (sym (around (unit * TURN) t s o k mt ms)) close in
-      let z = no_turn unit (n + n + 1) (k -ℤ mt +ℤ ms) (mul-le-mul a.denominator fraction) (omega arith) y in
+      let close = within_three n (MOST_CHANGE * unit) (t -ℤ o -ℤ pos (unit * TURN) *ℤ mt)
+          (s -ℤ o -ℤ pos (unit * TURN) *ℤ ms) (t -ℤ s -ℤ pos (unit * TURN) *ℤ k)
+          (target_close x.0.target p.target_in) (set_close x.0.set p.set_in) w in
+      let y = subst (IsWithin (pos ((n + n + 1) * (MOST_CHANGE * unit))))
+          (sym (around (unit * TURN) t s o k mt ms)) close in
+      let z = no_turn unit (n + n + 1) (k -ℤ mt +ℤ ms) (mul-le-mul a.denominator fraction)
+          (omega arith) y in
       omega (arith, ints)
 
   pub turned : AreTurnedWhole readings turns
@@ -170,16 +210,23 @@ module _ (limit sets targets : ℕ) (c : Choice) (readings : List Reading) (a : 
     of_target = of_target;
     of_set = of_set;
     turns_are = turns_by (λ r. r.turn +ℤ of_target r.target -ℤ of_set r.set) readings turns long
-        (AllByRecursion-map (λ (x : Pair). EndsNear (difference x) × IsPlaced sets targets x.0) (λ (x : Pair). x.1 ≡ x.0.turn +ℤ of_target x.0.target -ℤ of_set x.0.set) (λ (x : Pair) h. turned_pair x h.0 h.1) pairs
-        (AllByRecursion-both (λ (x : Pair). EndsNear (difference x)) (λ (x : Pair). IsPlaced sets targets x.0) pairs ends_near placed_pairs));
+        (AllByRecursion-map (λ (x : Pair). EndsNear (difference x) × IsPlaced sets targets x.0)
+            (λ (x : Pair). x.1 ≡ x.0.turn +ℤ of_target x.0.target -ℤ of_set x.0.set)
+            (λ (x : Pair) h. turned_pair x h.0 h.1) pairs
+        (AllByRecursion-both (λ (x : Pair). EndsNear (difference x))
+            (λ (x : Pair). IsPlaced sets targets x.0) pairs ends_near placed_pairs));
   }
 
 -- turns of targets and sets are taken up by directions and orientations
-pub taken_up : (e v : ℕ) (a o k mt ms : ℤ) → (a -ℤ pos (e * TURN) *ℤ mt) -ℤ (o -ℤ pos (e * TURN) *ℤ ms) -ℤ pos e *ℤ (pos v +ℤ pos TURN *ℤ k) ≡ a -ℤ o -ℤ pos e *ℤ (pos v +ℤ pos TURN *ℤ (k +ℤ mt -ℤ ms))
+pub taken_up : (e v : ℕ) (a o k mt ms : ℤ) → (a -ℤ pos (e * TURN) *ℤ mt)
+    -ℤ (o -ℤ pos (e * TURN) *ℤ ms) -ℤ pos e *ℤ (pos v +ℤ pos TURN *ℤ k)
+    ≡ a -ℤ o -ℤ pos e *ℤ (pos v +ℤ pos TURN *ℤ (k +ℤ mt -ℤ ms))
 taken_up e v a o k mt ms =
     let q = num (pos (e * TURN)) in
-    same_value ((num a ⊖ q ⊗ num mt) ⊖ (num o ⊖ q ⊗ num ms) ⊖ num (pos e) ⊗ (num (pos v) ⊕ num (pos TURN) ⊗ num k))
-    (num a ⊖ num o ⊖ num (pos e) ⊗ (num (pos v) ⊕ num (pos TURN) ⊗ (num k ⊕ num mt ⊖ num ms))) (omega arith)
+    same_value ((num a ⊖ q ⊗ num mt) ⊖ (num o ⊖ q ⊗ num ms)
+        ⊖ num (pos e) ⊗ (num (pos v) ⊕ num (pos TURN) ⊗ num k))
+    (num a ⊖ num o ⊖ num (pos e) ⊗ (num (pos v) ⊕ num (pos TURN) ⊗ (num k ⊕ num mt ⊖ num ms)))
+        (omega arith)
 
 module _ (other : Choice) (of_target of_set : ℕ → ℤ) where
   abbrev pub taken : Choice
@@ -189,19 +236,30 @@ module _ (other : Choice) (of_target of_set : ℕ → ℤ) where
     orientation = λ s. other.orientation s -ℤ pos (other.denominator * TURN) *ℤ of_set s;
   }
 
-  pub taken_squares : (readings : List Reading) → sum_of_squares taken readings ≡ sum_of_squares other (with_turns readings (map (λ r. r.turn +ℤ of_target r.target -ℤ of_set r.set) readings))
+  pub taken_squares : (readings : List Reading)
+      → sum_of_squares taken readings ≡ sum_of_squares other
+      (with_turns readings (map (λ r. r.turn +ℤ of_target r.target -ℤ of_set r.set) readings))
   taken_squares [] = refl
-  taken_squares (r ∷ readings) = λ i. squared (taken_up other.denominator r.value (other.direction r.target) (other.orientation r.set) r.turn (of_target r.target) (of_set r.set) i) +ℤ taken_squares readings i
+  taken_squares (r ∷ readings) = λ i. squared
+      (taken_up other.denominator r.value (other.direction r.target) (other.orientation r.set)
+      r.turn (of_target r.target) (of_set r.set) i) +ℤ taken_squares readings i
 
-pub limited_is_least_over_turns : (limit sets targets : ℕ) (c : Choice) (readings : List Reading) → IsAcceptedUnder limit sets targets c readings → IsLeastOverTurns c readings
+pub limited_is_least_over_turns : (limit sets targets : ℕ) (c : Choice) (readings : List Reading)
+    → IsAcceptedUnder limit sets targets c readings → IsLeastOverTurns c readings
 limited_is_least_over_turns limit sets targets c readings a other turns long h =
     by_lt_z (sum_beside c other (with_turns readings turns)) (sum_beside other c readings)
-    (λ lt. let t = turned limit sets targets c readings a.held other turns long h (omega (arith, ints)) in
-    let e : sum_beside c (taken other t.of_target t.of_set) readings ≡ sum_beside c other (with_turns readings turns) =
-    ap (λ z. pos (c.denominator * c.denominator) *ℤ z) (taken_squares other t.of_target t.of_set readings ∙ ap (λ (ks : List ℤ). sum_of_squares other (with_turns readings ks)) (sym t.turns_are)) in
+    (λ lt. let t = turned limit sets targets c readings a.held other turns long h
+        (omega (arith, ints)) in
+    let e : sum_beside c (taken other t.of_target t.of_set) readings
+        ≡ sum_beside c other (with_turns readings turns) =
+    ap (λ z. pos (c.denominator * c.denominator) *ℤ z)
+        (taken_squares other t.of_target t.of_set readings
+        ∙ ap (λ (ks : List ℤ). sum_of_squares other (with_turns readings ks)) (sym t.turns_are)) in
     let k = balanced_is_least c readings a.balanced (taken other t.of_target t.of_set) h in
     omega (arith, ints))
     (λ le. le)
 
-pub limited_equal_only_turned : (limit sets targets : ℕ) (c : Choice) (readings : List Reading) → IsAcceptedUnder limit sets targets c readings → OnlyTurnedWhole c readings
-limited_equal_only_turned limit sets targets c readings a other turns long h e = turned limit sets targets c readings a.held other turns long h (omega (arith, ints))
+pub limited_equal_only_turned : (limit sets targets : ℕ) (c : Choice) (readings : List Reading)
+    → IsAcceptedUnder limit sets targets c readings → OnlyTurnedWhole c readings
+limited_equal_only_turned limit sets targets c readings a other turns long h e =
+    turned limit sets targets c readings a.held other turns long h (omega (arith, ints))

@@ -7,7 +7,9 @@ returns c = record {
   matches = λ station sheet limit a. matches_where_accepted station sheet limit a.0 a.1;
   targets = λ station sheet limit a. clear_where_accepted station sheet limit a.0 a.1 (TargetSum 0);
   sets = λ station sheet limit a. clear_where_accepted station sheet limit a.0 a.1 (SetSum 0);
-  connection = λ station sheet limit a. clear_where_accepted station sheet limit a.0 a.1 NotConnected;
-  residuals = λ station sheet limit a. clear_where_accepted station sheet limit a.0 a.1 (Residual 0);
+  connection = λ station sheet limit a. clear_where_accepted station sheet limit a.0 a.1
+      NotConnected;
+  residuals = λ station sheet limit a. clear_where_accepted station sheet limit a.0 a.1
+      (Residual 0);
   accepted = accepted_sheet;
 }

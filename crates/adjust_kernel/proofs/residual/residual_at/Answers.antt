@@ -14,12 +14,15 @@ returns-clause-value c =
     let high = c.requires.turn.high in
     let turn_fits : FitsSigned w8 c.args.row.now.turn = omega (arith, ints, low, high) in
     let value : c.unrolled.result ≡ unrolled (reading_of c.args.obs.now c.args.row.now.turn) =
-    c.unrolled.ensures ∙ ap (λ k. pos c.args.obs.now.value +ℤ pos TURN *ℤ k) (to_z-of_z w8 c.args.row.now.turn turn_fits) in
+    c.unrolled.ensures ∙ ap (λ k. pos c.args.obs.now.value +ℤ pos TURN *ℤ k)
+        (to_z-of_z w8 c.args.row.now.turn turn_fits) in
     let fits : FitsSigned w64 c.unrolled.result = record { sfits = c.unrolled.type_inv } in
-    let reading : c.scaled-reading.result ≡ pos c.args.sheet.now.denominator *ℤ unrolled (reading_of c.args.obs.now c.args.row.now.turn) =
+    let reading : c.scaled-reading.result ≡ pos c.args.sheet.now.denominator *ℤ unrolled
+        (reading_of c.args.obs.now c.args.row.now.turn) =
     c.scaled-reading.ensures.value
     ∙ ap (λ n. pos n *ℤ to_z w64 (of_z w64 c.unrolled.result)) c.denominator.ensures.value
-    ∙ ap (λ z. pos c.args.sheet.now.denominator *ℤ z) (to_z-of_z w64 c.unrolled.result fits ∙ value) in
+    ∙ ap (λ z. pos c.args.sheet.now.denominator *ℤ z) (to_z-of_z w64 c.unrolled.result fits
+    ∙ value) in
     omega (arith, ints)
 
 pub returns-clause-bound : goal.returns-clause-bound

@@ -14,5 +14,9 @@ returns-clause-value c = λ d.
     let fits : FitsSigned w128 c.residual_at.result = omega (arith, ints) in
     to_z-of_z w128 c.residual_at.result fits
     ∙ c.residual_at.ensures.value
-    ∙ ap (λ (r : Row). residual (choice_stated_by c.args.sheet.now) (reading_of (get_or c.args.obs.now c.args.row none) r.turn)) (c.index-rows-row.is ∙ ap (λ rows. get_or rows c.args.row c.index-rows-row.result) c.rows.ensures.value)
-    ∙ ap (residual (choice_stated_by c.args.sheet.now)) (sym (get_or-readings_of c.args.obs.now c.args.sheet.now.rows c.args.row none c.index-rows-row.result d c.requires.paired.same_length c.requires.row))
+    ∙ ap (λ (r : Row). residual (choice_stated_by c.args.sheet.now)
+    (reading_of (get_or c.args.obs.now c.args.row none) r.turn)) (c.index-rows-row.is
+    ∙ ap (λ rows. get_or rows c.args.row c.index-rows-row.result) c.rows.ensures.value)
+    ∙ ap (residual (choice_stated_by c.args.sheet.now))
+    (sym (get_or-readings_of c.args.obs.now c.args.sheet.now.rows c.args.row none
+    c.index-rows-row.result d c.requires.paired.same_length c.requires.row))

@@ -6,4 +6,6 @@ use Rattle.adjust_kernel.specs.Residuals.{residual}
 use Rattle.adjust_kernel.proofs.residual_limit.first_above_limit.Given as goal
 
 abbrev pub invariant-loop-row : goal.invariant-loop-row
-invariant-loop-row l = (k : ℕ) → k < l.row → l.limit * l.sheet.denominator < unsigned_abs (slice_index_or (map (residual (choice_stated_by l.sheet)) (readings_of l.obs l.sheet.rows)) k (pos 0)) → ⊥
+invariant-loop-row l = (k : ℕ) → k < l.row → l.limit * l.sheet.denominator
+    < unsigned_abs (slice_index_or (map (residual (choice_stated_by l.sheet))
+    (readings_of l.obs l.sheet.rows)) k (pos 0)) → ⊥

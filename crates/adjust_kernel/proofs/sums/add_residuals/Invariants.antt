@@ -6,7 +6,9 @@ use Rattle.adjust_kernel.proofs.sums.add_residuals.Given as goal
 
 abbrev pub invariant-loop-row : goal.invariant-loop-row
 invariant-loop-row g l = record {
-  stands : g.T.Tally.StandsFor l.tally (all_added (choice_stated_by l.sheet) (take l.row (readings_of l.obs l.sheet.rows)));
+  stands : g.T.Tally.StandsFor l.tally (all_added (choice_stated_by l.sheet)
+      (take l.row (readings_of l.obs l.sheet.rows)));
   room : g.T.Tally.room l.tally + l.row ≡ 4_000;
-  greatest : l.greatest ≡ pos (greatest_size (choice_stated_by l.sheet) (take l.row (readings_of l.obs l.sheet.rows)));
+  greatest : l.greatest ≡ pos (greatest_size (choice_stated_by l.sheet)
+      (take l.row (readings_of l.obs l.sheet.rows)));
 }

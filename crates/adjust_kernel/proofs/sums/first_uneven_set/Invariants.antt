@@ -5,4 +5,5 @@ use Rattle.adjust_kernel.specs.Tallies.{all_added}
 use Rattle.adjust_kernel.proofs.sums.first_uneven_set.Given as goal
 
 abbrev pub invariant-loop-set : goal.invariant-loop-set
-invariant-loop-set g l = (c : Choice) (rs : List Reading) → g.T.Tally.StandsFor l.tally (all_added c rs) → (s : ℕ) → s < l.set → set_sum c rs s ≡ pos 0
+invariant-loop-set g l = (c : Choice) (rs : List Reading)
+    → g.T.Tally.StandsFor l.tally (all_added c rs) → (s : ℕ) → s < l.set → set_sum c rs s ≡ pos 0

@@ -8,4 +8,6 @@ pub returns-clause-few : goal.returns-clause-few
 returns-clause-few c =
     let s = c.self.inside in
     let i = c.self.invariant in
-    subst (λ (s : StationValue). length s.obs ≤ MOST_ROWS) c.self.view_is (few_obs (length s.sets.items) (length s.targets.items) s.obs.items i.obs i.sets.few i.targets.few)
+    subst (λ (s : StationValue). length s.obs ≤ MOST_ROWS) c.self.view_is
+        (few_obs (length s.sets.items) (length s.targets.items) s.obs.items i.obs i.sets.few
+        i.targets.few)
