@@ -1,4 +1,5 @@
--- Canonical decimals: each is a numeral of plain digits, so the library reads it, whatever its length.
+-- Canonical decimals: each is a numeral of plain digits, so the library reads it, whatever its
+-- length.
 use Rattle.std.proofs.Common.{◌≡◌, ℕ, ◌≤◌, Bool, true, false, List, [], ◌∷◌, length, refl, arith, rules, slice_index, ◌==◌, inl, inr, ℤ, pos, negsuc, FitsSigned, int_le}
 use Rattle.std.specs.Char.{is_ascii_digit}
 use Rattle.std.specs.List.{list_all}
@@ -23,7 +24,8 @@ pub positive-digits : (ds : List ℕ) → is_positive ds ≡ true → list_all i
 positive-digits [] e = cc e
 positive-digits (c ∷ cs) e = grind (arith, nat_tests)
 
-pub positive-first : (ds : List ℕ) → is_positive ds ≡ true → (49 ≤ slice_index ds 0) × (slice_index ds 0 ≤ 57)
+pub positive-first : (ds : List ℕ) → is_positive ds ≡ true → (49 ≤ slice_index ds 0)
+    × (slice_index ds 0 ≤ 57)
 positive-first [] e = cc e
 positive-first (c ∷ cs) e = grind (arith, nat_tests)
 
@@ -35,16 +37,22 @@ pub positive-ascii : (ds : List ℕ) → is_positive ds ≡ true → IsAscii ds
 positive-ascii ds e = IsAscii-from_digits ds (positive-numeral ds e).1
 
 -- a number between two that fit 128 bits fits them
-pub between-fits : (low high v : ℤ) → FitsSigned w128 low → FitsSigned w128 high → int_le low v ≡ true → int_le v high ≡ true → FitsSigned w128 v
-between-fits (pos l) (pos h) (pos n) f g a b = record { sfits = omega (arith, g.sfits, leb-true n h b) }
+pub between-fits : (low high v : ℤ) → FitsSigned w128 low → FitsSigned w128 high
+    → int_le low v ≡ true → int_le v high ≡ true → FitsSigned w128 v
+between-fits (pos l) (pos h) (pos n) f g a b =
+    record { sfits = omega (arith, g.sfits, leb-true n h b) }
 between-fits (pos l) (negsuc h) (pos n) f g a b = cc b
-between-fits (negsuc l) (pos h) (pos n) f g a b = record { sfits = omega (arith, g.sfits, leb-true n h b) }
+between-fits (negsuc l) (pos h) (pos n) f g a b =
+    record { sfits = omega (arith, g.sfits, leb-true n h b) }
 between-fits (negsuc l) (negsuc h) (pos n) f g a b = cc b
 between-fits (pos l) h (negsuc n) f g a b = cc a
-between-fits (negsuc l) h (negsuc n) f g a b = record { sfits = omega (arith, f.sfits, leb-true n l a) }
+between-fits (negsuc l) h (negsuc n) f g a b =
+    record { sfits = omega (arith, f.sfits, leb-true n l a) }
 
 -- a number's form has a sign, or none, and digits
-canonical-from : (c : ℕ) (cs : List ℕ) (zero_first minus : Bool) → (c == 48) ≡ zero_first → (c == 45) ≡ minus → is_canonical (c ∷ cs) ≡ true → IsNumeral 10 (without_leading_sign (c ∷ cs)) × IsAscii (c ∷ cs)
+canonical-from : (c : ℕ) (cs : List ℕ) (zero_first minus : Bool) → (c == 48) ≡ zero_first
+    → (c == 45) ≡ minus → is_canonical (c ∷ cs) ≡ true
+    → IsNumeral 10 (without_leading_sign (c ∷ cs)) × IsAscii (c ∷ cs)
 canonical-from c cs true minus z m e =
     let none : length cs ≡ 0 = grind (arith, nat_tests) in
     let is48 : c ≡ 48 = eqb-true c 48 z in
@@ -60,16 +68,21 @@ canonical-from c cs false false z m e =
     let plus : (c == 43) ≡ false = ne_eqb c 43 (λ q. absurd (omega (arith, f, q))) in
     rw (m, plus) (positive-numeral (c ∷ cs) p, positive-ascii (c ∷ cs) p)
 
-pub canonical-numeral : (bs : List ℕ) → is_canonical bs ≡ true → IsNumeral 10 (without_leading_sign bs) × IsAscii bs
+pub canonical-numeral : (bs : List ℕ) → is_canonical bs ≡ true
+    → IsNumeral 10 (without_leading_sign bs) × IsAscii bs
 canonical-numeral [] e = cc e
 canonical-numeral (c ∷ cs) e = canonical-from c cs (c == 48) (c == 45) refl refl e
 
 -- a canonical number that is none of 128 bits is out of the bounds
-pub outside : (low high : ℤ) (bs : List ℕ) → FitsSigned w128 low → FitsSigned w128 high → is_canonical bs ≡ true
-    → (IsNumeral 10 (without_leading_sign bs) × FitsSigned w128 (signed_digits_value 10 bs) → ⊥) → is_within low high (signed_digits_value 10 bs) ≡ false
-outside low high bs f g e refused = elim (cases_Bool (is_within low high (signed_digits_value 10 bs))) [
+pub outside : (low high : ℤ) (bs : List ℕ) → FitsSigned w128 low → FitsSigned w128 high
+    → is_canonical bs ≡ true
+    → (IsNumeral 10 (without_leading_sign bs) × FitsSigned w128 (signed_digits_value 10 bs) → ⊥)
+    → is_within low high (signed_digits_value 10 bs) ≡ false
+outside low high bs f g e refused = elim (cases_Bool
+    (is_within low high (signed_digits_value 10 bs))) [
   | inl within ↦
       let p = and_parts _ _ within in
-      absurd (refused ((canonical-numeral bs e).0, between-fits low high (signed_digits_value 10 bs) f g p.0 p.1))
+      absurd (refused ((canonical-numeral bs e).0,
+          between-fits low high (signed_digits_value 10 bs) f g p.0 p.1))
   | inr out ↦ out
 ]

@@ -1,4 +1,5 @@
--- The rows that were read: none of them has a fault, and what the next row or the end says of the whole.
+-- The rows that were read: none of them has a fault, and what the next row or the end says of the
+-- whole.
 use Rattle.std.specs.Prelude.{if◌then◌else◌, ◌⊎◌}
 use Rattle.std.proofs.Common.{◌≡◌, ℕ, ◌<◌, ◌≤◌, Bool, true, false, List, [], ◌∷◌, ◌++◌, length, Option, Some, None, All, get_or, refl, ap, sym, subst, ◌∙◌, arith, inl, inr, ◌==◌, length-append, append_assoc}
 use Rattle.std.proofs.Math.Seq.{drop-append_seam, take-append_seam}
@@ -22,16 +23,23 @@ use Rattle.sheet_format.proofs.Ranges.{angle-below, denominator-below}
 use Rattle.sheet_format.proofs.SaidBy.{said}
 
 -- the fault at the place where these rows part
-pub fault_at-seam : (before rest : List (List (List ℕ))) → fault_at (before ++ rest) (length before) ≡ fault_between before rest
+pub fault_at-seam : (before rest : List (List (List ℕ)))
+    → fault_at (before ++ rest) (length before) ≡ fault_between before rest
 fault_at-seam before rest = rw (take-append_seam before rest, drop-append_seam before rest) refl
 
 -- one row more without a fault
-pub faultless-more : (all before rest : List (List (List ℕ))) (row : List (List ℕ)) → all ≡ before ++ (row ∷ rest) → NoFaultBefore all (length before) → row_fault (said_by before) row ≡ None
+pub faultless-more : (all before rest : List (List (List ℕ))) (row : List (List ℕ))
+    → all ≡ before ++ (row ∷ rest) → NoFaultBefore all (length before)
+    → row_fault (said_by before) row ≡ None
     → NoFaultBefore all (length (before ++ (row ∷ [])))
 unfolding fault_between
-faultless-more all before rest row whole none here earlier below = elim (cases_Bool (earlier == length before)) [
-  | inl same ↦ ap (fault_at all) (eqb-true _ _ same) ∙ ap (λ (rows : List (List (List ℕ))). fault_at rows (length before)) whole ∙ fault_at-seam before (row ∷ rest) ∙ here
-  | inr other ↦ none earlier (let not = eqb-false _ _ other in omega (arith, not, below, length-append before (row ∷ [])))
+faultless-more all before rest row whole none here earlier below =
+    elim (cases_Bool (earlier == length before)) [
+  | inl same ↦ ap (fault_at all) (eqb-true _ _ same)
+      ∙ ap (λ (rows : List (List (List ℕ))). fault_at rows (length before)) whole
+      ∙ fault_at-seam before (row ∷ rest) ∙ here
+  | inr other ↦ none earlier (let not = eqb-false _ _ other in
+      omega (arith, not, below, length-append before (row ∷ [])))
 ]
 
 -- the draft that rows make of a draft
@@ -40,52 +48,70 @@ drafted d [] = d
 drafted d (row ∷ rows) = drafted (with_row d row) rows
 
 -- The rows of a draft were read, these are left, and no row so far has a fault.
-pub record HasRead (all : List (List (List ℕ))) (d : DraftValue) (rest : List (List (List ℕ))) : Type 0 where
+pub record HasRead (all : List (List (List ℕ))) (d : DraftValue) (rest : List (List (List ℕ))) :
+    Type 0 where
   pub draft : IsDraft d
   pub rows : all ≡ rows_of_draft d ++ rest
   pub faultless : NoFaultBefore all (length (rows_of_draft d))
   pub made : drafted blank all ≡ drafted d rest
 
 pub read-begin : (all : List (List (List ℕ))) → HasRead all blank all
-read-begin all = record { draft = blank-draft; rows = refl; faultless = λ earlier below. absurd (omega (arith, below)); made = refl }
+read-begin all = record { draft = blank-draft; rows = refl; faultless =
+    λ earlier below. absurd (omega (arith, below)); made = refl }
 
-pub read-more : (all : List (List (List ℕ))) (d e : DraftValue) (row : List (List ℕ)) (rest : List (List (List ℕ))) → HasRead all d (row ∷ rest) → row_fault (said_by_draft d) row ≡ None → e ≡ with_row d row → HasRead all e rest
+pub read-more : (all : List (List (List ℕ))) (d e : DraftValue) (row : List (List ℕ))
+    (rest : List (List (List ℕ))) → HasRead all d (row ∷ rest)
+    → row_fault (said_by_draft d) row ≡ None → e ≡ with_row d row → HasRead all e rest
 read-more all d e row rest read none same =
     let taken = row-taken d row read.draft none in
-    let here : row_fault (said_by (rows_of_draft d)) row ≡ None = rw (said d read.draft.bare) none in
+    let here : row_fault (said_by (rows_of_draft d)) row ≡ None =
+        rw (said d read.draft.bare) none in
     let more = faultless-more all (rows_of_draft d) rest row read.rows read.faultless here in
     subst (λ (x : DraftValue). HasRead all x rest) (sym same) (record {
       draft = taken.draft;
-      rows = read.rows ∙ sym (append_assoc (rows_of_draft d) (row ∷ []) rest) ∙ ap (λ (rows : List (List (List ℕ))). rows ++ rest) (sym taken.rows);
-      faultless = subst (λ (rows : List (List (List ℕ))). NoFaultBefore all (length rows)) (sym taken.rows) more;
+      rows = read.rows ∙ sym (append_assoc (rows_of_draft d) (row ∷ []) rest)
+          ∙ ap (λ (rows : List (List (List ℕ))). rows ++ rest) (sym taken.rows);
+      faultless = subst (λ (rows : List (List (List ℕ))). NoFaultBefore all (length rows))
+          (sym taken.rows) more;
       made = read.made;
     })
 
-pub read-fault : (all : List (List (List ℕ))) (d : DraftValue) (row : List (List ℕ)) (rest : List (List (List ℕ))) (k : RowKind) → HasRead all d (row ∷ rest) → row_fault (said_by_draft d) row ≡ Some k
+pub read-fault : (all : List (List (List ℕ))) (d : DraftValue) (row : List (List ℕ))
+    (rest : List (List (List ℕ))) (k : RowKind) → HasRead all d (row ∷ rest)
+    → row_fault (said_by_draft d) row ≡ Some k
     → IsFirstFault all (length (rows_of_draft d)) k
 unfolding fault_between
 read-fault all d row rest k read found =
-    let here : row_fault (said_by (rows_of_draft d)) row ≡ Some k = rw (said d read.draft.bare) found in
+    let here : row_fault (said_by (rows_of_draft d)) row ≡ Some k =
+        rw (said d read.draft.bare) found in
     record {
-      here = ap (λ (rows : List (List (List ℕ))). fault_at rows (length (rows_of_draft d))) read.rows ∙ fault_at-seam (rows_of_draft d) (row ∷ rest) ∙ here;
+      here = ap (λ (rows : List (List (List ℕ))). fault_at rows (length (rows_of_draft d)))
+          read.rows ∙ fault_at-seam (rows_of_draft d) (row ∷ rest) ∙ here;
       before = read.faultless;
     }
 
 -- a draft whose last row is an observation's has all parts of a sheet
-pub directions-below : (v : Version) (ds : List Direction) → All (IsDirectionOf v) ds → All IsDirection ds
-directions-below v ds h k x below = let d = h k x below in record { name = d.0; value = angle-below v (get_or ds k x).value d.1 }
+pub directions-below : (v : Version) (ds : List Direction) → All (IsDirectionOf v) ds
+    → All IsDirection ds
+directions-below v ds h k x below = let d = h k x below in
+    record { name = d.0; value = angle-below v (get_or ds k x).value d.1 }
 
-pub orientations-below : (v : Version) (os : List Orientation) → All (IsOrientationOf v) os → All IsOrientation os
-orientations-below v os h k x below = let o = h k x below in record { set = o.0; value = angle-below v (get_or os k x).value o.1 }
+pub orientations-below : (v : Version) (os : List Orientation) → All (IsOrientationOf v) os
+    → All IsOrientation os
+orientations-below v os h k x below = let o = h k x below in
+    record { set = o.0; value = angle-below v (get_or os k x).value o.1 }
 
-some-rows : (a b c : Bool) (h : Option Header) → may_end (if a then (if b then (if c then last_of_header h else Some row_type.Target) else Some row_type.Set) else Some row_type.Obs) ≡ true → a ≡ true → ⊥
+some-rows : (a b c : Bool) (h : Option Header)
+    → may_end (if a then (if b then (if c then last_of_header h else Some row_type.Target)
+    else Some row_type.Set) else Some row_type.Obs) ≡ true → a ≡ true → ⊥
 some-rows true true true None e z = cc e
 some-rows true true true (Some h) e z = cc e
 some-rows true true false h e z = cc e
 some-rows true false c h e z = cc e
 some-rows false b c h e z = cc z
 
-finished-sheet : (d : DraftValue) → IsDraft d → 0 < length d.rows → (s : SheetValue) × IsOfDraft d s × IsSheet s
+finished-sheet : (d : DraftValue) → IsDraft d → 0 < length d.rows → (s : SheetValue) × IsOfDraft d s
+    × IsSheet s
 finished-sheet d ok some = by d.header refl
   where
     by : (h : Option Header) → d.header ≡ h → (s : SheetValue) × HasParts h d s × IsSheet s
@@ -103,20 +129,24 @@ finished-sheet d ok some = by d.header refl
           record {
             name = header.0;
             denominator = (header.1, denominator-below h.version h.denominator header.2);
-            directions = record { some = omega (arith, targets); few = ok.few_directions; each = directions-below v d.directions ok.directions };
-            orientations = record { some = omega (arith, sets); few = ok.few_orientations; each = orientations-below v d.orientations ok.orientations };
+            directions = record { some = omega (arith, targets); few = ok.few_directions; each =
+                directions-below v d.directions ok.directions };
+            orientations = record { some = omega (arith, sets); few = ok.few_orientations; each =
+                orientations-below v d.orientations ok.orientations };
             rows = record { some = omega (arith, some); few = ok.few_rows; each = ok.rows };
           },
         )
 
 -- a draft has the parts of a sheet, or no sheet has its parts
-pub whole-or-not : (d : DraftValue) → IsDraft d → ((s : SheetValue) × IsOfDraft d s × IsSheet s) ⊎ ((s : SheetValue) → IsOfDraft d s → IsSheet s → ⊥)
+pub whole-or-not : (d : DraftValue) → IsDraft d → ((s : SheetValue) × IsOfDraft d s × IsSheet s)
+    ⊎ ((s : SheetValue) → IsOfDraft d s → IsSheet s → ⊥)
 whole-or-not d ok = elim (none-or-some d.rows) [
   | inl none ↦ inr (λ s parts whole. bare-of-rows d s none parts whole)
   | inr some ↦ inl (finished-sheet d ok some)
 ]
   where
-    bare-of-rows : (d : DraftValue) (s : SheetValue) → (length d.rows == 0) ≡ true → IsOfDraft d s → IsSheet s → ⊥
+    bare-of-rows : (d : DraftValue) (s : SheetValue) → (length d.rows == 0) ≡ true → IsOfDraft d s
+        → IsSheet s → ⊥
     bare-of-rows d s none parts whole = at d.header parts
       where
         at : (h : Option Header) → HasParts h d s → ⊥
@@ -127,34 +157,48 @@ whole-or-not d ok = elim (none-or-some d.rows) [
             omega (arith, same, zero, whole.rows.some)
 
 -- the end of the rows, where no sheet has the parts of the draft
-pub read-end : (all : List (List (List ℕ))) (d : DraftValue) → HasRead all d [] → ((s : SheetValue) → IsOfDraft d s → IsSheet s → ⊥) → IsFirstFault all (length (rows_of_draft d)) Unfinished
+pub read-end : (all : List (List (List ℕ))) (d : DraftValue) → HasRead all d []
+    → ((s : SheetValue) → IsOfDraft d s → IsSheet s → ⊥)
+    → IsFirstFault all (length (rows_of_draft d)) Unfinished
 unfolding fault_between
 read-end all d read no_sheet =
-    let unfinished : may_end (last_row_type (rows_of_draft d)) ≡ false = rw (ap (λ (b : Before). b.last) (said d read.draft.bare)) (by (may_end (last_of_draft d)) refl) in
+    let unfinished : may_end (last_row_type (rows_of_draft d)) ≡ false =
+        rw (ap (λ (b : Before). b.last) (said d read.draft.bare))
+        (by (may_end (last_of_draft d)) refl) in
     record {
-      here = ap (λ (rows : List (List (List ℕ))). fault_at rows (length (rows_of_draft d))) read.rows ∙ fault_at-seam (rows_of_draft d) [] ∙ rw unfinished refl;
+      here = ap (λ (rows : List (List (List ℕ))). fault_at rows (length (rows_of_draft d)))
+          read.rows ∙ fault_at-seam (rows_of_draft d) [] ∙ rw unfinished refl;
       before = read.faultless;
     }
   where
     by : (b : Bool) → may_end (last_of_draft d) ≡ b → may_end (last_of_draft d) ≡ false
     by false e = e
     by true e = elim (none-or-some d.rows) [
-      | inl none ↦ absurd (some-rows (length d.rows == 0) (length d.orientations == 0) (length d.directions == 0) d.header e none)
-      | inr some ↦ let (s, parts, whole) = finished-sheet d read.draft some in absurd (no_sheet s parts whole)
+      | inl none ↦ absurd (some-rows (length d.rows == 0) (length d.orientations == 0)
+          (length d.directions == 0) d.header e none)
+      | inr some ↦ let (s, parts, whole) = finished-sheet d read.draft some in
+          absurd (no_sheet s parts whole)
     ]
 
 -- the end of the rows, where a sheet has the parts of the draft
-pub read-whole : (bytes : List ℕ) (d : DraftValue) (s : SheetValue) → length bytes ≤ LONGEST_SHEET → HasRead (records_of bytes) d [] → IsOfDraft d s → IsSheet s → IsSheetText bytes s
+pub read-whole : (bytes : List ℕ) (d : DraftValue) (s : SheetValue) → length bytes ≤ LONGEST_SHEET
+    → HasRead (records_of bytes) d [] → IsOfDraft d s → IsSheet s → IsSheetText bytes s
 read-whole bytes d s short read parts whole = by d.header refl parts
   where
     by : (h : Option Header) → d.header ≡ h → HasParts h d s → IsSheetText bytes s
     by None e p = absurd p
     by (Some h) e p =
         let header : IsVersionedHeader (Some h) = subst IsVersionedHeader e read.draft.header in
-        let directions : All (IsDirectionOf h.version) d.directions = subst (λ (o : Option Header). All (IsDirectionOf (version_of_header o)) d.directions) e read.draft.directions in
-        let orientations : All (IsOrientationOf h.version) d.orientations = subst (λ (o : Option Header). All (IsOrientationOf (version_of_header o)) d.orientations) e read.draft.orientations in
+        let directions : All (IsDirectionOf h.version) d.directions =
+            subst (λ (o : Option Header). All (IsDirectionOf (version_of_header o)) d.directions) e
+            read.draft.directions in
+        let orientations : All (IsOrientationOf h.version) d.orientations =
+            subst (λ (o : Option Header). All (IsOrientationOf (version_of_header o))
+            d.orientations) e read.draft.orientations in
         let rows : records_of bytes ≡ rows_of h.version (sheet_of h d) =
-        read.rows ∙ append-nil (rows_of_draft d) ∙ ap (λ (o : Option Header). header_rows o ++ body_rows d.directions d.orientations d.rows) e in
+        read.rows ∙ append-nil (rows_of_draft d)
+            ∙ ap (λ (o : Option Header). header_rows o
+            ++ body_rows d.directions d.orientations d.rows) e in
         let of_version : IsOfVersion h.version (sheet_of h d) = record {
           denominator = header.2;
           directions = λ k x below. (directions k x below).1;

@@ -8,7 +8,8 @@ use Rattle.sheet_format.specs.Numbers.{is_canonical, is_within, value_of}
 use Rattle.sheet_format.proofs.OneForm.{form-written}
 
 -- the text of a number between two of 32 bits
-between-short : (low high v : ℤ) → FitsSigned w32 low → FitsSigned w32 high → int_le low v ≡ true → int_le v high ≡ true → FitsSigned w128 v × (length (signed_decimal v) ≤ 18)
+between-short : (low high v : ℤ) → FitsSigned w32 low → FitsSigned w32 high → int_le low v ≡ true
+    → int_le v high ≡ true → FitsSigned w128 v × (length (signed_decimal v) ≤ 18)
 between-short low (pos h) (pos n) f g a b =
     let small : n < 10 ^ 10 = omega (arith, g.sfits, leb-true n h b) in
     let short = length-decimal-le_wide 10 n (omega arith) small (omega (arith, small)) in
@@ -20,7 +21,8 @@ between-short (negsuc l) high (negsuc n) f g a b =
     let short = length-decimal-le_wide 10 (suc n) (omega arith) small (omega (arith, small)) in
     (record { sfits = omega (arith, small) }, omega (arith, short))
 
-pub long-outside : (low high : ℤ) (bs : List ℕ) → FitsSigned w32 low → FitsSigned w32 high → is_canonical bs ≡ true → 18 < length bs → is_within low high (value_of bs) ≡ false
+pub long-outside : (low high : ℤ) (bs : List ℕ) → FitsSigned w32 low → FitsSigned w32 high
+    → is_canonical bs ≡ true → 18 < length bs → is_within low high (value_of bs) ≡ false
 long-outside low high bs f g e long = elim (cases_Bool (is_within low high (value_of bs))) [
   | inl within ↦
       let p = and_parts _ _ within in

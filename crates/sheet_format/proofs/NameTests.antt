@@ -26,7 +26,8 @@ all-found (b ∷ bs) e =
 
 all-test : (bs : List ℕ) → All IsPrintable bs → list_all is_printable bs ≡ true
 all-test [] h = refl
-all-test (b ∷ bs) h = and_from _ _ (printable-test b (All-head IsPrintable b bs h)) (all-test bs (All-tail IsPrintable b bs h))
+all-test (b ∷ bs) h = and_from _ _ (printable-test b (All-head IsPrintable b bs h))
+    (all-test bs (All-tail IsPrintable b bs h))
 
 pub name-found : (bs : List ℕ) → is_name bs ≡ true → IsName bs
 name-found bs e =
@@ -35,9 +36,11 @@ name-found bs e =
     record { some = leb-true _ _ some; short = leb-true _ _ short; printable = all-found bs bytes }
 
 pub name-test : (bs : List ℕ) → IsName bs → is_name bs ≡ true
-name-test bs h = and_from _ _ (and_from _ _ (le-leb _ _ h.some) (le-leb _ _ h.short)) (all-test bs h.printable)
+name-test bs h = and_from _ _ (and_from _ _ (le-leb _ _ h.some) (le-leb _ _ h.short))
+    (all-test bs h.printable)
 
 -- a name that was made of bytes says that they pass the test
-pub test-of-some : (bs : List ℕ) (name : Option (List ℕ)) → IfSome name (λ n. n ≡ bs) → IfSome name IsName → OnSome name (is_name bs ≡ true)
+pub test-of-some : (bs : List ℕ) (name : Option (List ℕ)) → IfSome name (λ n. n ≡ bs)
+    → IfSome name IsName → OnSome name (is_name bs ≡ true)
 test-of-some bs None e h = tt
 test-of-some bs (Some n) e h = name-test bs (subst IsName e h)

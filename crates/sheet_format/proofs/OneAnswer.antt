@@ -23,62 +23,83 @@ abbrev header_for : Version → SheetValue → Header
 header_for v s = record { version = v; name = s.name; denominator = s.denominator }
 
 -- the rows of a sheet are read whole
-pub sheet-read : (v : Version) (s : SheetValue) → IsSheet s → IsOfVersion v s → HasRead (rows_of v s) (draft (header_for v s) s.directions s.orientations s.rows) []
+pub sheet-read : (v : Version) (s : SheetValue) → IsSheet s → IsOfVersion v s
+    → HasRead (rows_of v s) (draft (header_for v s) s.directions s.orientations s.rows) []
 sheet-read v s whole within =
     let all = rows_of v s in
     let h = header_for v s in
     let (none, same) = sheet-row-clean h (whole.name, whole.denominator.0, within.denominator) in
-    let first = read-more all blank (draft h [] [] []) (sheet_fields v s.name s.denominator) (body_rows s.directions s.orientations s.rows) (read-begin all) none same in
-    let targets = targets-read all h [] s.directions (map set_fields s.orientations ++ map obs_fields s.rows) first (λ k d below. ((whole.directions.each k d below).name, within.directions k d below)) (omega (arith, whole.directions.few)) in
-    let sets = sets-read all h s.directions [] s.orientations (map obs_fields s.rows) (ne_eqb _ _ (λ e. absurd (omega (arith, e, whole.directions.some)))) targets
-    (λ k o below. ((whole.orientations.each k o below).set, within.orientations k o below)) (omega (arith, whole.orientations.few)) in
-    obs-read all h s.directions s.orientations [] s.rows (ne_eqb _ _ (λ e. absurd (omega (arith, e, whole.orientations.some)))) sets whole.rows.each (omega (arith, whole.rows.few))
+    let first = read-more all blank (draft h [] [] []) (sheet_fields v s.name s.denominator)
+        (body_rows s.directions s.orientations s.rows) (read-begin all) none same in
+    let targets = targets-read all h [] s.directions
+        (map set_fields s.orientations ++ map obs_fields s.rows) first
+        (λ k d below. ((whole.directions.each k d below).name, within.directions k d below))
+        (omega (arith, whole.directions.few)) in
+    let sets = sets-read all h s.directions [] s.orientations (map obs_fields s.rows)
+        (ne_eqb _ _ (λ e. absurd (omega (arith, e, whole.directions.some)))) targets
+    (λ k o below. ((whole.orientations.each k o below).set, within.orientations k o below))
+        (omega (arith, whole.orientations.few)) in
+    obs-read all h s.directions s.orientations [] s.rows
+        (ne_eqb _ _ (λ e. absurd (omega (arith, e, whole.orientations.some)))) sets whole.rows.each
+        (omega (arith, whole.rows.few))
 
 -- no place of the rows of a sheet has a fault
-clean-end : (v : Version) (s : SheetValue) → IsSheet s → may_end (last_row_type (rows_of v s)) ≡ true
+clean-end : (v : Version) (s : SheetValue) → IsSheet s
+    → may_end (last_row_type (rows_of v s)) ≡ true
 clean-end v s whole =
     let d = draft (header_for v s) s.directions s.orientations s.rows in
-    let last : last_row_type (rows_of v s) ≡ last_of_draft d = ap (λ (b : Before). b.last) (said d (λ e. cc e)) in
-    let some : (length s.rows == 0) ≡ false = ne_eqb _ _ (λ e. absurd (omega (arith, e, whole.rows.some))) in
+    let last : last_row_type (rows_of v s) ≡ last_of_draft d =
+        ap (λ (b : Before). b.last) (said d (λ e. cc e)) in
+    let some : (length s.rows == 0) ≡ false =
+        ne_eqb _ _ (λ e. absurd (omega (arith, e, whole.rows.some))) in
     rw (last, some) refl
 
-clean : (v : Version) (s : SheetValue) → IsSheet s → IsOfVersion v s → (place : ℕ) → fault_at (rows_of v s) place ≡ None
+clean : (v : Version) (s : SheetValue) → IsSheet s → IsOfVersion v s → (place : ℕ)
+    → fault_at (rows_of v s) place ≡ None
 unfolding fault_between
 clean v s whole within place = elim (cases_Bool (nat_lt place (length (rows_of v s)))) [
   | inl before ↦ (sheet-read v s whole within).faultless place (ltb-true _ _ before)
-  | inr after ↦ let past = ltb-false _ _ after in rw (take_all place (rows_of v s) past, drop_all place (rows_of v s) past, clean-end v s whole) refl
+  | inr after ↦ let past = ltb-false _ _ after in
+      rw (take_all place (rows_of v s) past, drop_all place (rows_of v s) past, clean-end v s whole)
+      refl
 ]
 
 none-some : {A : Type 0} (x : A) → None ≡ Some x → ⊥
 none-some x e = cc e
 
 -- bytes that stand for a sheet have no fault
-pub never-both : (bytes : List ℕ) (s : SheetValue) (f : SheetFault) → IsSheetText bytes s → IsSheetFault bytes f → ⊥
+pub never-both : (bytes : List ℕ) (s : SheetValue) (f : SheetFault) → IsSheetText bytes s
+    → IsSheetFault bytes f → ⊥
 never-both bytes s TooLong text fault = omega (arith, text.short, fault)
 never-both bytes s (Row number kind) text fault =
     let (short, place, counted, found) = fault in
     let v = text.version in
     let rows = text.rows in
     let within = text.within in
-    none-some kind (sym (clean v s text.sheet within place) ∙ ap (λ (all : List (List (List ℕ))). fault_at all place) (sym rows) ∙ found.here)
+    none-some kind (sym (clean v s text.sheet within place)
+        ∙ ap (λ (all : List (List (List ℕ))). fault_at all place) (sym rows) ∙ found.here)
 never-both bytes s Memory text fault = absurd fault
 
 -- bytes have one fault
-first-of-two : (rows : List (List (List ℕ))) (p q : ℕ) (j k : RowKind) → IsFirstFault rows p j → IsFirstFault rows q k → p < q → ⊥
+first-of-two : (rows : List (List (List ℕ))) (p q : ℕ) (j k : RowKind) → IsFirstFault rows p j
+    → IsFirstFault rows q k → p < q → ⊥
 first-of-two rows p q j k one two below = none-some j (sym (two.before p below) ∙ one.here)
 
-same-place : (rows : List (List (List ℕ))) (p q : ℕ) (j k : RowKind) → IsFirstFault rows p j → IsFirstFault rows q k → p ≡ q
+same-place : (rows : List (List (List ℕ))) (p q : ℕ) (j k : RowKind) → IsFirstFault rows p j
+    → IsFirstFault rows q k → p ≡ q
 same-place rows p q j k one two =
     let not_before : p < q → ⊥ = first-of-two rows p q j k one two in
     let not_after : q < p → ⊥ = first-of-two rows q p k j two one in
     omega (arith, not_before, not_after)
 
-same-kind : (rows : List (List (List ℕ))) (p q : ℕ) (j k : RowKind) → IsFirstFault rows p j → IsFirstFault rows q k → p ≡ q → j ≡ k
+same-kind : (rows : List (List (List ℕ))) (p q : ℕ) (j k : RowKind) → IsFirstFault rows p j
+    → IsFirstFault rows q k → p ≡ q → j ≡ k
 same-kind rows p q j k one two same =
     let both : Some j ≡ Some k = sym one.here ∙ ap (fault_at rows) same ∙ two.here in
     cc both
 
-pub one-fault : (bytes : List ℕ) (f g : SheetFault) → IsSheetFault bytes f → IsSheetFault bytes g → f ≡ g
+pub one-fault : (bytes : List ℕ) (f g : SheetFault) → IsSheetFault bytes f → IsSheetFault bytes g
+    → f ≡ g
 one-fault bytes TooLong TooLong a b = refl
 one-fault bytes TooLong (Row n k) a b = absurd (omega (arith, a, b.0))
 one-fault bytes TooLong Memory a b = absurd b
@@ -94,30 +115,41 @@ one-fault bytes Memory g a b = absurd a
 
 -- bytes stand for one sheet
 abbrev parts_of : Option Header → DraftValue → SheetValue
-parts_of None d = record { name = []; denominator = 0; directions = d.directions; orientations = d.orientations; rows = d.rows }
-parts_of (Some h) d = record { name = h.name; denominator = h.denominator; directions = d.directions; orientations = d.orientations; rows = d.rows }
+parts_of None d = record { name = []; denominator = 0; directions = d.directions; orientations =
+    d.orientations; rows = d.rows }
+parts_of (Some h) d = record { name = h.name; denominator = h.denominator; directions =
+    d.directions; orientations = d.orientations; rows = d.rows }
 
-made-of : (bytes : List ℕ) (s : SheetValue) → IsSheetText bytes s → parts_of (drafted blank (records_of bytes)).header (drafted blank (records_of bytes)) ≡ s
+made-of : (bytes : List ℕ) (s : SheetValue) → IsSheetText bytes s
+    → parts_of (drafted blank (records_of bytes)).header (drafted blank (records_of bytes)) ≡ s
 made-of bytes s text =
     let v = text.version in
     let rows = text.rows in
     let within = text.within in
-    let made : drafted blank (records_of bytes) ≡ draft (header_for v s) s.directions s.orientations s.rows = ap (drafted blank) rows ∙ (sheet-read v s text.sheet within).made in
+    let made : drafted blank (records_of bytes)
+        ≡ draft (header_for v s) s.directions s.orientations s.rows = ap (drafted blank) rows
+        ∙ (sheet-read v s text.sheet within).made in
     ap (λ (d : DraftValue). parts_of d.header d) made
 
-pub one-sheet : (bytes : List ℕ) (s t : SheetValue) → IsSheetText bytes s → IsSheetText bytes t → s ≡ t
+pub one-sheet : (bytes : List ℕ) (s t : SheetValue) → IsSheetText bytes s → IsSheetText bytes t
+    → s ≡ t
 one-sheet bytes s t a b = sym (made-of bytes s a) ∙ made-of bytes t b
 
 -- An answer that is right whenever it is a sheet or a fault is the one that the bytes have, or out
 -- of memory.
-pub answers-sheet : (bytes : List ℕ) (r : Result SheetValue SheetFault) → IfOk r (IsSheetText bytes) → IfErr r (IsFaultOrMemory bytes) → (s : SheetValue) → IsSheetText bytes s → (r ≡ Ok s) ⊎ (r ≡ Err Memory)
-answers-sheet bytes (Ok t) ok err s text = inl (ap (λ (x : SheetValue). Ok x) (one-sheet bytes t s ok text))
+pub answers-sheet : (bytes : List ℕ) (r : Result SheetValue SheetFault) → IfOk r (IsSheetText bytes)
+    → IfErr r (IsFaultOrMemory bytes) → (s : SheetValue) → IsSheetText bytes s → (r ≡ Ok s)
+    ⊎ (r ≡ Err Memory)
+answers-sheet bytes (Ok t) ok err s text = inl
+    (ap (λ (x : SheetValue). Ok x) (one-sheet bytes t s ok text))
 answers-sheet bytes (Err f) ok err s text = elim err [
   | inl fault ↦ absurd (never-both bytes s f text fault)
   | inr memory ↦ inr (ap (λ (x : SheetFault). Err x) memory)
 ]
 
-pub answers-fault : (bytes : List ℕ) (r : Result SheetValue SheetFault) → IfOk r (IsSheetText bytes) → IfErr r (IsFaultOrMemory bytes) → (f : SheetFault) → IsSheetFault bytes f → (r ≡ Err f) ⊎ (r ≡ Err Memory)
+pub answers-fault : (bytes : List ℕ) (r : Result SheetValue SheetFault) → IfOk r (IsSheetText bytes)
+    → IfErr r (IsFaultOrMemory bytes) → (f : SheetFault) → IsSheetFault bytes f → (r ≡ Err f)
+    ⊎ (r ≡ Err Memory)
 answers-fault bytes (Ok t) ok err f fault = absurd (never-both bytes t f ok fault)
 answers-fault bytes (Err g) ok err f fault = elim err [
   | inl same ↦ inl (ap (λ (x : SheetFault). Err x) (one-fault bytes g f same fault))
@@ -126,18 +158,28 @@ answers-fault bytes (Err g) ok err f fault = elim err [
 
 -- rows that are left stand for the rest of a sheet, or one of them has a fault
 abbrev pub SheetOrFault : List ℕ → Type 0
-SheetOrFault bytes = ((s : SheetValue) × IsSheetText bytes s) ⊎ ((f : SheetFault) × IsSheetFault bytes f)
+SheetOrFault bytes = ((s : SheetValue) × IsSheetText bytes s)
+    ⊎ ((f : SheetFault) × IsSheetFault bytes f)
 
-decided-rows : (bytes : List ℕ) → length bytes ≤ LONGEST_SHEET → (rest : List (List (List ℕ))) (d : DraftValue) → HasRead (records_of bytes) d rest → SheetOrFault bytes
+decided-rows : (bytes : List ℕ) → length bytes ≤ LONGEST_SHEET
+    → (rest : List (List (List ℕ))) (d : DraftValue) → HasRead (records_of bytes) d rest
+    → SheetOrFault bytes
 decided-rows bytes short [] d read = elim (whole-or-not d read.draft) [
-  | inl whole ↦ let (s, parts, valid) = whole in inl (s, read-whole bytes d s short read parts valid)
-  | inr none ↦ inr (Row (length (rows_of_draft d) + 1) Unfinished, (short, length (rows_of_draft d), refl, read-end (records_of bytes) d read none))
+  | inl whole ↦ let (s, parts, valid) = whole in
+      inl (s, read-whole bytes d s short read parts valid)
+  | inr none ↦ inr (Row (length (rows_of_draft d) + 1) Unfinished,
+      (short, length (rows_of_draft d), refl, read-end (records_of bytes) d read none))
 ]
-decided-rows bytes short (row ∷ rest) d read = by (row_fault (said_by_draft d) row) refl (λ next. decided-rows bytes short rest (with_row d row) next)
+decided-rows bytes short (row ∷ rest) d read =
+    by (row_fault (said_by_draft d) row) refl
+    (λ next. decided-rows bytes short rest (with_row d row) next)
   where
-    by : (o : Option RowKind) → row_fault (said_by_draft d) row ≡ o → (HasRead (records_of bytes) (with_row d row) rest → SheetOrFault bytes) → SheetOrFault bytes
+    by : (o : Option RowKind) → row_fault (said_by_draft d) row ≡ o
+        → (HasRead (records_of bytes) (with_row d row) rest → SheetOrFault bytes)
+        → SheetOrFault bytes
     by None e later = later (read-more (records_of bytes) d (with_row d row) row rest read e refl)
-    by (Some k) e later = inr (Row (length (rows_of_draft d) + 1) k, (short, length (rows_of_draft d), refl, read-fault (records_of bytes) d row rest k read e))
+    by (Some k) e later = inr (Row (length (rows_of_draft d) + 1) k,
+        (short, length (rows_of_draft d), refl, read-fault (records_of bytes) d row rest k read e))
 
 pub sheet-or-fault : (bytes : List ℕ) → SheetOrFault bytes
 sheet-or-fault bytes = elim (cases_lt LONGEST_SHEET (length bytes)) [

@@ -1,4 +1,5 @@
--- Numbers in their ranges: what the tests say of a field, and that the text of a number in its range passes them.
+-- Numbers in their ranges: what the tests say of a field, and that the text of a number in its
+-- range passes them.
 use Rattle.std.proofs.Common.{◌≡◌, ℕ, ◌<◌, ◌≤◌, ◌^◌, Bool, true, false, T, List, ◌≤ℤ◌, ℤ, pos, negsuc, neg_ℤ, FitsSigned, int_le, refl, arith}
 use Rattle.std.specs.Fmt.{decimal, signed_decimal}
 use Rattle.std.specs.Int.{w128}
@@ -41,14 +42,17 @@ pub record Fits128 (most : ℤ) : Type 0 where
   pub high : FitsSigned w128 most
 
 pub angle-fits : (v : Version) → Fits128 (largest_angle v)
-angle-fits One = record { low = record { sfits = omega arith }; high = record { sfits = omega arith } }
-angle-fits Two = record { low = record { sfits = omega arith }; high = record { sfits = omega arith } }
+angle-fits One = record { low = record { sfits = omega arith }; high =
+    record { sfits = omega arith } }
+angle-fits Two = record { low = record { sfits = omega arith }; high =
+    record { sfits = omega arith } }
 
 pub turn-fits : Fits128 LARGEST_TURN
 turn-fits = record { low = record { sfits = omega arith }; high = record { sfits = omega arith } }
 
 -- a canonical field in a range is the text of its number
-pub number-text : (most : ℤ) (bs : List ℕ) → Fits128 most → is_canonical bs ≡ true → is_at_most most (value_of bs) ≡ true → signed_decimal (value_of bs) ≡ bs
+pub number-text : (most : ℤ) (bs : List ℕ) → Fits128 most → is_canonical bs ≡ true
+    → is_at_most most (value_of bs) ≡ true → signed_decimal (value_of bs) ≡ bs
 number-text most bs f e w =
     let p = and_parts _ _ w in
     form-written bs e (between-fits (neg_ℤ most) most (value_of bs) f.low f.high p.0 p.1)
@@ -59,17 +63,20 @@ pub record IsNatural (low high : ℕ) (bs : List ℕ) (n : ℕ) : Type 0 where
   pub least : low ≤ n
   pub most : n ≤ high
 
-natural-from : (low high : ℕ) (bs : List ℕ) (z : ℤ) → high < 2 ^ 127 → signed_decimal z ≡ bs → is_within (pos low) (pos high) z ≡ true → IsNatural low high bs (natural_of z)
+natural-from : (low high : ℕ) (bs : List ℕ) (z : ℤ) → high < 2 ^ 127 → signed_decimal z ≡ bs
+    → is_within (pos low) (pos high) z ≡ true → IsNatural low high bs (natural_of z)
 natural-from low high bs (pos n) small text w =
     let p = and_parts _ _ w in
     record { text = text; least = leb-true _ _ p.0; most = leb-true _ _ p.1 }
 natural-from low high bs (negsuc n) small text w = cc w
 
-pub natural-text : (low high : ℕ) (bs : List ℕ) → low < 2 ^ 127 → high < 2 ^ 127 → is_canonical bs ≡ true → is_within (pos low) (pos high) (value_of bs) ≡ true
+pub natural-text : (low high : ℕ) (bs : List ℕ) → low < 2 ^ 127 → high < 2 ^ 127
+    → is_canonical bs ≡ true → is_within (pos low) (pos high) (value_of bs) ≡ true
     → IsNatural low high bs (natural_of (value_of bs))
 natural-text low high bs small big e w =
     let p = and_parts _ _ w in
-    let fits = between-fits (pos low) (pos high) (value_of bs) (record { sfits = omega (arith, small) }) (record { sfits = omega (arith, big) }) p.0 p.1 in
+    let fits = between-fits (pos low) (pos high) (value_of bs)
+        (record { sfits = omega (arith, small) }) (record { sfits = omega (arith, big) }) p.0 p.1 in
     natural-from low high bs (value_of bs) big (form-written bs e fits) w
 
 -- the text of a number in a range is canonical, and its number is that one
@@ -77,7 +84,8 @@ pub record ReadsAs (bs : List ℕ) (z : ℤ) : Type 0 where
   pub form : is_canonical bs ≡ true
   pub value : value_of bs ≡ z
 
-pub number-again : (most z : ℤ) → Fits128 most → is_at_most most z ≡ true → ReadsAs (signed_decimal z) z
+pub number-again : (most z : ℤ) → Fits128 most → is_at_most most z ≡ true
+    → ReadsAs (signed_decimal z) z
 number-again most z f w =
     let p = and_parts _ _ w in
     let h = written z (between-fits (neg_ℤ most) most z f.low f.high p.0 p.1) in
@@ -88,7 +96,8 @@ natural-again n small =
     let h = written (pos n) (record { sfits = omega (arith, small) }) in
     record { form = h.0; value = h.1 }
 
-pub natural-within : (low high n : ℕ) → low ≤ n → n ≤ high → is_within (pos low) (pos high) (pos n) ≡ true
+pub natural-within : (low high n : ℕ) → low ≤ n → n ≤ high
+    → is_within (pos low) (pos high) (pos n) ≡ true
 natural-within low high n a b = and_from _ _ (le-leb _ _ a) (le-leb _ _ b)
 
 -- a denominator and an angle within the ranges of a version are within those of any sheet

@@ -35,66 +35,98 @@ denominator-small : (v : Version) (n : ℕ) → n ≤ largest_denominator v → 
 denominator-small version.One n h = omega (arith, h)
 denominator-small version.Two n h = omega (arith, h)
 
-pub sheet-row-clean : (h : Header) → IsVersionedHeader (Some h) → (row_fault (said_by_draft blank) (sheet_fields h.version h.name h.denominator) ≡ None) × (draft h [] [] [] ≡ with_row blank (sheet_fields h.version h.name h.denominator))
+pub sheet-row-clean : (h : Header) → IsVersionedHeader (Some h)
+    → (row_fault (said_by_draft blank) (sheet_fields h.version h.name h.denominator) ≡ None)
+    × (draft h [] [] [] ≡ with_row blank (sheet_fields h.version h.name h.denominator))
 unfolding row_fault with_row
 sheet-row-clean h ok =
     let d = natural-again h.denominator (denominator-small h.version h.denominator ok.2) in
-    (rw (version-again h.version, name-test h.name ok.0, d.form, d.value, natural-within 1 (largest_denominator h.version) h.denominator ok.1 ok.2) refl, rw (version-again h.version, d.value) refl)
+    (rw (version-again h.version, name-test h.name ok.0, d.form, d.value,
+        natural-within 1 (largest_denominator h.version) h.denominator ok.1 ok.2) refl,
+        rw (version-again h.version, d.value) refl)
 
 -- the row of a target, after the first row or other targets
-target-follows : (a : Bool) → may_follow (if a then Some row_type.Sheet else Some row_type.Target) row_type.Target ≡ true
+target-follows : (a : Bool) → may_follow (if a then Some row_type.Sheet else Some row_type.Target)
+    row_type.Target ≡ true
 target-follows true = refl
 target-follows false = refl
 
-target-row-clean : (h : Header) (ds : List Direction) (x : Direction) → IsDirectionOf h.version x → length ds < MOST_TARGETS
-    → (row_fault (said_by_draft (draft h ds [] [])) (target_fields x) ≡ None) × (draft h (ds ++ (x ∷ [])) [] [] ≡ with_row (draft h ds [] []) (target_fields x))
+target-row-clean : (h : Header) (ds : List Direction) (x : Direction) → IsDirectionOf h.version x
+    → length ds < MOST_TARGETS
+    → (row_fault (said_by_draft (draft h ds [] [])) (target_fields x) ≡ None)
+    × (draft h (ds ++ (x ∷ [])) [] [] ≡ with_row (draft h ds [] []) (target_fields x))
 unfolding row_fault with_row
 target-row-clean h ds x ok room =
     let within = within-test (largest_angle h.version) x.value ok.1 in
     let n = number-again (largest_angle h.version) x.value (angle-fits h.version) within in
-    (rw (target-follows (length ds == 0), name-test x.name ok.0, n.form, n.value, within, lt-ltb (length ds) MOST_TARGETS room) refl, rw n.value refl)
+    (rw (target-follows (length ds == 0), name-test x.name ok.0, n.form, n.value, within,
+        lt-ltb (length ds) MOST_TARGETS room) refl, rw n.value refl)
 
-pub targets-read : (all : List (List (List ℕ))) (h : Header) (ds xs : List Direction) (rest : List (List (List ℕ))) → HasRead all (draft h ds [] []) (map target_fields xs ++ rest)
-    → All (IsDirectionOf h.version) xs → length ds + length xs ≤ MOST_TARGETS → HasRead all (draft h (ds ++ xs) [] []) rest
+pub targets-read : (all : List (List (List ℕ))) (h : Header) (ds xs : List Direction)
+    (rest : List (List (List ℕ))) → HasRead all (draft h ds [] []) (map target_fields xs ++ rest)
+    → All (IsDirectionOf h.version) xs → length ds + length xs ≤ MOST_TARGETS
+    → HasRead all (draft h (ds ++ xs) [] []) rest
 targets-read all h ds [] rest read ok room = rw (append-nil ds) read
 targets-read all h ds (x ∷ xs) rest read ok room =
-    let (none, same) = target-row-clean h ds x (All-head (IsDirectionOf h.version) x xs ok) (omega (arith, room)) in
-    let next = read-more all (draft h ds [] []) (draft h (ds ++ (x ∷ [])) [] []) (target_fields x) (map target_fields xs ++ rest) read none same in
-    subst (λ (ys : List Direction). HasRead all (draft h ys [] []) rest) (append_assoc ds (x ∷ []) xs)
-    (targets-read all h (ds ++ (x ∷ [])) xs rest next (All-tail (IsDirectionOf h.version) x xs ok) (omega (arith, room, length-append ds (x ∷ []))))
+    let (none, same) = target-row-clean h ds x (All-head (IsDirectionOf h.version) x xs ok)
+        (omega (arith, room)) in
+    let next = read-more all (draft h ds [] []) (draft h (ds ++ (x ∷ [])) [] []) (target_fields x)
+        (map target_fields xs ++ rest) read none same in
+    subst (λ (ys : List Direction). HasRead all (draft h ys [] []) rest)
+        (append_assoc ds (x ∷ []) xs)
+    (targets-read all h (ds ++ (x ∷ [])) xs rest next (All-tail (IsDirectionOf h.version) x xs ok)
+        (omega (arith, room, length-append ds (x ∷ []))))
 
 -- the row of a set, after targets or other sets
-set-follows : (a b : Bool) → b ≡ false → may_follow (if a then (if b then Some row_type.Sheet else Some row_type.Target) else Some row_type.Set) row_type.Set ≡ true
+set-follows : (a b : Bool) → b ≡ false → may_follow
+    (if a then (if b then Some row_type.Sheet else Some row_type.Target) else Some row_type.Set)
+    row_type.Set ≡ true
 set-follows true true e = cc e
 set-follows true false e = refl
 set-follows false b e = refl
 
-set-row-clean : (h : Header) (ds : List Direction) (os : List Orientation) (x : Orientation) → (length ds == 0) ≡ false → IsOrientationOf h.version x → length os < MOST_SETS
-    → (row_fault (said_by_draft (draft h ds os [])) (set_fields x) ≡ None) × (draft h ds (os ++ (x ∷ [])) [] ≡ with_row (draft h ds os []) (set_fields x))
+set-row-clean : (h : Header) (ds : List Direction) (os : List Orientation) (x : Orientation)
+    → (length ds == 0) ≡ false → IsOrientationOf h.version x → length os < MOST_SETS
+    → (row_fault (said_by_draft (draft h ds os [])) (set_fields x) ≡ None)
+    × (draft h ds (os ++ (x ∷ [])) [] ≡ with_row (draft h ds os []) (set_fields x))
 unfolding row_fault with_row
 set-row-clean h ds os x targets ok room =
     let within = within-test (largest_angle h.version) x.value ok.1 in
     let n = number-again (largest_angle h.version) x.value (angle-fits h.version) within in
     let s = natural-again x.set (omega (arith, ok.0.1)) in
-    (rw (set-follows (length os == 0) (length ds == 0) targets, s.form, s.value, n.form, n.value, natural-within 1 LARGEST_SET_NUMBER x.set ok.0.0 ok.0.1, within, lt-ltb (length os) MOST_SETS room) refl, rw (s.value, n.value) refl)
+    (rw (set-follows (length os == 0) (length ds == 0) targets, s.form, s.value, n.form, n.value,
+        natural-within 1 LARGEST_SET_NUMBER x.set ok.0.0 ok.0.1, within,
+        lt-ltb (length os) MOST_SETS room) refl, rw (s.value, n.value) refl)
 
-pub sets-read : (all : List (List (List ℕ))) (h : Header) (ds : List Direction) (os xs : List Orientation) (rest : List (List (List ℕ))) → (length ds == 0) ≡ false → HasRead all (draft h ds os []) (map set_fields xs ++ rest)
-    → All (IsOrientationOf h.version) xs → length os + length xs ≤ MOST_SETS → HasRead all (draft h ds (os ++ xs) []) rest
+pub sets-read : (all : List (List (List ℕ))) (h : Header) (ds : List Direction)
+    (os xs : List Orientation) (rest : List (List (List ℕ))) → (length ds == 0) ≡ false
+    → HasRead all (draft h ds os []) (map set_fields xs ++ rest)
+    → All (IsOrientationOf h.version) xs → length os + length xs ≤ MOST_SETS
+    → HasRead all (draft h ds (os ++ xs) []) rest
 sets-read all h ds os [] rest targets read ok room = rw (append-nil os) read
 sets-read all h ds os (x ∷ xs) rest targets read ok room =
-    let (none, same) = set-row-clean h ds os x targets (All-head (IsOrientationOf h.version) x xs ok) (omega (arith, room)) in
-    let next = read-more all (draft h ds os []) (draft h ds (os ++ (x ∷ [])) []) (set_fields x) (map set_fields xs ++ rest) read none same in
-    subst (λ (ys : List Orientation). HasRead all (draft h ds ys []) rest) (append_assoc os (x ∷ []) xs)
-    (sets-read all h ds (os ++ (x ∷ [])) xs rest targets next (All-tail (IsOrientationOf h.version) x xs ok) (omega (arith, room, length-append os (x ∷ []))))
+    let (none, same) = set-row-clean h ds os x targets
+        (All-head (IsOrientationOf h.version) x xs ok) (omega (arith, room)) in
+    let next = read-more all (draft h ds os []) (draft h ds (os ++ (x ∷ [])) []) (set_fields x)
+        (map set_fields xs ++ rest) read none same in
+    subst (λ (ys : List Orientation). HasRead all (draft h ds ys []) rest)
+        (append_assoc os (x ∷ []) xs)
+    (sets-read all h ds (os ++ (x ∷ [])) xs rest targets next
+        (All-tail (IsOrientationOf h.version) x xs ok)
+        (omega (arith, room, length-append os (x ∷ []))))
 
 -- the row of an observation, after sets or other observations
-obs-follows : (a b c : Bool) → b ≡ false → may_follow (if a then (if b then (if c then Some row_type.Sheet else Some row_type.Target) else Some row_type.Set) else Some row_type.Obs) row_type.Obs ≡ true
+obs-follows : (a b c : Bool) → b ≡ false → may_follow
+    (if a then (if b then (if c then Some row_type.Sheet else Some row_type.Target)
+    else Some row_type.Set) else Some row_type.Obs) row_type.Obs ≡ true
 obs-follows true true c e = cc e
 obs-follows true false c e = refl
 obs-follows false b c e = refl
 
-obs-row-clean : (h : Header) (ds : List Direction) (os : List Orientation) (rs : List Row) (x : Row) → (length os == 0) ≡ false → IsRow x → length rs < MOST_ROWS
-    → (row_fault (said_by_draft (draft h ds os rs)) (obs_fields x) ≡ None) × (draft h ds os (rs ++ (x ∷ [])) ≡ with_row (draft h ds os rs) (obs_fields x))
+obs-row-clean : (h : Header) (ds : List Direction) (os : List Orientation) (rs : List Row) (x : Row)
+    → (length os == 0) ≡ false → IsRow x → length rs < MOST_ROWS
+    → (row_fault (said_by_draft (draft h ds os rs)) (obs_fields x) ≡ None)
+    × (draft h ds os (rs ++ (x ∷ [])) ≡ with_row (draft h ds os rs) (obs_fields x))
 unfolding row_fault with_row
 obs-row-clean h ds os rs x sets ok room =
     let within = within-test LARGEST_TURN x.turn ok.turn in
@@ -118,11 +150,16 @@ obs-row-clean h ds os rs x sets ok room =
       rw (s.value, p.value, k.value) refl,
     )
 
-pub obs-read : (all : List (List (List ℕ))) (h : Header) (ds : List Direction) (os : List Orientation) (rs xs : List Row) → (length os == 0) ≡ false → HasRead all (draft h ds os rs) (map obs_fields xs)
+pub obs-read : (all : List (List (List ℕ))) (h : Header) (ds : List Direction)
+    (os : List Orientation) (rs xs : List Row) → (length os == 0) ≡ false
+    → HasRead all (draft h ds os rs) (map obs_fields xs)
     → All IsRow xs → length rs + length xs ≤ MOST_ROWS → HasRead all (draft h ds os (rs ++ xs)) []
 obs-read all h ds os rs [] sets read ok room = rw (append-nil rs) read
 obs-read all h ds os rs (x ∷ xs) sets read ok room =
-    let (none, same) = obs-row-clean h ds os rs x sets (All-head IsRow x xs ok) (omega (arith, room)) in
-    let next = read-more all (draft h ds os rs) (draft h ds os (rs ++ (x ∷ []))) (obs_fields x) (map obs_fields xs) read none same in
+    let (none, same) = obs-row-clean h ds os rs x sets (All-head IsRow x xs ok)
+        (omega (arith, room)) in
+    let next = read-more all (draft h ds os rs) (draft h ds os (rs ++ (x ∷ []))) (obs_fields x)
+        (map obs_fields xs) read none same in
     subst (λ (ys : List Row). HasRead all (draft h ds os ys) []) (append_assoc rs (x ∷ []) xs)
-    (obs-read all h ds os (rs ++ (x ∷ [])) xs sets next (All-tail IsRow x xs ok) (omega (arith, room, length-append rs (x ∷ []))))
+    (obs-read all h ds os (rs ++ (x ∷ [])) xs sets next (All-tail IsRow x xs ok)
+        (omega (arith, room, length-append rs (x ∷ []))))

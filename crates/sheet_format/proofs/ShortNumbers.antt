@@ -17,7 +17,8 @@ digit-range : (c : ℕ) → is_ascii_digit c ≡ true → IsInRange 48 57 c
 digit-range c e = grind (arith, nat_tests)
 
 -- the first few digits leave room for one more in 64 bits
-pub bound : (ds : List ℕ) (i : ℕ) → list_all is_ascii_digit (take i ds) ≡ true → length ds ≤ 18 → i ≤ length ds → digits_value 10 (take i ds) < 1000000000000000000
+pub bound : (ds : List ℕ) (i : ℕ) → list_all is_ascii_digit (take i ds) ≡ true → length ds ≤ 18
+    → i ≤ length ds → digits_value 10 (take i ds) < 1000000000000000000
 bound ds i e short h =
     let few = length-take-le i ds h in
     digits_value_short numerals (take i ds) 18 e (omega (arith, few, short, h))
@@ -26,10 +27,12 @@ bound ds i e short h =
 pub record Step (ds : List ℕ) (i : ℕ) : Type 0 where
   pub digit : IsInRange 48 57 (get_or ds i 0)
   pub digits : list_all is_ascii_digit (take (i + 1) ds) ≡ true
-  pub more : digits_value 10 (take (i + 1) ds) ≡ digits_value 10 (take i ds) * 10 + (get_or ds i 0 - 48)
+  pub more : digits_value 10 (take (i + 1) ds) ≡ digits_value 10 (take i ds) * 10
+      + (get_or ds i 0 - 48)
   pub room : digits_value 10 (take i ds) < 1000000000000000000
 
-pub step : (ds : List ℕ) (i : ℕ) → list_all is_ascii_digit (take i ds) ≡ true → is_ascii_digit (get_or ds i 0) ≡ true → length ds ≤ 18 → i < length ds → Step ds i
+pub step : (ds : List ℕ) (i : ℕ) → list_all is_ascii_digit (take i ds) ≡ true
+    → is_ascii_digit (get_or ds i 0) ≡ true → length ds ≤ 18 → i < length ds → Step ds i
 step ds i before here short h =
     let digit = digit-range (get_or ds i 0) here in
     let value = digit_value_digit (get_or ds i 0) digit in

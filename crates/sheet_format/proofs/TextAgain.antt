@@ -26,19 +26,23 @@ use Rattle.sheet_format.proofs.RecordFacts.{records-end, records-step}
 use Rattle.sheet_format.proofs.TextLengths.{text-short}
 
 -- rows that were written are read as those rows
-pub records-written : (n : ℕ) (rows : List (List (List ℕ))) → length (rows_text rows) < n → records_from default_config n st.StartRecord (rows_text rows) ≡ map read_back rows
+pub records-written : (n : ℕ) (rows : List (List (List ℕ))) → length (rows_text rows) < n
+    → records_from default_config n st.StartRecord (rows_text rows) ≡ map read_back rows
 unfolding next_record
 records-written n [] h = records-end n st.StartRecord [] refl
 records-written n (row ∷ rows) h =
-    let r = records-step n st.StartRecord (rows_text (row ∷ rows)) (read_back row, st.StartRecord, rows_text rows) (read-write row (rows_text rows)) refl h in
+    let r = records-step n st.StartRecord (rows_text (row ∷ rows))
+        (read_back row, st.StartRecord, rows_text rows) (read-write row (rows_text rows)) refl h in
     r.1 ∙ ap (λ (t : List (List (List ℕ))). read_back row ∷ t) (records-written r.0 rows r.2)
 
 -- rows that have fields are read back as they are
-pub back-entries : {X : Type 0} (f : X → List (List ℕ)) → ((x : X) → read_back (f x) ≡ f x) → (xs : List X) → map read_back (map f xs) ≡ map f xs
+pub back-entries : {X : Type 0} (f : X → List (List ℕ)) → ((x : X) → read_back (f x) ≡ f x)
+    → (xs : List X) → map read_back (map f xs) ≡ map f xs
 back-entries f same [] = refl
 back-entries f same (x ∷ xs) = rw (same x, back-entries f same xs) refl
 
-back-body : (ds : List Direction) (os : List Orientation) (rs : List Row) → map read_back (body_rows ds os rs) ≡ body_rows ds os rs
+back-body : (ds : List Direction) (os : List Orientation) (rs : List Row)
+    → map read_back (body_rows ds os rs) ≡ body_rows ds os rs
 back-body ds os rs =
     rw (
       map-append read_back (map target_fields ds) (map set_fields os ++ map obs_fields rs),
@@ -50,21 +54,26 @@ back-body ds os rs =
     refl
 
 -- a text that begins with `sheet` has no byte order mark
-no-mark : (v : Version) (s : SheetValue) → strip_bom (rows_text (rows_of v s)) ≡ rows_text (rows_of v s)
+no-mark : (v : Version) (s : SheetValue) → strip_bom (rows_text (rows_of v s))
+    ≡ rows_text (rows_of v s)
 unfolding strip_bom
 no-mark v s = refl
 
 records-again : (v : Version) (s : SheetValue) → records_of (rows_text (rows_of v s)) ≡ rows_of v s
 records-again v s =
-    rw (no-mark v s) (records-written (length (rows_text (rows_of v s)) + 1) (rows_of v s) (omega arith)
-    ∙ ap (λ (t : List (List (List ℕ))). sheet_fields v s.name s.denominator ∷ t) (back-body s.directions s.orientations s.rows))
+    rw (no-mark v s) (records-written (length (rows_text (rows_of v s)) + 1) (rows_of v s)
+        (omega arith)
+    ∙ ap (λ (t : List (List (List ℕ))). sheet_fields v s.name s.denominator ∷ t)
+    (back-body s.directions s.orientations s.rows))
 
 -- the version that a sheet is written in is one that it is within
-all-within : {X : Type 0} (most : ℤ) (f : X → ℤ) (xs : List X) → list_all (λ x. is_at_most most (f x)) xs ≡ true → All (λ x. IsWithin most (f x)) xs
+all-within : {X : Type 0} (most : ℤ) (f : X → ℤ) (xs : List X)
+    → list_all (λ x. is_at_most most (f x)) xs ≡ true → All (λ x. IsWithin most (f x)) xs
 all-within most f [] e = All-nil _
 all-within most f (x ∷ xs) e =
     let p = and_parts _ _ e in
-    All-cons (λ x. IsWithin most (f x)) x xs (within-found most (f x) p.0) (all-within most f xs p.1)
+    All-cons (λ x. IsWithin most (f x)) x xs (within-found most (f x) p.0)
+        (all-within most f xs p.1)
 
 within-one : (s : SheetValue) → is_of_version One s ≡ true → IsOfVersion One s
 within-one s e =
@@ -72,8 +81,10 @@ within-one s e =
     let (denominator, directions) = and_parts _ _ two in
     record {
       denominator = leb-true _ _ denominator;
-      directions = all-within (largest_angle One) (λ (d : Direction). d.value) s.directions directions;
-      orientations = all-within (largest_angle One) (λ (o : Orientation). o.value) s.orientations orientations;
+      directions = all-within (largest_angle One) (λ (d : Direction). d.value) s.directions
+          directions;
+      orientations = all-within (largest_angle One) (λ (o : Orientation). o.value) s.orientations
+          orientations;
     }
 
 within-two : (s : SheetValue) → IsSheet s → IsOfVersion Two s

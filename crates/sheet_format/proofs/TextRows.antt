@@ -6,27 +6,39 @@ use Rattle.std.proofs.lemmas.List.Concat.{flat_map-append}
 use Rattle.csv.specs.Writing.{default_writer, row_text}
 use Rattle.sheet_format.specs.Texts.{rows_text}
 
-pub rows_text-append : (rows more : List (List (List ℕ))) → rows_text (rows ++ more) ≡ rows_text rows ++ rows_text more
+pub rows_text-append : (rows more : List (List (List ℕ)))
+    → rows_text (rows ++ more) ≡ rows_text rows ++ rows_text more
 rows_text-append rows more = flat_map-append (row_text default_writer) rows more
 
 -- one more entry of a list, after any text
-pub entries-more : {X : Type 0} (f : X → List (List ℕ)) (text : List ℕ) (xs : List X) (i : ℕ) (d : X) → i < length xs
-    → (text ++ rows_text (map f (take i xs))) ++ row_text default_writer (f (get_or xs i d)) ≡ text ++ rows_text (map f (take (i + 1) xs))
+pub entries-more : {X : Type 0} (f : X → List (List ℕ)) (text : List ℕ) (xs : List X) (i : ℕ)
+    (d : X) → i < length xs
+    → (text ++ rows_text (map f (take i xs))) ++ row_text default_writer (f (get_or xs i d))
+    ≡ text ++ rows_text (map f (take (i + 1) xs))
 entries-more f text xs i d h =
     let x = get_or xs i d in
-    let many : map f (take (i + 1) xs) ≡ map f (take i xs) ++ (f x ∷ []) = ap (map f) (take_more xs i d h) ∙ map-append f (take i xs) (x ∷ []) in
-    let pushed : rows_text (map f (take (i + 1) xs)) ≡ rows_text (map f (take i xs)) ++ row_text default_writer (f x) =
-    ap rows_text many ∙ rows_text-append (map f (take i xs)) (f x ∷ []) ∙ ap (λ (t : List ℕ). rows_text (map f (take i xs)) ++ t) (append-nil (row_text default_writer (f x))) in
-    append_assoc text (rows_text (map f (take i xs))) (row_text default_writer (f x)) ∙ ap (λ (t : List ℕ). text ++ t) (sym pushed)
+    let many : map f (take (i + 1) xs) ≡ map f (take i xs) ++ (f x ∷ []) =
+        ap (map f) (take_more xs i d h) ∙ map-append f (take i xs) (x ∷ []) in
+    let pushed : rows_text (map f (take (i + 1) xs)) ≡ rows_text (map f (take i xs))
+        ++ row_text default_writer (f x) =
+    ap rows_text many ∙ rows_text-append (map f (take i xs)) (f x ∷ [])
+        ∙ ap (λ (t : List ℕ). rows_text (map f (take i xs)) ++ t)
+        (append-nil (row_text default_writer (f x))) in
+    append_assoc text (rows_text (map f (take i xs))) (row_text default_writer (f x))
+        ∙ ap (λ (t : List ℕ). text ++ t) (sym pushed)
 
 -- the same, where the entry is known by its place
-pub entry-more : {X : Type 0} (f : X → List (List ℕ)) (text : List ℕ) (xs : List X) (i : ℕ) (x : X) → x ≡ get_or xs i x → i < length xs
-    → (text ++ rows_text (map f (take i xs))) ++ row_text default_writer (f x) ≡ text ++ rows_text (map f (take (i + 1) xs))
-entry-more {X = X} f text xs i x at h = ap (λ (y : X). (text ++ rows_text (map f (take i xs))) ++ row_text default_writer (f y)) at ∙ entries-more f text xs i x h
+pub entry-more : {X : Type 0} (f : X → List (List ℕ)) (text : List ℕ) (xs : List X) (i : ℕ) (x : X)
+    → x ≡ get_or xs i x → i < length xs
+    → (text ++ rows_text (map f (take i xs))) ++ row_text default_writer (f x)
+    ≡ text ++ rows_text (map f (take (i + 1) xs))
+entry-more {X = X} f text xs i x at h = ap (λ (y : X). (text ++ rows_text (map f (take i xs)))
+    ++ row_text default_writer (f y)) at ∙ entries-more f text xs i x h
 
 -- a text and the four parts of a sheet's
 pub parts-joined : (text first : List ℕ) (targets sets obs : List (List (List ℕ)))
-    → (((text ++ first) ++ rows_text targets) ++ rows_text sets) ++ rows_text obs ≡ text ++ (first ++ rows_text (targets ++ (sets ++ obs)))
+    → (((text ++ first) ++ rows_text targets) ++ rows_text sets) ++ rows_text obs
+    ≡ text ++ (first ++ rows_text (targets ++ (sets ++ obs)))
 parts-joined text first targets sets obs =
     rw (rows_text-append targets (sets ++ obs), rows_text-append sets obs)
     (append_assoc ((text ++ first) ++ rows_text targets) (rows_text sets) (rows_text obs)

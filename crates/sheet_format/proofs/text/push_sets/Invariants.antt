@@ -5,4 +5,5 @@ use Rattle.sheet_format.proofs.text.push_sets.Given as goal
 
 abbrev pub invariant-loop-orientation : goal.invariant-loop-orientation
 invariant-loop-orientation g l = (text : List ℕ) → HasWritten g.W.Write.contents l.fn.writer text
-    → HasWritten g.W.Write.contents l.writer (text ++ rows_text (map set_fields (take l.orientation-index l.orientations)))
+    → HasWritten g.W.Write.contents l.writer (text
+    ++ rows_text (map set_fields (take l.orientation-index l.orientations)))

@@ -5,4 +5,5 @@ use Rattle.sheet_format.proofs.text.push_targets.Given as goal
 
 abbrev pub invariant-loop-direction : goal.invariant-loop-direction
 invariant-loop-direction g l = (text : List ℕ) → HasWritten g.W.Write.contents l.fn.writer text
-    → HasWritten g.W.Write.contents l.writer (text ++ rows_text (map target_fields (take l.direction-index l.directions)))
+    → HasWritten g.W.Write.contents l.writer (text
+    ++ rows_text (map target_fields (take l.direction-index l.directions)))
