@@ -1,7 +1,7 @@
 -- From the kernel's acceptance to what an acceptance of the check says.
 use Rattle.std.proofs.Common.{◌≡◌, ℕ, List, [], ◌∷◌, Option, Some, None, Result, Ok, Err, refl, sym}
 use Rattle.std.proofs.Common.{ap, subst, ◌∙◌, inl, inr}
-use Rattle.std.specs.Prelude.{◌↔◌, IfSome, IfOk, reverse}
+use Rattle.std.specs.Prelude.{◌↔◌, IfOk, reverse}
 use mathlib.Core.List.{reverse_aux}
 use Rattle.std.specs.List.{AllZip, Contains}
 use Rattle.std.proofs.lemmas.List.{reverse-reverse}
@@ -9,17 +9,16 @@ use Rattle.byte_ends.specs.Source.{Told}
 use Rattle.gsi_word.specs.Blocks.{GsiBlock, IsBlock}
 use Rattle.gsi_file.specs.FileAnswers.{FileAnswers}
 use Rattle.gsi_file.specs.declared.file_fault.FileKind.{FileKind}
-use Rattle.adjust_kernel.specs.Sheets.{SheetValue}
 use Rattle.adjust_kernel.specs.declared.accepted.Accepted.{Accepted}
-use Rattle.adjust_kernel.specs.Stations.{StationValue}
-use Rattle.adjust_kernel.specs.Verdict.{IsAcceptedSheet, KeepsLimit}
+use Rattle.adjust_kernel.proofs.LawLemmas.{accepted_keeps_limit}
+use Rattle.station_book.proofs.LawLemmas.{its_station, recorded, recorded_faces}
 use Rattle.station_book.specs.declared.fault.BookKind.{BookKind}
 use Rattle.station_book.specs.Faults.{fault_at_end, IsWithoutFault}
 use Rattle.station_book.specs.Limits.{FaceLimits, AreLimits}
 use Rattle.station_book.specs.Places.{History}
 use Rattle.station_book.specs.Recorded.{IsRecorded, IsRecordedWith}
 use Rattle.adjust_kernel.specs.Matching.{Key, observed}
-use Rattle.station_book.specs.Stations.{SurveyedStation, AreStations, station_named}
+use Rattle.station_book.specs.Stations.{SurveyedStation}
 use Rattle.station_check.specs.declared.fault.Fault.{Fault}
 use Rattle.station_check.specs.Outcomes.{ComesTo, at_end}
 use Rattle.station_check.specs.Surveys.{IsSurvey}
@@ -41,8 +40,8 @@ pub record CameWell (limits : FaceLimits) (past : History) (lines : List (List �
 
 -- the end of the lines, where the fault of the end is this
 well_at_end : (limits : FaceLimits) (past blocks : History) (o : Option BookKind)
-    → IsWithoutFault limits past → fault_at_end past ≡ o → Ok blocks
-    ≡ at_end past o → CameWell limits past [] None blocks
+    → IsWithoutFault limits past → fault_at_end past ≡ o → Ok blocks ≡ at_end past o
+    → CameWell limits past [] None blocks
 well_at_end limits past blocks None clean e h =
     let same : past ≡ blocks = cc in
     subst (λ (b : History). CameWell limits past [] None b) same
@@ -69,45 +68,18 @@ came_well limits past (line ∷ lines) last blocks clean (inr (inr h)) =
       closed = rest.closed;
     }
 
--- The station that a name finds is the only one that has it.
-abbrev pub FindsIts : Type 0
-FindsIts = (limits : FaceLimits) (h : History) (stations : List SurveyedStation) (name : List ℕ)
-    (s : SurveyedStation) → IsWithoutFault limits h → AreStations limits h stations
-    → (station_named name stations ≡ Some s) ↔ (Contains stations s × (s.station.name ≡ name))
-
--- What is listed of a station is what the blocks recorded of it.
-abbrev pub IsJustRecorded : Type 0
-IsJustRecorded =
-    (limits : FaceLimits) (h : History) (stations : List SurveyedStation) (s : SurveyedStation)
-    (k : Key) → AreLimits limits → IsWithoutFault limits h → AreStations limits h stations
-    → Contains stations s
-    → Contains (observed s.station) k ↔ IsRecorded limits h s.station.name k
-
--- Beside what is listed of a station stand the face differences of the same readings.
-abbrev pub HasRecordedFaces : Type 0
-HasRecordedFaces =
-    (limits : FaceLimits) (h : History) (stations : List SurveyedStation) (s : SurveyedStation)
-    → AreStations limits h stations → Contains stations s
-    → AllZip (IsRecordedWith limits h s.station.name) (observed s.station) s.faces
-
--- An accepted sheet keeps the residual limit.
-abbrev pub KeepsResiduals : Type 0
-KeepsResiduals = (station : StationValue) (sheet : SheetValue) (limit : Option ℕ)
-    → IsAcceptedSheet station sheet limit → IfSome limit (KeepsLimit station sheet)
-
 -- The station that a name finds is that of the lines of the file.
-pub station_found : FindsIts → IsJustRecorded → HasRecordedFaces
-    → (limits : FaceLimits) (file : FileAnswers) (name : List ℕ) (its : SurveyedStation)
-    → AreLimits limits → HasStation limits file name its
+pub station_found : (limits : FaceLimits) (file : FileAnswers) (name : List ℕ)
+    (its : SurveyedStation) → AreLimits limits → HasStation limits file name its
     → IsStationOfFile limits file name its
-station_found finds recorded beside limits file name its small has =
+station_found limits file name its small has =
     let blocks = has.survey.blocks in
     let stations = has.stations in
     let surveyed = has.survey.stations_are in
     let well = came_well limits [] file.lines file.last blocks tt has.survey.file in
-    let in_order : well.more
-    ≡ reverse blocks = sym (ap reverse well.split ∙ reverse-reverse well.more) in
-    let found = (finds limits blocks stations name its well.faultless surveyed).0 has.named in
+    let in_order : well.more ≡ reverse blocks =
+    sym (ap reverse well.split ∙ reverse-reverse well.more) in
+    let found = (its_station limits blocks stations name its well.faultless surveyed).0 has.named in
     record {
       blocks = blocks;
       ended = well.ended;
@@ -119,9 +91,8 @@ station_found finds recorded beside limits file name its small has =
       listed = found.0;
       named = found.1;
       only = λ other among same.
-          let e : Some other
-          ≡ Some its =
-          sym ((finds limits blocks stations name other well.faultless surveyed).1
+          let e : Some other ≡ Some its =
+          sym ((its_station limits blocks stations name other well.faultless surveyed).1
           (among, same)) ∙ has.named in cc;
       exactly = λ k.
           subst (λ (n : List ℕ).
@@ -130,23 +101,22 @@ station_found finds recorded beside limits file name its small has =
       within = subst
           (λ (n : List ℕ).
           AllZip (IsRecordedWith limits blocks n) (observed its.station) its.faces) found.1
-          (beside limits blocks stations its surveyed found.0);
+          (recorded_faces limits blocks stations its surveyed found.0);
     }
 
 -- A sheet that was judged well is accepted.
-pub accepted_of : FindsIts → IsJustRecorded → HasRecordedFaces → KeepsResiduals
-    → (limits : FaceLimits) (most : Option ℕ) (file : FileAnswers) (told : Told)
+pub acceptance : (limits : FaceLimits) (most : Option ℕ) (file : FileAnswers) (told : Told)
     (stations : List SurveyedStation) (a : Accepted) → AreLimits limits
     → IsSurvey limits file stations → IsJudgedSheet stations most told (Ok a)
     → IsAccepted limits most file told a
-accepted_of finds recorded beside keeps limits most file told stations a small survey judged =
+acceptance limits most file told stations a small survey judged =
     let blocks = survey.blocks in
     let its = judged.judged.its in
     let name = judged.sheet.name in
     let well = came_well limits [] file.lines file.last blocks tt survey.file in
-    let in_order : well.more
-    ≡ reverse blocks = sym (ap reverse well.split ∙ reverse-reverse well.more) in
-    let found = (finds limits blocks stations name its well.faultless survey.stations_are).0
+    let in_order : well.more ≡ reverse blocks =
+    sym (ap reverse well.split ∙ reverse-reverse well.more) in
+    let found = (its_station limits blocks stations name its well.faultless survey.stations_are).0
     judged.judged.named in
     record {
       blocks = blocks;
@@ -162,10 +132,9 @@ accepted_of finds recorded beside keeps limits most file told stations a small s
       listed = found.0;
       named = found.1;
       only = λ other among same.
-          let e : Some other
-          ≡ Some its =
-          sym ((finds limits blocks stations name other well.faultless survey.stations_are).1
-          (among, same)) ∙ judged.judged.named in cc;
+          let e : Some other ≡ Some its =
+          sym ((its_station limits blocks stations name other well.faultless
+          survey.stations_are).1 (among, same)) ∙ judged.judged.named in cc;
       exactly = λ k.
           let just = recorded limits blocks stations its k small well.faultless survey.stations_are
           found.0 in
@@ -180,28 +149,21 @@ accepted_of finds recorded beside keeps limits most file told stations a small s
           (observed its.station) its.faces =
           subst (λ (n : List ℕ).
           AllZip (IsRecordedWith limits blocks n) (observed its.station) its.faces) found.1
-          (beside limits blocks stations its survey.stations_are found.0) in
+          (recorded_faces limits blocks stations its survey.stations_are found.0) in
           subst (λ (keys : List Key). AllZip (IsRecordedWith limits blocks name) keys its.faces)
           (sym judged.judged.matches.rows) by_name;
       least = judged.judged.squares.0.least;
       unique = judged.judged.squares.0.unique;
-      limited = keeps its.station judged.sheet most (a, judged.judged.verdict);
+      limited = accepted_keeps_limit its.station judged.sheet most (a, judged.judged.verdict);
       over_turns = judged.judged.squares.1;
       says = judged.judged.verdict.1;
     }
 
--- what the law `acceptance` says
-abbrev pub Accepts : Type 0
-Accepts = (limits : FaceLimits) (most : Option ℕ) (file : FileAnswers) (told : Told)
-    (stations : List SurveyedStation) (a : Accepted) → AreLimits limits
-    → IsSurvey limits file stations → IsJudgedSheet stations most told (Ok a)
-    → IsAccepted limits most file told a
-
 -- the same of an answer
-pub accepted_so : Accepts → (limits : FaceLimits) → AreLimits limits
+pub accepted_so : (limits : FaceLimits) → AreLimits limits
     → (most : Option ℕ) (file : FileAnswers) (told : Told) (stations : List SurveyedStation)
     (r : Result Accepted Fault) → IsSurvey limits file stations
     → IfKernels (IsJudgedSheet stations most told) r → IfOk r (IsAccepted limits most file told)
-accepted_so accepts limits small most file told stations (Ok a) s j =
-    accepts limits most file told stations a small s j
-accepted_so accepts limits small most file told stations (Err fault) s j = tt
+accepted_so limits small most file told stations (Ok a) s j =
+    acceptance limits most file told stations a small s j
+accepted_so limits small most file told stations (Err fault) s j = tt

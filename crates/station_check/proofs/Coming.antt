@@ -23,8 +23,8 @@ lines_came told known next So e whole s = subst (λ (o : Option Told). SomeLines
 
 -- of two readers that tell, what came is what they tell
 pub both_told : (x y gsi sheet : Told) (P : Told → Told → Type 0)
-    → SomeBytesCame (Some x) (λ a. SomeBytesCame (Some y) (λ b. P a b)) → x ≡ gsi → y
-    ≡ sheet → P gsi sheet
+    → SomeBytesCame (Some x) (λ a. SomeBytesCame (Some y) (λ b. P a b)) → x ≡ gsi → y ≡ sheet
+    → P gsi sheet
 both_told x y gsi sheet P s e f =
     let stated = s.so in
     subst (λ (b : Told). P gsi b) (stated.as_told ∙ f)

@@ -7,6 +7,7 @@ use Rattle.std.specs.List.{AllZip}
 use Rattle.std.proofs.lemmas.List.{reverse-reverse}
 use Rattle.gsi_word.specs.Blocks.{GsiBlock, IsBlock}
 use Rattle.gsi_file.specs.FileAnswers.{FileAnswers}
+use Rattle.gsi_file.specs.ToCome.{IsFileFault}
 use Rattle.gsi_file.specs.declared.file_fault.FileKind.{FileKind}
 use Rattle.gsi_file.specs.declared.file_fault.FileFault.TheVariants as file
 use Rattle.station_book.specs.declared.fault.BookKind.{BookKind}
@@ -51,8 +52,8 @@ at_once limits past lines last fault other clean stands same =
 
 -- the fault of the end
 ends_with : (limits : FaceLimits) (past : History) (fault : Fault) (o : Option BookKind)
-    → IsWithoutFault limits past → fault_at_end past ≡ o → Err fault
-    ≡ at_end past o → ComesToFault limits past [] None fault
+    → IsWithoutFault limits past → fault_at_end past ≡ o → Err fault ≡ at_end past o
+    → ComesToFault limits past [] None fault
 ends_with limits past fault None clean e h = cc
 ends_with limits past fault (Some kind) clean e h =
     at_once limits past [] None fault (Book (book.At (length past + 1) kind)) clean
@@ -63,13 +64,13 @@ comes_to_fault : (limits : FaceLimits) (past : History) (lines : List (List ℕ)
     → ComesTo limits past lines last (Err fault) → ComesToFault limits past lines last fault
 comes_to_fault limits past [] (Some kind) fault clean h =
     at_once limits past [] (Some kind) fault (Gsi (file.At (length past + 1) kind)) clean
-    (refl, refl) cc
+    (refl, inl refl) cc
 comes_to_fault limits past [] None fault clean h =
     ends_with limits past fault (fault_at_end past) clean refl h
 comes_to_fault limits past (line ∷ lines) last fault clean (inl h) =
     let e = h.answer in
     at_once limits past (line ∷ lines) last fault (Gsi (file.At (length past + 1) h.kind)) clean
-    (refl, h.fault) cc
+    (refl, inr (line, lines, refl, h.fault)) cc
 comes_to_fault limits past (line ∷ lines) last fault clean (inr (inl h)) =
     let e = h.answer in
     at_once limits past (line ∷ lines) last fault (Book (book.At (length past + 1) h.kind)) clean
@@ -112,10 +113,22 @@ clean_before limits past (b ∷ more) clean = (clean_before limits (b ∷ past) 
 next_comes : (limits : FaceLimits) (past : History) (lines : List (List ℕ)) (last : Option FileKind)
     (fault : Fault) → StandsNext limits past lines last fault
     → ComesTo limits past lines last (Err fault)
-next_comes limits past [] (Some other) (Gsi (file.At n kind)) (e, h) = cc
-next_comes limits past [] None (Gsi (file.At n kind)) (e, h) = cc
-next_comes limits past (line ∷ lines) last (Gsi (file.At n kind)) (e, h) =
-    inl (record { kind = kind; fault = h; answer = cc })
+next_comes limits past [] (Some other) (Gsi (file.At n kind)) (e, inl h) =
+    let ends : Some other ≡ Some kind = ap (λ (a : FileAnswers). a.last) h in cc
+next_comes limits past [] (Some other) (Gsi (file.At n kind)) (e, inr h) = let some = h.2 in cc
+next_comes limits past [] None (Gsi (file.At n kind)) (e, inl h) =
+    let ends : None ≡ Some kind = ap (λ (a : FileAnswers). a.last) h in cc
+next_comes limits past [] None (Gsi (file.At n kind)) (e, inr h) = let some = h.2 in cc
+next_comes limits past (line ∷ lines) last (Gsi (file.At n kind)) (e, inl h) =
+    let none : line ∷ lines ≡ [] = ap (λ (a : FileAnswers). a.lines) h in cc
+next_comes limits past (line ∷ lines) last (Gsi (file.At n kind)) (e, inr h) =
+    let next : line ∷ lines ≡ h.0 ∷ h.1 = h.2 in
+    let same : h.0 ≡ line = cc in
+    inl (record {
+      kind = kind;
+      fault = subst (λ (l : List ℕ). IsFileFault l kind) same h.3;
+      answer = cc;
+    })
 next_comes limits past lines last (Gsi file.Memory) h = absurd h
 next_comes limits past [] (Some other) (Book (book.At n kind)) (e, (none, h)) = cc
 next_comes limits past [] None (Book (book.At n kind)) (e, (none, h)) =

@@ -13,15 +13,15 @@ use Rattle.station_book.specs.Stations.{SurveyedStation}
 use Rattle.station_check.specs.Means.{HasStation}
 use Rattle.station_check.specs.Outcomes.{ComesTo, at_end}
 use Rattle.station_check.specs.StationOfFile.{IsStationOfFile}
-use Rattle.station_check.proofs.Acceptance.{FindsIts}
+use Rattle.station_book.proofs.LawLemmas.{its_station}
 use Rattle.station_check.proofs.FirstFaultLaws.{clean_before}
 
 -- lines that are blocks without a fault come to these
 comes_to_blocks : (limits : FaceLimits) (past : History) (lines : List (List ℕ))
     (more : List GsiBlock) → AllZip IsBlock lines more
     → IsWithoutFault limits (reverse_aux more past)
-    → fault_at_end (reverse_aux more past)
-    ≡ None → ComesTo limits past lines None (Ok (reverse_aux more past))
+    → fault_at_end (reverse_aux more past) ≡ None
+    → ComesTo limits past lines None (Ok (reverse_aux more past))
 comes_to_blocks limits past [] [] each clean closed = ap (at_end past) (sym closed)
 comes_to_blocks limits past [] (b ∷ more) each clean closed = absurd each
 comes_to_blocks limits past (line ∷ lines) [] each clean closed = absurd each
@@ -35,10 +35,9 @@ comes_to_blocks limits past (line ∷ lines) (b ∷ more) each clean closed =
           comes_to_blocks limits (b ∷ past) lines more each.1 clean closed;
     }))
 
-pub has_station : FindsIts
-    → (limits : FaceLimits) (file : FileAnswers) (name : List ℕ) (its : SurveyedStation)
+pub has_station : (limits : FaceLimits) (file : FileAnswers) (name : List ℕ) (its : SurveyedStation)
     → IsStationOfFile limits file name its → HasStation limits file name its
-has_station finds limits file name its s =
+has_station limits file name its s =
     let back : reverse_aux (reverse s.blocks) [] ≡ s.blocks = reverse-reverse s.blocks in
     let comes : ComesTo limits [] file.lines None (Ok (reverse_aux (reverse s.blocks) [])) =
     comes_to_blocks limits [] file.lines (reverse s.blocks) s.lines
@@ -52,6 +51,6 @@ has_station finds limits file name its s =
             (subst (λ (bs : History). ComesTo limits [] file.lines None (Ok bs)) back comes);
         stations_are = s.surveyed;
       };
-      named = (finds limits s.blocks s.stations name its s.faultless s.surveyed).1
+      named = (its_station limits s.blocks s.stations name its s.faultless s.surveyed).1
           (s.listed, s.named);
     }

@@ -18,7 +18,6 @@ use Rattle.station_check.specs.Promise.{KeepsPromise}
 use Rattle.station_check.specs.Surveys.{Surveys, IsSurvey}
 use Rattle.station_check.specs.Verdicts.{BySheet, AnswersVerdict}
 use Rattle.station_check.proofs.Acceptance.{accepted_so}
-use Rattle.station_check.proofs.LawLemmas.{acceptance, one_outcome, one_verdict, refusal}
 use Rattle.station_check.proofs.OneVerdict.{only_verdict}
 use Rattle.station_check.proofs.Refusals.{refused_so, told_of_file, none_first, first}
 
@@ -42,11 +41,11 @@ pub promise_by_sheet : (limits : FaceLimits) → AreLimits limits
 promise_by_sheet limits small most file stated stations r s o c =
     let verdict = verdict_of limits most file stated stations r s c in
     record {
-      accepted = accepted_so acceptance limits small most file stated stations r s c.judged;
-      refused = refused_so refusal limits most file stated stations r s o c.judged c.verdict;
+      accepted = accepted_so limits small most file stated stations r s c.judged;
+      refused = refused_so limits most file stated stations r s o c.judged c.verdict;
       verdict = verdict;
-      no_other = only_verdict one_verdict limits most file stated r small verdict;
-      file_first = none_first one_outcome limits file stations r s;
+      no_other = only_verdict limits most file stated r small verdict;
+      file_first = none_first limits file stations r s;
     }
 
 -- the whole verdict, where the field file has a fault
@@ -81,6 +80,6 @@ promise_by_file limits small most file stated fault o h =
       accepted = tt;
       refused = told_of_file limits most file stated fault o h;
       verdict = verdict;
-      no_other = only_verdict one_verdict limits most file stated (Err fault) small verdict;
-      file_first = first one_outcome limits file fault h;
+      no_other = only_verdict limits most file stated (Err fault) small verdict;
+      file_first = first limits file fault h;
     }

@@ -17,7 +17,6 @@ use Rattle.sheet_format.specs.Faults.{IsSheetFault}
 use Rattle.sheet_format.specs.declared.fault.SheetFault.{SheetFault}
 use Rattle.sheet_format.specs.declared.reading.TheConstants.{LONGEST_SHEET}
 use Rattle.station_book.specs.Limits.{FaceLimits}
-use Rattle.station_book.specs.Places.{History}
 use Rattle.station_book.specs.Stations.{SurveyedStation, station_named}
 use Rattle.station_check.specs.declared.fault.Fault.{Fault}
 use Rattle.station_check.specs.declared.fault.Fault.TheVariants.{Gsi, Book, SheetRead, Sheet}
@@ -30,13 +29,15 @@ use Rattle.station_check.specs.Answerable.{IsOfFile, IsOfSheet, IsOfCheck}
 use Rattle.station_check.specs.Outcomes.{FileComesTo}
 use Rattle.station_check.specs.Refused.{IsFaultOfInput, IsFileFirst, IsRefusedByName}
 use Rattle.station_check.specs.Refused.{IsRefusedByKernel, TellsOfRefusal}
-use Rattle.station_check.proofs.Acceptance.{FindsIts, came_well}
+use Rattle.station_book.proofs.LawLemmas.{its_station}
+use Rattle.station_check.proofs.Acceptance.{came_well}
 use Rattle.station_check.proofs.FirstFaultLaws.{is_first}
 use Rattle.station_check.proofs.Named.{has_name}
+use Rattle.station_check.proofs.OneVerdict.{one_outcome}
 
 -- a refusal by the kernel's verdict is the kernel's
-by_kernel_alone : (fault : Fault) (v : Result Accepted KernelFault) → Err fault
-    ≡ by_kernel v → (k : KernelFault) × (fault ≡ Kernel k)
+by_kernel_alone : (fault : Fault) (v : Result Accepted KernelFault) → Err fault ≡ by_kernel v
+    → (k : KernelFault) × (fault ≡ Kernel k)
 by_kernel_alone fault (Ok a) e = cc
 by_kernel_alone fault (Err k) e = (k, cc)
 
@@ -90,8 +91,9 @@ record FindsNone (stations : List SurveyedStation) (input : Input) : Type 0 wher
   pub states : IsSheetText bytes sheet
   pub none : station_named sheet.name stations ≡ None
 
-none_found : (its : Option SurveyedStation) → ((its ≡ None) × (NoStation ≡ NoStation))
-    ⊎ ((k : KernelFault) × (NoStation ≡ Kernel k)) → its ≡ None
+none_found : (its : Option SurveyedStation)
+    → ((its ≡ None) × (NoStation ≡ NoStation)) ⊎ ((k : KernelFault) × (NoStation ≡ Kernel k))
+    → its ≡ None
 none_found its (inl h) = h.0
 none_found its (inr h) = let e = h.1 in cc
 
@@ -110,11 +112,10 @@ name_says stations most (Ended bytes) (inr h) = record {
 }
 
 -- A sheet of a name that no station has is refused so.
-unnamed : FindsIts
-    → (limits : FaceLimits) (file : FileAnswers) (told : Told) (stations : List SurveyedStation)
+unnamed : (limits : FaceLimits) (file : FileAnswers) (told : Told) (stations : List SurveyedStation)
     → IsSurvey limits file stations → FindsNone stations (input_within LONGEST_SHEET told)
     → IsRefusedByName limits file told
-unnamed finds limits file told stations survey found =
+unnamed limits file told stations survey found =
     let blocks = survey.blocks in
     let well = came_well limits [] file.lines file.last blocks tt survey.file in
     record {
@@ -123,9 +124,8 @@ unnamed finds limits file told stations survey found =
       sheet = found.sheet;
       states = record { bytes = found.bytes; whole = found.whole; states = found.states };
       absent = λ other among same.
-          let e : Some other
-          ≡ None = sym
-          ((finds limits blocks stations found.sheet.name other well.faultless
+          let e : Some other ≡ None =
+          sym ((its_station limits blocks stations found.sheet.name other well.faultless
           survey.stations_are).1 (among, same)) ∙ found.none in cc;
     }
 
@@ -145,75 +145,63 @@ judged_badly limits most file told stations fault survey judged = record {
 }
 
 -- what a refusal from the sheet on says
-pub refused_of : FindsIts
-    → (limits : FaceLimits) (most : Option ℕ) (file : FileAnswers) (told : Told)
+pub refusal : (limits : FaceLimits) (most : Option ℕ) (file : FileAnswers) (told : Told)
     (stations : List SurveyedStation) (fault : Fault) → IsSurvey limits file stations
     → IsOfSheet fault
     → IfKernels (IsJudgedSheet stations most told) (Err fault)
     → BySheet stations most (input_within LONGEST_SHEET told) (Err fault)
     → TellsOfRefusal limits most file told fault
-refused_of finds limits most file told stations (Gsi fault) s o j h = absurd o
-refused_of finds limits most file told stations (Book fault) s o j h = absurd o
-refused_of finds limits most file told stations SheetRead s o j h =
+refusal limits most file told stations (Gsi fault) s o j h = absurd o
+refusal limits most file told stations (Book fault) s o j h = absurd o
+refusal limits most file told stations SheetRead s o j h =
     record {
       stations = stations;
       survey = s;
       broke_off =
           read_says stations most (input_within LONGEST_SHEET told) h;
     }
-refused_of finds limits most file told stations (Sheet fault) s o j h =
+refusal limits most file told stations (Sheet fault) s o j h =
     record {
       stations = stations;
       survey = s;
       first =
           text_says stations most (input_within LONGEST_SHEET told) fault h;
     }
-refused_of finds limits most file told stations NoStation s o j h =
-    unnamed finds limits file told stations s
+refusal limits most file told stations NoStation s o j h =
+    unnamed limits file told stations s
     (name_says stations most (input_within LONGEST_SHEET told) h)
-refused_of finds limits most file told stations (Means fault) s o j h = absurd o
-refused_of finds limits most file told stations (Kernel fault) s o j h =
+refusal limits most file told stations (Means fault) s o j h = absurd o
+refusal limits most file told stations (Kernel fault) s o j h =
     judged_badly limits most file told stations fault s j
-refused_of finds limits most file told stations Write s o j h = absurd o
-refused_of finds limits most file told stations Memory s o j h = tt
-
--- what the law `refusal` says
-abbrev pub Refuses : Type 0
-Refuses = (limits : FaceLimits) (most : Option ℕ) (file : FileAnswers) (told : Told)
-    (stations : List SurveyedStation) (fault : Fault) → IsSurvey limits file stations
-    → IsOfSheet fault
-    → IfKernels (IsJudgedSheet stations most told) (Err fault)
-    → BySheet stations most (input_within LONGEST_SHEET told) (Err fault)
-    → TellsOfRefusal limits most file told fault
+refusal limits most file told stations Write s o j h = absurd o
+refusal limits most file told stations Memory s o j h = tt
 
 -- the answer by a sheet is its verdict, or that there was no memory
 abbrev pub AnswersSheet : List SurveyedStation → Option ℕ → Told → Result Accepted Fault → Type 0
-AnswersSheet stations most told r = (r ≡ Err Memory)
-    ⊎ BySheet stations most (input_within LONGEST_SHEET told) r
+AnswersSheet stations most told r =
+    (r ≡ Err Memory) ⊎ BySheet stations most (input_within LONGEST_SHEET told) r
 
-by_answer : Refuses
-    → (limits : FaceLimits) (most : Option ℕ) (file : FileAnswers) (told : Told)
+by_answer : (limits : FaceLimits) (most : Option ℕ) (file : FileAnswers) (told : Told)
     (stations : List SurveyedStation) (fault : Fault) → IsSurvey limits file stations
     → IsOfSheet fault
     → IfKernels (IsJudgedSheet stations most told) (Err fault)
     → (◌≡◌ {A = Result Accepted Fault} (Err fault) (Err Memory))
     ⊎ BySheet stations most (input_within LONGEST_SHEET told) (Err fault)
     → TellsOfRefusal limits most file told fault
-by_answer refuses limits most file told stations fault s o j (inl e) =
+by_answer limits most file told stations fault s o j (inl e) =
     let same : Memory ≡ fault = cc in
     subst (λ (f : Fault). TellsOfRefusal limits most file told f) same tt
-by_answer refuses limits most file told stations fault s o j (inr h) =
-    refuses limits most file told stations fault s o j h
+by_answer limits most file told stations fault s o j (inr h) =
+    refusal limits most file told stations fault s o j h
 
 -- A refusal of a sheet says so.
-pub refused_so : Refuses
-    → (limits : FaceLimits) (most : Option ℕ) (file : FileAnswers) (told : Told)
+pub refused_so : (limits : FaceLimits) (most : Option ℕ) (file : FileAnswers) (told : Told)
     (stations : List SurveyedStation) (r : Result Accepted Fault) → IsSurvey limits file stations
     → IfErr r IsOfSheet → IfKernels (IsJudgedSheet stations most told) r
     → AnswersSheet stations most told r → IfErr r (TellsOfRefusal limits most file told)
-refused_so refuses limits most file told stations (Ok a) s o j h = tt
-refused_so refuses limits most file told stations (Err fault) s o j h =
-    by_answer refuses limits most file told stations fault s o j h
+refused_so limits most file told stations (Ok a) s o j h = tt
+refused_so limits most file told stations (Err fault) s o j h =
+    by_answer limits most file told stations fault s o j h
 
 -- A fault of the field file is told.
 pub told_of_file : (limits : FaceLimits) (most : Option ℕ) (file : FileAnswers) (told : Told)
@@ -229,41 +217,36 @@ told_of_file limits most file told (Kernel fault) o h = absurd o
 told_of_file limits most file told Write o h = absurd o
 told_of_file limits most file told Memory o h = tt
 
--- A file comes to one thing at most.
-abbrev pub HasOneOutcome : Type 0
-HasOneOutcome = (limits : FaceLimits) (answers : FileAnswers) (r s : Result History Fault)
-    → FileComesTo limits answers r → FileComesTo limits answers s → r ≡ s
-
 -- A file that ended without a fault comes to none.
-pub none_first : HasOneOutcome
-    → (limits : FaceLimits) (file : FileAnswers) (stations : List SurveyedStation)
+pub none_first : (limits : FaceLimits) (file : FileAnswers) (stations : List SurveyedStation)
     (r : Result Accepted Fault) → IsSurvey limits file stations → IsFileFirst limits file r
-none_first one limits file stations r s =
+none_first limits file stations r s =
     λ fault h. let e : Ok s.blocks
-    ≡ Err fault = one limits file (Ok s.blocks) (Err fault) s.file h in cc
+    ≡ Err fault = one_outcome limits file (Ok s.blocks) (Err fault) s.file h in cc
 
 -- The fault that is answered is the one that the file comes to.
-its_first : HasOneOutcome → (limits : FaceLimits) (file : FileAnswers) (fault : Fault)
+its_first : (limits : FaceLimits) (file : FileAnswers) (fault : Fault)
     → FileComesTo limits file (Err fault) → IsFileFirst limits file (Err fault)
-its_first one limits file fault k =
-    λ other h. let e : Err fault ≡ Err other = one limits file (Err fault) (Err other) k h in inr cc
+its_first limits file fault k =
+    λ other h. let e : Err fault
+    ≡ Err other = one_outcome limits file (Err fault) (Err other) k h in inr cc
 
-pub first : HasOneOutcome → (limits : FaceLimits) (file : FileAnswers) (fault : Fault)
+pub first : (limits : FaceLimits) (file : FileAnswers) (fault : Fault)
     → Surveys limits file (Err fault) → IsFileFirst limits file (Err fault)
-first one limits file (Gsi fault) h = its_first one limits file (Gsi fault) h
-first one limits file (Book fault) h = its_first one limits file (Book fault) h
-first one limits file SheetRead h = its_first one limits file SheetRead h
-first one limits file (Sheet fault) h = its_first one limits file (Sheet fault) h
-first one limits file NoStation h = its_first one limits file NoStation h
-first one limits file (Means fault) h = its_first one limits file (Means fault) h
-first one limits file (Kernel fault) h = its_first one limits file (Kernel fault) h
-first one limits file Write h = its_first one limits file Write h
-first one limits file Memory h = λ other k. inl refl
+first limits file (Gsi fault) h = its_first limits file (Gsi fault) h
+first limits file (Book fault) h = its_first limits file (Book fault) h
+first limits file SheetRead h = its_first limits file SheetRead h
+first limits file (Sheet fault) h = its_first limits file (Sheet fault) h
+first limits file NoStation h = its_first limits file NoStation h
+first limits file (Means fault) h = its_first limits file (Means fault) h
+first limits file (Kernel fault) h = its_first limits file (Kernel fault) h
+first limits file Write h = its_first limits file Write h
+first limits file Memory h = λ other k. inl refl
 
 -- The kernel's fault by the station of the sheet's name is never that the sheet is of another.
 pub of_its_station : (stations : List SurveyedStation) (its : SurveyedStation) (sheet : SheetValue)
-    (most : Option ℕ) (fault : KernelFault) → station_named sheet.name stations
-    ≡ Some its → IsVerdict its.station sheet most (Err fault) → IsOfSheet (Kernel fault)
+    (most : Option ℕ) (fault : KernelFault) → station_named sheet.name stations ≡ Some its
+    → IsVerdict its.station sheet most (Err fault) → IsOfSheet (Kernel fault)
 of_its_station stations its sheet most kernel.Name e v =
     absurd (v.0 (sym (has_name sheet.name stations its e)))
 of_its_station stations its sheet most (kernel.TargetRow n) e v = tt

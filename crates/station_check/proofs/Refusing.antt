@@ -55,8 +55,8 @@ means_unmade A limits answers name means.Memory old new h = tt
 -- A sheet of means is written in part where the writer failed, or there is no memory for its text.
 pub means_unwritten : (A : Type 0) (limits : FaceLimits) (answers : FileAnswers) (name : List ℕ)
     (fault : WriteFault) (old new : Option (List ℕ))
-    → (fault ≡ writing.Write → (text : List ℕ) × IsMeansText limits answers name text
-    × AppendsSome old new text)
+    → (fault ≡ writing.Write
+    → (text : List ℕ) × IsMeansText limits answers name text × AppendsSome old new text)
     → WritesMeans limits answers name {A = A} (Err (of_write fault)) old new
 means_unwritten A limits answers name writing.Write old new h = h refl
 means_unwritten A limits answers name writing.Memory old new h = tt

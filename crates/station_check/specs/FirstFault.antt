@@ -3,7 +3,7 @@ use Rattle.std.specs.Prelude.{◌≡◌, ℕ, ◌+◌, List, [], ◌∷◌, ◌+
 use Rattle.std.specs.List.{AllZip}
 use Rattle.gsi_word.specs.Blocks.{GsiBlock, IsBlock}
 use Rattle.gsi_file.specs.FileAnswers.{FileAnswers}
-use Rattle.gsi_file.specs.ToCome.{IsFileFault}
+use Rattle.gsi_file.specs.ToCome.{FaultIsNext}
 use Rattle.gsi_file.specs.declared.file_fault.FileKind.{FileKind}
 use Rattle.gsi_file.specs.declared.file_fault.FileFault.TheVariants as file
 use Rattle.station_book.specs.Faults.{fault_after, fault_at_end, IsWithoutFault}
@@ -13,12 +13,6 @@ use Rattle.station_book.specs.declared.fault.BookKind.{BookKind}
 use Rattle.station_book.specs.declared.fault.BookFault.TheVariants as book
 use Rattle.station_check.specs.declared.fault.Fault.{Fault}
 use Rattle.station_check.specs.declared.fault.Fault.TheVariants.{Gsi, Book}
-
--- The next line is no block and has this fault; or, after the last line, the file breaks off with
--- it.
-abbrev pub HasFileFault : List (List ℕ) → Option FileKind → FileKind → Type 0
-HasFileFault [] last kind = last ≡ Some kind
-HasFileFault (line ∷ lines) last kind = IsFileFault line kind
 
 -- The next line is a block that has this fault after those before it; or, after the last line, the
 -- file ends, and the set that is still open has it.
@@ -32,7 +26,8 @@ HasBookFault limits past (line ∷ lines) last kind =
 abbrev pub StandsNext :
     FaceLimits → History → List (List ℕ) → Option FileKind → Fault → Type 0
 StandsNext limits past lines last (Gsi (file.At number kind)) =
-    (number ≡ length past + 1) × HasFileFault lines last kind
+    (number ≡ length past + 1)
+    × FaultIsNext (record { lines = lines; last = last }) kind
 StandsNext limits past lines last (Book (book.At number kind)) =
     (number ≡ length past + 1) × HasBookFault limits past lines last kind
 StandsNext limits past lines last fault = ⊥

@@ -4,8 +4,9 @@ use Rattle.station_check.proofs.accepted.add_greatest.Goals as goal
 
 -- two pieces, one after another
 two : (t t1 t2 a b d : List ℕ) → t1 ≡ t ++ a → t2 ≡ t1 ++ b → b ≡ d → t2 ≡ t ++ (a ++ d)
-two t t1 t2 a b d e1 e2 same = e2 ∙ ap (λ (r : List ℕ). r ++ b) e1
-    ∙ ap (λ (r : List ℕ). (t ++ a) ++ r) same ∙ append_assoc t a d
+two t t1 t2 a b d e1 e2 same =
+    e2 ∙ ap (λ (r : List ℕ). r ++ b) e1 ∙ ap (λ (r : List ℕ). (t ++ a) ++ r) same
+    ∙ append_assoc t a d
 
 pub returns-clause-items : goal.returns-clause-items
 returns-clause-items c =

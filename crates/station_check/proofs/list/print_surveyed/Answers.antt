@@ -26,8 +26,7 @@ observations-preserved g c =
     let o : slice_get s.station.obs place ≡ Some c.observation_at-observation.result =
     ap (λ (t : StationValue). slice_get t.obs place) (sym station_is)
     ∙ c.observation_at-observation.ensures.here in
-    let f : slice_get s.faces place
-    ≡ Some c.differences_at-differences.result =
+    let f : slice_get s.faces place ≡ Some c.differences_at-differences.result =
     ap (λ (xs : _). slice_get xs place) (sym c.faces-faces.ensures.value)
     ∙ c.differences_at-differences.ensures in
     record {

@@ -23,5 +23,5 @@ returns-clause-surveys g c =
     c.survey_lines.ensures.surveys
 
 pub survey_lines-requires : goal.survey_lines-requires
-survey_lines-requires g c = λ gsi.
-    ap (λ (next : ToCome). next.number) (c.in_ok-lines.ensures.whatever gsi)
+survey_lines-requires g c =
+    λ gsi. ap (λ (next : ToCome). next.number) (c.in_ok-lines.ensures.whatever gsi)

@@ -23,7 +23,8 @@ returns-clause-writes g c =
     let printed = rw c.new-page.ensures at c.print_blocks-answer.ensures.prints in
     let holds = g.W.Sink.holds c.args.writer.now in
     let now = g.W.Sink.holds c.print_blocks-answer.new.writer in
-    let Answered = λ (file : FileAnswers).
+    let Answered =
+    λ (file : FileAnswers).
     AnswersWords c.print_blocks-answer.result
     (Prints holds [] now c.print_blocks-answer.new.page) (PrintsSome holds [] now) file in
     came_so _ (λ (gsi : Told). Answered (file_answers gsi))
@@ -35,5 +36,5 @@ returns-clause-writes g c =
     (λ gsi a. c.end_text.ensures.writes holds (file_answers gsi) a)
 
 pub print_blocks-answer-requires : goal.print_blocks-answer-requires
-print_blocks-answer-requires g c = λ gsi.
-    ap (λ (next : ToCome). next.number) (c.in_ok-lines.ensures.whatever gsi)
+print_blocks-answer-requires g c =
+    λ gsi. ap (λ (next : ToCome). next.number) (c.in_ok-lines.ensures.whatever gsi)
