@@ -107,8 +107,8 @@ compares_by_file limits lines stated name within file.Memory o h = tt
 
 -- what a table's directions and how far they are apart say of its bytes
 pub compared : (station : StationValue) (bytes : List ℕ) (targets : List (List ℕ))
-    (directions stated : List ℤ) (apart : ℕ) → targets ≡ station.targets → stated
-    ≡ directions → IsTableText targets bytes directions
+    (directions stated : List ℤ) (apart : ℕ) → targets ≡ station.targets → stated ≡ directions
+    → IsTableText targets bytes directions
     → ((c : Choice) (turns : List ℤ) → IsLeastOf station c turns
     → AreBroughtWithin (length station.targets) c (stated_by stated) apart)
     → (2 ≤ apart → (c : Choice) (turns : List ℤ) → IsLeastOf station c turns
@@ -119,11 +119,9 @@ compared station bytes targets directions stated apart same_targets same states 
     told = record {
       directions = directions;
       states = subst (λ names. IsTableText names bytes directions) same_targets states;
-      brought = subst
-          (λ s. (c : Choice) (turns : List ℤ) → IsLeastOf station c turns
+      brought = subst (λ s. (c : Choice) (turns : List ℤ) → IsLeastOf station c turns
           → AreBroughtWithin (length station.targets) c (stated_by s) apart) same brought;
-      no_nearer = subst
-          (λ s. 2 ≤ apart → (c : Choice) (turns : List ℤ) → IsLeastOf station c turns
+      no_nearer = subst (λ s. 2 ≤ apart → (c : Choice) (turns : List ℤ) → IsLeastOf station c turns
           → AreBroughtWithin (length station.targets) c (stated_by s) (apart - 2) → ⊥) same no_nearer;
       told = subst (λ s. IsTold station LARGEST_RESIDUAL_LIMIT (stated_by s) apart) same told;
     }

@@ -22,16 +22,15 @@ module _ (limits : FaceLimits) (small : AreLimits limits) (file : FileAnswers) (
       → (fault : Fault) → FileComesTo limits file (Err fault) → ⊥
   no_file_fault its s fault h =
       let has = has_station its s in
-      let e : Ok has.survey.blocks
-      ≡ Err fault =
+      let e : Ok has.survey.blocks ≡ Err fault =
       one_outcome limits file (Ok has.survey.blocks) (Err fault) has.survey.file h in
       cc
 
-  same_survey : (a b : List SurveyedStation) → IsSurvey limits file a → IsSurvey limits file b → a
-      ≡ b
+  same_survey : (a b : List SurveyedStation) → IsSurvey limits file a → IsSurvey limits file b
+      → a ≡ b
   same_survey a b s t =
-      let e : Ok s.blocks
-      ≡ Ok t.blocks = one_outcome limits file (Ok s.blocks) (Ok t.blocks) s.file t.file in
+      let e : Ok s.blocks ≡ Ok t.blocks =
+      one_outcome limits file (Ok s.blocks) (Ok t.blocks) s.file t.file in
       let same : s.blocks ≡ t.blocks = cc in
       one_survey limits t.blocks a b small
       (subst (λ (h : History). AreStations limits h a) same s.stations_are) t.stations_are
@@ -42,8 +41,8 @@ module _ (limits : FaceLimits) (small : AreLimits limits) (file : FileAnswers) (
   same_station a b s t =
       let has = has_station a s in
       let other = has_station b t in
-      let e : Some a
-      ≡ Some b = sym has.named
+      let e : Some a ≡ Some b =
+      sym has.named
       ∙ ap (station_named name)
       (same_survey has.stations other.stations has.survey other.survey) ∙ other.named in
       cc
@@ -53,8 +52,8 @@ module _ (limits : FaceLimits) (small : AreLimits limits) (file : FileAnswers) (
       → HasNoStation limits file name → ⊥
   never_none its s none =
       let has = has_station its s in
-      let e : Some its
-      ≡ None = sym has.named
+      let e : Some its ≡ None =
+      sym has.named
       ∙ ap (station_named name) (same_survey has.stations none.stations has.survey none.survey)
       ∙ none.none in
       cc

@@ -73,8 +73,7 @@ module _ (count : ℕ) (text : List ℕ) (many : 6 ≤ count) where
     own_apart : (directions : List ℤ) (apart : ℕ) → IsTableText station.targets text directions
         → IsTold station LARGEST_RESIDUAL_LIMIT (stated_by directions) apart → apart ≤ 1
     own_apart directions apart states told =
-        let same : directions
-        ≡ map pos (numbers_of own.stated) =
+        let same : directions ≡ map pos (numbers_of own.stated) =
         one_table station.targets text directions (directions_of own.stated) states own.reads
         ∙ read_as own.stated in
         rounded station LARGEST_RESIDUAL_LIMIT LARGEST_RESIDUAL_LIMIT (step_of count) apart

@@ -22,9 +22,9 @@ all_by_part P f (x ∷ xs) h =
     (all_by_part P f xs (All-tail P (f x) (map f xs) h))
 
 -- what is answered, where the station was found
-pub tells_by_station : {T : Type 0} (items : T → List ℕ) (limits : FaceLimits) (lines : FileAnswers)
-    (name : List ℕ) (count : ℕ) (its : SurveyedStation) (r : Result T CompareFault)
-    → IsStationOfFile limits lines name its
+pub tells_by_station : {T : Type 0} (items : T
+    → List ℕ) (limits : FaceLimits) (lines : FileAnswers) (name : List ℕ) (count : ℕ)
+    (its : SurveyedStation) (r : Result T CompareFault) → IsStationOfFile limits lines name its
     → MatchResult r (λ t. IsDirectionsText its.station count (items t)) (HasNoTable its.station)
     → MatchResult r (λ t. StatesDirections limits lines name count (items t))
     (HasNoDirections limits lines name)
