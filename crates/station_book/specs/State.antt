@@ -10,8 +10,7 @@ use Rattle.station_book.specs.Faults.{when, first_of, station_faults}
 use Rattle.gsi_word.specs.Blocks.{GsiBlock}
 use Rattle.station_book.specs.declared.role.Role.{Role}
 use Rattle.station_book.specs.declared.role.Role.TheVariants.{Station as AsStation, Set, Close, Measurement, Other}
-use Rattle.station_book.specs.Blocks.{role_of}
-use Rattle.station_book.specs.Blocks.{has_two, named, number}
+use Rattle.station_book.specs.Blocks.{role_of, has_two, named, number}
 use Rattle.station_book.specs.Readings.{read}
 use Rattle.station_book.specs.Slots.{closing_faults}
 use Rattle.station_book.specs.StationState.{with_set, is_new_to, state_faults, with_reading}

@@ -14,13 +14,12 @@ use Rattle.station_book.specs.declared.angles.Reading.{Reading}
 use Rattle.station_book.specs.declared.stage.Stage.{Stage}
 use Rattle.station_book.specs.declared.stage.Stage.TheVariants.{Outside, Station, BetweenSets, InSet}
 use Rattle.station_book.specs.Limits.{FaceLimits}
-use Rattle.station_book.specs.Blocks.{role_of}
+use Rattle.station_book.specs.Blocks.{role_of, is_set_code, opens_set, has_direction, target}
 use Rattle.station_book.specs.Readings as said
 use Rattle.station_book.specs.StationState.{place_of}
 use Rattle.station_book.specs.StationStates.{StationStates, last_of}
 use Rattle.station_book.specs.State as states
 use Rattle.station_book.specs.Refusals.{ExplainsFault, WantsOnlyAt}
-use Rattle.station_book.specs.Blocks.{opens_set, has_direction, target}
 use Rattle.station_book.specs.Places.{History, is_open, is_reading}
 use Rattle.station_book.specs.Faults.{first_of, end_faults, station_faults, faults_as, fault_after, fault_at_end, is_new_target}
 use Rattle.station_book.specs.State.{then_fault}
@@ -30,7 +29,7 @@ use Rattle.station_book.proofs.lists.JoinedLists.{absent}
 use Rattle.station_book.proofs.places.Steps.{open_targets}
 use Rattle.station_book.proofs.histories.StateHistories.{open_has_set, open_state}
 use Rattle.station_book.proofs.histories.FileEnd.{same_end}
-use Rattle.station_book.proofs.histories.TakenBlocks.{set_as, direction_as, was_read, at_own, taken_state}
+use Rattle.station_book.proofs.histories.TakenBlocks.{direction_as, was_read, at_own, taken_state}
 use Rattle.station_book.proofs.faults.FaultOrder.{first_append}
 use Rattle.station_book.proofs.faults.SetFaults.{same_set_fault}
 use Rattle.station_book.proofs.faults.ReadingFaults.{same_measurement_fault}
@@ -97,7 +96,7 @@ may_grow limits k b past h = by (role_of b) refl where
   by : (r : Role) → role_of b ≡ r → states.grows_as r k b ≡ true
       → (opens_set b ≡ true) ⊎ IsFirstOfTarget b past
   by roles.Station e t = absurd (false≢true t)
-  by roles.Set e t = inl (set_as b roles.Set e)
+  by roles.Set e t = inl (ap is_set_code e)
   by roles.Close e t = absurd (false≢true t)
   by roles.Measurement e t =
       let p = and_parts (states.has_open_set k.stage)

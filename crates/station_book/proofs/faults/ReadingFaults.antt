@@ -33,11 +33,10 @@ use Rattle.station_book.proofs.places.Steps.{open_targets}
 use Rattle.station_book.proofs.readings.FaceReadings.{IsKept, one_face, unseen}
 use Rattle.station_book.proofs.readings.CleanBlocks.{open_kept}
 use Rattle.station_book.proofs.histories.ReadingHistories.{slot_get}
-use Rattle.station_book.proofs.histories.StateHistories.{open_has_set}
+use Rattle.station_book.proofs.histories.StateHistories.{open_has_set, open_state}
 use Rattle.station_book.proofs.histories.TakenBlocks.{first_face, second_face}
 use Rattle.station_book.proofs.histories.FileEnd.{slots_kept, some_angles}
 use Rattle.station_book.proofs.faults.FaultOrder.{first_append}
-use Rattle.station_book.proofs.histories.StateHistories.{open_state}
 use Rattle.std.proofs.lemmas.Bool.{and_right}
 
 -- the faults of a reading in itself

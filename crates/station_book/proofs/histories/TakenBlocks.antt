@@ -14,12 +14,11 @@ use Rattle.station_book.specs.declared.stage.Stage.{Stage}
 use Rattle.station_book.specs.declared.stage.Stage.TheVariants.{Outside, Station, BetweenSets, InSet}
 use Rattle.station_book.specs.Faults.{station_faults, when, first_of, open_sets, fault_after, name_at}
 use Rattle.station_book.specs.State.{then_fault}
-use Rattle.station_book.specs.Blocks.{role_of, is_station, is_set_code, is_close, is_measurement}
+use Rattle.station_book.specs.Blocks.{role_of, is_station, is_set_code, is_close, is_measurement, opens_station, opens_set, is_opening, has_direction, named, number, angles, is_of_face, other_face, found, is_absent, is_twice, name_found, has_two, lacks}
 use Rattle.station_book.specs.StationState.{with_set, with_reading}
 use Rattle.station_book.specs.StationStates.{StationStates, change_last}
 use Rattle.station_book.specs.State as states
 use Rattle.gsi_word.specs.Blocks.{GsiBlock}
-use Rattle.station_book.specs.Blocks.{opens_station, opens_set, is_opening, has_direction, named, number, angles, is_of_face, other_face, found, is_absent, is_twice, name_found, has_two, lacks}
 use Rattle.station_book.specs.Places.{History, last, station, is_empty, is_open, is_reading}
 use Rattle.station_book.specs.StateOfHistory.{IsStage, AreStates, stations_in}
 use Rattle.station_book.specs.Readings as said
@@ -33,12 +32,6 @@ use Rattle.station_book.proofs.histories.StateHistories.{states_idle, states_fir
 use Rattle.std.proofs.lemmas.Bool.{and_right}
 
 -- what a role says of the tests
-pub station_as : (b : GsiBlock) (r : Role) → role_of b ≡ r → opens_station b ≡ is_station r
-station_as b r e = ap is_station e
-
-pub set_as : (b : GsiBlock) (r : Role) → role_of b ≡ r → opens_set b ≡ is_set_code r
-set_as b r e = ap is_set_code e
-
 pub direction_as : (b : GsiBlock) (r : Role) → role_of b ≡ r
     → has_direction b ≡ (is_measurement r && not (lacks 21 b))
 direction_as b r e = ap (λ q. is_measurement q && not (lacks 21 b)) e
@@ -100,7 +93,7 @@ name_of_station b e = name_found_in (found 42 b) e
 
 is_set_block : (b : GsiBlock) → role_of b ≡ roles.Set
     → (opens_station b ≡ false) × (opens_set b ≡ true)
-is_set_block b e = (station_as b roles.Set e, set_as b roles.Set e)
+is_set_block b e = (ap is_station e, ap is_set_code e)
 
 -- a further set of the last station
 further_taken : (so_far : StationStates) (b : GsiBlock) (past : History) (n : ℕ)
@@ -199,8 +192,8 @@ says b past s w =
 measures_nothing : (b : GsiBlock) → role_of b ≡ roles.Measurement
     → (opens_station b ≡ false) × (opens_set b ≡ false) × (is_opening b ≡ false)
 measures_nothing b r = (
-  station_as b roles.Measurement r,
-  set_as b roles.Measurement r,
+  ap is_station r,
+  ap is_set_code r,
   opening_as b roles.Measurement r,
 )
 
@@ -215,7 +208,7 @@ in_set_taken so_far b past (Ok None) r e now kind h =
     let absent : lacks 21 b ≡ true = none_cases (lacks 21 b) (first_of (said.own_faults b))
     (said.reading b) e in
     let blind : has_direction b ≡ false = direction_as b roles.Measurement r ∙ ap not absent in
-    states_idle so_far b past (set_as b roles.Measurement r) (no_reading b past blind) h
+    states_idle so_far b past (ap is_set_code r) (no_reading b past blind) h
 in_set_taken so_far b past (Ok (Some s)) r e now kind h =
     let w = was_read b s e in
     let seen : has_direction b ≡ true = direction_as b roles.Measurement r ∙ ap not w.directed in
@@ -244,11 +237,11 @@ pub measurement_taken : (limits : FaceLimits) (so_far : StationStates) (stage : 
     → AreStates (b ∷ past) (stations_in (b ∷ past))
     (cond (states.has_open_set stage) (states.with_measured (said.read b) so_far) so_far)
 measurement_taken limits so_far Outside b past r f g h = states_idle so_far b past
-    (set_as b roles.Measurement r) (closed_no_reading b past g.1) h
+    (ap is_set_code r) (closed_no_reading b past g.1) h
 measurement_taken limits so_far (Station name) b past r f g h = states_idle so_far b past
-    (set_as b roles.Measurement r) (closed_no_reading b past g.3) h
+    (ap is_set_code r) (closed_no_reading b past g.3) h
 measurement_taken limits so_far BetweenSets b past r f g h = states_idle so_far b past
-    (set_as b roles.Measurement r) (closed_no_reading b past g.1) h
+    (ap is_set_code r) (closed_no_reading b past g.1) h
 measurement_taken limits so_far InSet b past r f g h = in_set_taken so_far b past
     (said.read b) r refl g (no_err limits so_far (said.read b) f) h
 
@@ -273,7 +266,7 @@ pub taken_state : (limits : FaceLimits) (taken : ℕ) (stage : Stage) (so_far : 
 taken_state limits taken stage so_far b past roles.Station r f clean h =
     let (name, is) = name_of_station b
     (then_second (states.ending stage so_far) (first_of (station_faults b)) f) in
-    let s = station_as b roles.Station r in
+    let s = ap is_station r in
     let here : station (b ∷ past) ≡ b ∷ past = ap
     (λ v. cond v (b ∷ past) (last opens_station past)) s in
     record {
@@ -285,16 +278,16 @@ taken_state limits taken stage so_far b past roles.Station r f clean h =
             ap is_empty here,
             ap (λ p. name_at p) here ∙ is,
             sets-station b past s,
-            is_open-opening b past (opening_as b roles.Station r) ∙ set_as b roles.Station r,
+            is_open-opening b past (opening_as b roles.Station r) ∙ ap is_set_code r,
           );
-      stations = states_idle so_far b past (set_as b roles.Station r)
+      stations = states_idle so_far b past (ap is_set_code r)
           (no_reading b past (direction_as b roles.Station r)) h.stations;
     }
 taken_state limits taken stage so_far b past roles.Set r f clean h = record {
   limited = refl;
   clean = (clean, h.clean);
   counted = (let t = h.counted in omega (arith, t));
-  stage = is_open-opening b past (opening_as b roles.Set r) ∙ set_as b roles.Set r;
+  stage = is_open-opening b past (opening_as b roles.Set r) ∙ ap is_set_code r;
   stations = set_taken so_far b past stage (number b) r refl
       (then_second (when (has_two 42 b) (kinds.WordTwice 42))
       (states.opening_fault stage so_far (number b)) (then_second (states.ending stage so_far) _ f))
@@ -304,9 +297,9 @@ taken_state limits taken stage so_far b past roles.Close r f clean h = record {
   limited = refl;
   clean = (clean, h.clean);
   counted = (let t = h.counted in omega (arith, t));
-  stage = stage_closes stage b past (station_as b roles.Close r) (set_as b roles.Close r)
+  stage = stage_closes stage b past (ap is_station r) (ap is_set_code r)
       (opening_as b roles.Close r) h.stage;
-  stations = states_idle so_far b past (set_as b roles.Close r)
+  stations = states_idle so_far b past (ap is_set_code r)
       (no_reading b past (direction_as b roles.Close r)) h.stations;
 }
 taken_state limits taken stage so_far b past roles.Measurement r f clean h =
@@ -322,9 +315,9 @@ taken_state limits taken stage so_far b past roles.Other r f clean h = record {
   limited = refl;
   clean = (clean, h.clean);
   counted = (let t = h.counted in omega (arith, t));
-  stage = stage_stays stage b past (station_as b roles.Other r) (set_as b roles.Other r)
+  stage = stage_stays stage b past (ap is_station r) (ap is_set_code r)
       (opening_as b roles.Other r) h.stage;
-  stations = states_idle so_far b past (set_as b roles.Other r)
+  stations = states_idle so_far b past (ap is_set_code r)
       (no_reading b past (direction_as b roles.Other r)) h.stations;
 }
 

@@ -17,10 +17,6 @@ pub skip : {X : Type 0} (test : X → Bool) (x : X) (xs : List X) → test x ≡
     → filter test (x ∷ xs) ≡ filter test xs
 skip test x xs e = rw e
 
-pub keep : {X : Type 0} (test : X → Bool) (x : X) (xs : List X) → test x ≡ true
-    → filter test (x ∷ xs) ≡ x ∷ filter test xs
-keep test x xs e = rw e
-
 -- nothing belongs to a place that is still to come
 pub none_later : (p : GsiBlock → Bool) (kind : Place → Bool) (owner : Place) (past : History)
     → length past ≤ length owner → belonging p kind owner past ≡ []

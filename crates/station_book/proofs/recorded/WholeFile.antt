@@ -21,8 +21,7 @@ use Rattle.station_book.specs.Stations.{SurveyedStation, IsSurveyed, AreStations
 use Rattle.station_book.specs.Recorded.{IsReadingOf, IsListed}
 use Rattle.station_book.proofs.lists.Elements.{In, any_from, find_some, in_contains, contains_in, in_map, of_filter, zip_right}
 use Rattle.station_book.proofs.places.Steps.{readings-more, readings-other, direction_opens_nothing}
-use Rattle.station_book.proofs.readings.CleanBlocks.{all_none, none_when}
-use Rattle.station_book.proofs.readings.CleanBlocks.{clean_reading}
+use Rattle.station_book.proofs.readings.CleanBlocks.{all_none, none_when, clean_reading}
 use Rattle.station_book.proofs.faults.FirstFault.{fault_or_none, no_first_fault, one_first_fault}
 use Rattle.station_book.proofs.places.FilePlaces.{HasItsSet, last_placed, owner_placed, same_of_file, set_of_reading, set_station}
 use Rattle.station_book.proofs.recorded.PairReadings.{IsRead}

@@ -1,9 +1,8 @@
 use Rattle.std.proofs.Common.{length, replicate, sym, ◌∙◌, arith}
 use Rattle.std.specs.Map.{values_of}
-use Rattle.std.proofs.lemmas.List.{ext_get_or, get_or-replicate}
+use Rattle.std.proofs.lemmas.List.{ext_get_or, get_or-replicate, length-replicate}
 use Rattle.indexmap.specs.Layout.{length-set_value_at}
 use Rattle.station_book.specs.Slots.{empty_slot}
-use Rattle.std.proofs.lemmas.List.{length-replicate}
 use Rattle.station_book.proofs.states.TargetMaps.{same_keys, length_values, emptied}
 use Rattle.station_book.proofs.targets.Targets.empty_slots.Goals as goal
 
