@@ -67,8 +67,10 @@ module _ (c : Choice) where
   pub greatest_is : (readings : List Reading) → 1 ≤ length readings
       → IsGreatest c readings (pos (greatest_size c readings))
   greatest_is [] h = absurd (omega arith)
-  greatest_is (r ∷ readings) h = record { bound = bounds 0 (r ∷ readings); reached =
-      by (reaches 0 (r ∷ readings)) } where
+  greatest_is (r ∷ readings) h = record {
+    bound = bounds 0 (r ∷ readings);
+    reached = by (reaches 0 (r ∷ readings));
+  } where
     by : (greatest_size c (r ∷ readings) ≡ 0)
         ⊎ IsReached (greatest_size c (r ∷ readings)) (r ∷ readings)
         → IsReached (greatest_size c (r ∷ readings)) (r ∷ readings)

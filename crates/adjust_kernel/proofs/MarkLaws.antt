@@ -101,8 +101,12 @@ module _ (sets targets : ℕ) (obs : List Obs) where
     pub alike : OnFalse any (All (AreAlike marks sets) (take n obs))
 
   pub none_swept : (marks : List Bool) → IsSwept marks marks false 0
-  none_swept marks = record { spread = λ s. s; at_most = omega arith; fewer = tt; alike =
-      λ k d h. absurd (omega arith) }
+  none_swept marks = record {
+    spread = λ s. s;
+    at_most = omega arith;
+    fewer = tt;
+    alike = λ k d h. absurd (omega arith);
+  }
 
   -- the marks of the first observations' sets and targets
   pub record AreSeen (marks : List Bool) (n : ℕ) : Type 0 where
@@ -113,8 +117,11 @@ module _ (sets targets : ℕ) (obs : List Obs) where
         × (get_or obs i o ≡ o) × ((o.set ≡ k) ⊎ (sets + o.target ≡ k))
 
   pub none_seen : AreSeen (replicate 140 false) 0
-  none_seen = record { long = length-replicate 140 false; marked =
-      λ i h d. absurd (omega arith); only = λ k e. absurd (none_marked k e) }
+  none_seen = record {
+    long = length-replicate 140 false;
+    marked = λ i h d. absurd (omega arith);
+    only = λ k e. absurd (none_marked k e);
+  }
 
 module _ (sets targets : ℕ) (obs : List Obs) (placed : All (IsObs sets targets) obs) where
   -- a mark that is carried along an observation stays in the part of the first target

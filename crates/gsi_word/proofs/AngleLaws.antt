@@ -32,8 +32,12 @@ passed : (gon mode negative : Bool) (number : Result ℕ AngleFault) (n : ℕ)
 passed false mode negative number n e = absurd (err_ok WrongUnit n e)
 passed true false negative number n e = absurd (err_ok InputMode n e)
 passed true true true number n e = absurd (err_ok Sign n e)
-passed true true false number n e = record { gon_passed = refl; mode_passed = refl; sign_passed =
-    refl; number_is = e }
+passed true true false number n e = record {
+  gon_passed = refl;
+  mode_passed = refl;
+  sign_passed = refl;
+  number_is = e;
+}
 
 same_number : (m n : ℕ) → ◌≡◌ {A = Result ℕ AngleFault} (Ok m) (Ok n) → m ≡ n
 same_number m n e = cc
@@ -64,8 +68,14 @@ angle_found w units e =
         (angle_within_turn (decimal_number w.content)) units e in
     let q = within (decimal_number w.content) units p.number_is in
     let r = digits_cases w.content units (list_all is_ascii_digit w.content) refl q.0 in
-    record { gon = p.gon_passed; input_mode = p.mode_passed; sign = p.sign_passed; digits =
-        r.0; value = r.1; within_turn = q.1 }
+    record {
+      gon = p.gon_passed;
+      input_mode = p.mode_passed;
+      sign = p.sign_passed;
+      digits = r.0;
+      value = r.1;
+      within_turn = q.1;
+    }
 
 angle_is : (w : GsiWord) (units : ℕ) → IsAngle w units → angle_of w ≡ Ok units
 angle_is w units h =

@@ -33,8 +33,15 @@ bytes_or_fault (b ∷ line) = elim (cases_Bool (is_printable b)) [
       },
     )
   ]
-  | inr bad ↦ inr (1, record { front = []; byte = b; rest = line; text = refl; place =
-      refl; before = All-nil IsPrintable; fault = no_printable b bad })
+  | inr bad ↦ inr (1, record {
+    front = [];
+    byte = b;
+    rest = line;
+    text = refl;
+    place = refl;
+    before = All-nil IsPrintable;
+    fault = no_printable b bad;
+  })
 ]
 
 -- Words run up to a place where none begins.

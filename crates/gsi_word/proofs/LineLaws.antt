@@ -139,9 +139,13 @@ fault_excludes : (width : ℕ) (front : List GsiWord) (rest : List ℕ) (ws : Li
     → flat_map followed front ++ rest ≡ join_with_byte 32 (map spelled ws) ++ replicate m 32 → ⊥
 fault_excludes width front rest [] m a b p none ink e = absurd (omega arith)
 fault_excludes width [] rest (w ∷ ws) m a b p none ink e =
-    none (record { word = w; rest = after ws (replicate m 32); is_word =
-        All-head (IsWord width) w ws b; ends = ends_after ws m; text = e
-        ∙ first_word w ws (replicate m 32) })
+    none (record {
+      word = w;
+      rest = after ws (replicate m 32);
+      is_word = All-head (IsWord width) w ws b;
+      ends = ends_after ws m;
+      text = e ∙ first_word w ws (replicate m 32);
+    })
 fault_excludes width (f ∷ []) rest (w ∷ []) m a b p none ink e =
     let t = same_after width f w [] [] rest (replicate m 32) (All-head (IsWord width) f [] a)
         (All-head (IsWord width) w [] b) e in
@@ -236,9 +240,13 @@ same_byte line a b f g = omega (arith, f.place, g.place,
 -- Bytes that begin with a word and a blank.
 begins_followed : (width : ℕ) (w : GsiWord) (ws : List GsiWord) (rest tail : List ℕ)
     → IsWord width w → rest ≡ flat_map followed (w ∷ ws) ++ tail → BeginsWord width rest
-begins_followed width w ws rest tail h e = record { word = w; rest =
-    32 ∷ (flat_map followed ws ++ tail); is_word = h; ends = refl; text = e
-    ∙ first_followed w ws tail }
+begins_followed width w ws rest tail h e = record {
+  word = w;
+  rest = 32 ∷ (flat_map followed ws ++ tail);
+  is_word = h;
+  ends = refl;
+  text = e ∙ first_followed w ws tail;
+}
 
 same_count : (width : ℕ) (ws vs : List GsiWord) (rest tail : List ℕ) → All (IsWord width) ws
     → All (IsWord width) vs → ¬ BeginsWord width rest → ¬ BeginsWord width tail

@@ -47,16 +47,27 @@ one_byte b false e = inr (λ is. eqb-false b 48 e (same_byte b 48 is))
 more_bytes : (b c : ℕ) (bytes : List ℕ) (t : Bool) → eqb b 48 ≡ t
     → IsName (c ∷ bytes) (name_of (c ∷ bytes))
     → IsName (b ∷ c ∷ bytes) (if t then name_of (c ∷ bytes) else b ∷ c ∷ bytes)
-more_bytes b c bytes true e h = record { zeros = suc h.zeros; text =
-    ap (λ (x : ℕ). x ∷ c ∷ bytes) (eqb-true b 48 e)
-    ∙ ap (λ (r : List ℕ). 48 ∷ r) h.text; some_byte = h.some_byte; bare = h.bare }
-more_bytes b c bytes false e h = record { zeros = 0; text = refl; some_byte = omega arith; bare =
-    inr (λ is. eqb-false b 48 e (same_byte b 48 is)) }
+more_bytes b c bytes true e h = record {
+  zeros = suc h.zeros;
+  text = ap (λ (x : ℕ). x ∷ c ∷ bytes) (eqb-true b 48 e) ∙ ap (λ (r : List ℕ). 48 ∷ r) h.text;
+  some_byte = h.some_byte;
+  bare = h.bare;
+}
+more_bytes b c bytes false e h = record {
+  zeros = 0;
+  text = refl;
+  some_byte = omega arith;
+  bare = inr (λ is. eqb-false b 48 e (same_byte b 48 is));
+}
 
 name_is : (content : List ℕ) → 0 < length content → IsName content (name_of content)
 name_is [] some = absurd (omega arith)
-name_is (b ∷ []) some = record { zeros = 0; text = refl; some_byte = some; bare =
-    one_byte b (eqb b 48) refl }
+name_is (b ∷ []) some = record {
+  zeros = 0;
+  text = refl;
+  some_byte = some;
+  bare = one_byte b (eqb b 48) refl;
+}
 name_is (b ∷ c ∷ bytes) some = more_bytes b c bytes (eqb b 48) refl
     (name_is (c ∷ bytes) (omega arith))
 

@@ -72,8 +72,10 @@ record Ends (bytes rest : List ℕ) : Type 0 where
 last_blanks : (back rest : List ℕ) → EndsWord back → drop 1 back ≡ rest
     → rest ≡ replicate (length rest) 32 → Ends back rest
 last_blanks [] rest e is blank = record { blanks = 0; text = refl }
-last_blanks (b ∷ back) rest e is blank = record { blanks = suc (length rest); text =
-    ap (λ (x : ℕ). x ∷ back) e ∙ ap (λ (r : List ℕ). 32 ∷ r) (is ∙ blank) }
+last_blanks (b ∷ back) rest e is blank = record {
+  blanks = suc (length rest);
+  text = ap (λ (x : ℕ). x ∷ back) e ∙ ap (λ (r : List ℕ). 32 ∷ r) (is ∙ blank);
+}
 
 run_is_words : (width n : ℕ) (bytes rest : List ℕ) → Runs width (suc n) bytes rest
     → All IsPrintable bytes → rest ≡ replicate (length rest) 32

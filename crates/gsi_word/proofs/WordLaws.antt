@@ -262,9 +262,17 @@ test_of_word width w rest h ends =
 
 same_word : (n n' : ℕ) (info info' : List ℕ) (negative negative' : Bool) (content content' : List ℕ)
     → n ≡ n' → info ≡ info' → negative ≡ negative' → content ≡ content'
-    → ((let w : GsiWord = record { index = n; info = info; negative = negative; content =
-    content } in w) ≡ (record { index = n'; info = info'; negative = negative'; content =
-    content' }))
+    → ((let w : GsiWord = record {
+      index = n;
+      info = info;
+      negative = negative;
+      content = content;
+    } in w) ≡ (record {
+      index = n';
+      info = info';
+      negative = negative';
+      content = content';
+    }))
 same_word n n' info info' negative negative' content content' a b c d = rw (a, b, c, d) refl
 
 front_cells : (width : ℕ) (w : GsiWord) (rest : List ℕ) (i j k m : ℕ) → w.info ≡ i ∷ j ∷ k ∷ m ∷ []

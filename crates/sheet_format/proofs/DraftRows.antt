@@ -62,10 +62,18 @@ pub record IsDraft (d : DraftValue) : Type 0 where
   pub rows_follow : 0 < length d.rows → 0 < length d.orientations
 
 pub blank-draft : IsDraft blank
-blank-draft = record { header = tt; bare = λ e. (refl, refl, refl); directions =
-    All-nil _; orientations = All-nil _; rows = All-nil _; few_directions =
-    omega arith; few_orientations = omega arith; few_rows = omega arith; sets_follow =
-    λ h. absurd (omega (arith, h)); rows_follow = λ h. absurd (omega (arith, h)) }
+blank-draft = record {
+  header = tt;
+  bare = λ e. (refl, refl, refl);
+  directions = All-nil _;
+  orientations = All-nil _;
+  rows = All-nil _;
+  few_directions = omega arith;
+  few_orientations = omega arith;
+  few_rows = omega arith;
+  sets_follow = λ h. absurd (omega (arith, h));
+  rows_follow = λ h. absurd (omega (arith, h));
+}
 
 -- a row's entry was added: the draft stands for one row more
 pub record Takes (d : DraftValue) (row : List (List ℕ)) (e : DraftValue) : Type 0 where
@@ -253,8 +261,11 @@ IsSheetRow c h = (listed c ≡ sheet_fields h.version h.name h.denominator)
 
 versioned-row : (v : Version) (c : Fields) → c.kind ≡ row_type_text row_type.Sheet
     → c.number ≡ version_text v → versioned_fault v c ≡ None
-    → IsSheetRow c (record { version = v; name = c.name; denominator =
-    natural_of (value_of c.value) })
+    → IsSheetRow c (record {
+      version = v;
+      name = c.name;
+      denominator = natural_of (value_of c.value);
+    })
 versioned-row v c named version none =
     let (empty, t1) = or-none _ _ none in
     let (name, t2) = or-none _ _ t1 in
@@ -274,8 +285,11 @@ sheet-row c named none = by (version_of c.number) refl none
         → IsSheetRow c (header_of c)
     by None x e = cc e
     by (Some v) x e =
-        let same : record { version = v; name = c.name; denominator =
-            natural_of (value_of c.value) } ≡ header_of c = rw x refl in
+        let same : record {
+          version = v;
+          name = c.name;
+          denominator = natural_of (value_of c.value);
+        } ≡ header_of c = rw x refl in
         subst (IsSheetRow c) same (versioned-row v c named (version-found c.number v x) e)
 
 target-row : (v : Version) (c : Fields) → c.kind ≡ row_type_text row_type.Target
@@ -322,9 +336,12 @@ obs-row c named none =
         number_range in
     let p = natural-text 0 (TURN - 1) c.value zero-small circle-small value_form value_range in
     let turn = number-text LARGEST_TURN c.turn turn-fits turn_form turn_range in
-    (rw (named, n.text, p.text, turn) refl, record { set = (n.least, n.most); target =
-        name-found c.name (unless-none _ _ name); value = omega (arith, p.most); turn =
-        within-found LARGEST_TURN (value_of c.turn) turn_range })
+    (rw (named, n.text, p.text, turn) refl, record {
+      set = (n.least, n.most);
+      target = name-found c.name (unless-none _ _ name);
+      value = omega (arith, p.most);
+      turn = within-found LARGEST_TURN (value_of c.turn) turn_range;
+    })
 
 -- What a draft becomes by a row of each type.
 

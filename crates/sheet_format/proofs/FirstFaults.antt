@@ -56,8 +56,12 @@ pub record HasRead (all : List (List (List ℕ))) (d : DraftValue) (rest : List 
   pub made : drafted blank all ≡ drafted d rest
 
 pub read-begin : (all : List (List (List ℕ))) → HasRead all blank all
-read-begin all = record { draft = blank-draft; rows = refl; faultless =
-    λ earlier below. absurd (omega (arith, below)); made = refl }
+read-begin all = record {
+  draft = blank-draft;
+  rows = refl;
+  faultless = λ earlier below. absurd (omega (arith, below));
+  made = refl;
+}
 
 pub read-more : (all : List (List (List ℕ))) (d e : DraftValue) (row : List (List ℕ))
     (rest : List (List (List ℕ))) → HasRead all d (row ∷ rest)
@@ -129,10 +133,16 @@ finished-sheet d ok some = by d.header refl
           record {
             name = header.0;
             denominator = (header.1, denominator-below h.version h.denominator header.2);
-            directions = record { some = omega (arith, targets); few = ok.few_directions; each =
-                directions-below v d.directions ok.directions };
-            orientations = record { some = omega (arith, sets); few = ok.few_orientations; each =
-                orientations-below v d.orientations ok.orientations };
+            directions = record {
+              some = omega (arith, targets);
+              few = ok.few_directions;
+              each = directions-below v d.directions ok.directions;
+            };
+            orientations = record {
+              some = omega (arith, sets);
+              few = ok.few_orientations;
+              each = orientations-below v d.orientations ok.orientations;
+            };
             rows = record { some = omega (arith, some); few = ok.few_rows; each = ok.rows };
           },
         )

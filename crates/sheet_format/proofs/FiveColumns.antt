@@ -7,8 +7,13 @@ abbrev pub at : List (List ℕ) → ℕ → List ℕ
 at fs i = unwrap_or (field_at fs i) []
 
 pub five : (fs : List (List ℕ)) → length fs ≡ 5
-    → columns_of fs ≡ Some (record { kind = at fs 0; number = at fs 1; name = at fs 2;
-    value = at fs 3; turn = at fs 4 })
+    → columns_of fs ≡ Some (record {
+      kind = at fs 0;
+      number = at fs 1;
+      name = at fs 2;
+      value = at fs 3;
+      turn = at fs 4;
+    })
 unfolding field_at
 five [] e = absurd (omega (arith, e))
 five (a ∷ []) e = absurd (omega (arith, e))

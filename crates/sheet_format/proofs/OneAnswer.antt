@@ -115,10 +115,20 @@ one-fault bytes Memory g a b = absurd a
 
 -- bytes stand for one sheet
 abbrev parts_of : Option Header → DraftValue → SheetValue
-parts_of None d = record { name = []; denominator = 0; directions = d.directions; orientations =
-    d.orientations; rows = d.rows }
-parts_of (Some h) d = record { name = h.name; denominator = h.denominator; directions =
-    d.directions; orientations = d.orientations; rows = d.rows }
+parts_of None d = record {
+  name = [];
+  denominator = 0;
+  directions = d.directions;
+  orientations = d.orientations;
+  rows = d.rows;
+}
+parts_of (Some h) d = record {
+  name = h.name;
+  denominator = h.denominator;
+  directions = d.directions;
+  orientations = d.orientations;
+  rows = d.rows;
+}
 
 made-of : (bytes : List ℕ) (s : SheetValue) → IsSheetText bytes s
     → parts_of (drafted blank (records_of bytes)).header (drafted blank (records_of bytes)) ≡ s

@@ -42,10 +42,14 @@ pub record Fits128 (most : ℤ) : Type 0 where
   pub high : FitsSigned w128 most
 
 pub angle-fits : (v : Version) → Fits128 (largest_angle v)
-angle-fits One = record { low = record { sfits = omega arith }; high =
-    record { sfits = omega arith } }
-angle-fits Two = record { low = record { sfits = omega arith }; high =
-    record { sfits = omega arith } }
+angle-fits One = record {
+  low = record { sfits = omega arith };
+  high = record { sfits = omega arith };
+}
+angle-fits Two = record {
+  low = record { sfits = omega arith };
+  high = record { sfits = omega arith };
+}
 
 pub turn-fits : Fits128 LARGEST_TURN
 turn-fits = record { low = record { sfits = omega arith }; high = record { sfits = omega arith } }

@@ -39,8 +39,11 @@ returns-clause-added c = λ l h.
     let f = c.add_at-2.ensures ∙ ap (λ z. set c.args.self.now.sets c.args.set
         (get_or c.args.self.now.sets c.args.set (pos 0) +ℤ z))
         (to_z-of_z w128 c.args.residual c.ranges.residual) in
-    let x : Added = record { target = c.args.target; set = c.args.set; residual =
-        c.args.residual } in
+    let x : Added = record {
+      target = c.args.target;
+      set = c.args.set;
+      residual = c.args.residual;
+    } in
     subst (λ (p : List ℤ × List ℤ). AreSumsOf (l ++ x ∷ []) p.0 p.1 (c.args.self.now.taken + 1))
         (λ i. (sym e i, sym f i))
     (keeps_sums c.args.self.now.targets c.args.self.now.sets c.args.self.now.taken l x
