@@ -12,7 +12,7 @@ take_behind [] ys held n e = let z : held + n ≡ n = omega arith in ap (λ k. t
 take_behind (x ∷ pre) ys held n e =
     let s : held + n ≡ suc (length pre + n) = omega arith in
     ap (λ k. take k (x ∷ (pre ++ ys))) s ∙ ap (λ zs. x ∷ zs)
-        (take_behind pre ys (length pre) n refl)
+    (take_behind pre ys (length pre) n refl)
 
 gives_told : (old new : Option Told) (mid : List ℕ) (n : ℕ) → 0 < length mid
     → Reads {E = Failed} old new (Ok n) mid → GivesTold old new (take n mid)
@@ -27,14 +27,15 @@ fails_told None new mid e some h = tt
 fails_told (Some old) None mid e some h = h
 fails_told (Some old) (Some new) mid e some h =
     let same : new ≡ old = h.unchanged in
-    let end = h.end in
-    ((sym (ap (λ (t : Told). t.bytes) same) ∙ end.0, sym (ap (λ (t : Told). t.fails) same) ∙ end.1),
-        same)
+    let end = h.end in (
+      (sym (ap (λ (t : Told). t.bytes) same) ∙ end.0, sym (ap (λ (t : Told). t.fails) same) ∙ end.1),
+      same,
+    )
 
 pub reads_behind : (old new : Option Told) (pre mid post : List ℕ) (held : ℕ) (r : Result ℕ Failed)
     → length pre ≡ held → 0 < length mid → IfOk r (λ n. n ≤ length mid) → Reads old new r mid →
     MatchResult r (λ n. Grows old new pre (take (held + n) (pre ++ (mid ++ post))) n)
-        (λ _. (take held (pre ++ (mid ++ post)) ≡ pre) × FailsTold old new)
+    (λ _. (take held (pre ++ (mid ++ post)) ≡ pre) × FailsTold old new)
 reads_behind old new pre mid post held (Ok n) e some le h = record {
   given = take n mid;
   now = take_behind pre (mid ++ post) held n e
@@ -109,9 +110,14 @@ reads_as None new buf (Ok n) h over after may = (
   },
 )
 reads_as None new buf (Err e') h over after may =
-    let e : after ≡ broken_off = over_known new broken_off after over may in
-    (after, tt, record { unchanged = refl; end =
-        (ap (λ (t : Told). t.bytes) e, ap (λ (t : Told). t.fails) e) })
+    let e : after ≡ broken_off = over_known new broken_off after over may in (
+      after,
+      tt,
+      record {
+        unchanged = refl;
+        end = (ap (λ (t : Told). t.bytes) e, ap (λ (t : Told). t.fails) e);
+      },
+    )
 reads_as (Some o) None buf r h over after may = absurd h
 reads_as (Some o) (Some n) buf r h over after may =
     (o, refl, subst (λ (t : Told). AfterRead o t r buf) (sym may) h)

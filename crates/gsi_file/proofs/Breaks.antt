@@ -67,11 +67,15 @@ same_by room bytes fails None h = refl
 same_by room bytes fails (Some x) h =
     let count : length (take x bytes) ≡ x = omega (arith, length-take x bytes, h) in
     let front : front_of (take x bytes) ≡ take (x - 1) bytes =
-        ap (λ k. take (k - 1) (take x bytes)) count ∙ take-take (x - 1) x bytes (omega arith) in
-    ap (λ (zs : List ℕ). record { lines = ended_lines zs; last =
-        Some (if nat_lt room x then FileTooLong else LineTooLong) }) (sym front)
-    ∙ ap (λ (k : ℕ). record { lines = ended_lines (front_of (take x bytes)); last =
-    Some (if nat_lt room k then FileTooLong else LineTooLong) }) (sym count)
+    ap (λ k. take (k - 1) (take x bytes)) count ∙ take-take (x - 1) x bytes (omega arith) in
+    ap (λ (zs : List ℕ). record {
+      lines = ended_lines zs;
+      last = Some (if nat_lt room x then FileTooLong else LineTooLong);
+    }) (sym front)
+    ∙ ap (λ (k : ℕ). record {
+      lines = ended_lines (front_of (take x bytes));
+      last = Some (if nat_lt room k then FileTooLong else LineTooLong);
+    }) (sym count)
 
 -- the answers by the first byte that breaks a limit are those by the first bytes that do
 pub same_answers : (room : ℕ) (bytes : List ℕ) (fails : Bool)
@@ -80,7 +84,7 @@ pub same_answers : (room : ℕ) (bytes : List ℕ) (fails : Bool)
 unfolding answers_within
 same_answers room bytes fails =
     same_by room bytes fails (first_break room bytes)
-        (least_within (λ n. breaks room (take n bytes)) (length bytes))
+    (least_within (λ n. breaks room (take n bytes)) (length bytes))
     ∙ ap (answers_by room bytes fails) (sym (least_front (breaks room) bytes))
 
 least_is : (p : ℕ → Bool) (last x : ℕ) → x ≤ last → p x ≡ true → ((n : ℕ) → n < x → p n ≡ false)
@@ -91,7 +95,7 @@ least_is p (suc last) zero le here before = ap
     (λ b. cond b (Some 0) (option_map (λ n. suc n) (least (λ n. p (suc n)) last))) here
 least_is p (suc last) (suc x) le here before =
     ap (λ b. cond b (Some 0) (option_map (λ n. suc n) (least (λ n. p (suc n)) last)))
-        (before 0 (omega arith))
+    (before 0 (omega arith))
     ∙ ap (option_map (λ n. suc n)) (least_is (λ n. p (suc n)) last x (omega arith) here
     (λ n lt. before (suc n) (omega arith)))
 
@@ -99,7 +103,7 @@ least_none : (p : ℕ → Bool) (last : ℕ) → ((n : ℕ) → n ≤ last → p
 least_none p zero none = ap (λ b. cond b (Some 0) None) (none 0 (omega arith))
 least_none p (suc last) none =
     ap (λ b. cond b (Some 0) (option_map (λ n. suc n) (least (λ n. p (suc n)) last)))
-        (none 0 (omega arith))
+    (none 0 (omega arith))
     ∙ ap (option_map (λ n. suc n)) (least_none (λ n. p (suc n)) last
     (λ n le. none (suc n) (omega arith)))
 
@@ -108,7 +112,7 @@ pub broken_limit : (room : ℕ) (bytes : List ℕ) (fails : Bool) (x : ℕ) → 
 unfolding answers_within
 broken_limit room bytes fails x h =
     ap (spec.answers_by room bytes fails) (least_is (λ n. breaks room (take n bytes)) (length bytes)
-        x h.inside (ap not h.breaks) (λ n lt. ap not (h.before n lt)))
+    x h.inside (ap not h.breaks) (λ n lt. ap not (h.before n lt)))
 
 pub no_broken_limit : (room : ℕ) (bytes : List ℕ) (fails : Bool)
     → ((n : ℕ) → n ≤ length bytes → is_within room (take n bytes) ≡ true)
@@ -116,4 +120,4 @@ pub no_broken_limit : (room : ℕ) (bytes : List ℕ) (fails : Bool)
 unfolding answers_within
 no_broken_limit room bytes fails h =
     ap (spec.answers_by room bytes fails) (least_none (λ n. breaks room (take n bytes))
-        (length bytes) (λ n le. ap not (h n le)))
+    (length bytes) (λ n le. ap not (h n le)))

@@ -28,9 +28,11 @@ pub fault_to_come : (state : State) (count room room' : ℕ) (hand hand' rest : 
     × ((comes_in state count room' rest (Some after)).number
     ≡ (comes_in state count room hand (Some before)).number)
     × ((comes_in state count room hand (Some before)).number + 1 ≤ LONGEST_FILE)
-fault_to_come Open count room room' hand hand' rest before after f kind unsettled fits found fault =
-    (next_at_fault before after room f.line f.used f.room hand hand' f.last kind found.told fault,
-        refl, fits)
+fault_to_come Open count room room' hand hand' rest before after f kind unsettled fits found fault = (
+  next_at_fault before after room f.line f.used f.room hand hand' f.last kind found.told fault,
+  refl,
+  fits,
+)
 fault_to_come End count room room' hand hand' rest before after f kind unsettled fits found fault =
     cc
 fault_to_come (Failed k) count room room' hand hand' rest before after f kind unsettled fits found

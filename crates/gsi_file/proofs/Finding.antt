@@ -7,7 +7,7 @@ use Rattle.std.proofs.lemmas.Bool.{true≢false, false≢true}
 use Rattle.byte_ends.specs.Source.{Told, HasBrokenOff}
 use Rattle.gsi_word.specs.Words.{IsPrintable}
 use Rattle.gsi_file.specs.declared.file_fault.FileKind.TheVariants.{Read, FileTooLong, LineTooLong}
-use Rattle.gsi_file.specs.Parts.{is_line_end, has_ink, HasNoEnd}
+use Rattle.gsi_file.specs.Parts.{is_line_end, is_line, HasNoEnd}
 use Rattle.gsi_file.specs.FileAnswers.{answers_within, line_before}
 use Rattle.gsi_file.specs.Filling.{Grows, FailsTold}
 use Rattle.gsi_file.specs.Finding.{answers_in, SameAnswers, AnswersAre, AnswersBegin, HasFound, BreaksOff}
@@ -22,8 +22,8 @@ cut : (h : List ℕ) (line : ℕ) (more : List ℕ) → line < length h
     → h ++ more ≡ take line h ++ (slice_index h line ∷ (drop (line + 1) h ++ more))
 cut h line more lt =
     ap (λ zs. zs ++ more) (sym (take-append-drop line h)
-        ∙ ap (λ zs. take line h ++ zs) (drop-cons h line 0 lt
-        ∙ ap (λ k. slice_index h line ∷ drop k h) (sym (add-one line))))
+    ∙ ap (λ zs. take line h ++ zs) (drop-cons h line 0 lt
+    ∙ ap (λ k. slice_index h line ∷ drop k h) (sym (add-one line))))
     ∙ append_assoc (take line h) (slice_index h line ∷ drop (line + 1) h) more
 
 taken : (line : ℕ) (h : List ℕ) → line ≤ length h → length (take line h) ≡ line
@@ -42,8 +42,10 @@ pub record Searching (told0 told : Option Told) (room : ℕ) (h0 : List ℕ) (le
 -- the end of the source
 at_end : (a b c : Told) (room : ℕ) (h0 : List ℕ) (left line : ℕ) (h h' : List ℕ) → line ≡ length h
     → Searching (Some a) (Some b) room h0 left line h → Grows (Some b) (Some c) h h' 0 →
-    answers_in room h0 a ≡ record { lines = cond (has_ink (take line h')) (take line h' ∷ []) [];
-        last = None }
+    answers_in room h0 a ≡ record {
+      lines = cond (is_line (take line h')) (take line h' ∷ []) [];
+      last = None;
+    }
 at_end a b c room h0 left line h h' e s g =
     let none : g.given ≡ [] = none_of g.given g.count in
     let end = g.told.end none (omega arith) in
@@ -57,13 +59,15 @@ at_end a b c room h0 left line h h' e s g =
     ∙ ap (λ zs. answers_within left zs b.fails) (append-nil h)
     ∙ ap (answers_within left h) fails
     ∙ answers_end left h plain (omega (arith, s.short)) (omega (arith, s.fits))
-    ∙ ap (λ (zs : List ℕ). record { lines = cond (has_ink zs) (zs ∷ []) []; last = None })
+    ∙ ap (λ (zs : List ℕ). record { lines = cond (is_line zs) (zs ∷ []) []; last = None })
     (sym (ap (take line) kept ∙ whole))
 
 pub ends : (told0 told told' : Option Told) (room : ℕ) (h0 : List ℕ) (left line : ℕ) (h h' : List ℕ)
     → line ≡ length h → Searching told0 told room h0 left line h → Grows told told' h h' 0 →
-    AnswersAre told0 room h0 told' (record { lines =
-        cond (has_ink (take line h')) (take line h' ∷ []) []; last = None })
+    AnswersAre told0 room h0 told' (record {
+      lines = cond (is_line (take line h')) (take line h' ∷ []) [];
+      last = None;
+    })
 ends None told told' room h0 left line h h' e s g = tt
 ends (Some a) None told' room h0 left line h h' e s g = absurd s.same
 ends (Some a) (Some b) None room h0 left line h h' e s g = absurd g.told
@@ -137,7 +141,7 @@ part_ended : (a b : Told) (room : ℕ) (h0 : List ℕ) (left line : ℕ) (h : Li
     → line < left → is_line_end (slice_index h line) ≡ true
     → Searching (Some a) (Some b) room h0 left line h →
     answers_in room h0 a ≡ with_line (take line h)
-        (answers_in (left - (line + 1)) (drop (line + 1) h) b)
+    (answers_in (left - (line + 1)) (drop (line + 1) h) b)
 part_ended a b room h0 left line h lt less end s =
     s.same
     ∙ ap (λ zs. answers_within left zs b.fails) (cut h line b.bytes lt)
@@ -147,31 +151,31 @@ part_ended a b room h0 left line h lt less end s =
     ∙ ap (λ (n : ℕ). with_line (take line h) (answers_within (left - (n + 1))
     (drop (line + 1) h ++ b.bytes) b.fails)) (taken line h s.inside)
 
--- with ink it is the next line
+-- where it is not blank it is the next line
 pub finds : (told0 told : Option Told) (room : ℕ) (h0 : List ℕ) (left line : ℕ) (h : List ℕ)
     → line < length h → line < left → is_line_end (slice_index h line) ≡ true
-    → has_ink (take line h) ≡ true → Searching told0 told room h0 left line h →
+    → is_line (take line h) ≡ true → Searching told0 told room h0 left line h →
     AnswersBegin told0 room h0 told (take line h) (left - (line + 1)) (drop (line + 1) h)
-finds None told room h0 left line h lt less end ink s = tt
-finds (Some a) None room h0 left line h lt less end ink s = absurd s.same
-finds (Some a) (Some b) room h0 left line h lt less end ink s =
+finds None told room h0 left line h lt less end line_there s = tt
+finds (Some a) None room h0 left line h lt less end line_there s = absurd s.same
+finds (Some a) (Some b) room h0 left line h lt less end line_there s =
     let o = answers_in (left - (line + 1)) (drop (line + 1) h) b in
     part_ended a b room h0 left line h lt less end s
     ∙ ap (λ (t : Bool). record { lines = cond t (take line h ∷ o.lines) o.lines; last = o.last })
-    ink
+    line_there
 
--- without ink it is passed over
+-- where it is blank it is passed over
 pub passes : (told0 told : Option Told) (room : ℕ) (h0 : List ℕ) (left line : ℕ) (h : List ℕ)
     → line < length h → line < left → is_line_end (slice_index h line) ≡ true
-    → has_ink (take line h) ≡ false → Searching told0 told room h0 left line h →
+    → is_line (take line h) ≡ false → Searching told0 told room h0 left line h →
     SameAnswers told0 room h0 told (left - (line + 1)) (drop (line + 1) h)
-passes None told room h0 left line h lt less end ink s = tt
-passes (Some a) None room h0 left line h lt less end ink s = absurd s.same
-passes (Some a) (Some b) room h0 left line h lt less end ink s =
+passes None told room h0 left line h lt less end line_there s = tt
+passes (Some a) None room h0 left line h lt less end line_there s = absurd s.same
+passes (Some a) (Some b) room h0 left line h lt less end line_there s =
     let o = answers_in (left - (line + 1)) (drop (line + 1) h) b in
     part_ended a b room h0 left line h lt less end s
     ∙ ap (λ (t : Bool). record { lines = cond t (take line h ∷ o.lines) o.lines; last = o.last })
-    ink
+    line_there
 
 -- no byte, so no end
 pub none_plain : (h : List ℕ) → HasNoEnd (take 0 h)
@@ -182,18 +186,24 @@ past_next_end : (told0 told : Option Told) (room : ℕ) (h0 part : List ℕ) (le
     (h : List ℕ) → line + 1 < length h → line + 1 < left
     → is_line_end (slice_index h (line + 1)) ≡ true →
     AnswersBegin told0 room h0 told part (left - (line + 1)) (drop (line + 1) h)
-        → AnswersBegin told0 room h0 told part (left - (line + 2)) (drop (line + 2) h)
+    → AnswersBegin told0 room h0 told part (left - (line + 2)) (drop (line + 2) h)
 past_next_end None told room h0 part left line h lt less end begin = tt
 past_next_end (Some a) None room h0 part left line h lt less end begin = begin
 past_next_end (Some a) (Some b) room h0 part left line h lt less end begin =
     let left1 = left - (line + 1) in
     let h1 = drop (line + 1) h in
     let s : Searching (Some b) (Some b) left1 h1 left1 0 h1 =
-        record { short = omega arith; inside = omega arith; fits = omega arith; most =
-        omega arith; plain = none_plain h1; same = refl } in
+    record {
+      short = omega arith;
+      inside = omega arith;
+      fits = omega arith;
+      most = omega arith;
+      plain = none_plain h1;
+      same = refl;
+    } in
     let here : is_line_end (slice_index h1 0) ≡ true =
-        ap is_line_end (get_or-drop (line + 1) h 0 0 ∙ ap (λ k. slice_index h k) (omega arith))
-        ∙ end in
+    ap is_line_end (get_or-drop (line + 1) h 0 0 ∙ ap (λ k. slice_index h k) (omega arith))
+    ∙ end in
     begin
     ∙ ap (line_before part) (part_ended b b left1 h1 left1 0 h1
     (omega (arith, length-drop (line + 1) h)) (omega arith) here s)
@@ -201,21 +211,21 @@ past_next_end (Some a) (Some b) room h0 part left line h lt less end begin =
     ∙ ap (λ k. drop k h) (omega arith))
     ∙ ap (λ n. line_before part (answers_in n (drop (line + 2) h) b)) (omega arith)
 
--- ink needs a byte
-pub some_byte : (line : ℕ) (h : List ℕ) → has_ink (take line h) ≡ true → 0 < line
+-- a line has a byte
+pub some_byte : (line : ℕ) (h : List ℕ) → is_line (take line h) ≡ true → 0 < line
 some_byte zero h e = let f : false ≡ true = e in cc
 some_byte (suc n) h e = omega arith
 
--- the end of the source, by whether the last part has ink
+-- the end of the source, by whether the last part is a line
 pub ends_by : (told0 told told' : Option Told) (room : ℕ) (h0 : List ℕ) (left line : ℕ)
-    (h h' : List ℕ) (n : ℕ) (ink : Bool) → line ≡ length h → n ≡ 0 → has_ink (take line h') ≡ ink
+    (h h' : List ℕ) (n : ℕ) (line_there : Bool) → line ≡ length h → n ≡ 0 → is_line (take line h') ≡ line_there
     → Searching told0 told room h0 left line h → Grows told told' h h' n →
-    AnswersAre told0 room h0 told' (record { lines = cond ink (take line h' ∷ []) []; last = None })
-ends_by told0 told told' room h0 left line h h' n ink e z i s g =
+    AnswersAre told0 room h0 told' (record { lines = cond line_there (take line h' ∷ []) []; last = None })
+ends_by told0 told told' room h0 left line h h' n line_there e z i s g =
     subst (λ (b : Bool). AnswersAre told0 room h0 told'
-        (record { lines = cond b (take line h' ∷ []) []; last = None })) i
+    (record { lines = cond b (take line h' ∷ []) []; last = None })) i
     (ends told0 told told' room h0 left line h h' e s
-        (subst (λ (k : ℕ). Grows told told' h h' k) z g))
+    (subst (λ (k : ℕ). Grows told told' h h' k) z g))
 
 pub grown_length : (told told' : Option Told) (h h' : List ℕ) (n : ℕ) → Grows told told' h h' n
     → length h ≤ length h'
@@ -224,38 +234,61 @@ grown_length told told' h h' n g = omega (arith, ap length g.now, length-append 
 -- the line found by its end, which is used up with it, and so may be the end behind it
 pub found_ended : (told0 told : Option Told) (room : ℕ) (h0 : List ℕ) (left line used : ℕ)
     (printable : Bool) (h : List ℕ) → line < length h → line < left → used ≤ length h → used ≤ left
-    → is_line_end (slice_index h line) ≡ true → has_ink (take line h) ≡ true
+    → is_line_end (slice_index h line) ≡ true → is_line (take line h) ≡ true
     → (printable ≡ true → All IsPrintable (take line h))
     → (used ≡ line + 1) ⊎ ((used ≡ line + 2) × (is_line_end (slice_index h (line + 1)) ≡ true))
     → Searching told0 told room h0 left line h →
-    HasFound told0 told room h0 h (record { line = line; used = used; room = left - used; last =
-        false; printable = printable })
-found_ended told0 told room h0 left line used printable h lt less inside fits end ink tested next
+    HasFound told0 told room h0 h (record {
+      line = line;
+      used = used;
+      room = left - used;
+      last = false;
+      printable = printable;
+    })
+found_ended told0 told room h0 left line used printable h lt less inside fits end line_there tested next
     s =
-    let some : 0 < line = some_byte line h ink in
-    let begin = finds told0 told room h0 left line h lt less end ink s in
-    let more : line < used = elim next [ inl one ↦ omega (arith, one) | inr two ↦
-        omega (arith, two.0) ] in
+    let some : 0 < line = some_byte line h line_there in
+    let begin = finds told0 told room h0 left line h lt less end line_there s in
+    let more : line < used = elim next [
+      | inl one ↦ omega (arith, one)
+      | inr two ↦
+          omega (arith, two.0)
+    ] in
     let after : AnswersBegin told0 room h0 told (take line h) (left - used) (drop used h) =
-        elim next [
+    elim next [
       | inl one ↦ subst (λ (k : ℕ). AnswersBegin told0 room h0 told (take line h) (left - k)
           (drop k h)) (sym one) begin
       | inr two ↦ subst (λ (k : ℕ). AnswersBegin told0 room h0 told (take line h) (left - k)
           (drop k h)) (sym two.0) (past_next_end told0 told room h0 (take line h) left line h
           (omega (arith, two.0)) (omega (arith, two.0)) two.1 begin)
     ] in
-    record { line = omega arith; used = inside; ended = λ e. more; takes =
-        omega (arith, s.most, more, some); told = after; printable = tested }
+    record {
+      line = omega arith;
+      used = inside;
+      ended = λ e. more;
+      takes = omega (arith, s.most, more, some);
+      told = after;
+      printable = tested;
+    }
 
 -- the line found by the end of the source
 pub found_at_end : (told0 told told' : Option Told) (room : ℕ) (h0 : List ℕ) (left line : ℕ)
-    (h h' : List ℕ) (n : ℕ) → line ≡ length h → n ≡ 0 → has_ink (take line h') ≡ true
+    (h h' : List ℕ) (n : ℕ) → line ≡ length h → n ≡ 0 → is_line (take line h') ≡ true
     → Searching told0 told room h0 left line h → Grows told told' h h' n →
-    HasFound told0 told' room h0 h' (record { line = line; used = line; room = 0; last =
-        true; printable = false })
-found_at_end told0 told told' room h0 left line h h' n e z ink s g =
-    let some : 0 < line = some_byte line h' ink in
-    record { line = omega arith; used = omega (arith, grown_length told told' h h' n g); ended =
-        λ e. absurd (true≢false e); takes = omega (arith, s.most, s.fits); told =
-        ends_by told0 told told' room h0 left line h h' n true e z ink s g; printable =
-        λ e. absurd (false≢true e) }
+    HasFound told0 told' room h0 h' (record {
+      line = line;
+      used = line;
+      room = 0;
+      last = true;
+      printable = false;
+    })
+found_at_end told0 told told' room h0 left line h h' n e z line_there s g =
+    let some : 0 < line = some_byte line h' line_there in
+    record {
+      line = omega arith;
+      used = omega (arith, grown_length told told' h h' n g);
+      ended = λ e. absurd (true≢false e);
+      takes = omega (arith, s.most, s.fits);
+      told = ends_by told0 told told' room h0 left line h h' n true e z line_there s g;
+      printable = λ e. absurd (false≢true e);
+    }

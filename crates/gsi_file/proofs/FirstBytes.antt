@@ -8,14 +8,14 @@ use Rattle.std.proofs.lemmas.List.Elements.{All-take, All-nil, All-cons, All-app
 use Rattle.std.proofs.lemmas.List.Splits.{slice_split_none, slice_split_at, length-slice_split}
 use Rattle.std.proofs.lemmas.Bool.Decides.{nat_tests}
 use Rattle.gsi_file.specs.declared.file_fault.FileKind.TheVariants.{Read, FileTooLong, LineTooLong}
-use Rattle.gsi_file.specs.Parts.{parts, is_line_end, HasNoEnd, has_ink, front_of, ended_lines}
+use Rattle.gsi_file.specs.Parts.{parts, is_line_end, HasNoEnd, is_line, front_of, ended_lines}
 use Rattle.gsi_file.specs.FileAnswers.{is_within, FileAnswers, answers_within}
 use Rattle.gsi_file.proofs.Breaks.{answers_by, breaks, same_answers}
 use Rattle.gsi_file.proofs.Fronts.{shortest_front, same_first, first_after}
 
 -- a line or none before the others
 abbrev pub with_line : List ℕ → FileAnswers → FileAnswers
-with_line part o = record { lines = cond (has_ink part) (part ∷ o.lines) o.lines; last = o.last }
+with_line part o = record { lines = cond (is_line part) (part ∷ o.lines) o.lines; last = o.last }
 
 both_le : (a b c : ℕ) → a ≤ b → a ≤ c → (nat_le a b && (nat_le a c && true)) ≡ true
 both_le a b c p q = grind (arith, nat_tests)
@@ -45,8 +45,8 @@ pub within_part : (room : ℕ) (front : List ℕ) → HasNoEnd front → length 
     → length front ≤ room → is_within room front ≡ true
 within_part room front plain short le =
     ap (λ (ps : List (List ℕ)). nat_le (length front) room
-        && list_all (λ part. nat_le (length part) 1024) ps)
-        (slice_split_none is_line_end front plain)
+    && list_all (λ part. nat_le (length part) 1024) ps)
+    (slice_split_none is_line_end front plain)
     ∙ both_le (length front) room 1024 le short
 
 -- a line within the limits, and other bytes
@@ -55,8 +55,8 @@ pub within_line : (room : ℕ) (part : List ℕ) (sep : ℕ) (f : List ℕ) → 
     → is_within room (part ++ sep ∷ f) ≡ is_within (room - (length part + 1)) f
 within_line room part sep f plain end short lt =
     ap (λ (ps : List (List ℕ)). nat_le (length (part ++ sep ∷ f)) room
-        && list_all (λ p. nat_le (length p) 1024) ps)
-        (slice_split_at is_line_end part sep f plain end)
+    && list_all (λ p. nat_le (length p) 1024) ps)
+    (slice_split_at is_line_end part sep f plain end)
     ∙ line_le (length (part ++ sep ∷ f)) (length part) (length f) room
     (list_all (λ p. nat_le (length p) 1024) (parts f)) (length-append part (sep ∷ f)) short lt
 
@@ -96,27 +96,27 @@ first_here p (x ∷ xs) h = ap (λ b. cond b (Some [])
     (option_map (λ f. x ∷ f) (shortest_front (λ f. p (x ∷ f)) xs))) h
 
 no_lines : (front : List ℕ) → HasNoEnd front → ended_lines front ≡ []
-no_lines front plain = ap (λ (ps : List (List ℕ)). filter has_ink (front_of ps))
+no_lines front plain = ap (λ (ps : List (List ℕ)). filter is_line (front_of ps))
     (slice_split_none is_line_end front plain)
 
 some_part : (bytes : List ℕ) → 0 < length (parts bytes)
 some_part bytes = omega (arith, length-slice_split is_line_end bytes)
 
 line_ended : (part : List ℕ) (sep : ℕ) (rest : List ℕ) → HasNoEnd part → is_line_end sep ≡ true
-    → ended_lines (part ++ sep ∷ rest) ≡ cond (has_ink part) (part ∷ ended_lines rest)
+    → ended_lines (part ++ sep ∷ rest) ≡ cond (is_line part) (part ∷ ended_lines rest)
     (ended_lines rest)
 line_ended part sep rest plain end =
-    ap (λ (ps : List (List ℕ)). filter has_ink (front_of ps))
-        (slice_split_at is_line_end part sep rest plain end)
-    ∙ ap (filter has_ink) (front_cons part (parts rest) (some_part rest))
+    ap (λ (ps : List (List ℕ)). filter is_line (front_of ps))
+    (slice_split_at is_line_end part sep rest plain end)
+    ∙ ap (filter is_line) (front_cons part (parts rest) (some_part rest))
 
 pub answers_end : (room : ℕ) (front : List ℕ) → HasNoEnd front → length front ≤ 1024
     → length front ≤ room → answers_within room front false
-    ≡ record { lines = cond (has_ink front) (front ∷ []) []; last = None }
+    ≡ record { lines = cond (is_line front) (front ∷ []) []; last = None }
 answers_end room front plain short le =
     same_answers room front false
     ∙ ap (answers_by room front false) (none_broken room front plain short le)
-    ∙ ap (λ (ps : List (List ℕ)). record { lines = filter has_ink ps; last = None })
+    ∙ ap (λ (ps : List (List ℕ)). record { lines = filter is_line ps; last = None })
     (slice_split_none is_line_end front plain)
 
 pub answers_failed : (room : ℕ) (front : List ℕ) → HasNoEnd front → length front ≤ 1024
@@ -132,26 +132,32 @@ kind_after a b room n e lt = grind (arith, nat_tests)
 at_line : (room : ℕ) (part : List ℕ) (sep : ℕ) (rest : List ℕ) (fails : Bool) (o : Option (List ℕ))
     → HasNoEnd part → is_line_end sep ≡ true → length part < room → (o ≡ Some [] → ⊥) →
     answers_by room (part ++ sep ∷ rest) fails
-        (option_map (λ g. part ++ g) (option_map (λ g. sep ∷ g) o))
-        ≡ with_line part (answers_by (room - (length part + 1)) rest fails o)
+    (option_map (λ g. part ++ g) (option_map (λ g. sep ∷ g) o))
+    ≡ with_line part (answers_by (room - (length part + 1)) rest fails o)
 at_line room part sep rest true None plain end lt some =
     ap (λ (ls : List (List ℕ)). record { lines = ls; last = Some Read })
     (line_ended part sep rest plain end)
 at_line room part sep rest false None plain end lt some =
-    ap (λ (ps : List (List ℕ)). record { lines = filter has_ink ps; last = None })
+    ap (λ (ps : List (List ℕ)). record { lines = filter is_line ps; last = None })
     (slice_split_at is_line_end part sep rest plain end)
 at_line room part sep rest fails (Some []) plain end lt some = absurd (some refl)
 at_line room part sep rest fails (Some (x ∷ f)) plain end lt some =
     let e : front_of (part ++ sep ∷ x ∷ f) ≡ part ++ sep ∷ front_of (x ∷ f) =
-        front_append part (sep ∷ x ∷ f) (omega arith)
-        ∙ ap (λ zs. part ++ zs) (front_cons sep (x ∷ f) (omega arith)) in
-    ap (λ (zs : List ℕ). record { lines = ended_lines zs; last =
-        Some (cond (nat_lt room (length (part ++ sep ∷ x ∷ f))) FileTooLong LineTooLong) }) e
-    ∙ ap (λ (ls : List (List ℕ)). record { lines = ls; last =
-    Some (cond (nat_lt room (length (part ++ sep ∷ x ∷ f))) FileTooLong LineTooLong) })
+    front_append part (sep ∷ x ∷ f) (omega arith)
+    ∙ ap (λ zs. part ++ zs) (front_cons sep (x ∷ f) (omega arith)) in
+    ap (λ (zs : List ℕ). record {
+      lines = ended_lines zs;
+      last = Some (cond (nat_lt room (length (part ++ sep ∷ x ∷ f))) FileTooLong LineTooLong);
+    }) e
+    ∙ ap (λ (ls : List (List ℕ)). record {
+      lines = ls;
+      last = Some (cond (nat_lt room (length (part ++ sep ∷ x ∷ f))) FileTooLong LineTooLong);
+    })
     (line_ended part sep (front_of (x ∷ f)) plain end)
-    ∙ ap (λ (b : Bool). with_line part (record { lines = ended_lines (front_of (x ∷ f)); last =
-    Some (cond b FileTooLong LineTooLong) }))
+    ∙ ap (λ (b : Bool). with_line part (record {
+      lines = ended_lines (front_of (x ∷ f));
+      last = Some (cond b FileTooLong LineTooLong);
+    }))
     (kind_after (length (part ++ sep ∷ x ∷ f)) (length (x ∷ f)) room (length part)
     (length-append part (sep ∷ x ∷ f)) lt)
 
@@ -188,21 +194,29 @@ answers_line room part sep rest fails plain end short lt =
 broken : (room : ℕ) (front : List ℕ) (byte : ℕ) (rest : List ℕ) (fails : Bool) → HasNoEnd front
     → length front ≤ 1024 → length front ≤ room → is_within room (front ++ byte ∷ []) ≡ false
     → answers_within room (front ++ byte ∷ rest) fails
-    ≡ record { lines = []; last = Some (cond (nat_lt room (length front + 1)) FileTooLong
-    LineTooLong) }
+    ≡ record {
+      lines = [];
+      last = Some (cond (nat_lt room (length front + 1)) FileTooLong LineTooLong);
+    }
 broken room front byte rest fails plain short le bad =
     same_answers room (front ++ byte ∷ rest) fails
     ∙ ap (answers_by room (front ++ byte ∷ rest) fails) (behind room front byte rest plain short le
     ∙ ap (λ o. option_map (λ g. front ++ g) (option_map (λ g. byte ∷ g) o))
     (first_here (λ f. breaks room (front ++ byte ∷ f)) rest (ap not bad)))
-    ∙ ap (λ (zs : List ℕ). record { lines = ended_lines zs; last =
-    Some (cond (nat_lt room (length (front ++ byte ∷ []))) FileTooLong LineTooLong) })
+    ∙ ap (λ (zs : List ℕ). record {
+      lines = ended_lines zs;
+      last = Some (cond (nat_lt room (length (front ++ byte ∷ []))) FileTooLong LineTooLong);
+    })
     (front_append front (byte ∷ []) (omega arith) ∙ append-nil front)
-    ∙ ap (λ (ls : List (List ℕ)). record { lines = ls; last =
-    Some (cond (nat_lt room (length (front ++ byte ∷ []))) FileTooLong LineTooLong) })
+    ∙ ap (λ (ls : List (List ℕ)). record {
+      lines = ls;
+      last = Some (cond (nat_lt room (length (front ++ byte ∷ []))) FileTooLong LineTooLong);
+    })
     (no_lines front plain)
-    ∙ ap (λ (n : ℕ). record { lines = []; last =
-    Some (cond (nat_lt room n) FileTooLong LineTooLong) }) (length-append front (byte ∷ []))
+    ∙ ap (λ (n : ℕ). record {
+      lines = [];
+      last = Some (cond (nat_lt room n) FileTooLong LineTooLong);
+    }) (length-append front (byte ∷ []))
 
 over_room : (n m room : ℕ) (b : Bool) → m ≡ n + 1 → n ≡ room → (nat_le m room && b) ≡ false
 over_room n m room b e f = grind (arith, nat_tests)
@@ -213,9 +227,9 @@ pub answers_long_file : (room : ℕ) (front : List ℕ) (byte : ℕ) (rest : Lis
     ≡ record { lines = []; last = Some FileTooLong }
 answers_long_file room front byte rest fails plain short e =
     broken room front byte rest fails plain short (omega arith)
-        (over_room (length front) (length (front ++ byte ∷ [])) room
-        (list_all (λ p. nat_le (length p) 1024) (parts (front ++ byte ∷ [])))
-        (length-append front (byte ∷ [])) e)
+    (over_room (length front) (length (front ++ byte ∷ [])) room
+    (list_all (λ p. nat_le (length p) 1024) (parts (front ++ byte ∷ [])))
+    (length-append front (byte ∷ [])) e)
     ∙ ap (λ (b : Bool). record { lines = []; last = Some (cond b FileTooLong LineTooLong) })
     (kind (length front) room e)
   where
@@ -233,12 +247,12 @@ answers_long_line room front byte rest fails plain end e lt =
     let whole = front ++ byte ∷ [] in
     let longer : length whole ≡ 1025 = omega (arith, length-append front (byte ∷ [])) in
     let plain' : HasNoEnd whole = All-append (λ b. is_line_end b ≡ false) front (byte ∷ []) plain
-        (All-cons (λ b. is_line_end b ≡ false) byte [] end
-        (All-nil (λ b. is_line_end b ≡ false))) in
+    (All-cons (λ b. is_line_end b ≡ false) byte [] end
+    (All-nil (λ b. is_line_end b ≡ false))) in
     let bad : is_within room whole ≡ false = ap
-        (λ (ps : List (List ℕ)). nat_le (length whole) room
-        && list_all (λ p. nat_le (length p) 1024) ps) (slice_split_none is_line_end whole plain')
-        ∙ over_line (length whole) (nat_le (length whole) room) longer in
+    (λ (ps : List (List ℕ)). nat_le (length whole) room
+    && list_all (λ p. nat_le (length p) 1024) ps) (slice_split_none is_line_end whole plain')
+    ∙ over_line (length whole) (nat_le (length whole) room) longer in
     broken room front byte rest fails plain (omega arith) (omega arith) bad
     ∙ ap (λ (b : Bool). record { lines = []; last = Some (cond b FileTooLong LineTooLong) })
     (kind (length front) room lt)

@@ -38,7 +38,7 @@ first_after p [] rest h = map_same (shortest_front p rest)
 first_after p (x ∷ front) rest h =
     let here : p [] ≡ false = h 0 (omega arith) in
     ap (λ b. cond b (Some []) (option_map (λ f. x ∷ f)
-        (shortest_front (λ f. p (x ∷ f)) (front ++ rest)))) here
+    (shortest_front (λ f. p (x ∷ f)) (front ++ rest)))) here
     ∙ ap (option_map (λ f. x ∷ f)) (first_after (λ f. p (x ∷ f)) front rest
     (λ i lt. h (suc i) (omega arith)))
     ∙ map_behind x front (shortest_front (λ f. p (x ∷ (front ++ f))) rest)

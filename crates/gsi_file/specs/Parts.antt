@@ -1,6 +1,6 @@
 -- The parts and the lines of the bytes of a file (profile).
 use Rattle.std.specs.Prelude.{◌≡◌, ℕ, ◌-◌, Bool, false, All, not, ◌||◌, ◌==◌, List, length, take, filter}
-use Rattle.std.specs.List.{slice_split, list_any}
+use Rattle.std.specs.List.{slice_split, list_all}
 
 -- A carriage return ends a line, and so does a line feed: after both of them stands an empty part.
 abbrev pub is_line_end : ℕ → Bool
@@ -14,9 +14,13 @@ HasNoEnd bytes = All (λ b. is_line_end b ≡ false) bytes
 abbrev pub parts : List ℕ → List (List ℕ)
 parts bytes = slice_split is_line_end bytes
 
--- whether a part has a byte other than a blank: only then it is a line, and numbered
-abbrev pub has_ink : List ℕ → Bool
-has_ink part = list_any (λ b. not (b == 32)) part
+-- whether a part has no byte other than a blank
+abbrev pub is_blank : List ℕ → Bool
+is_blank part = list_all (λ b. b == 32) part
+
+-- whether a part is a line, and numbered: it is not blank
+abbrev pub is_line : List ℕ → Bool
+is_line part = not (is_blank part)
 
 -- all but the last
 abbrev pub front_of : {A : Type 0} → List A → List A
@@ -24,8 +28,8 @@ front_of xs = take (length xs - 1) xs
 
 -- the lines, of which the first has number 1; the last part may lack a byte that ends it
 abbrev pub numbered_lines : List ℕ → List (List ℕ)
-numbered_lines bytes = filter has_ink (parts bytes)
+numbered_lines bytes = filter is_line (parts bytes)
 
 -- the lines that a byte has ended: those of all parts but the last
 abbrev pub ended_lines : List ℕ → List (List ℕ)
-ended_lines bytes = filter has_ink (front_of (parts bytes))
+ended_lines bytes = filter is_line (front_of (parts bytes))

@@ -88,7 +88,7 @@ pub(crate) fn find_line<R: Source>(
         let end = buffer.line_end(line, seen);
         line = end.place;
         if line < seen {
-            if buffer.has_ink(line) {
+            if !buffer.is_blank(line) {
                 return Ok(Some(ended(end, buffer.next_line_start(line, seen), left)));
             }
             buffer.drop_front(line + 1);
@@ -104,7 +104,7 @@ pub(crate) fn find_line<R: Source>(
         }
         match buffer.fill(reader) {
             Ok(0) => {
-                if buffer.has_ink(line) {
+                if !buffer.is_blank(line) {
                     return Ok(Some(at_end(line)));
                 }
                 return Ok(None);

@@ -7,17 +7,20 @@ returns-clause-read g c =
     let s = c.args.buffer.now in
     let held = c.args.held in
     reads_behind (g.R.Source.told c.args.from.now) (g.R.Source.told c.read.new.self) (take held s)
-        c.read.new.buf _ held c.read.result (omega (arith, length-take held s, c.requires))
-        (omega (arith, c.read.auto.buf, c.requires, length-take {A = ℕ}, length-drop {A = ℕ}))
-        c.read.ensures.bound c.read.ensures.reads
+    c.read.new.buf _ held c.read.result (omega (arith, length-take held s, c.requires))
+    (omega (arith, c.read.auto.buf, c.requires, length-take {A = ℕ}, length-drop {A = ℕ}))
+    c.read.ensures.bound c.read.ensures.reads
 
 pub returns-clause-through : goal.returns-clause-through
 returns-clause-through g c after may =
     let s = c.args.buffer.now in
     let held = c.args.held in
     let x = reads_as (g.R.Source.told c.args.from.now) (g.R.Source.told c.read.new.self)
-        c.read.new.buf c.read.result c.read.ensures.reads c.read.ensures.over after may in
-    (x.0, x.1, reads_behind (Some x.0) (Some after) (take held s) c.read.new.buf _ held
-        c.read.result (omega (arith, length-take held s, c.requires))
-        (omega (arith, c.read.auto.buf, c.requires, length-take {A = ℕ}, length-drop {A = ℕ}))
-        c.read.ensures.bound x.2)
+    c.read.new.buf c.read.result c.read.ensures.reads c.read.ensures.over after may in (
+      x.0,
+      x.1,
+      reads_behind (Some x.0) (Some after) (take held s) c.read.new.buf _ held
+          c.read.result (omega (arith, length-take held s, c.requires))
+          (omega (arith, c.read.auto.buf, c.requires, length-take {A = ℕ}, length-drop {A = ℕ}))
+          c.read.ensures.bound x.2,
+    )

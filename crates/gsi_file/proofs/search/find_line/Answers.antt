@@ -1,46 +1,57 @@
-use Rattle.std.proofs.Common.{false, Some, sym, subst, ◌∙◌, arith}
+use Rattle.std.proofs.Common.{ap, not, false, Some, sym, subst, ◌∙◌, arith}
 use Rattle.gsi_file.specs.declared.search.FoundLine.{FoundLine}
 use Rattle.gsi_file.specs.Finding.{HasFound}
 use Rattle.gsi_file.proofs.Finding.{Searching, breaks_off, fails, file_too_long, line_too_long, found_ended, found_at_end, passes, ends_by, none_plain}
 use Rattle.gsi_file.proofs.search.find_line.Goals as goal
 
-pub returns-then-has_ink-clause-finds : goal.returns-then-has_ink-clause-finds
-returns-then-has_ink-clause-finds g c =
+pub returns-then-not-is_blank-clause-finds : goal.returns-then-not-is_blank-clause-finds
+returns-then-not-is_blank-clause-finds g c =
     let told = g.R.Source.told in
     let line = c.line_end-end.result.place in
     let h = c.search.buffer in
     let s : Searching (told c.args.reader.now) (told c.search.reader) c.args.room c.args.buffer.now
-        c.search.left line h = record { short = omega arith; inside = omega arith; fits =
-        omega arith; most = c.search.invariant.searching.most; plain =
-        c.line_end-end.ensures.plain; same = c.search.invariant.searching.same } in
+    c.search.left line h = record {
+      short = omega arith;
+      inside = omega arith;
+      fits = omega arith;
+      most = c.search.invariant.searching.most;
+      plain = c.line_end-end.ensures.plain;
+      same = c.search.invariant.searching.same;
+    } in
     subst (λ (f : FoundLine). HasFound (told c.args.reader.now) (told c.search.reader) c.args.room
-        c.args.buffer.now h f) (sym c.ended.ensures)
+    c.args.buffer.now h f) (sym c.ended.ensures)
     (found_ended _ _ _ _ c.search.left line c.next_line_start.result c.line_end-end.result.printable
-        h (omega arith) (omega arith) (omega (arith, c.next_line_start.ensures.within))
-        (omega (arith, c.next_line_start.ensures.within))
-        (c.line_end-end.ensures.end c.if-line-seen.true) (sym c.has_ink.ensures ∙ c.if-has_ink.true)
-        c.line_end-end.ensures.printable c.next_line_start.ensures.next s)
+    h (omega arith) (omega arith) (omega (arith, c.next_line_start.ensures.within))
+    (omega (arith, c.next_line_start.ensures.within))
+    (c.line_end-end.ensures.end c.if-line-seen.true) (ap not (sym c.is_blank.ensures ∙ c.if-not-is_blank.true))
+    c.line_end-end.ensures.printable c.next_line_start.ensures.next s)
 
-pub returns-then-has_ink-clause-through : goal.returns-then-has_ink-clause-through
-returns-then-has_ink-clause-through g c after may =
+pub returns-then-not-is_blank-clause-through : goal.returns-then-not-is_blank-clause-through
+returns-then-not-is_blank-clause-through g c after may =
     let told = g.R.Source.told in
     let line = c.line_end-end.result.place in
     let h = c.search.buffer in
     let y = c.search.invariant.through after may in
     let s : Searching (Some y.0) (Some after) c.args.room c.args.buffer.now c.search.left line h =
-        record { short = omega arith; inside = omega arith; fits = omega arith; most =
-        c.search.invariant.searching.most; plain = c.line_end-end.ensures.plain; same = y.2 } in (
+    record {
+      short = omega arith;
+      inside = omega arith;
+      fits = omega arith;
+      most = c.search.invariant.searching.most;
+      plain = c.line_end-end.ensures.plain;
+      same = y.2;
+    } in (
       y.0,
       y.1,
       subst (λ (f : FoundLine). HasFound (Some y.0) (Some after) c.args.room c.args.buffer.now h f)
           (sym c.ended.ensures)
           (found_ended _ _ _ _ c.search.left line c.next_line_start.result
-              c.line_end-end.result.printable h (omega arith) (omega arith)
-              (omega (arith, c.next_line_start.ensures.within))
-              (omega (arith, c.next_line_start.ensures.within))
-              (c.line_end-end.ensures.end c.if-line-seen.true) (sym c.has_ink.ensures
-              ∙ c.if-has_ink.true) c.line_end-end.ensures.printable c.next_line_start.ensures.next
-              s),
+          c.line_end-end.result.printable h (omega arith) (omega arith)
+          (omega (arith, c.next_line_start.ensures.within))
+          (omega (arith, c.next_line_start.ensures.within))
+          (c.line_end-end.ensures.end c.if-line-seen.true) (ap not (sym c.is_blank.ensures
+          ∙ c.if-not-is_blank.true)) c.line_end-end.ensures.printable c.next_line_start.ensures.next
+          s),
     )
 
 pub search-preserved-then-line-seen : goal.search-preserved-then-line-seen
@@ -49,9 +60,14 @@ search-preserved-then-line-seen g c =
     let line = c.line_end-end.result.place in
     let h = c.search.buffer in
     let s : Searching (told c.args.reader.now) (told c.search.reader) c.args.room c.args.buffer.now
-        c.search.left line h = record { short = omega arith; inside = omega arith; fits =
-        omega arith; most = c.search.invariant.searching.most; plain =
-        c.line_end-end.ensures.plain; same = c.search.invariant.searching.same } in
+    c.search.left line h = record {
+      short = omega arith;
+      inside = omega arith;
+      fits = omega arith;
+      most = c.search.invariant.searching.most;
+      plain = c.line_end-end.ensures.plain;
+      same = c.search.invariant.searching.same;
+    } in
     let h' = c.drop_front.new.self in
     record {
       searching = record {
@@ -61,27 +77,37 @@ search-preserved-then-line-seen g c =
         most = omega (arith, c.search.invariant.searching.most);
         plain = none_plain h';
         same = rw c.drop_front.ensures (passes _ _ _ _ c.search.left line h (omega arith)
-            (omega arith) (c.line_end-end.ensures.end c.if-line-seen.true) (sym c.has_ink.ensures
-            ∙ c.if-has_ink.false) s);
+            (omega arith) (c.line_end-end.ensures.end c.if-line-seen.true) (ap not (sym c.is_blank.ensures
+            ∙ c.if-not-is_blank.false)) s);
       };
       through = λ after may.
           let y = c.search.invariant.through after may in
           let t : Searching (Some y.0) (Some after) c.args.room c.args.buffer.now c.search.left line
-              h = record { short = omega arith; inside = omega arith; fits = omega arith; most =
-              c.search.invariant.searching.most; plain = c.line_end-end.ensures.plain; same =
-              y.2 } in
-          (y.0, y.1, rw c.drop_front.ensures (passes (Some y.0) (Some after) _ _ c.search.left line
-              h (omega arith) (omega arith) (c.line_end-end.ensures.end c.if-line-seen.true)
-              (sym c.has_ink.ensures ∙ c.if-has_ink.false) t));
+          h = record {
+            short = omega arith;
+            inside = omega arith;
+            fits = omega arith;
+            most = c.search.invariant.searching.most;
+            plain = c.line_end-end.ensures.plain;
+            same = y.2;
+          } in (
+            y.0,
+            y.1,
+            rw c.drop_front.ensures (passes (Some y.0) (Some after) _ _ c.search.left line
+                h (omega arith) (omega arith) (c.line_end-end.ensures.end c.if-line-seen.true)
+                (ap not (sym c.is_blank.ensures ∙ c.if-not-is_blank.false)) t),
+          );
       unfailed = c.search.invariant.unfailed;
     }
 
 pub returns-then-line-gt-LONGEST_LINE-clause-finds :
     goal.returns-then-line-gt-LONGEST_LINE-clause-finds
-returns-then-line-gt-LONGEST_LINE-clause-finds g c =
-    (line_too_long _ _ _ _ c.search.left c.search.line c.line_end-end.result.place c.search.buffer
-        c.if-line-gt-LONGEST_LINE.true (omega arith) (omega arith) c.line_end-end.ensures.plain
-        c.search.invariant.searching, λ other. absurd other)
+returns-then-line-gt-LONGEST_LINE-clause-finds g c = (
+  line_too_long _ _ _ _ c.search.left c.search.line c.line_end-end.result.place c.search.buffer
+      c.if-line-gt-LONGEST_LINE.true (omega arith) (omega arith) c.line_end-end.ensures.plain
+      c.search.invariant.searching,
+  λ other. absurd other,
+)
 
 pub returns-then-line-gt-LONGEST_LINE-clause-through :
     goal.returns-then-line-gt-LONGEST_LINE-clause-through
@@ -89,11 +115,23 @@ returns-then-line-gt-LONGEST_LINE-clause-through g c after may =
     let before = c.search.invariant.searching in
     let y = c.search.invariant.through after may in
     let s : Searching (Some y.0) (Some after) c.args.room c.args.buffer.now c.search.left
-        c.search.line c.search.buffer = record { short = before.short; inside =
-        before.inside; fits = before.fits; most = before.most; plain = before.plain; same = y.2 } in
-    (y.0, y.1, (line_too_long _ _ _ _ c.search.left c.search.line c.line_end-end.result.place
-        c.search.buffer c.if-line-gt-LONGEST_LINE.true (omega arith) (omega arith)
-        c.line_end-end.ensures.plain s, λ other. absurd other))
+    c.search.line c.search.buffer = record {
+      short = before.short;
+      inside = before.inside;
+      fits = before.fits;
+      most = before.most;
+      plain = before.plain;
+      same = y.2;
+    } in (
+      y.0,
+      y.1,
+      (
+        line_too_long _ _ _ _ c.search.left c.search.line c.line_end-end.result.place
+            c.search.buffer c.if-line-gt-LONGEST_LINE.true (omega arith) (omega arith)
+            c.line_end-end.ensures.plain s,
+        λ other. absurd other,
+      ),
+    )
 
 pub returns-then-line-len-clause-finds : goal.returns-then-line-len-clause-finds
 returns-then-line-len-clause-finds g c =
@@ -101,11 +139,17 @@ returns-then-line-len-clause-finds g c =
     let line = c.line_end-end.result.place in
     let h = c.search.buffer in
     let s : Searching (told c.args.reader.now) (told c.search.reader) c.args.room c.args.buffer.now
-        c.search.left line h = record { short = omega arith; inside = omega arith; fits =
-        omega arith; most = c.search.invariant.searching.most; plain =
-        c.line_end-end.ensures.plain; same = c.search.invariant.searching.same } in
-    (file_too_long _ _ _ _ c.search.left line h (omega arith) (omega arith) s,
-        λ other. absurd other)
+    c.search.left line h = record {
+      short = omega arith;
+      inside = omega arith;
+      fits = omega arith;
+      most = c.search.invariant.searching.most;
+      plain = c.line_end-end.ensures.plain;
+      same = c.search.invariant.searching.same;
+    } in (
+      file_too_long _ _ _ _ c.search.left line h (omega arith) (omega arith) s,
+      λ other. absurd other,
+    )
 
 pub returns-then-line-len-clause-through : goal.returns-then-line-len-clause-through
 returns-then-line-len-clause-through g c after may =
@@ -114,44 +158,66 @@ returns-then-line-len-clause-through g c after may =
     let h = c.search.buffer in
     let y = c.search.invariant.through after may in
     let s : Searching (Some y.0) (Some after) c.args.room c.args.buffer.now c.search.left line h =
-        record { short = omega arith; inside = omega arith; fits = omega arith; most =
-        c.search.invariant.searching.most; plain = c.line_end-end.ensures.plain; same = y.2 } in
-    (y.0, y.1, (file_too_long _ _ _ _ c.search.left line h (omega arith) (omega arith) s,
-        λ other. absurd other))
+    record {
+      short = omega arith;
+      inside = omega arith;
+      fits = omega arith;
+      most = c.search.invariant.searching.most;
+      plain = c.line_end-end.ensures.plain;
+      same = y.2;
+    } in (
+      y.0,
+      y.1,
+      (
+        file_too_long _ _ _ _ c.search.left line h (omega arith) (omega arith) s,
+        λ other. absurd other,
+      ),
+    )
 
-pub returns-then-has_ink-2-clause-finds : goal.returns-then-has_ink-2-clause-finds
-returns-then-has_ink-2-clause-finds g c =
+pub returns-then-not-is_blank-2-clause-finds : goal.returns-then-not-is_blank-2-clause-finds
+returns-then-not-is_blank-2-clause-finds g c =
     let told = g.R.Source.told in
     let line = c.line_end-end.result.place in
     let h = c.search.buffer in
     let s : Searching (told c.args.reader.now) (told c.search.reader) c.args.room c.args.buffer.now
-        c.search.left line h = record { short = omega arith; inside = omega arith; fits =
-        omega arith; most = c.search.invariant.searching.most; plain =
-        c.line_end-end.ensures.plain; same = c.search.invariant.searching.same } in
+    c.search.left line h = record {
+      short = omega arith;
+      inside = omega arith;
+      fits = omega arith;
+      most = c.search.invariant.searching.most;
+      plain = c.line_end-end.ensures.plain;
+      same = c.search.invariant.searching.same;
+    } in
     subst (λ (f : FoundLine). HasFound (told c.args.reader.now) (told c.fill.new.from) c.args.room
-        c.args.buffer.now c.fill.new.self f) (sym c.at_end.ensures)
+    c.args.buffer.now c.fill.new.self f) (sym c.at_end.ensures)
     (found_at_end (told c.args.reader.now) (told c.search.reader) (told c.fill.new.from) _ _
-        c.search.left line h c.fill.new.self c.in-Ok-eq0.field-0 (omega arith)
-        c.in-Ok-eq0.field-0-test (sym c.has_ink-in-Ok-eq0.ensures ∙ c.if-has_ink-2.true) s
-        c.in-Ok-eq0.ensures.fills)
+    c.search.left line h c.fill.new.self c.in-Ok-eq0.field-0 (omega arith)
+    c.in-Ok-eq0.field-0-test (ap not (sym c.is_blank-in-Ok-eq0.ensures ∙ c.if-not-is_blank-2.true)) s
+    c.in-Ok-eq0.ensures.fills)
 
-pub returns-then-has_ink-2-clause-through : goal.returns-then-has_ink-2-clause-through
-returns-then-has_ink-2-clause-through g c after may =
+pub returns-then-not-is_blank-2-clause-through : goal.returns-then-not-is_blank-2-clause-through
+returns-then-not-is_blank-2-clause-through g c after may =
     let told = g.R.Source.told in
     let line = c.line_end-end.result.place in
     let h = c.search.buffer in
     let x = c.in-Ok-eq0.ensures.through after may in
     let y = c.search.invariant.through x.0 x.1 in
     let s : Searching (Some y.0) (Some x.0) c.args.room c.args.buffer.now c.search.left line h =
-        record { short = omega arith; inside = omega arith; fits = omega arith; most =
-        c.search.invariant.searching.most; plain = c.line_end-end.ensures.plain; same = y.2 } in (
+    record {
+      short = omega arith;
+      inside = omega arith;
+      fits = omega arith;
+      most = c.search.invariant.searching.most;
+      plain = c.line_end-end.ensures.plain;
+      same = y.2;
+    } in (
       y.0,
       y.1,
       subst (λ (f : FoundLine). HasFound (Some y.0) (Some after) c.args.room c.args.buffer.now
           c.fill.new.self f) (sym c.at_end.ensures)
           (found_at_end (Some y.0) (Some x.0) (Some after) _ _ c.search.left line h c.fill.new.self
-              c.in-Ok-eq0.field-0 (omega arith) c.in-Ok-eq0.field-0-test
-              (sym c.has_ink-in-Ok-eq0.ensures ∙ c.if-has_ink-2.true) s x.2),
+          c.in-Ok-eq0.field-0 (omega arith) c.in-Ok-eq0.field-0-test
+          (ap not (sym c.is_blank-in-Ok-eq0.ensures ∙ c.if-not-is_blank-2.true)) s x.2),
     )
 
 pub returns-in-Ok-eq0-clause-finds : goal.returns-in-Ok-eq0-clause-finds
@@ -160,12 +226,17 @@ returns-in-Ok-eq0-clause-finds g c =
     let line = c.line_end-end.result.place in
     let h = c.search.buffer in
     let s : Searching (told c.args.reader.now) (told c.search.reader) c.args.room c.args.buffer.now
-        c.search.left line h = record { short = omega arith; inside = omega arith; fits =
-        omega arith; most = c.search.invariant.searching.most; plain =
-        c.line_end-end.ensures.plain; same = c.search.invariant.searching.same } in
+    c.search.left line h = record {
+      short = omega arith;
+      inside = omega arith;
+      fits = omega arith;
+      most = c.search.invariant.searching.most;
+      plain = c.line_end-end.ensures.plain;
+      same = c.search.invariant.searching.same;
+    } in
     ends_by (told c.args.reader.now) (told c.search.reader) (told c.fill.new.from) _ _ c.search.left
-        line h c.fill.new.self c.in-Ok-eq0.field-0 false (omega arith) c.in-Ok-eq0.field-0-test
-        (sym c.has_ink-in-Ok-eq0.ensures ∙ c.if-has_ink-2.false) s c.in-Ok-eq0.ensures.fills
+    line h c.fill.new.self c.in-Ok-eq0.field-0 false (omega arith) c.in-Ok-eq0.field-0-test
+    (ap not (sym c.is_blank-in-Ok-eq0.ensures ∙ c.if-not-is_blank-2.false)) s c.in-Ok-eq0.ensures.fills
 
 pub returns-in-Ok-eq0-clause-through : goal.returns-in-Ok-eq0-clause-through
 returns-in-Ok-eq0-clause-through g c after may =
@@ -175,11 +246,20 @@ returns-in-Ok-eq0-clause-through g c after may =
     let x = c.in-Ok-eq0.ensures.through after may in
     let y = c.search.invariant.through x.0 x.1 in
     let s : Searching (Some y.0) (Some x.0) c.args.room c.args.buffer.now c.search.left line h =
-        record { short = omega arith; inside = omega arith; fits = omega arith; most =
-        c.search.invariant.searching.most; plain = c.line_end-end.ensures.plain; same = y.2 } in
-    (y.0, y.1, ends_by (Some y.0) (Some x.0) (Some after) _ _ c.search.left line h c.fill.new.self
-        c.in-Ok-eq0.field-0 false (omega arith) c.in-Ok-eq0.field-0-test
-        (sym c.has_ink-in-Ok-eq0.ensures ∙ c.if-has_ink-2.false) s x.2)
+    record {
+      short = omega arith;
+      inside = omega arith;
+      fits = omega arith;
+      most = c.search.invariant.searching.most;
+      plain = c.line_end-end.ensures.plain;
+      same = y.2;
+    } in (
+      y.0,
+      y.1,
+      ends_by (Some y.0) (Some x.0) (Some after) _ _ c.search.left line h c.fill.new.self
+          c.in-Ok-eq0.field-0 false (omega arith) c.in-Ok-eq0.field-0-test
+          (ap not (sym c.is_blank-in-Ok-eq0.ensures ∙ c.if-not-is_blank-2.false)) s x.2,
+    )
 
 pub returns-in-Err-clause-finds : goal.returns-in-Err-clause-finds
 returns-in-Err-clause-finds g c =
@@ -187,13 +267,19 @@ returns-in-Err-clause-finds g c =
     let line = c.line_end-end.result.place in
     let h = c.search.buffer in
     let s : Searching (told c.args.reader.now) (told c.search.reader) c.args.room c.args.buffer.now
-        c.search.left line h = record { short = omega arith; inside = omega arith; fits =
-        omega arith; most = c.search.invariant.searching.most; plain =
-        c.line_end-end.ensures.plain; same = c.search.invariant.searching.same } in
-    (fails (told c.args.reader.now) (told c.search.reader) (told c.fill.new.from) _ _ c.search.left
-        line h (omega arith) s c.in-Err.ensures.fills.1,
-        λ read. breaks_off (told c.args.reader.now) (told c.search.reader) (told c.fill.new.from) _
-        _ c.search.left line h s c.in-Err.ensures.fills.1)
+    c.search.left line h = record {
+      short = omega arith;
+      inside = omega arith;
+      fits = omega arith;
+      most = c.search.invariant.searching.most;
+      plain = c.line_end-end.ensures.plain;
+      same = c.search.invariant.searching.same;
+    } in (
+      fails (told c.args.reader.now) (told c.search.reader) (told c.fill.new.from) _ _ c.search.left
+          line h (omega arith) s c.in-Err.ensures.fills.1,
+      λ read. breaks_off (told c.args.reader.now) (told c.search.reader) (told c.fill.new.from) _
+          _ c.search.left line h s c.in-Err.ensures.fills.1,
+    )
 
 pub returns-in-Err-clause-through : goal.returns-in-Err-clause-through
 returns-in-Err-clause-through g c after may =
@@ -203,8 +289,20 @@ returns-in-Err-clause-through g c after may =
     let x = c.in-Err.ensures.through after may in
     let y = c.search.invariant.through x.0 x.1 in
     let s : Searching (Some y.0) (Some x.0) c.args.room c.args.buffer.now c.search.left line h =
-        record { short = omega arith; inside = omega arith; fits = omega arith; most =
-        c.search.invariant.searching.most; plain = c.line_end-end.ensures.plain; same = y.2 } in
-    (y.0, y.1, (fails (Some y.0) (Some x.0) (Some after) _ _ c.search.left line h (omega arith) s
-        x.2.1, λ read. breaks_off (Some y.0) (Some x.0) (Some after) _ _ c.search.left line h s
-        x.2.1))
+    record {
+      short = omega arith;
+      inside = omega arith;
+      fits = omega arith;
+      most = c.search.invariant.searching.most;
+      plain = c.line_end-end.ensures.plain;
+      same = y.2;
+    } in (
+      y.0,
+      y.1,
+      (
+        fails (Some y.0) (Some x.0) (Some after) _ _ c.search.left line h (omega arith) s
+            x.2.1,
+        λ read. breaks_off (Some y.0) (Some x.0) (Some after) _ _ c.search.left line h s
+            x.2.1,
+      ),
+    )

@@ -10,12 +10,15 @@ returns-in-Err-clause-through g c after may =
     let x = c.in_ok-found.ensures.through after may in
     let self = c.args.self.now in
     let found : HasFound (Some x.0) (Some after) self.room (unused self.window)
-        c.find_line.new.buffer c.in-Some.found =
-        rw (c.in-Some.is, c.drop_line.ensures.buffer) at x.2 in
+    c.find_line.new.buffer c.in-Some.found =
+    rw (c.in-Some.is, c.drop_line.ensures.buffer) at x.2 in
     let fault : IsFileFault (take c.in-Some.found.line c.find_line.new.buffer) c.in-Err.kind =
-        subst (λ (line : List ℕ). IsFileFault line c.in-Err.kind) (c.line.ensures
-        ∙ c.set_line.ensures.line) c.in-Err.ensures.fault in
-    (x.0, x.1, fault_to_come self.state self.count self.room c.in-Some.found.room
-        (unused self.window) c.find_line.new.buffer (unused c.set_line.new.self) x.0 after
-        c.in-Some.found c.in-Err.kind c.requires (omega (arith, self.counted, found.takes)) found
-        fault)
+    subst (λ (line : List ℕ). IsFileFault line c.in-Err.kind) (c.line.ensures
+    ∙ c.set_line.ensures.line) c.in-Err.ensures.fault in (
+      x.0,
+      x.1,
+      fault_to_come self.state self.count self.room c.in-Some.found.room
+          (unused self.window) c.find_line.new.buffer (unused c.set_line.new.self) x.0 after
+          c.in-Some.found c.in-Err.kind c.requires (omega (arith, self.counted, found.takes)) found
+          fault,
+    )
