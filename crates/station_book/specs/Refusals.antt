@@ -1,5 +1,5 @@
 -- What a refusal says.
-use Rattle.std.specs.Prelude.{◌≡◌, ℕ, Bool, true, Option, Some, None}
+use Rattle.std.specs.Prelude.{◌≡◌, ℕ, ⊤, Bool, true, Option, Some, None}
 use Rattle.station_book.specs.declared.fault.BookFault.{BookFault}
 use Rattle.station_book.specs.declared.fault.BookFault.TheVariants.{At, Memory as NoMemory}
 use Rattle.station_book.specs.declared.fault.BookKind.{BookKind}
@@ -17,10 +17,6 @@ ExplainsFault n fault (At m k) = (m ≡ n) × (fault ≡ Some k)
 ExplainsFault n fault NoMemory = fault ≡ None
 
 -- memory ran out only where some is needed
-abbrev pub WantsOnly : Bool → Refusal → Type 0
-WantsOnly needed (Kind k) = Unit {0}
-WantsOnly needed Memory = needed ≡ true
-
 abbrev pub WantsOnlyAt : Bool → BookFault → Type 0
-WantsOnlyAt needed (At m k) = Unit {0}
+WantsOnlyAt needed (At m k) = ⊤
 WantsOnlyAt needed NoMemory = needed ≡ true

@@ -1,5 +1,5 @@
 -- What a book keeps, and what each kind of block does to it.
-use Rattle.std.specs.Prelude.{ℕ, ◌+◌, Bool, true, false, ◌&&◌, if◌then◌else◌, Result, Ok, Err, List, Option, Some, None, ◌<◌, length}
+use Rattle.std.specs.Prelude.{ℕ, ◌+◌, Bool, true, false, if◌then◌else◌, Result, Ok, Err, List, Option, Some, None, ◌<◌, length}
 use Rattle.station_book.specs.declared.fault.BookKind.{BookKind}
 use Rattle.station_book.specs.declared.fault.BookKind.TheVariants as kinds
 use Rattle.station_book.specs.Limits.{FaceLimits}
@@ -13,7 +13,7 @@ use Rattle.station_book.specs.declared.role.Role.TheVariants.{Station as AsStati
 use Rattle.station_book.specs.Blocks.{role_of, has_two, named, number}
 use Rattle.station_book.specs.Readings.{read}
 use Rattle.station_book.specs.Slots.{closing_faults}
-use Rattle.station_book.specs.StationState.{with_set, is_new_to, state_faults, with_reading}
+use Rattle.station_book.specs.StationState.{with_set, state_faults, with_reading}
 use Rattle.station_book.specs.StationStates.{StationStates, last_of, LastMayEnd, change_last, with_station, first_set_faults, more_set_faults}
 
 -- what a book keeps: its limits, how many blocks it took, where it stands, and its stations with
@@ -100,25 +100,6 @@ fault_as Other k b = None
 -- the fault of a block
 abbrev pub fault_of : State → GsiBlock → Option BookKind
 fault_of k b = fault_as (role_of b) k b
-
--- whether a book may need memory for a measurement that says this, in an open set: its target is
--- new to the last station
-abbrev pub is_first_of_target : StationStates → Result (Option Reading) BookKind → Bool
-is_first_of_target so_far (Err k) = false
-is_first_of_target so_far (Ok None) = false
-is_first_of_target so_far (Ok (Some s)) = is_new_to (last_of so_far) s
-
--- whether a book may need memory for a block of this role: a set, or the first reading of a target
-abbrev pub grows_as : Role → State → GsiBlock → Bool
-grows_as AsStation k b = false
-grows_as Set k b = true
-grows_as Close k b = false
-grows_as Measurement k b = has_open_set k.stage && is_first_of_target k.stations (read b)
-grows_as Other k b = false
-
--- whether a book may need memory for a block
-abbrev pub grows : State → GsiBlock → Bool
-grows k b = grows_as (role_of b) k b
 
 -- what is kept after a block with this role
 abbrev pub after_as : Role → GsiBlock → State → State

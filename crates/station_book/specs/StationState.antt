@@ -1,5 +1,5 @@
 -- What a book keeps of a station that has sets.
-use Rattle.std.specs.Prelude.{◌≡◌, ℕ, ◌-◌, ◌≤◌, nat_le, Bool, false, is_none, List, [], ◌∷◌, ◌++◌, length, Option, Some, None, All, AllPairs, ◌≢◌, position, replicate, slice_set}
+use Rattle.std.specs.Prelude.{◌≡◌, ℕ, ◌-◌, ◌≤◌, nat_le, Bool, false, List, [], ◌∷◌, ◌++◌, length, Option, Some, None, All, AllPairs, ◌≢◌, position, replicate, slice_set}
 use Rattle.std.specs.Str.{bytes_eq}
 use Rattle.adjust_kernel.specs.declared.obs.Obs.{Obs}
 use Rattle.adjust_kernel.specs.declared.limits.TheConstants.{MOST_SETS, MOST_TARGETS}
@@ -53,10 +53,6 @@ is_named name (Some t) = bytes_eq t name
 
 abbrev pub place_of : List ℕ → List (List ℕ) → Option ℕ
 place_of name targets = position (λ t. bytes_eq t name) targets
-
--- whether a reading's target is none of the station's
-abbrev pub is_new_to : StationState → Reading → Bool
-is_new_to e s = is_none (place_of s.target e.targets)
 
 -- the fault of a target more, where a station has as many as it may have
 abbrev pub new_target_fault : List (List ℕ) → Option BookKind

@@ -9,13 +9,12 @@ ghost use Rattle.std.specs.Str.{bytes_eq};
 ghost use Rattle.station_book.specs.Faults.{first_of, when};
 ghost use Rattle.station_book.specs.Slots.{closing_faults};
 ghost use Rattle.station_book.specs.TwoFaces.{AreOnCircle};
-ghost use Rattle.station_book.specs.StationState.{MayEnd, begun, with_set, is_new_to, state_faults, with_reading, with_reading_at};
+ghost use Rattle.station_book.specs.StationState.{MayEnd, begun, with_set, state_faults, with_reading, with_reading_at};
 ghost use Rattle.station_book.specs.declared.fault.BookKind.TheVariants as kinds;
-ghost use Rattle.station_book.specs.Refusals.{ExplainsRefusal, WantsOnly};
 
 use crate::angles::Reading;
 use crate::faces::Faces;
-use crate::fault::{BookKind, Refusal};
+use crate::fault::BookKind;
 use crate::limits::Limits;
 use crate::slot::{empty_slot, end_fault, push_pairs, slot_fault};
 use crate::surveyed::Surveyed;
@@ -110,13 +109,12 @@ impl StationSoFar {
     }
 
     /// Takes a reading of the last set.
-    pub(crate) fn take_reading(&mut self, limits: Limits, reading: Reading) -> Result<(), Refusal>
+    pub(crate) fn take_reading(&mut self, limits: Limits, reading: Reading) -> Result<(), BookKind>
         requires { AreOnCircle reading.angles }
         ensures clean { OnOk result (first_of (state_faults limits self.old reading) ≡ None) }
         ensures ok { OnOk result (self.new ≡ with_reading reading self.old) }
         ensures fault { IfErr result
-            (ExplainsRefusal (first_of (state_faults limits self.old reading))) }
-        ensures memory { IfErr result (WantsOnly (is_new_to self.old reading)) }
+            (λ kind. first_of (state_faults limits self.old reading) ≡ Some kind) }
         ensures err { OnErr result (self.new ≡ self.old) }
     {
         let Reading {
@@ -131,7 +129,7 @@ impl StationSoFar {
         };
         let slot = self.targets.slot(place);
         if let Some(kind) = slot_fault(limits, slot, reading) {
-            return Err(Refusal::Kind(kind));
+            return Err(kind);
         }
         self.targets.set(place, slot.with_reading(face, angles));
         Ok(())

@@ -8,8 +8,8 @@ ghost use Rattle.station_book.specs.StationStates.{none_so_far, surveys_of, with
 ghost use Rattle.station_book.specs.Faults.{first_of};
 ghost use Rattle.station_book.specs.Slots.{closing_faults};
 ghost use Rattle.station_book.specs.TwoFaces.{AreOnCircle};
-ghost use Rattle.station_book.specs.StationState.{MayEnd, with_set, is_new_to, state_faults, with_reading};
-ghost use Rattle.station_book.specs.Refusals.{ExplainsRefusal, WantsOnly};
+ghost use Rattle.station_book.specs.StationState.{MayEnd, with_set, state_faults, with_reading};
+ghost use Rattle.station_book.specs.Refusals.{ExplainsRefusal};
 
 use crate::angles::Reading;
 use crate::bounds::MOST_STATIONS;
@@ -148,15 +148,14 @@ impl StationsSoFar {
     }
 
     /// A reading in the last set of the last station.
-    pub(crate) fn take_reading(&mut self, limits: Limits, reading: Reading) -> Result<(), Refusal>
+    pub(crate) fn take_reading(&mut self, limits: Limits, reading: Reading) -> Result<(), BookKind>
         requires some { 0 < length self.old }
         requires angle { AreOnCircle reading.angles }
         ensures clean { OnOk result
             (first_of (state_faults limits (last_of self.old) reading) ≡ None) }
         ensures ok { OnOk result (self.new ≡ change_last (with_reading reading) self.old) }
         ensures fault { IfErr result
-            (ExplainsRefusal (first_of (state_faults limits (last_of self.old) reading))) }
-        ensures memory { IfErr result (WantsOnly (is_new_to (last_of self.old) reading)) }
+            (λ kind. first_of (state_faults limits (last_of self.old) reading) ≡ Some kind) }
         ensures err { OnErr result (self.new ≡ self.old) }
     {
         let last = self.stations.len() - 1;

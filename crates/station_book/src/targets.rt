@@ -4,12 +4,11 @@
 ghost use Rattle.std.specs.Prelude.{◌≡◌, ◌≢◌, ◌<◌, AllPairs, None, Some, slice_get, slice_set, length, replicate, IfErr, IfNone, IfOk, IfSome, OnErr, []};
 ghost use Rattle.adjust_kernel.specs.declared.limits.TheConstants.{MOST_TARGETS};
 ghost use Rattle.station_book.specs.StationState.{is_named, place_of, new_target_fault};
-ghost use Rattle.station_book.specs.Refusals.{ExplainsRefusal};
 ghost use Rattle.station_book.specs.Slots.{slot_at, empty_slot};
 ghost use Rattle.station_book.specs.Targets.{with_first};
 
 use crate::face::Face;
-use crate::fault::{BookKind, Refusal};
+use crate::fault::BookKind;
 use crate::slot::{Slot, empty_slot};
 use adjust_kernel::{MOST_TARGETS, Name};
 use indexmap::IndexMap;
@@ -18,7 +17,8 @@ use std::alloc::{AllocError, Global};
 use std::marker::Model;
 
 /// The targets of a station, in the order of their first readings, each with its readings in the
-/// last set.
+/// last set. There is always room for as many as a station may have, so that no reading needs
+/// memory.
 #[derive(Drop)]
 pub(crate) struct Targets {
     slots: IndexMap<Name, Slot>,
@@ -27,7 +27,10 @@ pub(crate) struct Targets {
 }
 
 impl Model for Targets {
+    ghost use Rattle.std.specs.Prelude.{◌+◌, ◌≤◌, length};
     ghost use Rattle.std.specs.Map.{keys_of, values_of};
+    ghost use Rattle.indexmap.specs.IndexMap.{spare};
+    ghost use Rattle.adjust_kernel.specs.declared.limits.TheConstants.{MOST_TARGETS};
     ghost use Rattle.station_book.specs.Targets.{TargetsValue};
 
     ghost Value = { TargetsValue };
@@ -36,6 +39,8 @@ impl Model for Targets {
       names = keys_of t.slots.entries;
       slots = values_of t.slots.entries;
     } };
+
+    ghost invariant = { λ t. MOST_TARGETS ≤ length t.slots.entries + spare t.slots };
 }
 
 /// The place beside this one: in face II the one before it, else the one after it. Whatever it
@@ -108,13 +113,13 @@ impl Targets {
     /// The place of the target of this name, by its hash, which is computed once. Where there is
     /// none of this name and there may be one more, it is added with this first reading.
     #[inline(never)]
-    fn search_or_add(&mut self, name: Name, first: Slot) -> Result<Option<usize>, Refusal>
+    fn search_or_add(&mut self, name: Name, first: Slot) -> Result<Option<usize>, BookKind>
         ensures place { IfOk result (λ place. place ≡ place_of name self.old.names) }
         ensures inside { IfOk result (λ place. IfSome place (λ i. i < length self.old.names)) }
         ensures room { IfOk result (λ place. IfNone place (length self.old.names < MOST_TARGETS)) }
         ensures targets { IfOk result (λ place. self.new ≡ with_first place name first self.old) }
         ensures absent { OnErr result (place_of name self.old.names ≡ None) }
-        ensures fault { IfErr result (ExplainsRefusal (new_target_fault self.old.names)) }
+        ensures fault { IfErr result (λ kind. new_target_fault self.old.names ≡ Some kind) }
         ensures err { OnErr result (self.new ≡ self.old) }
     {
         let count = self.slots.len();
@@ -125,10 +130,7 @@ impl Targets {
                 .ok_or(BookKind::TooManyTargets)?;
             return Ok(Some(place));
         }
-        let Ok(entry) = self.slots.entry(name) else {
-            return Err(Refusal::Memory);
-        };
-        match entry {
+        match self.slots.entry(name).unwrap() {
             Entry::Occupied(target) => Ok(Some(target.index())),
             Entry::Vacant(target) => {
                 target.insert(first);
@@ -146,14 +148,14 @@ impl Targets {
         name: Name,
         face: Face,
         first: Slot,
-    ) -> Result<Option<usize>, Refusal>
+    ) -> Result<Option<usize>, BookKind>
         requires { AllPairs (λ a b. a ≢ b) self.old.names }
         ensures place { IfOk result (λ place. place ≡ place_of name self.old.names) }
         ensures inside { IfOk result (λ place. IfSome place (λ i. i < length self.old.names)) }
         ensures room { IfOk result (λ place. IfNone place (length self.old.names < MOST_TARGETS)) }
         ensures targets { IfOk result (λ place. self.new ≡ with_first place name first self.old) }
         ensures absent { OnErr result (place_of name self.old.names ≡ None) }
-        ensures fault { IfErr result (ExplainsRefusal (new_target_fault self.old.names)) }
+        ensures fault { IfErr result (λ kind. new_target_fault self.old.names ≡ Some kind) }
         ensures err { OnErr result (self.new ≡ self.old) }
     {
         if let Some(place) = self.place_beside(&name, face) {

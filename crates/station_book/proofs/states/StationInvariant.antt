@@ -21,13 +21,11 @@ use Rattle.station_book.specs.declared.slot.Slot.{Slot}
 use Rattle.station_book.specs.Faults.{when, first_of}
 use Rattle.station_book.specs.Slots.{slot_at, empty_slot, with_face_reading, is_unread, is_single, obs_of, faces_of, IsKeptSlot}
 use Rattle.station_book.specs.SoFar.{AreSoFar}
-use Rattle.station_book.specs.StationState.{StationState, closed, with_set, place_of, is_new_to, new_target_fault, state_faults_at, state_faults, with_reading_at, IsStationState, MayEnd}
+use Rattle.station_book.specs.StationState.{StationState, closed, with_set, place_of, new_target_fault, state_faults_at, state_faults, with_reading_at, IsStationState, MayEnd}
 use Rattle.std.specs.Prelude.{IfErr, IfNone}
 use Rattle.station_book.specs.Limits.{FaceLimits}
 use Rattle.station_book.specs.declared.faces.Faces.{Faces}
-use Rattle.station_book.specs.declared.fault.Refusal.{Refusal}
-use Rattle.station_book.specs.declared.fault.Refusal.TheVariants as refusals
-use Rattle.station_book.specs.Refusals.{ExplainsRefusal, WantsOnly}
+use Rattle.station_book.specs.declared.fault.BookKind.{BookKind}
 use Rattle.station_book.proofs.states.ClosedSets.{closes}
 use Rattle.station_book.proofs.states.SlotObservations.{pairs_match}
 use Rattle.std.proofs.lemmas.List.Folds.{list_any_at}
@@ -306,23 +304,10 @@ set_kept n e targets slots sets obs faces et el es eo ef h may new few number = 
 
 -- the fault of a new target, as that of a reading
 pub fault_moved : {X : Type 0} (limits : FaceLimits) (e now : StationState) (s : Reading)
-    (f : Refusal) (r : Result X Refusal) → Err f ≡ r → e ≡ now → place_of s.target e.targets ≡ None
-    → ExplainsRefusal (new_target_fault e.targets) f
-    → IfErr r (ExplainsRefusal (first_of (state_faults limits now s)))
+    (f : BookKind) (r : Result X BookKind) → Err f ≡ r → e ≡ now → place_of s.target e.targets ≡ None
+    → new_target_fault e.targets ≡ Some f
+    → IfErr r (λ kind. first_of (state_faults limits now s) ≡ Some kind)
 fault_moved limits e now s f r it v absent h =
-    subst (λ r. IfErr r (ExplainsRefusal (first_of (state_faults limits now s)))) it
-    (subst (λ (w : StationState). ExplainsRefusal (first_of (state_faults limits w s)) f) v
-    (subst (λ (o : Option ℕ). ExplainsRefusal (first_of (state_faults_at limits e s o)) f)
-    (sym absent) h))
-
-wanted : (needed : Bool) (f : Refusal) → needed ≡ true → WantsOnly needed f
-wanted needed (refusals.Kind k) e = tt
-wanted needed refusals.Memory e = e
-
--- where the station has no target of this name, the reading is the first of its target
-pub new_moved : {X : Type 0} (e now : StationState) (s : Reading) (f : Refusal)
-    (r : Result X Refusal) → Err f ≡ r → e ≡ now → place_of s.target e.targets ≡ None
-    → IfErr r (WantsOnly (is_new_to now s))
-new_moved e now s f r it v absent = subst (λ r. IfErr r (WantsOnly (is_new_to now s))) it
-    (wanted (is_new_to now s) f (ap (λ (w : StationState). is_new_to w s) (sym v)
-    ∙ ap is_none absent))
+    subst (λ r. IfErr r (λ kind. first_of (state_faults limits now s) ≡ Some kind)) it
+    (ap (λ (w : StationState). first_of (state_faults limits w s)) (sym v)
+    ∙ ap (λ o. first_of (state_faults_at limits e s o)) absent ∙ h)

@@ -1,8 +1,7 @@
-use Rattle.std.proofs.Common.{sym, ap, subst, ◌∙◌}
+use Rattle.std.proofs.Common.{sym, ap, ◌∙◌}
 use Rattle.std.proofs.lemmas.Result.{on_ok_weaker, on_err_weaker}
 use Rattle.station_book.specs.Faults.{first_of}
-use Rattle.station_book.specs.StationState.{StationState, is_new_to, state_faults, with_reading}
-use Rattle.station_book.specs.Refusals.{ExplainsRefusal, WantsOnly}
+use Rattle.station_book.specs.StationState.{StationState, state_faults, with_reading}
 use Rattle.station_book.proofs.lists.NameMaps.{if_err}
 use Rattle.station_book.proofs.states.NewestState.{last_value, changed_last, unchanged_last, older_may}
 use Rattle.station_book.proofs.stations_so_far.StationsSoFar.take_reading.Goals as goal
@@ -37,17 +36,8 @@ returns-clause-fault c =
     c.len-last.ensures.len c.self.view_is c.requires.some c.index_mut.result.now
     c.index_mut.ensures.value in
     if_err c.take_reading.result
-    (λ f h. subst (λ (e : StationState). ExplainsRefusal
-    (first_of (state_faults c.args.limits e c.args.reading)) f) last h) c.take_reading.ensures.fault
-
-pub returns-clause-memory : goal.returns-clause-memory
-returns-clause-memory c =
-    let last = last_value c.self.inside.stations.entries c.args.self.now c.len-last.result
-    c.len-last.ensures.len c.self.view_is c.requires.some c.index_mut.result.now
-    c.index_mut.ensures.value in
-    if_err c.take_reading.result
-    (λ f h. subst (λ (e : StationState). WantsOnly (is_new_to e c.args.reading) f) last h)
-    c.take_reading.ensures.memory
+    (λ f h. ap (λ (e : StationState). first_of (state_faults c.args.limits e c.args.reading))
+    (sym last) ∙ h) c.take_reading.ensures.fault
 
 pub returns-clause-err : goal.returns-clause-err
 returns-clause-err c =

@@ -13,10 +13,15 @@ slots-preserved c =
     record {
       names = same_keys es c.slots.place c.empty_slot.result ∙ c.slots.invariant.names;
       size = length-set_value_at es c.slots.place c.empty_slot.result ∙ size;
+      room = (let room = c.slots.invariant.room in let long =
+          length-set_value_at es c.slots.place c.empty_slot.result in omega (arith, room, long));
       whole = c.slots.invariant.whole;
       empty = λ k lt. emptied es c.slots.place k c.empty_slot.result empty_slot
           (omega (arith, size)) (omega (arith, lt)) c.slots.invariant.empty c.empty_slot.ensures;
     }
+
+pub invariant_of-self : goal.invariant_of-self
+invariant_of-self c = c.slots.invariant.room
 
 pub returns-clause-slots : goal.returns-clause-slots
 returns-clause-slots c =

@@ -5,7 +5,7 @@ use Rattle.indexmap.specs.Entry.{entry_index, entry_map, entry_value, map_with_v
 use Rattle.station_book.specs.declared.slot.Slot.{Slot}
 use Rattle.station_book.specs.StationState.{place_of}
 use Rattle.station_book.specs.Targets.{TargetsValue, with_target}
-use Rattle.station_book.proofs.states.TargetMaps.{added, found_place, known_place, unknown_place, if_failed}
+use Rattle.station_book.proofs.states.TargetMaps.{added, found_place, known_place, unknown_place, if_failed, of_ok}
 use Rattle.station_book.proofs.targets.Targets.search_or_add.Goals as goal
 
 pub returns-in_err-place-clause-absent : goal.returns-in_err-place-clause-absent
@@ -28,9 +28,11 @@ unfolding entry_index
 returns-in-Occupied-clause-place c =
     let es = c.self.inside.slots.entries in
     let same : c.in-Occupied.target.map.now.entries ≡ es =
-    ap (λ e. (entry_map e).entries) (sym c.in-Occupied.is) ∙ c.in-Ok.ensures.unchanged in
+    ap (λ e. (entry_map e).entries) (sym c.in-Occupied.is)
+    ∙ of_ok _ c.entry.result c.unwrap.result c.unwrap.ensures c.entry.ensures.unchanged in
     known_place c.args.name (keys_of es) c.index.result
-    (c.index.ensures ∙ ap entry_index (sym c.in-Occupied.is) ∙ c.in-Ok.ensures.index)
+    (c.index.ensures ∙ ap entry_index (sym c.in-Occupied.is)
+    ∙ of_ok _ c.entry.result c.unwrap.result c.unwrap.ensures c.entry.ensures.index)
     (let inside = c.in-Occupied.target.within in let long = ap length same in let keys =
     length-map es (λ (e : List ℕ × Slot). e.0) in let at = c.index.ensures in omega
     (arith, inside, long, keys, at))
@@ -40,7 +42,7 @@ pub returns-in-Vacant-clause-place : goal.returns-in-Vacant-clause-place
 unfolding entry_value
 returns-in-Vacant-clause-place c =
     unknown_place c.args.name c.self.inside.slots.entries
-    (sym c.in-Ok.ensures.value ∙ ap entry_value c.in-Vacant.is)
+    (sym (of_ok _ c.entry.result c.unwrap.result c.unwrap.ensures c.entry.ensures.value) ∙ ap entry_value c.in-Vacant.is)
     ∙ ap (λ (t : TargetsValue). place_of c.args.name t.names) c.self.view_is
 
 pub returns-in-Vacant-clause-targets : goal.returns-in-Vacant-clause-targets
@@ -48,18 +50,13 @@ unfolding entry_value
 returns-in-Vacant-clause-targets c =
     let es = c.self.inside.slots.entries in
     let one : List (List ℕ × Slot) = (c.args.name, c.args.first) ∷ [] in
-    let now : c.self-in-Vacant-2-1.given.0 ≡ map_with_value c.in-Ok.entry c.args.first = search
+    let now : c.self-in-Vacant-2-1.given.0 ≡ map_with_value c.unwrap.result c.args.first = search
     rules in
-    let more = ap (λ m. m.entries) now ∙ c.in-Ok.ensures.update.1 c.args.first
-    ∙ added c.args.name c.args.first es (sym c.in-Ok.ensures.value
+    let more = ap (λ m. m.entries) now ∙ (of_ok _ c.entry.result c.unwrap.result c.unwrap.ensures c.entry.ensures.update).1 c.args.first
+    ∙ added c.args.name c.args.first es (sym (of_ok _ c.entry.result c.unwrap.result c.unwrap.ensures c.entry.ensures.value)
     ∙ ap entry_value c.in-Vacant.is) in
     (λ i. record { names = keys_of (more i); slots = values_of (more i) })
     ∙ (λ i. record {
       names = map-append (λ e. e.0) es one i;
       slots = map-append (λ e. e.1) es one i;
     }) ∙ ap (with_target c.args.name c.args.first) c.self.view_is
-
-pub returns-in_default-clause-absent : goal.returns-in_default-clause-absent
-returns-in_default-clause-absent c =
-    sym (unknown_place c.args.name c.self.inside.slots.entries c.in_default.ensures.absent
-    ∙ ap (λ (t : TargetsValue). place_of c.args.name t.names) c.self.view_is)
