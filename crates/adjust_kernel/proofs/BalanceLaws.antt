@@ -19,7 +19,7 @@ none_pass key f n [] h k le = refl
 none_pass key f n (x ∷ xs) h k le =
     let lt : key x < n = h.0 in
     λ i. cond (ne_eqb (key x) k (λ e. apart (key x) k n e lt le) i) (f x) (pos 0)
-        +ℤ none_pass key f n xs h.1 k le i
+    +ℤ none_pass key f n xs h.1 k le i
   where
     apart : (a k n : ℕ) → a ≡ k → a < n → n ≤ k → ⊥
     apart a k n e l m = omega arith

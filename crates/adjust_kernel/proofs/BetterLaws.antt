@@ -59,17 +59,17 @@ squared_move : (m : ℕ) (b : Bool) (v s : ℤ)
 squared_move m true v s =
     let w = num (pos m) ⊗ num v ⊖ num s in
     same_value (w ⊗ w) (num (pos (m * m)) ⊗ (num v ⊗ num v) ⊖ (num (pos (2 * m)) ⊗ num s) ⊗ num v
-        ⊕ num s ⊗ num s) (omega arith)
+    ⊕ num s ⊗ num s) (omega arith)
 squared_move m false v s =
     let w = num (pos m) ⊗ num v ⊖ num (pos 0) in
     same_value (w ⊗ w) (num (pos (m * m)) ⊗ (num v ⊗ num v)
-        ⊖ (num (pos (2 * m)) ⊗ num s) ⊗ num (pos 0) ⊕ num (pos 0)) (omega arith)
+    ⊖ (num (pos (2 * m)) ⊗ num s) ⊗ num (pos 0) ⊕ num (pos 0)) (omega arith)
 
 left_over : (m : ℕ) (q s : ℤ) → pos (m * m) *ℤ q -ℤ (pos (2 * m) *ℤ s) *ℤ s +ℤ pos m *ℤ squared s
     ≡ pos (m * m) *ℤ q -ℤ pos m *ℤ squared s
 left_over m q s = same_value
     (num (pos (m * m)) ⊗ num q ⊖ (num (pos (2 * m)) ⊗ num s) ⊗ num s
-        ⊕ num (pos m) ⊗ (num s ⊗ num s))
+    ⊕ num (pos m) ⊗ (num s ⊗ num s))
     (num (pos (m * m)) ⊗ num q ⊖ num (pos m) ⊗ (num s ⊗ num s))
     (omega arith)
 
@@ -77,7 +77,7 @@ over_both : (d m : ℕ) (q s : ℤ) → pos (d * d) *ℤ (pos (m * m) *ℤ q -�
     +ℤ pos (d * d * m) *ℤ s ≡ pos (d * m * (d * m)) *ℤ q
 over_both d m q s = same_value
     (num (pos (d * d)) ⊗ (num (pos (m * m)) ⊗ num q ⊖ num (pos m) ⊗ num s)
-        ⊕ num (pos (d * d * m)) ⊗ num s)
+    ⊕ num (pos (d * d * m)) ⊗ num s)
     (num (pos (d * m * (d * m))) ⊗ num q)
     (omega arith)
 
@@ -100,9 +100,9 @@ module _ (c other : Choice) (p : Reading → Bool) (readings : List Reading) whe
         -ℤ pos m *ℤ squared S
     moved_squares =
         int_sum_by-same (λ r. squared (residual other r))
-            (λ r. pos (m * m) *ℤ squared (residual c r)
-            -ℤ (pos (2 * m) *ℤ S) *ℤ cond (p r) (residual c r) (pos 0)
-            +ℤ cond (p r) (squared S) (pos 0))
+        (λ r. pos (m * m) *ℤ squared (residual c r)
+        -ℤ (pos (2 * m) *ℤ S) *ℤ cond (p r) (residual c r) (pos 0)
+        +ℤ cond (p r) (squared S) (pos 0))
         (λ r. ap squared (at_row r) ∙ squared_move m (p r) (residual c r) S) readings
         ∙ int_sum_by-add (λ r. pos (m * m) *ℤ squared (residual c r)
         -ℤ (pos (2 * m) *ℤ S) *ℤ cond (p r) (residual c r) (pos 0))
@@ -123,8 +123,8 @@ module _ (c other : Choice) (p : Reading → Bool) (readings : List Reading) whe
         let f = over_both c.denominator m (sum_of_squares c readings) (squared S) in
         let g = squared-positive S k (c.denominator * c.denominator * m) more.1 in
         let i : pos (other.denominator * other.denominator) *ℤ sum_of_squares c readings
-            ≡ pos (c.denominator * m * (c.denominator * m)) *ℤ sum_of_squares c readings =
-            ap (λ n. pos (n * n) *ℤ sum_of_squares c readings) over in
+        ≡ pos (c.denominator * m * (c.denominator * m)) *ℤ sum_of_squares c readings =
+        ap (λ n. pos (n * n) *ℤ sum_of_squares c readings) over in
         record { other = other; denominator = omega (arith, more.0); smaller = omega (arith, ints) }
       where
         some_pass : (n : ℕ) → n ≡ m → 1 ≤ n
@@ -137,14 +137,14 @@ at_target : (m d : ℕ) (b : Bool) (a o y s : ℤ)
 at_target m d b a o y s =
     let x = num (cond b s (pos 0)) in
     same_value ((num (pos m) ⊗ num a ⊖ x) ⊖ num (pos m) ⊗ num o ⊖ num (pos (d * m)) ⊗ num y)
-        (num (pos m) ⊗ (num a ⊖ num o ⊖ num (pos d) ⊗ num y) ⊖ x) (omega arith)
+    (num (pos m) ⊗ (num a ⊖ num o ⊖ num (pos d) ⊗ num y) ⊖ x) (omega arith)
 
 at_set : (m d : ℕ) (b : Bool) (a o y s : ℤ) → pos m *ℤ a -ℤ (pos m *ℤ o +ℤ cond b s (pos 0))
     -ℤ pos (d * m) *ℤ y ≡ pos m *ℤ (a -ℤ o -ℤ pos d *ℤ y) -ℤ cond b s (pos 0)
 at_set m d b a o y s =
     let x = num (cond b s (pos 0)) in
     same_value (num (pos m) ⊗ num a ⊖ (num (pos m) ⊗ num o ⊕ x) ⊖ num (pos (d * m)) ⊗ num y)
-        (num (pos m) ⊗ (num a ⊖ num o ⊖ num (pos d) ⊗ num y) ⊖ x) (omega arith)
+    (num (pos m) ⊗ (num a ⊖ num o ⊖ num (pos d) ⊗ num y) ⊖ x) (omega arith)
 
 pub target_sum_has_better : (c : Choice) (readings : List Reading) (t : ℕ) → 1 ≤ c.denominator
     → target_sum c readings t ≢ pos 0 → HasBetter c readings
@@ -158,8 +158,8 @@ target_sum_has_better c readings t h k =
       orientation = λ u. pos n *ℤ c.orientation u;
     } in
     moved_is_better c other p readings refl (λ r.
-        at_target n c.denominator (p r) (c.direction r.target) (c.orientation r.set) (unrolled r) s)
-        h k
+    at_target n c.denominator (p r) (c.direction r.target) (c.orientation r.set) (unrolled r) s)
+    h k
 
 pub set_sum_has_better : (c : Choice) (readings : List Reading) (t : ℕ) → 1 ≤ c.denominator
     → set_sum c readings t ≢ pos 0 → HasBetter c readings
@@ -173,5 +173,5 @@ set_sum_has_better c readings t h k =
       orientation = λ u. pos n *ℤ c.orientation u +ℤ cond (eqb u t) s (pos 0);
     } in
     moved_is_better c other p readings refl (λ r.
-        at_set n c.denominator (p r) (c.direction r.target) (c.orientation r.set) (unrolled r) s) h
-        k
+    at_set n c.denominator (p r) (c.direction r.target) (c.orientation r.set) (unrolled r) s) h
+    k

@@ -78,19 +78,27 @@ module _ (p q : ℕ → Bool) where
     before : ((x y : ℕ ⊎ ℕ) → label readings x ≡ label readings y → part p q x ≡ part p q y)
         → p r.set ≡ q r.target → (x : ℕ ⊎ ℕ) → Dec (label readings x ≡ label readings (inl r.set))
         → HadLabel r readings x
-    before same k x (yes e) = (inr r.target, sym
-        (merged_is (label readings (inl r.set)) (label readings (inr r.target)) (label readings x)
-        e), sym k ∙ same (inl r.set) x (sym e))
-    before same k x (no f) = (x, sym (merged_other (label readings (inl r.set))
-        (label readings (inr r.target)) (label readings x) f), refl)
+    before same k x (yes e) = (
+      inr r.target,
+      sym
+          (merged_is (label readings (inl r.set)) (label readings (inr r.target)) (label readings x)
+          e),
+      sym k ∙ same (inl r.set) x (sym e),
+    )
+    before same k x (no f) = (
+      x,
+      sym (merged_other (label readings (inl r.set))
+          (label readings (inr r.target)) (label readings x) f),
+      refl,
+    )
 
     by : ((x y : ℕ ⊎ ℕ) → label readings x ≡ label readings y → part p q x ≡ part p q y)
         → p r.set ≡ q r.target → part p q x ≡ part p q y
     by same k =
         let (u, l, m) = before same k x (ℕ_discrete (label readings x)
-            (label readings (inl r.set))) in
+        (label readings (inl r.set))) in
         let (v, l', m') = before same k y (ℕ_discrete (label readings y)
-            (label readings (inl r.set))) in
+        (label readings (inl r.set))) in
         sym m ∙ same u v (l ∙ e ∙ sym l') ∙ m'
 
 module _ (sets targets : ℕ) where
@@ -121,8 +129,8 @@ module _ (sets targets : ℕ) where
           part_of_target = q;
           none_between = All-from_recursion (λ (r : Reading). p r.set ≡ q r.target) readings
               (AllByRecursion-map (λ (r : Reading). label readings (inl r.set)
-                  ≡ label readings (inr r.target)) (λ r. p r.set ≡ q r.target)
-                  (λ r e. ap (λ n. eqb n first_label) e) readings (joined readings));
+              ≡ label readings (inr r.target)) (λ r. p r.set ≡ q r.target)
+              (λ r e. ap (λ n. eqb n first_label) e) readings (joined readings));
           first_part = member p q true first inside (side first ∙ itself first_label);
           second_part = member p q false x h (side x ∙ ne_eqb (label readings x) first_label f);
         }
@@ -139,16 +147,17 @@ module _ (sets targets : ℕ) where
         → IsConnected sets targets readings
     whole of_sets of_targets d = let e : true ≡ false = at true d.first_part
         ∙ sym (at false d.second_part) in cc where
-      within : AllWithin d.part_of_set d.part_of_target readings
-      within = recursion_from_All (λ (r : Reading). d.part_of_set r.set ≡ d.part_of_target r.target)
-          readings d.none_between
+          within : AllWithin d.part_of_set d.part_of_target readings
+          within = recursion_from_All (λ (r : Reading). d.part_of_set r.set
+              ≡ d.part_of_target r.target)
+              readings d.none_between
 
-      at : (side : Bool) → HasMember sets targets d.part_of_set d.part_of_target side
-          → side ≡ part d.part_of_set d.part_of_target first
-      at side (inl (s, h, e)) = sym e ∙ one_part d.part_of_set d.part_of_target readings within
-          (inl s) first (of_sets s h)
-      at side (inr (t, h, e)) = sym e ∙ one_part d.part_of_set d.part_of_target readings within
-          (inr t) first (of_targets t h)
+          at : (side : Bool) → HasMember sets targets d.part_of_set d.part_of_target side
+              → side ≡ part d.part_of_set d.part_of_target first
+          at side (inl (s, h, e)) = sym e ∙ one_part d.part_of_set d.part_of_target readings within
+              (inl s) first (of_sets s h)
+          at side (inr (t, h, e)) = sym e ∙ one_part d.part_of_set d.part_of_target readings within
+              (inr t) first (of_targets t h)
 
     -- the label of a set or of a target is another
     abbrev Other : (ℕ → ℕ ⊎ ℕ) → ℕ → Type 0
@@ -160,15 +169,15 @@ module _ (sets targets : ℕ) where
     told : IsConnected sets targets readings ⊎ IsDivided sets targets readings
     told = by (none_or_first (Other inl) (other inl) sets)
         (none_or_first (Other inr) (other inr) targets) where
-      by : ((s : ℕ) → s < sets → Other inl s → ⊥) ⊎ ((s : ℕ) × IsFirstWhere (Other inl) sets s)
-          → ((t : ℕ) → t < targets → Other inr t → ⊥)
-          ⊎ ((t : ℕ) × IsFirstWhere (Other inr) targets t) → IsConnected sets targets readings
-          ⊎ IsDivided sets targets readings
-      by (inl f) (inl g) = inl (whole
-          (λ s h. by_not_not (ℕ_discrete (label readings (inl s)) first_label) (f s h))
-          (λ t h. by_not_not (ℕ_discrete (label readings (inr t)) first_label) (g t h)))
-      by (inr (s, f)) g = inr (split (inl s) f.inside f.here)
-      by (inl f) (inr (t, g)) = inr (split (inr t) g.inside g.here)
+          by : ((s : ℕ) → s < sets → Other inl s → ⊥) ⊎ ((s : ℕ) × IsFirstWhere (Other inl) sets s)
+              → ((t : ℕ) → t < targets → Other inr t → ⊥)
+              ⊎ ((t : ℕ) × IsFirstWhere (Other inr) targets t) → IsConnected sets targets readings
+              ⊎ IsDivided sets targets readings
+          by (inl f) (inl g) = inl (whole
+              (λ s h. by_not_not (ℕ_discrete (label readings (inl s)) first_label) (f s h))
+              (λ t h. by_not_not (ℕ_discrete (label readings (inr t)) first_label) (g t h)))
+          by (inr (s, f)) g = inr (split (inl s) f.inside f.here)
+          by (inl f) (inr (t, g)) = inr (split (inr t) g.inside g.here)
 
 -- the readings hold all together, or leave two parts
 pub connected_or_divided : (sets targets : ℕ) (readings : List Reading)

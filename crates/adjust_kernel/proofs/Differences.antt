@@ -36,10 +36,15 @@ module _ {X : Type 0} where
       × (i < n) × (slice_get xs i ≢ slice_get ys i)
       × ((k : ℕ) → 0 ≤ k → k < i → slice_get xs k ≡ slice_get ys k))
       → IfNone r (xs ≡ ys) × IfSome r (IsFirstDifference xs ys)
-  first_difference xs ys n None a b h = (sym (take_all n xs a)
-      ∙ agree_to xs ys n (λ k below. h k (omega arith) below) ∙ take_all n ys b, tt)
-  first_difference xs ys n (Some i) a b h = (tt,
-      record { before = agree_to xs ys i (λ k below. h.3 k (omega arith) below); differ = h.2 })
+  first_difference xs ys n None a b h = (
+    sym (take_all n xs a)
+        ∙ agree_to xs ys n (λ k below. h k (omega arith) below) ∙ take_all n ys b,
+    tt,
+  )
+  first_difference xs ys n (Some i) a b h = (
+    tt,
+    record { before = agree_to xs ys i (λ k below. h.3 k (omega arith) below); differ = h.2 },
+  )
 
   -- lists that agree at each place before both end are one
   pub same_lists : (xs ys : List X) (n : ℕ) → length xs ≤ n → length ys ≤ n

@@ -42,8 +42,8 @@ module _ (sets targets : ℕ) (c : Choice) (readings : List Reading) (datum : c.
   at_row r e = let k : lift b0 (d.part_of_set r.set) ≡ lift b0 (d.part_of_target r.target) =
       ap (lift b0) e in
       ap squared (cancel (c.direction r.target) (c.orientation r.set)
-          (lift b0 (d.part_of_target r.target)) (lift b0 (d.part_of_set r.set))
-          (pos c.denominator *ℤ unrolled r) k)
+      (lift b0 (d.part_of_target r.target)) (lift b0 (d.part_of_set r.set))
+      (pos c.denominator *ℤ unrolled r) k)
     where
       cancel : (a o l l' y : ℤ) → l' ≡ l → (a +ℤ l) -ℤ (o +ℤ l') -ℤ y ≡ a -ℤ o -ℤ y
       cancel a o l l' y e = omega (arith, ints)
@@ -54,10 +54,18 @@ module _ (sets targets : ℕ) (c : Choice) (readings : List Reading) (datum : c.
 
   moves : (side : Bool) → lift b0 side ≡ pos 1
       → HasMember sets targets d.part_of_set d.part_of_target side → Differ
-  moves side k (inl n) = inl (n.0, n.1, unlike (c.orientation n.0) side (d.part_of_set n.0) n.2 b0
-      k)
-  moves side k (inr n) = inr (n.0, n.1, unlike (c.direction n.0) side (d.part_of_target n.0) n.2 b0
-      k)
+  moves side k (inl n) = inl (
+    n.0,
+    n.1,
+    unlike (c.orientation n.0) side (d.part_of_set n.0) n.2 b0
+        k,
+  )
+  moves side k (inr n) = inr (
+    n.0,
+    n.1,
+    unlike (c.direction n.0) side (d.part_of_target n.0) n.2 b0
+        k,
+  )
 
   different : (b : Bool) → d.part_of_target 0 ≡ b → Differ
   different true e = moves false (ap (λ b. lift b false) e) d.second_part

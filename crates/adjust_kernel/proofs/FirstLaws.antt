@@ -53,10 +53,13 @@ same_or_first {X} same (x ∷ xs) (y ∷ ys) = by (same x y) (same_or_first same
   by : Dec (x ≡ y) → (xs ≡ ys) ⊎ ((n : ℕ) × IsFirstDifference xs ys n) → (x ∷ xs ≡ y ∷ ys)
       ⊎ ((n : ℕ) × IsFirstDifference (x ∷ xs) (y ∷ ys) n)
   by (yes e) (inl f) = inl (λ i. e i ∷ f i)
-  by (yes e) (inr (n, f)) = inr (suc n, record {
-    before = λ i. e i ∷ f.before i;
-    differ = f.differ;
-  })
+  by (yes e) (inr (n, f)) = inr (
+    suc n,
+    record {
+      before = λ i. e i ∷ f.before i;
+      differ = f.differ;
+    },
+  )
   by (no g) rest = inr (0, record { before = refl; differ = λ e. let h : x ≡ y = cc in g h })
 
 -- it holds of no place below the count, or of a first one
@@ -72,11 +75,14 @@ none_or_first P holds (suc count) = by (none_or_first P holds count) (holds coun
 
   by : ((n : ℕ) → n < count → P n → ⊥) ⊎ ((n : ℕ) × IsFirstWhere P count n) → Dec (P count)
       → ((n : ℕ) → n < suc count → P n → ⊥) ⊎ ((n : ℕ) × IsFirstWhere P (suc count) n)
-  by (inr (n, f)) here = inr (n, record {
-    inside = omega (arith, f.inside);
-    here = f.here;
-    before = f.before;
-  })
+  by (inr (n, f)) here = inr (
+    n,
+    record {
+      inside = omega (arith, f.inside);
+      here = f.here;
+      before = f.before;
+    },
+  )
   by (inl none) (yes p) = inr (count, record { inside = omega arith; here = p; before = none })
   by (inl none) (no f) = inl (last none f)
 

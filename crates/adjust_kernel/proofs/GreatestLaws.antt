@@ -42,9 +42,9 @@ module _ (c : Choice) where
       let next = max known (unsigned_abs (residual c r)) in
       let e = grows next readings in
       All-cons (λ (r : Reading). IsWithin (pos (greatest_from c next readings)) (residual c r)) r
-          readings
+      readings
       (within_size (greatest_from c next readings) (residual c r) (λ above. absurd (omega arith)))
-          (bounds next readings)
+      (bounds next readings)
 
   -- some reading has this size
   abbrev IsReached : ℕ → List Reading → Type 0
@@ -57,11 +57,12 @@ module _ (c : Choice) where
   reaches known (r ∷ readings) = by (greatest_from c (max known (unsigned_abs (residual c r)))
       readings) (reaches (max known (unsigned_abs (residual c r))) readings)
       (dec_le (unsigned_abs (residual c r)) known) where
-    by : (size : ℕ) → (size ≡ max known (unsigned_abs (residual c r))) ⊎ IsReached size readings
-        → Dec (unsigned_abs (residual c r) ≤ known) → (size ≡ known) ⊎ IsReached size (r ∷ readings)
-    by size (inr (k, x, inside, at, e)) d = inr (suc k, x, omega (arith, inside), at, e)
-    by size (inl e) (yes le) = inl (omega (arith, e, le))
-    by size (inl e) (no f) = inr (0, r, omega arith, refl, ap pos (omega (arith, e, f)))
+        by : (size : ℕ) → (size ≡ max known (unsigned_abs (residual c r))) ⊎ IsReached size readings
+            → Dec (unsigned_abs (residual c r) ≤ known) → (size ≡ known)
+            ⊎ IsReached size (r ∷ readings)
+        by size (inr (k, x, inside, at, e)) d = inr (suc k, x, omega (arith, inside), at, e)
+        by size (inl e) (yes le) = inl (omega (arith, e, le))
+        by size (inl e) (no f) = inr (0, r, omega arith, refl, ap pos (omega (arith, e, f)))
 
   -- of some readings, this is the greatest
   pub greatest_is : (readings : List Reading) → 1 ≤ length readings
@@ -86,7 +87,7 @@ module _ (c : Choice) where
       let (k, r, inside, at, size) = f.reached in
       let w = g.bound k r inside in
       at_most (residual c r) n b (size ∙ e) (subst
-          (λ (r : Reading). IsWithin b (residual c r)) at w)
+      (λ (r : Reading). IsWithin b (residual c r)) at w)
     where
       at_most : (z : ℤ) (n : ℕ) (b : ℤ) → pos (unsigned_abs z) ≡ pos n → IsWithin b z → pos n ≤ℤ b
       at_most (pos m) n b e w = let h = w.high in omega (arith, ints, e)
@@ -97,9 +98,9 @@ module _ (c : Choice) where
       → IsGreatest c readings b → a ≡ b
   one_greatest readings a b f g =
       let m = no_larger readings a b f g (unsigned_abs (residual c f.reached.1))
-          (sym f.reached.4) in
+      (sym f.reached.4) in
       let n = no_larger readings b a g f (unsigned_abs (residual c g.reached.1))
-          (sym g.reached.4) in
+      (sym g.reached.4) in
       let p = f.reached.4 in
       let q = g.reached.4 in
       omega (arith, ints, m, n, p, q)

@@ -142,12 +142,12 @@ module _ (sets targets : ℕ) (obs : List Obs) (placed : All (IsObs sets targets
           let at : IsObs sets targets r = placed i d inside in
           let set_is : part_of sets p q r.set ≡ p r.set = set_node sets r.set p q at.set in
           let target_is : part_of sets p q (sets + r.target) ≡ q r.target =
-              target_node sets r.target p q in
+          target_node sets r.target p q in
           ⊎_elim
           (λ j. ap (part_of sets p q) j.0 ∙ set_is ∙ same ∙ sym target_is
-              ∙ s.one_part p q u (sets + r.target) j.1)
+          ∙ s.one_part p q u (sets + r.target) j.1)
           (λ j. ap (part_of sets p q) j.0 ∙ target_is ∙ sym same ∙ sym set_is
-              ∙ s.one_part p q u r.set j.1)
+          ∙ s.one_part p q u r.set j.1)
           open_end.joined
 
   -- one more observation
@@ -160,8 +160,8 @@ module _ (sets targets : ℕ) (obs : List Obs) (placed : All (IsObs sets targets
       → IsSwept sets targets obs before new (any || carried) (i + 1)
   swept_more before marks new any true i d inside (n, open_end, e) f w =
       let less : count_by not new < count_by not marks =
-          subst (λ (l : List Bool). count_by not l < count_by not marks) (sym e)
-          (one_fewer_unmarked marks n open_end.inside open_end.unmarked) in
+      subst (λ (l : List Bool). count_by not l < count_by not marks) (sym e)
+      (one_fewer_unmarked marks n open_end.inside open_end.unmarked) in
       by any w less
     where
       by : (any : Bool) → IsSwept sets targets obs before marks any i
@@ -207,20 +207,22 @@ module _ (sets targets : ℕ) (obs : List Obs) (placed : All (IsObs sets targets
     marked = below_more (λ k. (d : Obs) → (mark (set (set marks o.set true) (sets + o.target) true)
         (get_or obs k d).set ≡ true) × (mark (set (set marks o.set true) (sets + o.target) true)
         (sets + (get_or obs k d).target) ≡ true)) i
-        (λ k below d. let m = s.marked k below d in
-            (both_kept marks o.set (sets + o.target) (get_or obs k d).set set_in target_in m.0,
-            both_kept marks o.set (sets + o.target) (sets + (get_or obs k d).target) set_in
-            target_in m.1))
+        (λ k below d. let m = s.marked k below d in (
+          both_kept marks o.set (sets + o.target) (get_or obs k d).set set_in target_in m.0,
+          both_kept marks o.set (sets + o.target) (sets + (get_or obs k d).target) set_in
+              target_in m.1,
+        ))
         (λ d. subst (λ (x : Obs). (mark (set (set marks o.set true) (sets + o.target) true) x.set
-            ≡ true) × (mark (set (set marks o.set true) (sets + o.target) true) (sets + x.target)
-            ≡ true)) (sym (at d))
-        (mark_kept (set marks o.set true) (sets + o.target) o.set target_in
-            (get_or-set_same marks o.set true false set_in),
-            get_or-set_same (set marks o.set true) (sets + o.target) true false target_in));
+        ≡ true) × (mark (set (set marks o.set true) (sets + o.target) true) (sets + x.target)
+        ≡ true)) (sym (at d)) (
+          mark_kept (set marks o.set true) (sets + o.target) o.set target_in
+              (get_or-set_same marks o.set true false set_in),
+          get_or-set_same (set marks o.set true) (sets + o.target) true false target_in,
+        ));
     only = λ k e. ⊎_elim
         (λ f. (i, o, inside, at o, inr (sym f)))
         (λ f. ⊎_elim (λ g. (i, o, inside, at o, inl (sym g))) (λ g. s.only k g)
-            (mark_after marks o.set k set_in f))
+        (mark_after marks o.set k set_in f))
         (mark_after (set marks o.set true) (sets + o.target) k target_in e);
   }
 
@@ -236,9 +238,9 @@ module _ (sets targets : ℕ) (obs : List Obs) (placed : All (IsObs sets targets
       let e = length-set marks (get_or obs i d).set true in
       let set_in : (get_or obs i d).set < length marks = omega (arith, long, few, a) in
       let target_in : sets + (get_or obs i d).target
-          < length (set marks (get_or obs i d).set true) = omega (arith, long, few, b, e) in
+      < length (set marks (get_or obs i d).set true) = omega (arith, long, few, b, e) in
       seen_at marks i (get_or obs i d) inside (λ d2. get_or_default obs i d2 d inside) set_in
-          target_in s
+      target_in s
 
   -- where all nodes are marked, each set and target was observed
   pub each_observed : (marks : List Bool) → AreSeen sets targets obs marks (length obs)
@@ -269,8 +271,8 @@ module _ (sets targets : ℕ) (obs : List Obs) (placed : All (IsObs sets targets
           let (i, o, inside, at, is) = of_targets (n - sets) (omega arith) in
           let there : sets + (n - sets) ≡ n = omega arith in
           no_mark (sets + (get_or obs i o).target)
-              (ap (λ (x : Obs). sets + x.target) at ∙ ap (λ (t : ℕ). sets + t) is ∙ there)
-              (s.marked i inside o).1
+          (ap (λ (x : Obs). sets + x.target) at ∙ ap (λ (t : ℕ). sets + t) is ∙ there)
+          (s.marked i inside o).1
 
 -- at first only the first target is marked
 pub spread_start : (sets targets : ℕ) (obs : List Obs) → sets < 140
@@ -280,7 +282,7 @@ spread_start sets targets obs h = record {
   long = length-set (replicate 140 false) sets true ∙ length-replicate 140 false;
   one_part = λ p q u k e. ⊎_elim
       (λ j. ap (part_of sets p q) j ∙ ap (part_of sets p q) (sym (add-zero sets))
-          ∙ target_node sets 0 p q)
+      ∙ target_node sets 0 p q)
       (λ j. absurd (none_marked k j))
       (mark_after (replicate 140 false) sets k long e);
 }
@@ -295,16 +297,16 @@ pub marked_is_whole : (sets targets : ℕ) (obs : List Obs) (marks : List Bool)
     → ⊥
 marked_is_whole sets targets obs marks s all rows same_length d =
     let u = All-from_recursion (λ (o : Obs). d.part_of_set o.set ≡ d.part_of_target o.target) obs
-        (obs_within d.part_of_set d.part_of_target obs rows same_length
-        (recursion_from_All (λ (r : Reading). d.part_of_set r.set ≡ d.part_of_target r.target)
-        (readings_of obs rows) d.none_between)) in
+    (obs_within d.part_of_set d.part_of_target obs rows same_length
+    (recursion_from_All (λ (r : Reading). d.part_of_set r.set ≡ d.part_of_target r.target)
+    (readings_of obs rows) d.none_between)) in
     let at : (b : Bool) → HasMember sets targets d.part_of_set d.part_of_target b
-        → b ≡ d.part_of_target 0 = λ b n. ⊎_elim
+    → b ≡ d.part_of_target 0 = λ b n. ⊎_elim
     (λ m. sym m.2 ∙ sym (set_node sets m.0 d.part_of_set d.part_of_target m.1)
-        ∙ s.one_part d.part_of_set d.part_of_target u m.0 (all m.0 (omega (arith, m.1))))
+    ∙ s.one_part d.part_of_set d.part_of_target u m.0 (all m.0 (omega (arith, m.1))))
     (λ m. sym m.2 ∙ sym (target_node sets m.0 d.part_of_set d.part_of_target)
-        ∙ s.one_part d.part_of_set d.part_of_target u (sets + m.0)
-        (all (sets + m.0) (omega (arith, m.1))))
+    ∙ s.one_part d.part_of_set d.part_of_target u (sets + m.0)
+    (all (sets + m.0) (omega (arith, m.1))))
     n in
     let e : true ≡ false = at true d.first_part ∙ sym (at false d.second_part) in
     cc
@@ -321,12 +323,16 @@ marks_divide sets targets obs marks some s alike n h e rows = record {
   none_between = All-from_recursion (λ (r : Reading). mark marks r.set
       ≡ mark marks (sets + r.target)) (readings_of obs rows)
       (readings_within (mark marks) (λ t. mark marks (sets + t)) obs rows
-          (recursion_from_All (AreAlike marks sets) obs alike));
+      (recursion_from_All (AreAlike marks sets) obs alike));
   first_part = inr (0, some, ap (mark marks) (add-zero sets) ∙ s.first);
   second_part = by (dec_lt n sets);
 }
   where
     by : Dec (n < sets) → HasMember sets targets (mark marks) (λ t. mark marks (sets + t)) false
     by (yes l) = inl (n, l, e)
-    by (no f) = inr (n - sets, omega arith, let k : sets + (n - sets) ≡ n = omega arith in
-        ap (mark marks) k ∙ e)
+    by (no f) = inr (
+      n - sets,
+      omega arith,
+      let k : sets + (n - sets) ≡ n = omega arith in
+          ap (mark marks) k ∙ e,
+    )

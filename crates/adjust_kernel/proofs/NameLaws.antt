@@ -15,7 +15,7 @@ pub made : (bytes kept : List ℕ) → kept ≡ bytes ++ drop (length bytes) (re
     × (length bytes ≡ length (take (length bytes) kept)) × IsName (take (length bytes) kept)
 made bytes kept e h =
     let t : take (length bytes) kept ≡ bytes = ap (take (length bytes)) e
-        ∙ take_at bytes (drop (length bytes) (replicate 16 0)) (length bytes) refl in (
+    ∙ take_at bytes (drop (length bytes) (replicate 16 0)) (length bytes) refl in (
       e ∙ ap (λ (s : List ℕ). bytes ++ s) (drop-replicate (length bytes) 16 0) ∙ sym (ap padded t),
       sym (ap length t),
       subst IsName (sym t) h,

@@ -2,7 +2,7 @@
 use Rattle.std.proofs.Common.{zero, suc, refl, ◌≡◌, ◌*◌, ℕ, ◌+◌, ◌-◌, ◌<◌, ◌≤◌, inl, inr, List, length, get_or, arith, below_more}
 use Rattle.std.proofs.lemmas.List.{get_or_default}
 use Rattle.adjust_kernel.specs.declared.obs.Obs.{Obs}
-use Rattle.adjust_kernel.specs.declared.limits.TheConstants.{MOST_ROWS, MOST_SETS, MOST_TARGETS}
+use Rattle.adjust_kernel.specs.declared.bounds.TheConstants.{MOST_ROWS, MOST_SETS, MOST_TARGETS}
 use Rattle.adjust_kernel.specs.Stations.{AreObs, IsBefore, IsObs}
 use Rattle.adjust_kernel.proofs.EachTwo.{PairsBelow, pairs_more}
 
@@ -24,8 +24,8 @@ ordered_more obs n d some inside h last = pairs_more IsBefore obs n h new where
   new : (i : ℕ) (e : Obs) → i < n → IsBefore (get_or obs i e) (get_or obs n e)
   new i e below =
       below_more (λ k. IsBefore (get_or obs k e) (get_or obs n e)) (n - 1)
-          (λ k lt. before_both (get_or obs k e) (get_or obs (n - 1) e) (get_or obs n e)
-          (h (n - 1) (omega arith) k e lt) (last_at e)) (last_at e) i (omega arith)
+      (λ k lt. before_both (get_or obs k e) (get_or obs (n - 1) e) (get_or obs n e)
+      (h (n - 1) (omega arith) k e lt) (last_at e)) (last_at e) i (omega arith)
 
 module _ (sets targets : ℕ) (obs : List Obs) (h : AreObs sets targets obs)
     (few_sets : sets ≤ MOST_SETS) (few_targets : targets ≤ MOST_TARGETS) where
@@ -34,7 +34,7 @@ module _ (sets targets : ℕ) (obs : List Obs) (h : AreObs sets targets obs)
   at_least_place zero d inside = omega arith
   at_least_place (suc n) d inside =
       by (h.ordered n (suc n) d (omega arith) inside) (at_least_place n d (omega arith))
-          (h.within n d (omega arith)) where
+      (h.within n d (omega arith)) where
         by : IsBefore (get_or obs n d) (get_or obs (suc n) d)
             → n ≤ (get_or obs n d).set * MOST_TARGETS + (get_or obs n d).target
             → IsObs sets targets (get_or obs n d)

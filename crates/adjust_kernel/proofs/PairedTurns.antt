@@ -79,7 +79,7 @@ differences-divided sets targets readings turns e d = record {
   part_of_target = d.part_of_target;
   none_between = All-from_recursion between readings
       (differences-within d.part_of_set d.part_of_target readings turns e
-          (recursion_from_All between (map difference (paired readings turns)) d.none_between));
+      (recursion_from_All between (map difference (paired readings turns)) d.none_between));
   first_part = d.first_part;
   second_part = d.second_part;
 }

@@ -37,7 +37,7 @@ pub squared_difference : (p q : ℤ) → squared (p -ℤ q) ≤ℤ (pos 2 *ℤ s
 squared_difference p q =
     let e : pos 2 *ℤ squared p +ℤ pos 2 *ℤ squared q ≡ squared (p -ℤ q) +ℤ squared (p +ℤ q) =
     same_value (num (pos 2) ⊗ (num p ⊗ num p) ⊕ num (pos 2) ⊗ (num q ⊗ num q))
-        ((num p ⊖ num q) ⊗ (num p ⊖ num q) ⊕ (num p ⊕ num q) ⊗ (num p ⊕ num q)) (omega arith) in
+    ((num p ⊖ num q) ⊗ (num p ⊖ num q) ⊕ (num p ⊕ num q) ⊗ (num p ⊕ num q)) (omega arith) in
     let h = squared-not_negative (p +ℤ q) in
     omega (arith, ints)
 

@@ -61,7 +61,7 @@ pub still_within : (m n : ℕ) (sums : List ℤ) (i : ℕ) (z : ℤ) → i < len
     (set sums i (get_or sums i (pos 0) +ℤ z))
 still_within m n sums i z inside w all =
     All-set (IsWithin (pos (m * (n + 1)))) sums i (get_or sums i (pos 0) +ℤ z)
-        (let v = all i (pos 0) inside in sum_within (get_or sums i (pos 0)) v)
+    (let v = all i (pos 0) inside in sum_within (get_or sums i (pos 0)) v)
     (All-weaker (IsWithin (pos (m * n))) (IsWithin (pos (m * (n + 1)))) more sums all)
   where
     sum_within : (y : ℤ) → IsWithin (pos (m * n)) y → IsWithin (pos (m * (n + 1))) (y +ℤ z)
@@ -95,13 +95,13 @@ all_added-more c obs rows n o r z same below value =
     let readings = readings_of obs rows in
     let d : Reading = record { set = 0; target = 0; value = 0; turn = pos 0 } in
     let e : get_or readings n d ≡ reading_of (get_or obs n o) (get_or rows n r).turn =
-        get_or-readings_of obs rows n o r d same below in
+    get_or-readings_of obs rows n o r d same below in
     let inside : n < length readings = let k = length-readings_of obs rows same in omega arith in
     let f : z ≡ residual c (reading_of (get_or obs n o) (get_or rows n r).turn) = value d
-        ∙ ap (residual c) e in
+    ∙ ap (residual c) e in
     ap (λ (v : ℤ). all_added c (take n readings)
-        ++ record { target = (get_or obs n o).target; set = (get_or obs n o).set; residual = v }
-        ∷ []) f
+    ++ record { target = (get_or obs n o).target; set = (get_or obs n o).set; residual = v }
+    ∷ []) f
     ∙ ap (λ (x : Reading). all_added c (take n readings) ++ added_of c x ∷ []) (sym e)
     ∙ sym (map-append (added_of c) (take n readings) (get_or readings n d ∷ []))
     ∙ ap (all_added c) (sym (take_more readings n d inside))

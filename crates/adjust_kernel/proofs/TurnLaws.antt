@@ -9,7 +9,7 @@ use Rattle.std.proofs.Math.Nat.{mul-le-mul}
 use Rattle.std.specs.List.{AllByRecursion}
 use Rattle.std.proofs.lemmas.Int.{ints, by_lt_z}
 use Rattle.std.proofs.lemmas.List.Elements.{recursion_from_All}
-use Rattle.adjust_kernel.specs.declared.limits.TheConstants.{TURN, MOST_TARGETS, MOST_SETS, MOST_ROWS, LARGEST_RESIDUAL_LIMIT}
+use Rattle.adjust_kernel.specs.declared.bounds.TheConstants.{TURN, MOST_TARGETS, MOST_SETS, MOST_ROWS, LARGEST_RESIDUAL_LIMIT}
 use Rattle.adjust_kernel.specs.Sums.{int_sum_by, squared}
 use Rattle.adjust_kernel.specs.Within.{IsWithin}
 use Rattle.adjust_kernel.specs.Readings.{Reading}
@@ -57,7 +57,7 @@ change_is d e v a a' o o' k k' =
     same_value
     (d' ⊗ (num a' ⊖ num o' ⊖ e' ⊗ y k') ⊖ e' ⊗ (num a ⊖ num o ⊖ d' ⊗ y k))
     ((d' ⊗ num a' ⊖ e' ⊗ num a) ⊖ (d' ⊗ num o' ⊖ e' ⊗ num o)
-        ⊖ num (pos (d * e * TURN)) ⊗ (num k' ⊖ num k))
+    ⊖ num (pos (d * e * TURN)) ⊗ (num k' ⊖ num k))
     (omega arith)
 
 -- a whole number of turns that is less than one turn is none
@@ -78,20 +78,20 @@ around : (q : ℕ) (t s o k mt ms : ℤ) → pos q *ℤ (k -ℤ mt +ℤ ms) ≡ 
 around q t s o k mt ms =
     let q' = num (pos q) in
     same_value (q' ⊗ (num k ⊖ num mt ⊕ num ms))
-        ((num t ⊖ num o ⊖ q' ⊗ num mt) ⊖ (num s ⊖ num o ⊖ q' ⊗ num ms)
-        ⊖ (num t ⊖ num s ⊖ q' ⊗ num k)) (omega arith)
+    ((num t ⊖ num o ⊖ q' ⊗ num mt) ⊖ (num s ⊖ num o ⊖ q' ⊗ num ms)
+    ⊖ (num t ⊖ num s ⊖ q' ⊗ num k)) (omega arith)
 
 within_three : (j u : ℕ) (x y z : ℤ) → IsWithin (pos (j * u)) x → IsWithin (pos (j * u)) y
     → IsWithin (pos u) z → IsWithin (pos ((j + j + 1) * u)) (x -ℤ y -ℤ z)
 within_three j u x y z a b c =
     let p = a.low in let q = a.high in let r = b.low in let s = b.high in let v = c.low in let w =
-        c.high in
+    c.high in
     record { low = omega (arith, ints); high = omega (arith, ints) }
 
 module _ (limit sets targets : ℕ) (c : Choice) (readings : List Reading)
     (a : IsHeldUnder limit sets targets c readings)
     (other : Choice) (turns : List ℤ) (long : length turns ≡ length readings)
-        (fraction : 1 ≤ other.denominator)
+    (fraction : 1 ≤ other.denominator)
     (not_greater : IsNoLargerSum other (with_turns readings turns) c readings) where
   abbrev unit : ℕ
   unit = c.denominator * other.denominator
@@ -109,14 +109,14 @@ module _ (limit sets targets : ℕ) (c : Choice) (readings : List Reading)
       IsWithin (pos (MOST_CHANGE * unit)) (pos c.denominator *ℤ residual other (retuned x)
       -ℤ pos other.denominator *ℤ residual c x.0)) (λ (x : Pair). EndsNear (difference x))
       (λ (x : Pair) w. subst (IsWithin (pos (MOST_CHANGE * unit)))
-          (change_is c.denominator other.denominator x.0.value (c.direction x.0.target)
-          (other.direction x.0.target) (c.orientation x.0.set) (other.orientation x.0.set) x.0.turn
-          x.1) w)
+      (change_is c.denominator other.denominator x.0.value (c.direction x.0.target)
+      (other.direction x.0.target) (c.orientation x.0.set) (other.orientation x.0.set) x.0.turn
+      x.1) w)
       pairs (changes_in c.denominator other.denominator limit (λ (x : Pair). residual c x.0)
-          (λ (x : Pair). residual other (retuned x)) pairs few a.limit_in
+      (λ (x : Pair). residual other (retuned x)) pairs few a.limit_in
       (paired-all (λ r. IsWithin (pos (limit * c.denominator)) (residual c r)) readings turns
-          (recursion_from_All (λ r. IsWithin (pos (limit * c.denominator)) (residual c r)) readings
-          a.limited)) sums)
+      (recursion_from_All (λ r. IsWithin (pos (limit * c.denominator)) (residual c r)) readings
+      a.limited)) sums)
     where
       few : length pairs ≤ MOST_ROWS
       few = let e = length-paired readings turns in let h = a.readings_in in omega arith
@@ -127,9 +127,9 @@ module _ (limit sets targets : ℕ) (c : Choice) (readings : List Reading)
           (λ (x : Pair). squared (residual c x.0)) pairs)
       sums =
           let e = ap (λ z. pos (other.denominator * other.denominator) *ℤ z)
-              (own_squares c readings turns long) in
+          (own_squares c readings turns long) in
           let f = ap (λ z. pos (c.denominator * c.denominator) *ℤ z)
-              (other_squares other readings turns) in
+          (other_squares other readings turns) in
           omega (arith, ints, not_greater)
 
   placed_pairs : AllByRecursion (λ (x : Pair). IsPlaced sets targets x.0) pairs
@@ -142,10 +142,10 @@ module _ (limit sets targets : ℕ) (c : Choice) (readings : List Reading)
       (moved_orientation c other) (map difference pairs) a.some
       (differences-all (λ r. IsPlaced sets targets r × EndsNear r) pairs
       (AllByRecursion-map (λ (x : Pair). IsPlaced sets targets x.0 × EndsNear (difference x))
-          (λ (x : Pair). IsPlaced sets targets (difference x) × EndsNear (difference x))
+      (λ (x : Pair). IsPlaced sets targets (difference x) × EndsNear (difference x))
       (λ (x : Pair) h. (record { set_in = h.0.set_in; target_in = h.0.target_in }, h.1)) pairs
       (AllByRecursion-both (λ (x : Pair). IsPlaced sets targets x.0)
-          (λ (x : Pair). EndsNear (difference x)) pairs placed_pairs ends_near)))
+      (λ (x : Pair). EndsNear (difference x)) pairs placed_pairs ends_near)))
       (λ d. a.connected (differences-divided sets targets readings turns long d))
 
   abbrev turns_where : {P : Type 0} → (P → ℤ) → Dec P → ℤ
@@ -197,12 +197,12 @@ module _ (limit sets targets : ℕ) (c : Choice) (readings : List Reading)
       let mt = of_target x.0.target in
       let ms = of_set x.0.set in
       let close = within_three n (MOST_CHANGE * unit) (t -ℤ o -ℤ pos (unit * TURN) *ℤ mt)
-          (s -ℤ o -ℤ pos (unit * TURN) *ℤ ms) (t -ℤ s -ℤ pos (unit * TURN) *ℤ k)
-          (target_close x.0.target p.target_in) (set_close x.0.set p.set_in) w in
+      (s -ℤ o -ℤ pos (unit * TURN) *ℤ ms) (t -ℤ s -ℤ pos (unit * TURN) *ℤ k)
+      (target_close x.0.target p.target_in) (set_close x.0.set p.set_in) w in
       let y = subst (IsWithin (pos ((n + n + 1) * (MOST_CHANGE * unit))))
-          (sym (around (unit * TURN) t s o k mt ms)) close in
+      (sym (around (unit * TURN) t s o k mt ms)) close in
       let z = no_turn unit (n + n + 1) (k -ℤ mt +ℤ ms) (mul-le-mul a.denominator fraction)
-          (omega arith) y in
+      (omega arith) y in
       omega (arith, ints)
 
   pub turned : AreTurnedWhole readings turns
@@ -211,10 +211,10 @@ module _ (limit sets targets : ℕ) (c : Choice) (readings : List Reading)
     of_set = of_set;
     turns_are = turns_by (λ r. r.turn +ℤ of_target r.target -ℤ of_set r.set) readings turns long
         (AllByRecursion-map (λ (x : Pair). EndsNear (difference x) × IsPlaced sets targets x.0)
-            (λ (x : Pair). x.1 ≡ x.0.turn +ℤ of_target x.0.target -ℤ of_set x.0.set)
-            (λ (x : Pair) h. turned_pair x h.0 h.1) pairs
+        (λ (x : Pair). x.1 ≡ x.0.turn +ℤ of_target x.0.target -ℤ of_set x.0.set)
+        (λ (x : Pair) h. turned_pair x h.0 h.1) pairs
         (AllByRecursion-both (λ (x : Pair). EndsNear (difference x))
-            (λ (x : Pair). IsPlaced sets targets x.0) pairs ends_near placed_pairs));
+        (λ (x : Pair). IsPlaced sets targets x.0) pairs ends_near placed_pairs));
   }
 
 -- turns of targets and sets are taken up by directions and orientations
@@ -224,9 +224,9 @@ pub taken_up : (e v : ℕ) (a o k mt ms : ℤ) → (a -ℤ pos (e * TURN) *ℤ m
 taken_up e v a o k mt ms =
     let q = num (pos (e * TURN)) in
     same_value ((num a ⊖ q ⊗ num mt) ⊖ (num o ⊖ q ⊗ num ms)
-        ⊖ num (pos e) ⊗ (num (pos v) ⊕ num (pos TURN) ⊗ num k))
+    ⊖ num (pos e) ⊗ (num (pos v) ⊕ num (pos TURN) ⊗ num k))
     (num a ⊖ num o ⊖ num (pos e) ⊗ (num (pos v) ⊕ num (pos TURN) ⊗ (num k ⊕ num mt ⊖ num ms)))
-        (omega arith)
+    (omega arith)
 
 module _ (other : Choice) (of_target of_set : ℕ → ℤ) where
   abbrev pub taken : Choice
@@ -249,12 +249,12 @@ pub limited_is_least_over_turns : (limit sets targets : ℕ) (c : Choice) (readi
 limited_is_least_over_turns limit sets targets c readings a other turns long h =
     by_lt_z (sum_beside c other (with_turns readings turns)) (sum_beside other c readings)
     (λ lt. let t = turned limit sets targets c readings a.held other turns long h
-        (omega (arith, ints)) in
+    (omega (arith, ints)) in
     let e : sum_beside c (taken other t.of_target t.of_set) readings
-        ≡ sum_beside c other (with_turns readings turns) =
+    ≡ sum_beside c other (with_turns readings turns) =
     ap (λ z. pos (c.denominator * c.denominator) *ℤ z)
-        (taken_squares other t.of_target t.of_set readings
-        ∙ ap (λ (ks : List ℤ). sum_of_squares other (with_turns readings ks)) (sym t.turns_are)) in
+    (taken_squares other t.of_target t.of_set readings
+    ∙ ap (λ (ks : List ℤ). sum_of_squares other (with_turns readings ks)) (sym t.turns_are)) in
     let k = balanced_is_least c readings a.balanced (taken other t.of_target t.of_set) h in
     omega (arith, ints))
     (λ le. le)

@@ -50,11 +50,11 @@ same_bytes a b = dec_by (bytes_eq a b) (bytes_eq-Decides a b)
 same_key : (a b : Key) → Dec (a ≡ b)
 same_key a b = by (ℕ_discrete a.set b.set) (same_bytes a.target b.target)
     (ℕ_discrete a.value b.value) where
-  by : Dec (a.set ≡ b.set) → Dec (a.target ≡ b.target) → Dec (a.value ≡ b.value) → Dec (a ≡ b)
-  by (yes e) (yes f) (yes g) = yes (λ i. record { set = e i; target = f i; value = g i })
-  by (no n) f g = no (λ h. n (ap (λ (k : Key). k.set) h))
-  by (yes e) (no n) g = no (λ h. n (ap (λ (k : Key). k.target) h))
-  by (yes e) (yes f) (no n) = no (λ h. n (ap (λ (k : Key). k.value) h))
+      by : Dec (a.set ≡ b.set) → Dec (a.target ≡ b.target) → Dec (a.value ≡ b.value) → Dec (a ≡ b)
+      by (yes e) (yes f) (yes g) = yes (λ i. record { set = e i; target = f i; value = g i })
+      by (no n) f g = no (λ h. n (ap (λ (k : Key). k.set) h))
+      by (yes e) (no n) g = no (λ h. n (ap (λ (k : Key). k.target) h))
+      by (yes e) (yes f) (no n) = no (λ h. n (ap (λ (k : Key). k.value) h))
 
 any_reading : Reading
 any_reading = record { set = 0; target = 0; value = 0; turn = pos 0 }
@@ -77,9 +77,9 @@ module _ (station : StationValue) (sheet : SheetValue) where
       let v = residual (choice_stated_by sheet) in
       let rs = readings station sheet in
       let small = size_within (most * sheet.denominator) (v (get_or rs n any_reading))
-          (keeps n any_reading inside) in
+      (keeps n any_reading inside) in
       let large = subst (λ z. most * sheet.denominator < unsigned_abs z)
-          (get_or-map v rs n any_reading (pos 0) inside) above in
+      (get_or-map v rs n any_reading (pos 0) inside) above in
       omega arith
 
   -- a fault does not stand where what it denies holds
@@ -134,10 +134,10 @@ module _ (station : StationValue) (sheet : SheetValue) where
   only_one_verdict limit (Err f) (Ok b) v w = absurd (w.0 f v.0)
   only_one_verdict limit (Err f) (Err g) v w =
       ap Err (by (dec_lt (order_of f) (order_of g)) (dec_lt (order_of g) (order_of f))) where
-    by : Dec (order_of f < order_of g) → Dec (order_of g < order_of f) → f ≡ g
-    by (yes e) d = absurd (w.1 f e v.0)
-    by (no e) (yes d) = absurd (v.1 g d w.0)
-    by (no e) (no d) = one_fault limit f g (omega arith) v.0 w.0
+        by : Dec (order_of f < order_of g) → Dec (order_of g < order_of f) → f ≡ g
+        by (yes e) d = absurd (w.1 f e v.0)
+        by (no e) (yes d) = absurd (v.1 g d w.0)
+        by (no e) (no d) = one_fault limit f g (omega arith) v.0 w.0
 
   -- no fault of this kind stands, or one does
   abbrev IsClearOrStanding : Option ℕ → KernelFault → Type 0
@@ -177,34 +177,34 @@ module _ (station : StationValue) (sheet : SheetValue) where
   clear_or_standing limit (TargetSum n) =
       let sum = target_sum (choice_stated_by sheet) (readings station sheet) in
       by_first limit TargetSum n (IsFirstWhere (λ t. sum t ≢ pos 0) (length station.targets))
-          (λ k. refl) (λ k s. s)
+      (λ k. refl) (λ k s. s)
       (λ (f : (t : ℕ) → t < length station.targets → sum t ≢ pos 0 → ⊥) t h.
-          by_not_not (ℤ_discrete (sum t) (pos 0)) (f t h))
+      by_not_not (ℤ_discrete (sum t) (pos 0)) (f t h))
       (none_or_first (λ t. sum t ≢ pos 0) (λ t. dec_not (ℤ_discrete (sum t) (pos 0)))
-          (length station.targets))
+      (length station.targets))
   clear_or_standing limit (SetSum n) =
       let sum = set_sum (choice_stated_by sheet) (readings station sheet) in
       by_first limit SetSum n (IsFirstWhere (λ s. sum s ≢ pos 0) (length station.sets)) (λ k. refl)
-          (λ k s. s)
+      (λ k s. s)
       (λ (f : (s : ℕ) → s < length station.sets → sum s ≢ pos 0 → ⊥) s h.
-          by_not_not (ℤ_discrete (sum s) (pos 0)) (f s h))
+      by_not_not (ℤ_discrete (sum s) (pos 0)) (f s h))
       (none_or_first (λ s. sum s ≢ pos 0) (λ s. dec_not (ℤ_discrete (sum s) (pos 0)))
-          (length station.sets))
+      (length station.sets))
   clear_or_standing limit NotConnected = by (connected_or_divided (length station.sets)
       (length station.targets) (readings station sheet)) where
-    by : HoldsTogether station sheet ⊎ IsDivided (length station.sets) (length station.targets)
-        (readings station sheet) → IsClearOrStanding limit NotConnected
-    by (inl whole) = inl whole
-    by (inr divided) = inr (NotConnected, refl, divided)
+        by : HoldsTogether station sheet ⊎ IsDivided (length station.sets) (length station.targets)
+            (readings station sheet) → IsClearOrStanding limit NotConnected
+        by (inl whole) = inl whole
+        by (inr divided) = inr (NotConnected, refl, divided)
   clear_or_standing None (Residual n) = inl tt
   clear_or_standing (Some most) (Residual n) =
       let rs = readings station sheet in
       by_first (Some most) Residual n (IsFirstWhere (IsAbove most (choice_stated_by sheet) rs)
-          (length rs)) (λ k. refl) (λ k s. s) (keeps_limit most)
+      (length rs)) (λ k. refl) (λ k s. s) (keeps_limit most)
       (none_or_first (IsAbove most (choice_stated_by sheet) rs)
-          (λ k. dec_lt (most * sheet.denominator)
-          (unsigned_abs (slice_index_or (map (residual (choice_stated_by sheet)) rs) k (pos 0))))
-          (length rs))
+      (λ k. dec_lt (most * sheet.denominator)
+      (unsigned_abs (slice_index_or (map (residual (choice_stated_by sheet)) rs) k (pos 0))))
+      (length rs))
 
   -- what holds where no fault of a kind stands, whatever its number
   clear_where_none_stands : (limit : Option ℕ) (fault : KernelFault)
@@ -268,16 +268,16 @@ module _ (station : StationValue) (sheet : SheetValue) where
       → IsAcceptance station sheet accepted → IsVerdict station sheet limit (Ok accepted)
   accepted_verdict limit accepted matches targets sets connected within said =
       ((λ fault. not_standing limit fault (clear fault)), said) where
-    clear : (fault : KernelFault) → IsClearOf station sheet limit fault
-    clear (TargetSum n) = targets
-    clear (SetSum n) = sets
-    clear NotConnected = connected
-    clear (Residual n) = within
-    clear Name = matches.name
-    clear (TargetRow n) = matches.targets
-    clear (SetRow n) = matches.sets
-    clear (ObsRow n) = matches.rows
-    clear Datum = matches.datum
+        clear : (fault : KernelFault) → IsClearOf station sheet limit fault
+        clear (TargetSum n) = targets
+        clear (SetSum n) = sets
+        clear NotConnected = connected
+        clear (Residual n) = within
+        clear Name = matches.name
+        clear (TargetRow n) = matches.targets
+        clear (SetRow n) = matches.sets
+        clear (ObsRow n) = matches.rows
+        clear Datum = matches.datum
 
   -- such a sheet with some readings is accepted
   pub accepted_sheet : (limit : Option ℕ) → Matches station sheet → TargetsAddUp station sheet
@@ -341,24 +341,26 @@ module _ (station : StationValue) (sheet : SheetValue) where
   told_more limit fault (inl told) = inl told
   told_more limit fault (inr before) = by (clear_or_standing limit fault) where
     by : IsClearOrStanding limit fault → IsToldBefore limit (order_of fault + 1)
-    by (inr (found, same, stands)) = inl (Err found,
-        refused limit found stands (λ other h. before other (omega (arith, h, same))))
+    by (inr (found, same, stands)) = inl (
+      Err found,
+      refused limit found stands (λ other h. before other (omega (arith, h, same))),
+    )
     by (inl clear) = inr (λ other h. at other h
         (ℕ_discrete (order_of fault) (order_of other))) where
-      at : (other : KernelFault) → order_of other < order_of fault + 1
-          → Dec (order_of fault ≡ order_of other) → IsClearOf station sheet limit other
-      at other h (yes e) = clear_as limit fault other e clear
-      at other h (no f) = before other (omega arith)
+          at : (other : KernelFault) → order_of other < order_of fault + 1
+              → Dec (order_of fault ≡ order_of other) → IsClearOf station sheet limit other
+          at other h (yes e) = clear_as limit fault other e clear
+          at other h (no f) = before other (omega arith)
 
   -- there is a verdict, where something was observed
   pub some_verdict : (limit : Option ℕ) → 1 ≤ length station.obs
       → (verdict : Result Accepted KernelFault) × IsVerdict station sheet limit verdict
   some_verdict limit some =
       by (told_more limit (Residual 0) (told_more limit NotConnected
-          (told_more limit (SetSum 0) (told_more limit (TargetSum 0)
-          (told_more limit Datum (told_more limit (ObsRow 0)
-          (told_more limit (SetRow 0) (told_more limit (TargetRow 0)
-          (told_more limit Name (inr (none_before limit)))))))))))
+      (told_more limit (SetSum 0) (told_more limit (TargetSum 0)
+      (told_more limit Datum (told_more limit (ObsRow 0)
+      (told_more limit (SetRow 0) (told_more limit (TargetRow 0)
+      (told_more limit Name (inr (none_before limit)))))))))))
     where
       by : IsToldBefore limit 10 → (verdict : Result Accepted KernelFault)
           × IsVerdict station sheet limit verdict
@@ -366,11 +368,11 @@ module _ (station : StationValue) (sheet : SheetValue) where
       by (inr clear) =
           let matches = matches_where_clear limit (λ fault h. clear fault (omega (arith, h))) in
           let same_length = sym (length-map station.obs (key_of_obs station.sets station.targets))
-              ∙ ap length (sym matches.rows) ∙ length-map sheet.rows key_of_row in
+          ∙ ap length (sym matches.rows) ∙ length-map sheet.rows key_of_row in
           let long = length-readings_of station.obs sheet.rows same_length in
           let (accepted, verdict) = accepted_sheet limit matches (clear (TargetSum 0) (omega arith))
-              (clear (SetSum 0) (omega arith)) (clear NotConnected (omega arith))
-              (clear (Residual 0) (omega arith)) (omega (arith, long, some)) in
+          (clear (SetSum 0) (omega arith)) (clear NotConnected (omega arith))
+          (clear (Residual 0) (omega arith)) (omega (arith, long, some)) in
           (Ok accepted, verdict)
 
   pub target_sum_fault : (n : ℕ) → Matches station sheet
@@ -384,19 +386,19 @@ module _ (station : StationValue) (sheet : SheetValue) where
       (length station.sets) n → IsFault station sheet (SetSum (n + 1))
   set_sum_fault n matches targets first limit =
       refused limit (SetSum (n + 1)) (n, refl, first) clear where
-    clear : (other : KernelFault) → order_of other < 7 → IsClearOf station sheet limit other
-    clear (TargetSum m) h = targets
-    clear other h = kept matches limit other (omega arith)
+        clear : (other : KernelFault) → order_of other < 7 → IsClearOf station sheet limit other
+        clear (TargetSum m) h = targets
+        clear other h = kept matches limit other (omega arith)
 
   pub connection_fault : Matches station sheet → TargetsAddUp station sheet
       → SetsAddUp station sheet → IsDivided (length station.sets) (length station.targets)
       (readings station sheet) → IsFault station sheet NotConnected
   connection_fault matches targets sets divided limit =
       refused limit NotConnected divided clear where
-    clear : (other : KernelFault) → order_of other < 8 → IsClearOf station sheet limit other
-    clear (TargetSum m) h = targets
-    clear (SetSum m) h = sets
-    clear other h = kept matches limit other (omega arith)
+        clear : (other : KernelFault) → order_of other < 8 → IsClearOf station sheet limit other
+        clear (TargetSum m) h = targets
+        clear (SetSum m) h = sets
+        clear other h = kept matches limit other (omega arith)
 
   pub residual_fault : (most n : ℕ) → Matches station sheet → TargetsAddUp station sheet
       → SetsAddUp station sheet → HoldsTogether station sheet
@@ -405,8 +407,9 @@ module _ (station : StationValue) (sheet : SheetValue) where
       (Err (Residual (n + 1)))
   residual_fault most n matches targets sets connected first =
       refused (Some most) (Residual (n + 1)) (n, refl, first) clear where
-    clear : (other : KernelFault) → order_of other < 9 → IsClearOf station sheet (Some most) other
-    clear (TargetSum m) h = targets
-    clear (SetSum m) h = sets
-    clear NotConnected h = connected
-    clear other h = kept matches (Some most) other (omega arith)
+        clear : (other : KernelFault) → order_of other < 9
+            → IsClearOf station sheet (Some most) other
+        clear (TargetSum m) h = targets
+        clear (SetSum m) h = sets
+        clear NotConnected h = connected
+        clear other h = kept matches (Some most) other (omega arith)

@@ -1,6 +1,6 @@
 -- Names: the bytes of a station's or a target's name.
 use Rattle.std.specs.Prelude.{ℕ, List, ◌≤◌, ◌++◌, ◌-◌, length, replicate, All}
-use Rattle.adjust_kernel.specs.declared.limits.TheConstants.{LONGEST_NAME}
+use Rattle.adjust_kernel.specs.declared.bounds.TheConstants.{LONGEST_NAME}
 use Rattle.adjust_kernel.specs.declared.name.TheConstants.{FIRST_PRINTABLE, LAST_PRINTABLE}
 
 -- a byte from the blank to the tilde

@@ -1,7 +1,7 @@
 -- Residuals of directions and orientations against the readings (textbook, scaled by a denominator
 -- so that all numbers are whole).
 use Rattle.std.specs.Prelude.{ℕ, List, ℤ, pos, ◌+ℤ◌, ◌-ℤ◌, ◌*ℤ◌, ◌==◌, slice_index_or}
-use Rattle.adjust_kernel.specs.declared.limits.TheConstants.{TURN}
+use Rattle.adjust_kernel.specs.declared.bounds.TheConstants.{TURN}
 use Rattle.adjust_kernel.specs.Readings.{Reading}
 use Rattle.adjust_kernel.specs.Sums.{int_sum_by, int_sum_where, squared}
 

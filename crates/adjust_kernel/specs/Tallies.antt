@@ -1,7 +1,7 @@
 -- What a tally stands for: the residuals that were added to it, each with the places of its target
 -- and set.
 use Rattle.std.specs.Prelude.{◌≡◌, ℕ, List, ℤ, pos, ◌<◌, ◌==◌, length, map, slice_index_or}
-use Rattle.adjust_kernel.specs.declared.limits.TheConstants.{MOST_TARGETS, MOST_SETS}
+use Rattle.adjust_kernel.specs.declared.bounds.TheConstants.{MOST_TARGETS, MOST_SETS}
 use Rattle.adjust_kernel.specs.declared.tally.Added.{Added}
 use Rattle.adjust_kernel.specs.Readings.{Reading}
 use Rattle.adjust_kernel.specs.Residuals.{Choice, residual}

@@ -1,8 +1,8 @@
 //! Whether the observations hold all sets and targets of a station together.
 //!
 //! A mark spreads from the first target: an observation carries it from its set to its target, or
-//! from its target to its set. The observations are swept until all sets and targets have a mark, or
-//! no sweep sets another: what has no mark then is joined by no observation to what has one.
+//! from its target to its set. The observations are swept until all sets and targets have a mark,
+//! or no sweep sets another: what has no mark then is joined by no observation to what has one.
 ghost use Rattle.std.specs.Prelude.{◌≡◌, ℕ, ◌≤◌, ◌<◌, ◌+◌, true, not, List, length, All, IfNone, IfSome, slice_set};
 ghost use Rattle.std.specs.Bool.{OnTrue, OnFalse};
 ghost use Rattle.std.specs.List.{count_by};
@@ -12,7 +12,7 @@ ghost use Rattle.adjust_kernel.specs.Marks.{AreAlike, IsOpenEnd, IsSpread};
 ghost use Rattle.adjust_kernel.specs.Pairs.{readings_of};
 ghost use Rattle.adjust_kernel.specs.Stations.{IsObs};
 
-use crate::limits::{MOST_SETS, MOST_TARGETS};
+use crate::bounds::{MOST_SETS, MOST_TARGETS};
 use crate::marks::{MOST_NODES, are_marked};
 use crate::obs::Obs;
 

@@ -3,7 +3,7 @@
 ghost use Rattle.std.specs.Prelude.{◌≡◌, ◌≤◌, ◌<◌, ℕ, pos, length, Option, Result, Err, IfSome};
 ghost use Rattle.adjust_kernel.specs.declared.accepted.Accepted.{Accepted};
 ghost use Rattle.adjust_kernel.specs.declared.kernel_fault.KernelFault.{KernelFault};
-ghost use Rattle.adjust_kernel.specs.declared.limits.TheConstants.{TURN, MOST_TARGETS, MOST_SETS, MOST_ROWS, LARGEST_SET_NUMBER, LONGEST_NAME, LARGEST_DENOMINATOR, LARGEST_ANGLE, LARGEST_TURN, LARGEST_RESIDUAL, LARGEST_RESIDUAL_LIMIT};
+ghost use Rattle.adjust_kernel.specs.declared.bounds.TheConstants.{TURN, MOST_TARGETS, MOST_SETS, MOST_ROWS, LARGEST_SET_NUMBER, LONGEST_NAME, LARGEST_DENOMINATOR, LARGEST_ANGLE, LARGEST_TURN, LARGEST_RESIDUAL, LARGEST_RESIDUAL_LIMIT};
 ghost use Rattle.adjust_kernel.specs.declared.name.TheConstants.{FIRST_PRINTABLE, LAST_PRINTABLE};
 ghost use Rattle.adjust_kernel.specs.Matching.{Matches};
 ghost use Rattle.adjust_kernel.specs.Sheets.{SheetValue};
@@ -65,7 +65,7 @@ pub fn refusal()
 /// The bounds of stations and sheets. Angles and the residual limit are in half units (0.005 mgon
 /// each), and those of directions, orientations and scaled residuals in half units times the
 /// denominator.
-pub fn limits()
+pub fn bounds()
     ensures turn { TURN ≡ 80_000_000 }
     ensures targets { MOST_TARGETS ≡ 100 }
     ensures sets { MOST_SETS ≡ 40 }

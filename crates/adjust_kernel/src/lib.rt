@@ -9,16 +9,16 @@
 //! The sums of the residuals are kept in a [`Tally`]: [`check`] takes a [`Running`], and
 //! [`check_with`] any other, as a [`Scan`], which adds up anew for each sum.
 //!
-//! All quantities are whole numbers: directions as observed are in half units (0.005 mgon each), and
-//! adjusted directions, orientations and residuals in half units times the denominator. The
+//! All quantities are whole numbers: directions as observed are in half units (0.005 mgon each),
+//! and adjusted directions, orientations and residuals in half units times the denominator. The
 //! definitions that contracts cite have laws, and the bounds stand there in digits: [`laws`].
 #![tactic(auto)]
 
 mod accepted;
+mod bounds;
 mod connection;
 mod kernel_fault;
 pub mod laws;
-mod limits;
 mod marks;
 mod matching;
 mod name;
@@ -36,12 +36,12 @@ mod tally;
 mod verdict;
 
 pub use accepted::Accepted;
-pub use connection::is_connected;
-pub use kernel_fault::KernelFault;
-pub use limits::{
+pub use bounds::{
     LARGEST_ANGLE, LARGEST_DENOMINATOR, LARGEST_RESIDUAL, LARGEST_RESIDUAL_LIMIT,
     LARGEST_SET_NUMBER, LARGEST_TURN, LONGEST_NAME, MOST_ROWS, MOST_SETS, MOST_TARGETS, TURN,
 };
+pub use connection::is_connected;
+pub use kernel_fault::KernelFault;
 pub use marks::{MOST_NODES, are_marked};
 pub use matching::check_matches;
 pub use name::Name;

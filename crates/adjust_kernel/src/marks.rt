@@ -3,7 +3,7 @@ ghost use Rattle.std.specs.Prelude.{◌≡◌, ℕ, ◌≤◌, ◌<◌, true, fa
 ghost use Rattle.std.specs.Bool.{OnTrue, OnFalse};
 ghost use Rattle.adjust_kernel.specs.Marks.{mark};
 
-use crate::limits::{MOST_SETS, MOST_TARGETS};
+use crate::bounds::{MOST_SETS, MOST_TARGETS};
 
 /// A set at place s is node s; a target at place t is node sets + t.
 pub const MOST_NODES: usize = MOST_SETS + MOST_TARGETS;

@@ -7,7 +7,7 @@ ghost use Rattle.std.specs.Prelude.{◌≡◌, ◌<◌, ℕ, List, length, drop,
 ghost use Rattle.std.specs.Str.{bytes_eq};
 ghost use Rattle.adjust_kernel.specs.Names.{IsName, padded};
 
-use crate::limits::LONGEST_NAME;
+use crate::bounds::LONGEST_NAME;
 use std::fmt;
 use std::hash::{Hash, Hasher};
 use std::marker::Model;

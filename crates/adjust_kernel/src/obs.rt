@@ -3,7 +3,7 @@
 ghost use Rattle.std.specs.Prelude.{◌↔◌, ◌≤◌, All, AllPairs, IsTrue};
 ghost use Rattle.adjust_kernel.specs.Stations.{IsObs, IsBefore, AreObs, EachSetObserved, EachTargetObserved};
 
-use crate::limits::{MOST_SETS, MOST_TARGETS, TURN};
+use crate::bounds::{MOST_SETS, MOST_TARGETS, TURN};
 use crate::marks::{MOST_NODES, are_marked};
 
 /// An observed direction: the two-face mean of one target in one set.

@@ -11,7 +11,7 @@ ghost use Rattle.adjust_kernel.specs.Pairs.{ArePaired, reading_of, readings_of, 
 ghost use Rattle.adjust_kernel.specs.Residuals.{residual};
 ghost use Rattle.adjust_kernel.specs.Verdict.{readings};
 
-use crate::limits::{LARGEST_ANGLE, LARGEST_DENOMINATOR, LARGEST_RESIDUAL, LARGEST_TURN, TURN};
+use crate::bounds::{LARGEST_ANGLE, LARGEST_DENOMINATOR, LARGEST_RESIDUAL, LARGEST_TURN, TURN};
 use crate::obs::Obs;
 use crate::row::{Row, unrolled};
 use crate::sheet::Sheet;

@@ -7,7 +7,7 @@ ghost use Rattle.adjust_kernel.specs.Pairs.{ArePaired, choice_stated_by, reading
 ghost use Rattle.adjust_kernel.specs.Residuals.{residual};
 ghost use Rattle.adjust_kernel.specs.Turns.{IsAbove, IsLimited};
 
-use crate::limits::LARGEST_RESIDUAL_LIMIT;
+use crate::bounds::LARGEST_RESIDUAL_LIMIT;
 use crate::obs::Obs;
 use crate::residual::row_residual;
 use crate::sheet::Sheet;
@@ -24,7 +24,7 @@ pub struct ResidualLimit {
 
 impl Model for ResidualLimit {
     ghost use Rattle.std.specs.Prelude.{ℕ, ◌≤◌};
-    ghost use Rattle.adjust_kernel.specs.declared.limits.TheConstants.{LARGEST_RESIDUAL_LIMIT};
+    ghost use Rattle.adjust_kernel.specs.declared.bounds.TheConstants.{LARGEST_RESIDUAL_LIMIT};
 
     ghost Value = { ℕ };
 

@@ -4,7 +4,7 @@
 ghost use Rattle.std.specs.Prelude.{◌≡◌, ◌↔◌, pos, ◌+ℤ◌, ◌*ℤ◌, IsTrue};
 ghost use Rattle.adjust_kernel.specs.Sheets.{IsSetNumber};
 
-use crate::limits::{LARGEST_SET_NUMBER, TURN};
+use crate::bounds::{LARGEST_SET_NUMBER, TURN};
 use crate::name::Name;
 
 /// The adjusted direction of a target.

@@ -3,12 +3,12 @@
 //! A sum of n residuals is at most n times the largest residual in size, which the type keeps: with
 //! all rows of a sheet it is far within 128 bits, so no sum is ever tested for overflow.
 ghost use Rattle.std.specs.Prelude.{◌≡◌, ◌≤◌, ◌<◌, ◌-◌, ◌+◌, [], pos, List, length, All, slice_index_or, slice_set, ◌+ℤ◌, ◌*ℤ◌};
-ghost use Rattle.adjust_kernel.specs.declared.limits.TheConstants.{MOST_ROWS, MOST_TARGETS, MOST_SETS, LARGEST_RESIDUAL};
+ghost use Rattle.adjust_kernel.specs.declared.bounds.TheConstants.{MOST_ROWS, MOST_TARGETS, MOST_SETS, LARGEST_RESIDUAL};
 ghost use Rattle.adjust_kernel.specs.declared.tally.Added.{Added};
 ghost use Rattle.adjust_kernel.specs.Within.{IsWithin};
 ghost use Rattle.adjust_kernel.specs.Tallies.{AreSumsOf};
 
-use crate::limits::{LARGEST_RESIDUAL, MOST_ROWS, MOST_SETS, MOST_TARGETS};
+use crate::bounds::{LARGEST_RESIDUAL, MOST_ROWS, MOST_SETS, MOST_TARGETS};
 use crate::tally::Tally;
 
 /// A tally that keeps a sum for each target and each set, and takes no memory.

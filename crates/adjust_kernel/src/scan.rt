@@ -1,11 +1,11 @@
 //! The plain way to keep a tally: hold what was added, and go through all of it for each sum.
 ghost use Rattle.std.specs.Prelude.{◌≡◌, ◌≤◌, ◌<◌, ◌-◌, ◌+◌, [], pos, List, length, All, IfOk};
 ghost use Rattle.std.specs.Vec.{vec_capacity};
-ghost use Rattle.adjust_kernel.specs.declared.limits.TheConstants.{MOST_ROWS, LARGEST_RESIDUAL};
+ghost use Rattle.adjust_kernel.specs.declared.bounds.TheConstants.{MOST_ROWS, LARGEST_RESIDUAL};
 ghost use Rattle.adjust_kernel.specs.Within.{IsWithin};
 ghost use Rattle.adjust_kernel.specs.Tallies.{added_for_target, added_for_set};
 
-use crate::limits::{LARGEST_RESIDUAL, MOST_ROWS};
+use crate::bounds::{LARGEST_RESIDUAL, MOST_ROWS};
 use crate::out_of_memory::OutOfMemory;
 use crate::tally::{Added, Tally};
 use std::alloc::Global;

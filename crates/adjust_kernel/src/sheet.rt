@@ -4,7 +4,7 @@ ghost use Rattle.std.specs.Prelude.{◌≡◌, ◌↔◌, IsTrue, IfSome, IfNone
 ghost use Rattle.adjust_kernel.specs.Sheets.{IsSheet, IsDenominator, IsDirection, IsOrientation, IsRow, AreDirections, AreOrientations, AreRows, sheet_of};
 ghost use Rattle.adjust_kernel.specs.Within.{IsWithin};
 
-use crate::limits::{
+use crate::bounds::{
     LARGEST_ANGLE, LARGEST_DENOMINATOR, LARGEST_TURN, MOST_ROWS, MOST_SETS, MOST_TARGETS, TURN,
 };
 use crate::name::Name;

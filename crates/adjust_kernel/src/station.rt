@@ -5,7 +5,7 @@ ghost use Rattle.std.specs.Bool.{OnTrue};
 ghost use Rattle.adjust_kernel.specs.Names.{IsName};
 ghost use Rattle.adjust_kernel.specs.Stations.{IsStation, AreTargets, AreSets, station_of};
 
-use crate::limits::{MOST_ROWS, MOST_SETS, MOST_TARGETS};
+use crate::bounds::{MOST_ROWS, MOST_SETS, MOST_TARGETS};
 use crate::name::Name;
 use crate::obs::{Obs, are_obs};
 use crate::row::is_set_number;

@@ -10,7 +10,7 @@ ghost use Rattle.adjust_kernel.specs.Residuals.{Choice, target_sum, set_sum};
 ghost use Rattle.adjust_kernel.specs.Tallies.{all_added};
 ghost use Rattle.adjust_kernel.specs.Within.{IsWithin};
 
-use crate::limits::{LARGEST_RESIDUAL, MOST_ROWS, MOST_SETS, MOST_TARGETS};
+use crate::bounds::{LARGEST_RESIDUAL, MOST_ROWS, MOST_SETS, MOST_TARGETS};
 use crate::obs::Obs;
 use crate::residual::row_residual;
 use crate::sheet::Sheet;

@@ -17,9 +17,9 @@ ghost use Rattle.adjust_kernel.specs.Tallies.{all_added};
 ghost use Rattle.adjust_kernel.specs.Verdict.{IsVerdict, IsFault, TargetsAddUp, SetsAddUp, HoldsTogether, KeepsLimit, IsAcceptance, readings};
 
 use crate::accepted::Accepted;
+use crate::bounds::{LARGEST_RESIDUAL_LIMIT, MOST_ROWS};
 use crate::connection::is_connected;
 use crate::kernel_fault::KernelFault;
-use crate::limits::{LARGEST_RESIDUAL_LIMIT, MOST_ROWS};
 use crate::matching::check_matches;
 use crate::residual_limit::{ResidualLimit, first_above_limit};
 use crate::running::Running;

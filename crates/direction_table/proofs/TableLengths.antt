@@ -2,7 +2,7 @@
 use Rattle.std.proofs.Common.{◌≡◌, ℕ, ◌+◌, ◌*◌, ◌≤◌, List, [], ◌∷◌, ◌++◌, length, All, arith, length-append}
 use Rattle.csv.specs.Writing.{default_writer, field_text, fields_text, is_blank, row_text}
 use Rattle.adjust_kernel.specs.Names.{IsName}
-use Rattle.adjust_kernel.specs.declared.limits.TheConstants.{MOST_TARGETS}
+use Rattle.adjust_kernel.specs.declared.bounds.TheConstants.{MOST_TARGETS}
 use Rattle.sheet_format.proofs.TextLengths.{IsShort, entries-short, length-field}
 use Rattle.direction_table.specs.Texts.{AreDecimals, IsWhole, direction_text}
 use Rattle.direction_table.specs.TableTexts.{row_of, table_text}

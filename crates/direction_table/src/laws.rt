@@ -59,7 +59,7 @@ pub fn table_reads_back()
 
 /// The bounds of a table in digits: its bytes, and a full circle in units of the ninth decimal of a
 /// gon.
-pub fn limits()
+pub fn bounds()
     ensures bytes { LONGEST_TABLE ≡ 1_048_576 }
     ensures circle { CIRCLE ≡ 400_000_000_000 }
 {}

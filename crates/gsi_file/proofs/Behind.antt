@@ -28,7 +28,11 @@ fails_told (Some old) None mid e some h = h
 fails_told (Some old) (Some new) mid e some h =
     let same : new ≡ old = h.unchanged in
     let end = h.end in (
-      (sym (ap (λ (t : Told). t.bytes) same) ∙ end.0, sym (ap (λ (t : Told). t.fails) same) ∙ end.1),
+      (
+        sym (ap (λ (t : Told). t.bytes) same) ∙ end.0,
+        sym (ap (λ (t : Told). t.fails) same)
+            ∙ end.1,
+      ),
       same,
     )
 

@@ -5,7 +5,7 @@ use Rattle.gsi_file.specs.declared.file_fault.FileKind.{FileKind}
 use Rattle.gsi_file.specs.declared.search.FoundLine.{FoundLine}
 use Rattle.gsi_file.specs.declared.lines.State.{State}
 use Rattle.gsi_file.specs.declared.lines.State.TheVariants.{Open, End, Failed}
-use Rattle.gsi_file.specs.declared.limits.TheConstants.{LONGEST_FILE}
+use Rattle.gsi_file.specs.declared.bounds.TheConstants.{LONGEST_FILE}
 use Rattle.gsi_file.specs.FileAnswers.{FileAnswers}
 use Rattle.gsi_file.specs.ToCome.{IsFileFault, FaultIsNext}
 use Rattle.gsi_file.specs.Finding.{answers_in, FindsLine, HasFound}
@@ -28,11 +28,10 @@ pub fault_to_come : (state : State) (count room room' : ℕ) (hand hand' rest : 
     × ((comes_in state count room' rest (Some after)).number
     ≡ (comes_in state count room hand (Some before)).number)
     × ((comes_in state count room hand (Some before)).number + 1 ≤ LONGEST_FILE)
-fault_to_come Open count room room' hand hand' rest before after f kind unsettled fits found fault = (
-  next_at_fault before after room f.line f.used f.room hand hand' f.last kind found.told fault,
-  refl,
-  fits,
-)
+fault_to_come Open count room room' hand hand' rest before after f kind unsettled fits found fault =
+    let next = next_at_fault before after room f.line f.used f.room hand hand' f.last kind
+        found.told fault in
+    (next, refl, fits)
 fault_to_come End count room room' hand hand' rest before after f kind unsettled fits found fault =
     cc
 fault_to_come (Failed k) count room room' hand hand' rest before after f kind unsettled fits found

@@ -218,9 +218,13 @@ some_byte (suc n) h e = omega arith
 
 -- the end of the source, by whether the last part is a line
 pub ends_by : (told0 told told' : Option Told) (room : ℕ) (h0 : List ℕ) (left line : ℕ)
-    (h h' : List ℕ) (n : ℕ) (line_there : Bool) → line ≡ length h → n ≡ 0 → is_line (take line h') ≡ line_there
+    (h h' : List ℕ) (n : ℕ) (line_there : Bool) → line ≡ length h → n ≡ 0
+    → is_line (take line h') ≡ line_there
     → Searching told0 told room h0 left line h → Grows told told' h h' n →
-    AnswersAre told0 room h0 told' (record { lines = cond line_there (take line h' ∷ []) []; last = None })
+    AnswersAre told0 room h0 told' (record {
+      lines = cond line_there (take line h' ∷ []) [];
+      last = None;
+    })
 ends_by told0 told told' room h0 left line h h' n line_there e z i s g =
     subst (λ (b : Bool). AnswersAre told0 room h0 told'
     (record { lines = cond b (take line h' ∷ []) []; last = None })) i
@@ -245,7 +249,8 @@ pub found_ended : (told0 told : Option Told) (room : ℕ) (h0 : List ℕ) (left 
       last = false;
       printable = printable;
     })
-found_ended told0 told room h0 left line used printable h lt less inside fits end line_there tested next
+found_ended told0 told room h0 left line used printable h lt less inside fits end line_there tested
+    next
     s =
     let some : 0 < line = some_byte line h line_there in
     let begin = finds told0 told room h0 left line h lt less end line_there s in

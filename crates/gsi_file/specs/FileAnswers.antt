@@ -5,7 +5,7 @@ use Rattle.std.specs.Option.{option_map}
 use Rattle.byte_ends.specs.Source.{Told}
 use Rattle.gsi_file.specs.declared.file_fault.FileKind.{FileKind}
 use Rattle.gsi_file.specs.declared.file_fault.FileKind.TheVariants.{Read, FileTooLong, LineTooLong}
-use Rattle.gsi_file.specs.declared.limits.TheConstants.{LONGEST_LINE, LONGEST_FILE}
+use Rattle.gsi_file.specs.declared.bounds.TheConstants.{LONGEST_LINE, LONGEST_FILE}
 use Rattle.gsi_file.specs.Parts.{parts, numbered_lines, ended_lines}
 
 -- lines, and then at every call the end, where `last` is None, or this fault

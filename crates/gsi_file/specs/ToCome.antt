@@ -13,7 +13,7 @@ use Rattle.gsi_file.specs.declared.file_fault.FileKind.{FileKind}
 use Rattle.gsi_file.specs.declared.file_fault.FileKind.TheVariants.{Read, FileTooLong, LineTooLong, Byte, Word, FirstWord}
 use Rattle.gsi_file.specs.declared.file_fault.FileFault.{FileFault}
 use Rattle.gsi_file.specs.declared.file_fault.FileFault.TheVariants.{At, Memory}
-use Rattle.gsi_file.specs.declared.limits.TheConstants.{LONGEST_FILE}
+use Rattle.gsi_file.specs.declared.bounds.TheConstants.{LONGEST_FILE}
 use Rattle.gsi_file.specs.FileAnswers.{FileAnswers, line_before}
 
 -- how many lines came, and the answers still to come, where the reader tells or they are settled

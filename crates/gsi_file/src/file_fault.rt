@@ -4,7 +4,7 @@ ghost use Rattle.std.specs.Prelude.{◌≡◌, ◌≤◌, length};
 ghost use Rattle.gsi_file.specs.FaultNames.{file_kind_name, file_kind_number, file_fault_name};
 ghost use Rattle.gsi_file.specs.ToCome.{kind_of};
 
-use crate::limits::{LONGEST_FILE, LONGEST_LINE};
+use crate::bounds::{LONGEST_FILE, LONGEST_LINE};
 use gsi_word::LineFault;
 use thiserror::Error;
 

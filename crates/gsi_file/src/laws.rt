@@ -8,7 +8,7 @@ ghost use Rattle.gsi_file.specs.FileAnswers.{is_within, IsFirstBreak, answers_be
 ghost use Rattle.gsi_file.specs.ToCome.{IsFileFault};
 ghost use Rattle.gsi_file.specs.declared.file_fault.FileKind.{FileKind};
 ghost use Rattle.gsi_file.specs.declared.file_fault.FileKind.TheVariants as kind;
-ghost use Rattle.gsi_file.specs.declared.limits.TheConstants.{LONGEST_LINE, LONGEST_FILE};
+ghost use Rattle.gsi_file.specs.declared.bounds.TheConstants.{LONGEST_LINE, LONGEST_FILE};
 
 /// Where a byte is the first that breaks a limit, a source answers the lines that ended before it.
 pub fn answers_before_a_broken_limit()
@@ -48,8 +48,8 @@ pub fn block_or_fault()
         ⊎ ((fault : FileKind) × IsFileFault line fault) }
 {}
 
-/// The limits of a line and of a file, in bytes.
-pub fn limits()
+/// The bounds of a line and of a file, in bytes.
+pub fn bounds()
     ensures line { LONGEST_LINE ≡ 1024 }
     ensures file { LONGEST_FILE ≡ 16777216 }
 {}

@@ -10,10 +10,10 @@
 //! and `line_end`.
 #![tactic(auto)]
 
+mod bounds;
 mod buffer;
 mod file_fault;
 pub mod laws;
-mod limits;
 mod line;
 mod line_end;
 mod lines;
@@ -23,8 +23,8 @@ mod search;
 mod tests;
 mod window;
 
+pub use bounds::{LONGEST_FILE, LONGEST_LINE};
 pub use file_fault::{FileFault, FileKind};
-pub use limits::{LONGEST_FILE, LONGEST_LINE};
 pub use line::Line;
 pub use lines::Lines;
 pub use out_of_memory::OutOfMemory;

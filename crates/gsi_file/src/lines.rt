@@ -9,11 +9,11 @@ ghost use Rattle.gsi_word.specs.Words.{IsPrintable};
 ghost use Rattle.gsi_word.specs.Shapes.{IsShape};
 ghost use Rattle.gsi_file.specs.Failing.{failed_at, failed_by, failed_in};
 ghost use Rattle.gsi_file.specs.ToCome.{IsFileFault};
-ghost use Rattle.gsi_file.specs.declared.limits.TheConstants.{LONGEST_FILE};
+ghost use Rattle.gsi_file.specs.declared.bounds.TheConstants.{LONGEST_FILE};
 
+use crate::bounds::LONGEST_FILE;
 use crate::buffer::Buffer;
 use crate::file_fault::{FileFault, FileKind};
-use crate::limits::LONGEST_FILE;
 use crate::line::Line;
 use crate::out_of_memory::OutOfMemory;
 use crate::search::find_line;

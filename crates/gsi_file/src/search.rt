@@ -9,9 +9,9 @@ ghost use Rattle.byte_ends.specs.Source.{Through};
 ghost use Rattle.gsi_file.specs.Failing.{failed_by};
 ghost use Rattle.gsi_file.specs.Finding.{Finds};
 
+use crate::bounds::LONGEST_LINE;
 use crate::buffer::Buffer;
 use crate::file_fault::FileKind;
-use crate::limits::LONGEST_LINE;
 use crate::line_end::LineEnd;
 use byte_ends::Source;
 

@@ -486,5 +486,5 @@ fn the_laws_are_calls(_rt: HostRuntime) {
     laws::one_fault();
     laws::no_fault_in_a_block();
     laws::block_or_fault();
-    laws::limits();
+    laws::bounds();
 }

@@ -58,14 +58,16 @@ same_some m n e = cc
 digits_cases : (bytes : List ℕ) (n : ℕ) (t : Bool) → list_all is_ascii_digit bytes ≡ t
     → (if t then Some (decimal_value bytes) else None) ≡ Some n → AllPass is_ascii_digit bytes
     × (n ≡ decimal_value bytes)
-digits_cases bytes n true test e = (AllPass-from_list_all is_ascii_digit bytes test,
-    sym (same_some _ n e))
+digits_cases bytes n true test e = (
+  AllPass-from_list_all is_ascii_digit bytes test,
+  sym (same_some _ n e),
+)
 digits_cases bytes n false test e = absurd (none_some n e)
 
 angle_found : (w : GsiWord) (units : ℕ) → angle_of w ≡ Ok units → IsAngle w units
 angle_found w units e =
     let p = passed (is_gon (slice_index w.info 3)) (is_input_mode (slice_index w.info 2)) w.negative
-        (angle_within_turn (decimal_number w.content)) units e in
+    (angle_within_turn (decimal_number w.content)) units e in
     let q = within (decimal_number w.content) units p.number_is in
     let r = digits_cases w.content units (list_all is_ascii_digit w.content) refl q.0 in
     record {
@@ -80,14 +82,14 @@ angle_found w units e =
 angle_is : (w : GsiWord) (units : ℕ) → IsAngle w units → angle_of w ≡ Ok units
 angle_is w units h =
     let digits : list_all is_ascii_digit w.content ≡ true =
-        list_all-from_AllPass is_ascii_digit w.content h.digits in
+    list_all-from_AllPass is_ascii_digit w.content h.digits in
     let number : decimal_number w.content ≡ Some units =
-        ap (λ (t : Bool). if t then Some (decimal_value w.content) else None) digits
-        ∙ ap Some (sym h.value) in
+    ap (λ (t : Bool). if t then Some (decimal_value w.content) else None) digits
+    ∙ ap Some (sym h.value) in
     let turn : angle_within_turn (Some units) ≡ Ok units =
-        ap (λ (t : Bool). if t then Ok units else Err Range) (le-leb _ _ h.within_turn) in
+    ap (λ (t : Bool). if t then Ok units else Err Range) (le-leb _ _ h.within_turn) in
     ap (λ (t : Bool). chain t (is_input_mode (slice_index w.info 2)) w.negative
-        (angle_within_turn (decimal_number w.content))) h.gon
+    (angle_within_turn (decimal_number w.content))) h.gon
     ∙ ap (λ (t : Bool). chain true t w.negative (angle_within_turn (decimal_number w.content)))
     h.input_mode
     ∙ ap (λ (t : Bool). chain true true t (angle_within_turn (decimal_number w.content))) h.sign

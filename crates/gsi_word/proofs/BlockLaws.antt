@@ -14,7 +14,7 @@ slice_get-words_from width (suc n) zero bytes lt =
     ap (λ (k : ℕ). Some (word_of (take (7 + width) (drop k bytes)))) none
 slice_get-words_from width (suc n) (suc i) bytes lt =
     slice_get-words_from width n i (drop (8 + width) bytes) (omega arith)
-        ∙ ap (λ (r : List ℕ). Some (word_of (take (7 + width) r))) (drop_words width i bytes)
+    ∙ ap (λ (r : List ℕ). Some (word_of (take (7 + width) r))) (drop_words width i bytes)
 
 pub slice_get-words_from_past : (width count i : ℕ) (bytes : List ℕ) → count ≤ i
     → slice_get (words_from width count bytes) i ≡ None
@@ -36,8 +36,8 @@ pub first_index : (width count : ℕ) (bytes : List ℕ) → KeepsWords width by
 first_index width count bytes kept =
     let none : (8 + width) * 0 ≡ 0 = omega arith in
     let first : IsWordBytes width (take (7 + width) bytes) =
-        subst (λ (k : ℕ). IsWordBytes width (take (7 + width) (drop k bytes))) none
-        (kept.each 0 kept.some_word) in
+    subst (λ (k : ℕ). IsWordBytes width (take (7 + width) (drop k bytes))) none
+    (kept.each 0 kept.some_word) in
     index_of_take (7 + width) bytes (omega arith) first.digits
 
 -- the place of a word as the code computes it
@@ -63,5 +63,5 @@ pub word_span : (width i : ℕ) (bytes : List ℕ)
     (drop ((7 + width + 1) * i) bytes) ≡ take (7 + width) (drop ((8 + width) * i) bytes)
 word_span width i bytes =
     ap (λ (n : ℕ). take n (drop ((7 + width + 1) * i) bytes))
-        (after_start ((7 + width + 1) * i) (7 + width))
+    (after_start ((7 + width + 1) * i) (7 + width))
     ∙ ap (λ (k : ℕ). take (7 + width) (drop k bytes)) (word_place width i)

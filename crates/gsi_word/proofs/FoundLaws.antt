@@ -37,8 +37,11 @@ none_some w e = cc
 
 pub below : (words : List GsiWord) (i : ℕ) (w : GsiWord) → slice_get words i ≡ Some w
     → i < length words
-below words i w at = elim (slice_get_cases words i).1 [ inl found ↦ found.1 | inr past ↦
-    absurd (none_some w (sym past.1 ∙ at)) ]
+below words i w at = elim (slice_get_cases words i).1 [
+  | inl found ↦ found.1
+  | inr past ↦
+      absurd (none_some w (sym past.1 ∙ at))
+]
 
 none_found : (ws : List GsiWord) → Absent ≡ found_among ws → ws ≡ []
 none_found [] e = refl
@@ -51,9 +54,9 @@ pub found_first : (index : ℕ) (words : List GsiWord) (i : ℕ) (w : GsiWord)
     → w.index ≡ index → One w ≡ found_among (words_with index (take (i + 1) words))
 found_first index words i w none at e =
     let before : words_with index (take i words) ≡ [] =
-        none_found (words_with index (take i words)) none in
+    none_found (words_with index (take i words)) none in
     ap found_among (ap (λ (ws : List GsiWord). ws ++ w ∷ []) (sym before)
-        ∙ sym (words_with_one index words i w (below words i w at) at e))
+    ∙ sym (words_with_one index words i w (below words i w at) at e))
 
 twice : (before : List GsiWord) (w : GsiWord) → found_among before ≢ Absent
     → Twice ≡ found_among (before ++ w ∷ [])
@@ -67,7 +70,7 @@ pub found_further : (index : ℕ) (words : List GsiWord) (i : ℕ) (w : GsiWord)
     → w.index ≡ index → Twice ≡ found_among (words_with index (take (i + 1) words))
 found_further index words i w some at e =
     twice (words_with index (take i words)) w some
-        ∙ ap found_among (sym (words_with_one index words i w (below words i w at) at e))
+    ∙ ap found_among (sym (words_with_one index words i w (below words i w at) at e))
 
 -- one word of another index
 pub found_other : (index : ℕ) (words : List GsiWord) (i : ℕ) (w : GsiWord)

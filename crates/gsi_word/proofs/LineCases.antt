@@ -33,15 +33,18 @@ bytes_or_fault (b ∷ line) = elim (cases_Bool (is_printable b)) [
       },
     )
   ]
-  | inr bad ↦ inr (1, record {
-    front = [];
-    byte = b;
-    rest = line;
-    text = refl;
-    place = refl;
-    before = All-nil IsPrintable;
-    fault = no_printable b bad;
-  })
+  | inr bad ↦ inr (
+    1,
+    record {
+      front = [];
+      byte = b;
+      rest = line;
+      text = refl;
+      place = refl;
+      before = All-nil IsPrintable;
+      fault = no_printable b bad;
+    },
+  )
 ]
 
 -- Words run up to a place where none begins.
@@ -59,8 +62,12 @@ runs_out zero width bytes le = elim (cases_Bool (begins_word width bytes)) [
 runs_out (suc n) width bytes le = elim (cases_Bool (begins_word width bytes)) [
   | inl begins ↦ (
       let next = drop (8 + width) bytes in
-      let r = runs_out n width next (omega (arith, le, long_of width bytes begins,
-          length-drop (8 + width) bytes)) in
+      let r = runs_out n width next (omega (
+        arith,
+        le,
+        long_of width bytes begins,
+        length-drop (8 + width) bytes,
+      )) in
       record { count = suc r.count; rest = r.rest; run = (begins, r.run); stops = r.stops })
   | inr stops ↦ record { count = 0; rest = bytes; run = refl; stops = stops }
 ]
@@ -88,8 +95,10 @@ words_or_fault width bytes h = by r.count r.run
         ⊎ ((nth : ℕ) × IsWordFault width bytes nth)
     by zero run = inr (0 + 1, run_has_fault width 0 bytes r.rest run h r.stops (inl refl))
     by (suc n) run = elim (blank_or_ink r.rest) [
-      | inl blank ↦ inl (words_from width (suc n) bytes,
-          run_are_words width (suc n) bytes r.rest run (omega arith) h blank)
+      | inl blank ↦ inl (
+        words_from width (suc n) bytes,
+        run_are_words width (suc n) bytes r.rest run (omega arith) h blank,
+      )
       | inr ink ↦ inr (suc n + 1, run_has_fault width (suc n) bytes r.rest run h r.stops (inr ink))
     ]
 
@@ -99,8 +108,11 @@ begins_or_not (w ∷ ws) = elim (cases_Bool (eqb w.index 11)) [
   | inl point ↦ inl (inl (eqb-true _ _ point))
   | inr no_point ↦ elim (cases_Bool (eqb w.index 41)) [
     | inl code ↦ inl (inr (eqb-true _ _ code))
-    | inr no_code ↦ inr (λ first. elim first [ inl e ↦ eqb-false _ _ no_point e | inr e ↦
-        eqb-false _ _ no_code e ])
+    | inr no_code ↦ inr (λ first. elim first [
+      | inl e ↦ eqb-false _ _ no_point e
+      | inr e ↦
+          eqb-false _ _ no_code e
+    ])
   ]
 ]
 
@@ -118,8 +130,10 @@ block_or_fault line = elim (bytes_or_fault line) [
   | inl good ↦ elim (words_or_fault (width_of line) (word_bytes line) (printable_line line good)) [
     | inr bad ↦ inr (Word bad.0, (good, bad.1))
     | inl are ↦ elim (begins_or_not are.0) [
-      | inl first ↦ inl (record { width = width_of line; words = are.0 },
-          record { width = refl; words = are.1; first = first })
+      | inl first ↦ inl (
+        record { width = width_of line; words = are.0 },
+        record { width = refl; words = are.1; first = first },
+      )
       | inr other ↦ inr (FirstWord, record { words = are.0; are_words = are.1; fault = other })
     ]
   ]

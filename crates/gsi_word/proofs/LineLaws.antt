@@ -65,26 +65,26 @@ one_list width [] vs m n a b p q e = absurd (omega arith)
 one_list width (w ∷ ws) [] m n a b p q e = absurd (omega arith)
 one_list width (w ∷ []) (v ∷ []) m n a b p q e =
     let o = one_word width w v _ _ (All-head (IsWord width) w [] a) (All-head (IsWord width) v [] b)
-        e in
+    e in
     ap (λ (u : GsiWord). u ∷ []) o.0
 one_list width (w ∷ []) (v ∷ v2 ∷ vs) m n a b p q e =
     let o = one_word width w v (replicate m 32) (after (v2 ∷ vs) (replicate n 32))
-        (All-head (IsWord width) w [] a) (All-head (IsWord width) v (v2 ∷ vs) b) (e
-        ∙ first_word v (v2 ∷ vs) (replicate n 32)) in
+    (All-head (IsWord width) w [] a) (All-head (IsWord width) v (v2 ∷ vs) b) (e
+    ∙ first_word v (v2 ∷ vs) (replicate n 32)) in
     absurd (no_blanks m v2 vs (replicate n 32) o.1)
 one_list width (w ∷ w2 ∷ ws) (v ∷ []) m n a b p q e =
     let o = one_word width v w (replicate n 32) (after (w2 ∷ ws) (replicate m 32))
-        (All-head (IsWord width) v [] b) (All-head (IsWord width) w (w2 ∷ ws) a) (sym e
-        ∙ first_word w (w2 ∷ ws) (replicate m 32)) in
+    (All-head (IsWord width) v [] b) (All-head (IsWord width) w (w2 ∷ ws) a) (sym e
+    ∙ first_word w (w2 ∷ ws) (replicate m 32)) in
     absurd (no_blanks n w2 ws (replicate m 32) o.1)
 one_list width (w ∷ w2 ∷ ws) (v ∷ v2 ∷ vs) m n a b p q e =
     let o = one_word width w v (after (w2 ∷ ws) (replicate m 32)) (after (v2 ∷ vs) (replicate n 32))
-        (All-head (IsWord width) w (w2 ∷ ws) a) (All-head (IsWord width) v (v2 ∷ vs) b)
-        (sym (first_word w (w2 ∷ ws) (replicate m 32)) ∙ e
-        ∙ first_word v (v2 ∷ vs) (replicate n 32)) in
+    (All-head (IsWord width) w (w2 ∷ ws) a) (All-head (IsWord width) v (v2 ∷ vs) b)
+    (sym (first_word w (w2 ∷ ws) (replicate m 32)) ∙ e
+    ∙ first_word v (v2 ∷ vs) (replicate n 32)) in
     let t = one_list width (w2 ∷ ws) (v2 ∷ vs) m n (All-tail (IsWord width) w (w2 ∷ ws) a)
-        (All-tail (IsWord width) v (v2 ∷ vs) b) (omega arith) (omega arith)
-        (ap (λ (r : List ℕ). drop 1 r) o.1) in
+    (All-tail (IsWord width) v (v2 ∷ vs) b) (omega arith) (omega arith)
+    (ap (λ (r : List ℕ). drop 1 r) o.1) in
     ap (λ (u : GsiWord). u ∷ w2 ∷ ws) o.0 ∙ ap (λ (us : List GsiWord). v ∷ us) t
 
 -- Bytes are one list of words at most.
@@ -112,9 +112,9 @@ no_ink : (m : ℕ) (rest : List ℕ) → ◌≡◌ {A = List ℕ} (32 ∷ rest) 
     → Any (λ b. b ≢ 32) rest → ⊥
 no_ink m rest e ink =
     let blanks : rest ≡ replicate (m - 1) 32 = ap (λ (r : List ℕ). drop 1 r) e
-        ∙ drop-replicate 1 m 32 in
+    ∙ drop-replicate 1 m 32 in
     let at : get_or rest ink.0 32 ≡ 32 = ap (λ (r : List ℕ). get_or r ink.0 32) blanks
-        ∙ blank_at (m - 1) ink.0 in
+    ∙ blank_at (m - 1) ink.0 in
     ink.4 (sym ink.3 ∙ get_or_default rest ink.0 ink.1 32 ink.2 ∙ at)
 
 -- a word with its blank, and the rest
@@ -130,7 +130,7 @@ same_after : (width : ℕ) (f w : GsiWord) (fs ws : List GsiWord) (rest tail : L
     → 32 ∷ (flat_map followed fs ++ rest) ≡ after ws tail
 same_after width f w fs ws rest tail a b e =
     let o = one_word width f w (32 ∷ (flat_map followed fs ++ rest)) (after ws tail) a b
-        (sym (first_followed f fs rest) ∙ e ∙ first_word w ws tail) in
+    (sym (first_followed f fs rest) ∙ e ∙ first_word w ws tail) in
     o.1
 
 fault_excludes : (width : ℕ) (front : List GsiWord) (rest : List ℕ) (ws : List GsiWord) (m : ℕ)
@@ -148,18 +148,18 @@ fault_excludes width [] rest (w ∷ ws) m a b p none ink e =
     })
 fault_excludes width (f ∷ []) rest (w ∷ []) m a b p none ink e =
     let t = same_after width f w [] [] rest (replicate m 32) (All-head (IsWord width) f [] a)
-        (All-head (IsWord width) w [] b) e in
+    (All-head (IsWord width) w [] b) e in
     elim ink [ inl z ↦ absurd cc | inr i ↦ no_ink m rest t i ]
 fault_excludes width (f ∷ g ∷ gs) rest (w ∷ []) m a b p none ink e =
     let t = same_after width f w (g ∷ gs) [] rest (replicate m 32)
-        (All-head (IsWord width) f (g ∷ gs) a) (All-head (IsWord width) w [] b) e in
+    (All-head (IsWord width) f (g ∷ gs) a) (All-head (IsWord width) w [] b) e in
     no_digit m (g.index / 10) _ (sym t ∙ ap (λ (r : List ℕ). 32 ∷ r) (first_followed g gs rest))
 fault_excludes width (f ∷ fs) rest (w ∷ v ∷ vs) m a b p none ink e =
     let t = same_after width f w fs (v ∷ vs) rest (replicate m 32) (All-head (IsWord width) f fs a)
-        (All-head (IsWord width) w (v ∷ vs) b) e in
+    (All-head (IsWord width) w (v ∷ vs) b) e in
     fault_excludes width fs rest (v ∷ vs) m (All-tail (IsWord width) f fs a)
-        (All-tail (IsWord width) w (v ∷ vs) b) (omega arith) none
-        (elim ink [ inl z ↦ absurd cc | inr i ↦ inr i ]) (ap (λ (r : List ℕ). drop 1 r) t)
+    (All-tail (IsWord width) w (v ∷ vs) b) (omega arith) none
+    (elim ink [ inl z ↦ absurd cc | inr i ↦ inr i ]) (ap (λ (r : List ℕ). drop 1 r) t)
 
 -- Bytes with a faulty word are no words.
 word_fault_excludes : (width : ℕ) (bytes : List ℕ) (nth : ℕ) (ws : List GsiWord)
@@ -175,16 +175,16 @@ words_printable width (w ∷ []) tail h t = All-append IsPrintable (spelled w) t
 words_printable width (w ∷ v ∷ ws) tail h t =
     subst (λ (r : List ℕ). All IsPrintable r) (sym (first_word w (v ∷ ws) tail))
     (All-append IsPrintable (spelled w) _ (spelled_printable width w
-        (All-head (IsWord width) w (v ∷ ws) h))
+    (All-head (IsWord width) w (v ∷ ws) h))
     (All-cons IsPrintable 32 _ (omega arith, omega arith)
-        (words_printable width (v ∷ ws) tail (All-tail (IsWord width) w (v ∷ ws) h) t)))
+    (words_printable width (v ∷ ws) tail (All-tail (IsWord width) w (v ∷ ws) h) t)))
 
 are_words_printable : (width : ℕ) (bytes : List ℕ) (ws : List GsiWord) → AreWords width bytes ws
     → All IsPrintable bytes
 are_words_printable width bytes ws h =
     subst (λ (r : List ℕ). All IsPrintable r) (sym h.text)
-        (words_printable width ws (replicate h.blanks 32) h.each
-        (All-replicate IsPrintable h.blanks 32 (omega arith, omega arith)))
+    (words_printable width ws (replicate h.blanks 32) h.each
+    (All-replicate IsPrintable h.blanks 32 (omega arith, omega arith)))
 
 star_printable : (b : ℕ) (bs : List ℕ) (t : Bool) → starts_with nat_eq (b ∷ bs) (codes "*") ≡ t
     → All IsPrintable (if t then bs else b ∷ bs) → All IsPrintable (b ∷ bs)
@@ -205,9 +205,9 @@ words_line_printable line ws h = line_printable line
 byte_fault_excludes : (line : List ℕ) (at : ℕ) → IsByteFault line at → All IsPrintable line → ⊥
 byte_fault_excludes line at f h =
     f.fault (subst (λ (b : ℕ). IsPrintable b)
-        (get_or_at f.front f.byte f.rest 0 (length f.front) refl)
+    (get_or_at f.front f.byte f.rest 0 (length f.front) refl)
     (subst (λ (r : List ℕ). All IsPrintable r) f.text h (length f.front) 0
-        (omega (arith, length-append f.front (f.byte ∷ f.rest)))))
+    (omega (arith, length-append f.front (f.byte ∷ f.rest)))))
 
 -- A block has no fault.
 pub no_fault : (line : List ℕ) (block : GsiBlock) (fault : LineFault) → IsBlock line block
@@ -233,9 +233,13 @@ same_front (a ∷ f) (d ∷ g) b c r s p q x y e =
     (ap (λ (l : List ℕ). drop 1 l) e))
 
 same_byte : (line : List ℕ) (a b : ℕ) → IsByteFault line a → IsByteFault line b → a ≡ b
-same_byte line a b f g = omega (arith, f.place, g.place,
-    same_front f.front g.front f.byte g.byte f.rest g.rest f.before g.before f.fault g.fault
-    (sym f.text ∙ g.text))
+same_byte line a b f g = omega (
+  arith,
+  f.place,
+  g.place,
+  same_front f.front g.front f.byte g.byte f.rest g.rest f.before g.before f.fault g.fault
+      (sym f.text ∙ g.text),
+)
 
 -- Bytes that begin with a word and a blank.
 begins_followed : (width : ℕ) (w : GsiWord) (ws : List GsiWord) (rest tail : List ℕ)
@@ -258,17 +262,21 @@ same_count width (w ∷ ws) [] rest tail a b x y e =
     absurd (y (begins_followed width w ws tail rest (All-head (IsWord width) w ws a) (sym e)))
 same_count width (w ∷ ws) (v ∷ vs) rest tail a b x y e =
     let o = one_word width w v (32 ∷ (flat_map followed ws ++ rest))
-        (32 ∷ (flat_map followed vs ++ tail)) (All-head (IsWord width) w ws a)
-        (All-head (IsWord width) v vs b) (sym (first_followed w ws rest) ∙ e
-        ∙ first_followed v vs tail) in
+    (32 ∷ (flat_map followed vs ++ tail)) (All-head (IsWord width) w ws a)
+    (All-head (IsWord width) v vs b) (sym (first_followed w ws rest) ∙ e
+    ∙ first_followed v vs tail) in
     ap suc (same_count width ws vs rest tail (All-tail (IsWord width) w ws a)
-        (All-tail (IsWord width) v vs b) x y (ap (λ (r : List ℕ). drop 1 r) o.1))
+    (All-tail (IsWord width) v vs b) x y (ap (λ (r : List ℕ). drop 1 r) o.1))
 
 same_nth : (width : ℕ) (bytes : List ℕ) (a b : ℕ) → IsWordFault width bytes a
     → IsWordFault width bytes b → a ≡ b
-same_nth width bytes a b f g = omega (arith, f.place, g.place,
-    same_count width f.words g.words f.rest g.rest f.each g.each f.fault g.fault (sym f.text
-    ∙ g.text))
+same_nth width bytes a b f g = omega (
+  arith,
+  f.place,
+  g.place,
+  same_count width f.words g.words f.rest g.rest f.each g.each f.fault g.fault (sym f.text
+      ∙ g.text),
+)
 
 -- A line has one fault at most.
 pub same_fault : (line : List ℕ) (a b : LineFault) → IsLineFault line a → IsLineFault line b → a ≡ b

@@ -34,7 +34,7 @@ name_after_zeros zero name some (inr bare) = name_kept name
     (inr (λ e. bare (slice_get-get_or name 0 0 some ∙ ap Some e)))
 name_after_zeros (suc zeros) name some bare =
     name_after_zeros zeros name some bare ∙ name_step (48 ∷ (replicate zeros 48 ++ name))
-        (omega (arith, length-append (replicate zeros 48) name, some)) refl
+    (omega (arith, length-append (replicate zeros 48) name, some)) refl
 
 same_byte : (b c : ℕ) → ◌≡◌ {A = Option ℕ} (Some b) (Some c) → b ≡ c
 same_byte b c e = cc
@@ -73,9 +73,10 @@ name_is (b ∷ c ∷ bytes) some = more_bytes b c bytes (eqb b 48) refl
 
 pub name_known : (content name : List ℕ) → 0 < length content
     → IsName content name ↔ (name ≡ name_of content)
-name_known content name some =
-    ((λ h. name_after_zeros h.zeros name h.some_byte h.bare ∙ ap name_of (sym h.text)),
-        (λ e. subst (λ (r : List ℕ). IsName content r) (sym e) (name_is content some)))
+name_known content name some = (
+  (λ h. name_after_zeros h.zeros name h.some_byte h.bare ∙ ap name_of (sym h.text)),
+  (λ e. subst (λ (r : List ℕ). IsName content r) (sym e) (name_is content some)),
+)
 
 -- a content begins with no more zeros than it has, and where it begins with none, none goes
 first_kept : (bytes : List ℕ) → (0 ≡ prefix_len (λ b. b == 48) bytes) ⊎ (1 ≡ length bytes)
@@ -84,8 +85,11 @@ first_kept [] h = inl (omega arith)
 first_kept (b ∷ bytes) (inr one) = inl (omega (arith, one))
 first_kept (b ∷ bytes) (inl none) = split (b == 48) refl where
   split : (t : Bool) → (b == 48) ≡ t → (length (b ∷ bytes) ≤ 1) ⊎ (b ≢ 48)
-  split true e = absurd (omega (arith, none ∙ ap
-      (λ (t : Bool). cond t (1 + prefix_len (λ b. b == 48) bytes) 0) e))
+  split true e = absurd (omega (
+    arith,
+    none ∙ ap
+        (λ (t : Bool). cond t (1 + prefix_len (λ b. b == 48) bytes) 0) e,
+  ))
   split false e = inr (eqb-false b 48 e)
 
 abbrev zeros : List ℕ → ℕ
@@ -105,11 +109,14 @@ name_behind (suc n) (b ∷ bytes) le lt h = split (name_behind n bytes) (b == 48
   split : (n ≤ zeros bytes → n < length bytes → (n ≡ zeros bytes) ⊎ (n + 1 ≡ length bytes)
       → drop n bytes ≡ name_of bytes) → (t : Bool) → (b == 48) ≡ t
       → drop n bytes ≡ name_of (b ∷ bytes)
-  split shorter false e = absurd (omega (arith, le,
-      ap (λ (t : Bool). cond t (1 + zeros bytes) 0) e))
+  split shorter false e = absurd (omega (
+    arith,
+    le,
+    ap (λ (t : Bool). cond t (1 + zeros bytes) 0) e,
+  ))
   split shorter true e =
       let more : zeros (b ∷ bytes) ≡ 1 + zeros bytes =
-          ap (λ (t : Bool). cond t (1 + zeros bytes) 0) e in
+      ap (λ (t : Bool). cond t (1 + zeros bytes) 0) e in
       shorter (omega (arith, le, more)) (omega (arith, lt)) (rest more h)
       ∙ name_step (b ∷ bytes) (omega (arith, lt)) (eqb-true b 48 e)
 
@@ -122,7 +129,7 @@ pub zeros_in_load : (n : ℕ) (bytes : List ℕ) → length bytes ≡ n
     → prefix_len (λ b. not (not (b == 48))) (chunk 0 n bytes) ≡ prefix_len (λ b. b == 48) bytes
 zeros_in_load n bytes e =
     (λ i. prefix_len (λ b. not_not (b == 48) i) (chunk 0 n bytes))
-        ∙ ap (λ (xs : List ℕ). prefix_len (λ b. b == 48) xs) (take_all n bytes (omega (arith, e)))
+    ∙ ap (λ (xs : List ℕ). prefix_len (λ b. b == 48) xs) (take_all n bytes (omega (arith, e)))
 
 -- a content of either width has some byte
 pub some_byte : (content : List ℕ) → (length content ≡ 8) ⊎ (length content ≡ 16)

@@ -33,9 +33,9 @@ pub all_of_both : (bytes : List ℕ) (n from : ℕ) → from ≤ n → All IsPri
     → All IsPrintable (drop from bytes) → All IsPrintable bytes
 all_of_both bytes n from le front rest =
     let before = subst (All IsPrintable) (take-take from n bytes le)
-        (All-take IsPrintable from (take n bytes) front) in
+    (All-take IsPrintable from (take n bytes) front) in
     subst (All IsPrintable) (take-append-drop from bytes)
-        (All-append IsPrintable (take from bytes) (drop from bytes) before rest)
+    (All-append IsPrintable (take from bytes) (drop from bytes) before rest)
 
 -- whether a byte may not stand in a line
 abbrev pub is_stray : ℕ → Bool

@@ -19,10 +19,15 @@ Runs width (suc n) bytes rest = (begins_word width bytes ≡ true)
 
 runs_suc : (width n : ℕ) (bytes rest : List ℕ) → Runs width n bytes rest
     → begins_word width rest ≡ true → Runs width (suc n) bytes (drop (8 + width) rest)
-runs_suc width zero bytes rest is e = (ap (λ (r : List ℕ). begins_word width r) (sym is)
-    ∙ e, ap (λ (r : List ℕ). drop (8 + width) r) is)
-runs_suc width (suc n) bytes rest run e = (run.0,
-    runs_suc width n (drop (8 + width) bytes) rest run.1 e)
+runs_suc width zero bytes rest is e = (
+  ap (λ (r : List ℕ). begins_word width r) (sym is)
+      ∙ e,
+  ap (λ (r : List ℕ). drop (8 + width) r) is,
+)
+runs_suc width (suc n) bytes rest run e = (
+  run.0,
+  runs_suc width n (drop (8 + width) bytes) rest run.1 e,
+)
 
 -- one more word
 pub runs_more : (width n : ℕ) (bytes rest : List ℕ) → Runs width n bytes rest
@@ -50,12 +55,12 @@ split_followed : (width : ℕ) (bytes : List ℕ) → Front width bytes
     ∷ drop (8 + width) bytes
 split_followed width bytes f more =
     let longer : 0 < length (drop (7 + width) bytes) =
-        omega (arith, length-drop (8 + width) bytes, length-drop (7 + width) bytes, more) in
+    omega (arith, length-drop (8 + width) bytes, length-drop (7 + width) bytes, more) in
     let blank : drop (7 + width) bytes ≡ 32 ∷ drop (8 + width) bytes =
-        blank_first (drop (7 + width) bytes) f.ends longer
-        ∙ ap (λ (r : List ℕ). 32 ∷ r) (after_blank width bytes) in
+    blank_first (drop (7 + width) bytes) f.ends longer
+    ∙ ap (λ (r : List ℕ). 32 ∷ r) (after_blank width bytes) in
     split_front width bytes f ∙ ap (λ (r : List ℕ). spelled (word_of (take (7 + width) bytes)) ++ r)
-        blank
+    blank
 
 -- Where a run goes on, or something stands behind it, something stands behind its first word.
 runs_length : (width n : ℕ) (bytes rest : List ℕ) → Runs width n bytes rest → (0 < n)
@@ -84,7 +89,7 @@ run_is_words width zero bytes rest run h blank =
     let f = front width bytes run.0 h in
     let w = word_of (take (7 + width) bytes) in
     let e = last_blanks (drop (7 + width) bytes) rest f.ends (after_blank width bytes ∙ sym run.1)
-        blank in
+    blank in
     record {
       some_word = omega arith;
       each = All-cons (IsWord width) w [] f.word (All-nil (IsWord width));
@@ -96,7 +101,7 @@ run_is_words width (suc n) bytes rest run h blank =
     let w = word_of (take (7 + width) bytes) in
     let next = drop (8 + width) bytes in
     let tail = run_is_words width n next rest run.1 (All-drop IsPrintable (8 + width) bytes h)
-        blank in
+    blank in
     let rest_text = join_with_byte 32 (map spelled (words_from width (suc n) next)) in
     record {
       some_word = omega arith;
@@ -131,7 +136,7 @@ run_begun width (suc n) bytes rest run h (inr some) =
     let next = drop (8 + width) bytes in
     let words = words_from width n next in
     let tail = run_begun width n next rest run.1 (All-drop IsPrintable (8 + width) bytes h)
-        (inr some) in
+    (inr some) in
     record {
       each = All-cons (IsWord width) w words f.word tail.each;
       text = split_followed width bytes f (runs_length width n next rest run.1 (inr some))
@@ -150,7 +155,7 @@ pub run_has_fault : (width n : ℕ) (bytes rest : List ℕ) → Runs width n byt
     → IsWordFault width bytes (n + 1)
 run_has_fault width n bytes rest run h e some =
     let begun = run_begun width n bytes rest run h
-        (elim some [ inl none ↦ inl none | inr ink ↦ inr (omega (arith, ink.2)) ]) in
+    (elim some [ inl none ↦ inl none | inr ink ↦ inr (omega (arith, ink.2)) ]) in
     record {
       words = words_from width n bytes;
       rest = rest;
@@ -158,8 +163,11 @@ run_has_fault width n bytes rest run h e some =
       text = begun.text;
       place = omega (arith, length_words_from width n bytes);
       fault = no_word width rest e;
-      goes_on = elim some [ inl none ↦ inl (nil_from_length (words_from width n bytes)
-          (length_words_from width n bytes ∙ none)) | inr ink ↦ inr ink ];
+      goes_on = elim some [
+        | inl none ↦ inl (nil_from_length (words_from width n bytes)
+            (length_words_from width n bytes ∙ none))
+        | inr ink ↦ inr ink
+      ];
     }
 
 -- the bytes after some words and their blanks
@@ -176,11 +184,11 @@ run_places width zero bytes rest run h i lt = absurd (omega arith)
 run_places width (suc n) bytes rest run h zero lt =
     let none : 0 ≡ (8 + width) * 0 = omega arith in
     subst (λ (k : ℕ). IsWordBytes width (take (7 + width) (drop k bytes))) none
-        (word_bytes_of width bytes run.0 h)
+    (word_bytes_of width bytes run.0 h)
 run_places width (suc n) bytes rest run h (suc i) lt =
     subst (λ (r : List ℕ). IsWordBytes width (take (7 + width) r)) (drop_words width i bytes)
     (run_places width n (drop (8 + width) bytes) rest run.1
-        (All-drop IsPrintable (8 + width) bytes h) i (omega arith))
+    (All-drop IsPrintable (8 + width) bytes h) i (omega arith))
 
 -- The words of a run have room in the bytes; the blank after the last may be missing.
 pub run_room : (width n : ℕ) (bytes rest : List ℕ) → Runs width n bytes rest
@@ -190,5 +198,10 @@ run_room width (suc zero) bytes rest run = omega (arith, long_of width bytes run
 run_room width (suc (suc n)) bytes rest run =
     let next = drop (8 + width) bytes in
     let longer : 7 + width ≤ length next = long_of width next run.1.0 in
-    omega (arith, run_room width (suc n) next rest run.1, longer, length-drop (8 + width) bytes,
-        mul-suc (8 + width) (suc n))
+    omega (
+      arith,
+      run_room width (suc n) next rest run.1,
+      longer,
+      length-drop (8 + width) bytes,
+      mul-suc (8 + width) (suc n),
+    )

@@ -43,7 +43,7 @@ unprintable_where_set b e p = elim (either (nat_lt b 32) (nat_lt 126 b) e) [
 module _ (bytes : List ℕ) (at : ℕ) (room : at + 16 ≤ length bytes) (run : ℕ) (z : List ℕ) (f : ℕ
     → ℕ)
     (found : run ≡ (if mask_l (map (top 7) z) % 2 ^ 64 == 0 then 16
-        else trailing_zeros w64 (mask_l (map (top 7) z) % 2 ^ 64)))
+    else trailing_zeros w64 (mask_l (map (top 7) z) % 2 ^ 64)))
     (lanes : z ≡ map f (chunk at 16 bytes)) where
   counted : run ≡ prefix_len (λ b. not (top 7 (f b))) (chunk at 16 bytes)
   counted =
@@ -51,10 +51,10 @@ module _ (bytes : List ℕ) (at : ℕ) (room : at + 16 ≤ length bytes) (run : 
       let long = length-chunk at 16 bytes room in
       let set = λ (b : ℕ). top 7 (f b) in
       let mask = ap (λ l. mask_l (map (top 7) l) % 2 ^ 64) lanes
-          ∙ ap (λ l. mask_l l % 2 ^ 64) (map-map (top 7) f load)
-          ∙ mask_l-mod (map set load) 64 (omega (arith, length-map load set, long)) in
+      ∙ ap (λ l. mask_l l % 2 ^ 64) (map-map (top 7) f load)
+      ∙ mask_l-mod (map set load) 64 (omega (arith, length-map load set, long)) in
       found ∙ ap (λ (m : ℕ). if m == 0 then 16 else trailing_zeros w64 m) mask
-          ∙ first_set_mask_l set load 16 long (omega arith)
+      ∙ first_set_mask_l set load 16 long (omega arith)
 
   pub run_is_short : run ≤ 16
   run_is_short = run_in_chunk_le (λ b. top 7 (f b)) bytes at 16 run 0 room counted

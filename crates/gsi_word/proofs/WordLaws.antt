@@ -64,10 +64,18 @@ cells_of width a b i j k m s rest h =
       long = omega arith;
       tens = digit_bounds a q.0;
       ones = digit_bounds b r.0;
-      info = (blank 0 (omega arith), (blank 1 (omega arith),
-          (blank 2 (omega arith), blank 3 (omega arith))));
-      sign = elim (or_cases _ _ u.0) [ inl e ↦ inl (eqb-true _ _ e) | inr e ↦
-          inr (eqb-true _ _ e) ];
+      info = (
+        blank 0 (omega arith),
+        (
+          blank 1 (omega arith),
+          (blank 2 (omega arith), blank 3 (omega arith)),
+        ),
+      );
+      sign = elim (or_cases _ _ u.0) [
+        | inl e ↦ inl (eqb-true _ _ e)
+        | inr e ↦
+            inr (eqb-true _ _ e)
+      ];
       ends = elim (or_cases _ _ u.1) [
         | inl e ↦ (let f : length (headed a b i j k m s rest) ≡ 7 + width = eqb-true _ _ e in
             inl (omega arith))
@@ -82,14 +90,21 @@ test_of_cells width a b i j k m s rest c =
     let bytes = headed a b i j k m s rest in
     let no_blank : list_any (λ b. eqb b 32) (i ∷ j ∷ k ∷ m ∷ []) ≡ false =
     list_any_none (λ b. eqb b 32) (i ∷ j ∷ k ∷ m ∷ [])
-        (All-from_recursion (λ x. eqb x 32 ≡ false) (i ∷ j ∷ k ∷ m ∷ [])
-        (ne_eqb _ _ c.info.0, (ne_eqb _ _ c.info.1.0,
-        (ne_eqb _ _ c.info.1.1.0, (ne_eqb _ _ c.info.1.1.1, tt))))) in
+    (All-from_recursion (λ x. eqb x 32 ≡ false) (i ∷ j ∷ k ∷ m ∷ []) (
+      ne_eqb _ _ c.info.0,
+      (
+        ne_eqb _ _ c.info.1.0,
+        (ne_eqb _ _ c.info.1.1.0, (ne_eqb _ _ c.info.1.1.1, tt)),
+      ),
+    )) in
     let signs : (eqb s 43 || eqb s 45) ≡ true =
-        elim c.sign [ inl e ↦ or_left _ _ (eq-eqb _ _ e) | inr e ↦ or_right _ _ (eq-eqb _ _ e) ] in
+    elim c.sign [ inl e ↦ or_left _ _ (eq-eqb _ _ e) | inr e ↦ or_right _ _ (eq-eqb _ _ e) ] in
     let last : (eqb (length bytes) (7 + width) || eqb (get_or bytes (7 + width) 0) 32) ≡ true =
-    elim c.ends [ inl e ↦ or_left _ _ (eq-eqb (length bytes) (7 + width) (omega arith)) | inr e ↦
-        or_right _ _ (eq-eqb _ _ (at_head width a b i j k m s rest ∙ e)) ] in
+    elim c.ends [
+      | inl e ↦ or_left _ _ (eq-eqb (length bytes) (7 + width) (omega arith))
+      | inr e ↦
+          or_right _ _ (eq-eqb _ _ (at_head width a b i j k m s rest ∙ e))
+    ] in
     and_from _ _ (le-leb _ _ (omega (arith, c.long)))
     (and_from _ _ (and_from _ _ (le-leb _ _ c.tens.0) (le-leb _ _ c.tens.1))
     (and_from _ _ (and_from _ _ (le-leb _ _ c.ones.0) (le-leb _ _ c.ones.1))
@@ -129,11 +144,16 @@ headed_word width a b i j k m s rest c h =
       word = record {
         index = omega (arith, c.tens, c.ones);
         info_length = refl;
-        info = All-from_recursion IsGraphic (i ∷ j ∷ k ∷ m ∷ [])
-            (graphic i (h 2 0 (omega arith)) c.info.0,
-            (graphic j (h 3 0 (omega arith)) c.info.1.0,
-            (graphic k (h 4 0 (omega arith)) c.info.1.1.0,
-            (graphic m (h 5 0 (omega arith)) c.info.1.1.1, tt))));
+        info = All-from_recursion IsGraphic (i ∷ j ∷ k ∷ m ∷ []) (
+          graphic i (h 2 0 (omega arith)) c.info.0,
+          (
+            graphic j (h 3 0 (omega arith)) c.info.1.0,
+            (
+              graphic k (h 4 0 (omega arith)) c.info.1.1.0,
+              (graphic m (h 5 0 (omega arith)) c.info.1.1.1, tt),
+            ),
+          ),
+        );
         content_length = omega (arith, length-take width rest, c.long);
         content = All-take IsPrintable width rest
             (All-drop IsPrintable 7 (headed a b i j k m s rest) h);
@@ -147,9 +167,11 @@ front_of width a b i j k m s rest c h =
     let w = headed_word width a b i j k m s rest c h in
     let head = sym (take_head width a b i j k m s rest) in
     let at_end : EndsWord (drop width rest) =
-        ends_of (drop width rest) (elim c.ends
-        [ inl e ↦ inl (omega (arith, length-drop width rest)) | inr e ↦
-        inr (get_or-drop width rest 0 0 ∙ ap (λ (n : ℕ). get_or rest n 0) (omega arith) ∙ e) ]) in
+    ends_of (drop width rest) (elim c.ends [
+      | inl e ↦ inl (omega (arith, length-drop width rest))
+      | inr e ↦
+          inr (get_or-drop width rest 0 0 ∙ ap (λ (n : ℕ). get_or rest n 0) (omega arith) ∙ e)
+    ]) in
     record {
       word = subst (λ (r : List ℕ). IsWord width (word_of r)) head w.word;
       text = subst (λ (r : List ℕ). r ≡ spelled (word_of r)) head w.text;
@@ -182,7 +204,7 @@ head_has_index : (width a b i j k m s : ℕ) (rest : List ℕ) → Cells width a
     → HasIndex (take (7 + width) (headed a b i j k m s rest))
 head_has_index width a b i j k m s rest c =
     subst (λ (r : List ℕ). HasIndex r) (sym (take_head width a b i j k m s rest))
-        (record { long = omega arith; tens = c.tens; ones = c.ones })
+    (record { long = omega arith; tens = c.tens; ones = c.ones })
 
 has_index : (width : ℕ) (bytes : List ℕ) → begins_word width bytes ≡ true → 7 ≤ length bytes
     → HasIndex (take (7 + width) bytes)
@@ -247,15 +269,22 @@ pub test_of_word : (width : ℕ) (w : GsiWord) (rest : List ℕ) → IsWord widt
 test_of_word width w rest h ends =
     let c = info_of width w h in
     let info : All IsGraphic (c.i ∷ c.j ∷ c.k ∷ c.m ∷ []) =
-        subst (λ (xs : List ℕ). All IsGraphic xs) c.is h.info in
+    subst (λ (xs : List ℕ). All IsGraphic xs) c.is h.info in
     rw c.is (test_of_cells width (48 + w.index / 10) (48 + w.index % 10) c.i c.j c.k c.m
-        (sign_byte w.negative) (w.content ++ rest) (record {
+    (sign_byte w.negative) (w.content ++ rest) (record {
       long = omega (arith, length-append w.content rest, h.content_length);
       tens = (omega arith, omega (arith, h.index));
       ones = (omega arith, omega (arith, h.index));
-      info = (ink c.i (info 0 0 (omega arith)),
-          (ink c.j (info 1 0 (omega arith)), (ink c.k (info 2 0 (omega arith)),
-          ink c.m (info 3 0 (omega arith)))));
+      info = (
+        ink c.i (info 0 0 (omega arith)),
+        (
+          ink c.j (info 1 0 (omega arith)),
+          (
+            ink c.k (info 2 0 (omega arith)),
+            ink c.m (info 3 0 (omega arith)),
+          ),
+        ),
+      );
       sign = sign_cases w.negative;
       ends = ends_cells width w.content rest h.content_length ends;
     }))
@@ -281,7 +310,7 @@ front_cells : (width : ℕ) (w : GsiWord) (rest : List ℕ) (i j k m : ℕ) → 
     (sign_byte w.negative) w.content
 front_cells width w rest i j k m e len =
     rw e (take_head width (48 + w.index / 10) (48 + w.index % 10) i j k m (sign_byte w.negative)
-        (w.content ++ rest)
+    (w.content ++ rest)
     ∙ ap (λ (r : List ℕ). headed (48 + w.index / 10) (48 + w.index % 10) i j k m
     (sign_byte w.negative) r) (take_at w.content rest width len))
 
@@ -289,7 +318,7 @@ back_cells : (width : ℕ) (w : GsiWord) (rest : List ℕ) (i j k m : ℕ) → w
     → length w.content ≡ width → drop (7 + width) (spelled w ++ rest) ≡ rest
 back_cells width w rest i j k m e len =
     rw e (drop_head width (48 + w.index / 10) (48 + w.index % 10) i j k m (sign_byte w.negative)
-        (w.content ++ rest) ∙ drop_at w.content rest width len)
+    (w.content ++ rest) ∙ drop_at w.content rest width len)
 
 -- The bytes of a word give it back, whatever follows.
 pub word_of_spelled : (width : ℕ) (w : GsiWord) (rest : List ℕ) → IsWord width w
@@ -297,19 +326,22 @@ pub word_of_spelled : (width : ℕ) (w : GsiWord) (rest : List ℕ) → IsWord w
     × (drop (7 + width) (spelled w ++ rest) ≡ rest)
 word_of_spelled width w rest h =
     let c = info_of width w h in
-    let cells = front_cells width w rest c.i c.j c.k c.m c.is h.content_length in
-    (ap word_of cells ∙ same_word _ w.index _ w.info _ w.negative _ w.content
-        (omega (arith, h.index)) (sym c.is) (sign_back w.negative) refl,
-        back_cells width w rest c.i c.j c.k c.m c.is h.content_length)
+    let cells = front_cells width w rest c.i c.j c.k c.m c.is h.content_length in (
+      ap word_of cells ∙ same_word _ w.index _ w.info _ w.negative _ w.content
+          (omega (arith, h.index)) (sym c.is) (sign_back w.negative) refl,
+      back_cells width w rest c.i c.j c.k c.m c.is h.content_length,
+    )
 
 -- Bytes begin with one word at most.
 pub one_word : (width : ℕ) (w v : GsiWord) (a b : List ℕ) → IsWord width w → IsWord width v
     → spelled w ++ a ≡ spelled v ++ b → (w ≡ v) × (a ≡ b)
 one_word width w v a b hw hv e =
     let x = word_of_spelled width w a hw in
-    let y = word_of_spelled width v b hv in
-    (sym x.0 ∙ ap (λ (z : List ℕ). word_of (take (7 + width) z)) e ∙ y.0, sym x.1
-        ∙ ap (λ (z : List ℕ). drop (7 + width) z) e ∙ y.1)
+    let y = word_of_spelled width v b hv in (
+      sym x.0 ∙ ap (λ (z : List ℕ). word_of (take (7 + width) z)) e ∙ y.0,
+      sym x.1
+          ∙ ap (λ (z : List ℕ). drop (7 + width) z) e ∙ y.1,
+    )
 
 -- Bytes that fail the test begin with no word.
 pub no_word : (width : ℕ) (bytes : List ℕ) → begins_word width bytes ≡ false
@@ -321,18 +353,18 @@ no_word width bytes e b = false≢true (sym e ∙ ap (λ (r : List ℕ). begins_
 pub spelled_printable : (width : ℕ) (w : GsiWord) → IsWord width w → All IsPrintable (spelled w)
 spelled_printable width w h =
     let content : All IsPrintable (sign_byte w.negative ∷ w.content) =
-        All-cons IsPrintable (sign_byte w.negative) w.content (sign_printable w.negative)
-        h.content in
+    All-cons IsPrintable (sign_byte w.negative) w.content (sign_printable w.negative)
+    h.content in
     let info : All IsPrintable w.info = All-weaker IsGraphic IsPrintable
-        (λ b g. graphic_printable b g) w.info h.info in
+    (λ b g. graphic_printable b g) w.info h.info in
     let first : IsPrintable (48 + w.index / 10) =
-        (omega (arith, h.index), omega (arith, h.index)) in
+    (omega (arith, h.index), omega (arith, h.index)) in
     let second : IsPrintable (48 + w.index % 10) =
-        (omega (arith, h.index), omega (arith, h.index)) in
+    (omega (arith, h.index), omega (arith, h.index)) in
     All-cons IsPrintable (48 + w.index / 10) ((48 + w.index % 10)
-        ∷ (w.info ++ sign_byte w.negative ∷ w.content)) first
-        (All-cons IsPrintable (48 + w.index % 10) (w.info ++ sign_byte w.negative ∷ w.content)
-        second (All-append IsPrintable w.info (sign_byte w.negative ∷ w.content) info content))
+    ∷ (w.info ++ sign_byte w.negative ∷ w.content)) first
+    (All-cons IsPrintable (48 + w.index % 10) (w.info ++ sign_byte w.negative ∷ w.content)
+    second (All-append IsPrintable w.info (sign_byte w.negative ∷ w.content) info content))
   where
     sign_printable : (b : Bool) → IsPrintable (sign_byte b)
     sign_printable true = (omega arith, omega arith)

@@ -80,9 +80,11 @@ pub outside : (low high : ℤ) (bs : List ℕ) → FitsSigned w128 low → FitsS
     → is_within low high (signed_digits_value 10 bs) ≡ false
 outside low high bs f g e refused = elim (cases_Bool
     (is_within low high (signed_digits_value 10 bs))) [
-  | inl within ↦
-      let p = and_parts _ _ within in
-      absurd (refused ((canonical-numeral bs e).0,
-          between-fits low high (signed_digits_value 10 bs) f g p.0 p.1))
-  | inr out ↦ out
-]
+      | inl within ↦
+          let p = and_parts _ _ within in
+          absurd (refused (
+            (canonical-numeral bs e).0,
+            between-fits low high (signed_digits_value 10 bs) f g p.0 p.1,
+          ))
+      | inr out ↦ out
+    ]

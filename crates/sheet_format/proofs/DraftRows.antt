@@ -12,7 +12,7 @@ use Rattle.std.specs.Str.{bytes_eq}
 use Rattle.adjust_kernel.specs.Names.{IsName}
 use Rattle.adjust_kernel.specs.Sheets.{IsRow, IsSetNumber}
 use Rattle.adjust_kernel.specs.Within.{IsWithin}
-use Rattle.adjust_kernel.specs.declared.limits.TheConstants.{LARGEST_SET_NUMBER, LARGEST_TURN, MOST_ROWS, MOST_SETS, MOST_TARGETS, TURN}
+use Rattle.adjust_kernel.specs.declared.bounds.TheConstants.{LARGEST_SET_NUMBER, LARGEST_TURN, MOST_ROWS, MOST_SETS, MOST_TARGETS, TURN}
 use Rattle.adjust_kernel.specs.declared.row.Direction.{Direction}
 use Rattle.adjust_kernel.specs.declared.row.Orientation.{Orientation}
 use Rattle.adjust_kernel.specs.declared.row.Row.{Row}
@@ -123,15 +123,15 @@ row_type-found : (bs : List ℕ) (k : RowType) → row_type_of bs ≡ Some k →
 row_type-found bs k h = elim (row_type-from (names_row_type row_type.Sheet bs)
     (names_row_type row_type.Target bs) (names_row_type row_type.Set bs)
     (names_row_type row_type.Obs bs) k h) [
-  | inl s ↦ (bytes_eq-Decides bs (codes "sheet")).0 s.1 ∙ ap row_type_text (sym s.0)
-  | inr more ↦ elim more [
-    | inl t ↦ (bytes_eq-Decides bs (codes "target")).0 t.1 ∙ ap row_type_text (sym t.0)
-    | inr later ↦ elim later [
-      | inl s ↦ (bytes_eq-Decides bs (codes "set")).0 s.1 ∙ ap row_type_text (sym s.0)
-      | inr o ↦ (bytes_eq-Decides bs (codes "obs")).0 o.1 ∙ ap row_type_text (sym o.0)
+      | inl s ↦ (bytes_eq-Decides bs (codes "sheet")).0 s.1 ∙ ap row_type_text (sym s.0)
+      | inr more ↦ elim more [
+        | inl t ↦ (bytes_eq-Decides bs (codes "target")).0 t.1 ∙ ap row_type_text (sym t.0)
+        | inr later ↦ elim later [
+          | inl s ↦ (bytes_eq-Decides bs (codes "set")).0 s.1 ∙ ap row_type_text (sym s.0)
+          | inr o ↦ (bytes_eq-Decides bs (codes "obs")).0 o.1 ∙ ap row_type_text (sym o.0)
+        ]
+      ]
     ]
-  ]
-]
 
 -- what the type of the next row says of a draft: `a`, `b` and `c` say that it has no rows,
 -- orientations, directions
@@ -207,15 +207,21 @@ All-pushed P xs x h p = All-append P xs (x ∷ []) h (All-cons P x [] p (All-nil
 targets-pushed : (hs : List (List (List ℕ))) (ds : List Direction) (x : Direction)
     → hs ++ (map target_fields (ds ++ (x ∷ [])) ++ []) ≡ (hs ++ (map target_fields ds ++ []))
     ++ (target_fields x ∷ [])
-targets-pushed hs ds x = rw (append-nil (map target_fields (ds ++ (x ∷ []))),
-    append-nil (map target_fields ds), map-append target_fields ds (x ∷ []))
+targets-pushed hs ds x = rw (
+  append-nil (map target_fields (ds ++ (x ∷ []))),
+  append-nil (map target_fields ds),
+  map-append target_fields ds (x ∷ []),
+)
     (sym (append_assoc hs (map target_fields ds) (target_fields x ∷ [])))
 
 sets-pushed : (hs ts : List (List (List ℕ))) (os : List Orientation) (x : Orientation)
     → hs ++ (ts ++ (map set_fields (os ++ (x ∷ [])) ++ []))
     ≡ (hs ++ (ts ++ (map set_fields os ++ []))) ++ (set_fields x ∷ [])
-sets-pushed hs ts os x = rw (append-nil (map set_fields (os ++ (x ∷ []))),
-    append-nil (map set_fields os), map-append set_fields os (x ∷ []))
+sets-pushed hs ts os x = rw (
+  append-nil (map set_fields (os ++ (x ∷ []))),
+  append-nil (map set_fields os),
+  map-append set_fields os (x ∷ []),
+)
     (pushed [] hs ts (map set_fields os) (set_fields x))
 
 obs-pushed : (hs ts ss : List (List (List ℕ))) (rs : List Row) (x : Row)
@@ -272,9 +278,10 @@ versioned-row v c named version none =
     let (form, t3) = or-none _ _ t2 in
     let (range, t4) = or-none _ _ t3 in
     let n = natural-text 1 (largest_denominator v) c.value one-small (denominator-small v)
-        (unless-none _ _ form) (unless-none _ _ range) in
-    (rw (named, version, none-there c.turn (unless-none _ _ empty), n.text) refl,
-        (name-found c.name (unless-none _ _ name), n.least, n.most))
+    (unless-none _ _ form) (unless-none _ _ range) in (
+      rw (named, version, none-there c.turn (unless-none _ _ empty), n.text) refl,
+      (name-found c.name (unless-none _ _ name), n.least, n.most),
+    )
 
 sheet-row : (c : Fields) → c.kind ≡ row_type_text row_type.Sheet → sheet_row_fault c ≡ None
     → IsSheetRow c (header_of c)
@@ -302,10 +309,13 @@ target-row v c named none =
     let (range, t4) = or-none _ _ t3 in
     let (number, turn) = and_parts _ _ (unless-none _ _ empty) in
     let value = number-text (largest_angle v) c.value (angle-fits v) (unless-none _ _ form)
-        (unless-none _ _ range) in
-    (rw (named, none-there c.number number, none-there c.turn turn, value) refl,
-        (name-found c.name (unless-none _ _ name),
-        within-found (largest_angle v) (value_of c.value) (unless-none _ _ range)))
+    (unless-none _ _ range) in (
+      rw (named, none-there c.number number, none-there c.turn turn, value) refl,
+      (
+        name-found c.name (unless-none _ _ name),
+        within-found (largest_angle v) (value_of c.value) (unless-none _ _ range),
+      ),
+    )
 
 set-row : (v : Version) (c : Fields) → c.kind ≡ row_type_text row_type.Set → set_fault v c ≡ None
     → (listed c ≡ set_fields (orientation_of c)) × IsOrientationOf v (orientation_of c)
@@ -317,10 +327,11 @@ set-row v c named none =
     let (number_form, value_form) = and_parts _ _ (unless-none _ _ form) in
     let (number_range, value_range) = and_parts _ _ (unless-none _ _ range) in
     let n = natural-text 1 LARGEST_SET_NUMBER c.number one-small set-number-small number_form
-        number_range in
-    let value = number-text (largest_angle v) c.value (angle-fits v) value_form value_range in
-    (rw (named, none-there c.name name, none-there c.turn turn, n.text, value) refl,
-        ((n.least, n.most), within-found (largest_angle v) (value_of c.value) value_range))
+    number_range in
+    let value = number-text (largest_angle v) c.value (angle-fits v) value_form value_range in (
+      rw (named, none-there c.name name, none-there c.turn turn, n.text, value) refl,
+      ((n.least, n.most), within-found (largest_angle v) (value_of c.value) value_range),
+    )
 
 obs-row : (c : Fields) → c.kind ≡ row_type_text row_type.Obs → obs_fault c ≡ None
     → (listed c ≡ obs_fields (obs_row_of c)) × IsRow (obs_row_of c)
@@ -333,15 +344,17 @@ obs-row c named none =
     let (two_ranges, turn_range) = and_parts _ _ (unless-none _ _ range) in
     let (number_range, value_range) = and_parts _ _ two_ranges in
     let n = natural-text 1 LARGEST_SET_NUMBER c.number one-small set-number-small number_form
-        number_range in
+    number_range in
     let p = natural-text 0 (TURN - 1) c.value zero-small circle-small value_form value_range in
-    let turn = number-text LARGEST_TURN c.turn turn-fits turn_form turn_range in
-    (rw (named, n.text, p.text, turn) refl, record {
-      set = (n.least, n.most);
-      target = name-found c.name (unless-none _ _ name);
-      value = omega (arith, p.most);
-      turn = within-found LARGEST_TURN (value_of c.turn) turn_range;
-    })
+    let turn = number-text LARGEST_TURN c.turn turn-fits turn_form turn_range in (
+      rw (named, n.text, p.text, turn) refl,
+      record {
+        set = (n.least, n.most);
+        target = name-found c.name (unless-none _ _ name);
+        value = omega (arith, p.most);
+        turn = within-found LARGEST_TURN (value_of c.turn) turn_range;
+      },
+    )
 
 -- What a draft becomes by a row of each type.
 
@@ -352,7 +365,7 @@ sheet-taken : (d : DraftValue) (c : Fields) → IsDraft d → c.kind ≡ row_typ
 sheet-taken d c ok named follows none =
     let (row, header) = sheet-row c named none in
     let (no_rows, no_sets, no_targets) = before-sheet (length d.rows == 0)
-        (length d.orientations == 0) (length d.directions == 0) d.header follows in
+    (length d.orientations == 0) (length d.directions == 0) d.header follows in
     let rs = none-there d.rows no_rows in
     let os = none-there d.orientations no_sets in
     let ds = none-there d.directions no_targets in
@@ -389,7 +402,7 @@ target-taken d c ok named follows none =
     let (tests, room) = or-none _ _ none in
     let (row, entry) = target-row (version_of_header d.header) c named tests in
     let (no_rows, no_sets) = before-target (length d.rows == 0) (length d.orientations == 0)
-        (length d.directions == 0) d.header follows in
+    (length d.directions == 0) d.header follows in
     let rs = none-there d.rows no_rows in
     let os = none-there d.orientations no_sets in
     let left : length d.directions < MOST_TARGETS = ltb-true _ _ (unless-none _ _ room) in
@@ -421,7 +434,7 @@ set-taken d c ok named follows none =
     let (tests, room) = or-none _ _ none in
     let (row, entry) = set-row (version_of_header d.header) c named tests in
     let (no_rows, targets) = before-set (length d.rows == 0) (length d.orientations == 0)
-        (length d.directions == 0) d.header follows in
+    (length d.directions == 0) d.header follows in
     let rs = none-there d.rows no_rows in
     let left : length d.orientations < MOST_SETS = ltb-true _ _ (unless-none _ _ room) in
     let longer = length-append d.orientations (orientation_of c ∷ []) in
@@ -458,7 +471,7 @@ obs-taken d c ok named follows none =
     let (tests, room) = or-none _ _ none in
     let (row, entry) = obs-row c named tests in
     let sets = before-obs (length d.rows == 0) (length d.orientations == 0)
-        (length d.directions == 0) d.header follows in
+    (length d.directions == 0) d.header follows in
     let left : length d.rows < MOST_ROWS = ltb-true _ _ (unless-none _ _ room) in
     let longer = length-append d.rows (obs_row_of c ∷ []) in
     let some_sets : 0 < length d.orientations = elim (none-or-some d.rows) [
@@ -508,5 +521,5 @@ row-taken d row ok none = by (columns_of row) refl none
         at (Some k) y f =
             let (follows, tests) = or-none _ _ f in
             subst (λ (r : List (List ℕ)). Takes d r (with_columns k d c))
-                (sym (columns-found row c x))
-                (by-row_type d c k ok (row_type-found c.kind k y) (unless-none _ _ follows) tests)
+            (sym (columns-found row c x))
+            (by-row_type d c k ok (row_type-found c.kind k y) (unless-none _ _ follows) tests)

@@ -35,12 +35,12 @@ pub faultless-more : (all before rest : List (List (List ℕ))) (row : List (Lis
 unfolding fault_between
 faultless-more all before rest row whole none here earlier below =
     elim (cases_Bool (earlier == length before)) [
-  | inl same ↦ ap (fault_at all) (eqb-true _ _ same)
-      ∙ ap (λ (rows : List (List (List ℕ))). fault_at rows (length before)) whole
-      ∙ fault_at-seam before (row ∷ rest) ∙ here
-  | inr other ↦ none earlier (let not = eqb-false _ _ other in
-      omega (arith, not, below, length-append before (row ∷ [])))
-]
+      | inl same ↦ ap (fault_at all) (eqb-true _ _ same)
+          ∙ ap (λ (rows : List (List (List ℕ))). fault_at rows (length before)) whole
+          ∙ fault_at-seam before (row ∷ rest) ∙ here
+      | inr other ↦ none earlier (let not = eqb-false _ _ other in
+          omega (arith, not, below, length-append before (row ∷ [])))
+    ]
 
 -- the draft that rows make of a draft
 abbrev pub drafted : DraftValue → List (List (List ℕ)) → DraftValue
@@ -69,7 +69,7 @@ pub read-more : (all : List (List (List ℕ))) (d e : DraftValue) (row : List (L
 read-more all d e row rest read none same =
     let taken = row-taken d row read.draft none in
     let here : row_fault (said_by (rows_of_draft d)) row ≡ None =
-        rw (said d read.draft.bare) none in
+    rw (said d read.draft.bare) none in
     let more = faultless-more all (rows_of_draft d) rest row read.rows read.faultless here in
     subst (λ (x : DraftValue). HasRead all x rest) (sym same) (record {
       draft = taken.draft;
@@ -87,7 +87,7 @@ pub read-fault : (all : List (List (List ℕ))) (d : DraftValue) (row : List (Li
 unfolding fault_between
 read-fault all d row rest k read found =
     let here : row_fault (said_by (rows_of_draft d)) row ≡ Some k =
-        rw (said d read.draft.bare) found in
+    rw (said d read.draft.bare) found in
     record {
       here = ap (λ (rows : List (List (List ℕ))). fault_at rows (length (rows_of_draft d)))
           read.rows ∙ fault_at-seam (rows_of_draft d) (row ∷ rest) ∙ here;
@@ -173,8 +173,8 @@ pub read-end : (all : List (List (List ℕ))) (d : DraftValue) → HasRead all d
 unfolding fault_between
 read-end all d read no_sheet =
     let unfinished : may_end (last_row_type (rows_of_draft d)) ≡ false =
-        rw (ap (λ (b : Before). b.last) (said d read.draft.bare))
-        (by (may_end (last_of_draft d)) refl) in
+    rw (ap (λ (b : Before). b.last) (said d read.draft.bare))
+    (by (may_end (last_of_draft d)) refl) in
     record {
       here = ap (λ (rows : List (List (List ℕ))). fault_at rows (length (rows_of_draft d)))
           read.rows ∙ fault_at-seam (rows_of_draft d) [] ∙ rw unfinished refl;
@@ -200,15 +200,15 @@ read-whole bytes d s short read parts whole = by d.header refl parts
     by (Some h) e p =
         let header : IsVersionedHeader (Some h) = subst IsVersionedHeader e read.draft.header in
         let directions : All (IsDirectionOf h.version) d.directions =
-            subst (λ (o : Option Header). All (IsDirectionOf (version_of_header o)) d.directions) e
-            read.draft.directions in
+        subst (λ (o : Option Header). All (IsDirectionOf (version_of_header o)) d.directions) e
+        read.draft.directions in
         let orientations : All (IsOrientationOf h.version) d.orientations =
-            subst (λ (o : Option Header). All (IsOrientationOf (version_of_header o))
-            d.orientations) e read.draft.orientations in
+        subst (λ (o : Option Header). All (IsOrientationOf (version_of_header o))
+        d.orientations) e read.draft.orientations in
         let rows : records_of bytes ≡ rows_of h.version (sheet_of h d) =
         read.rows ∙ append-nil (rows_of_draft d)
-            ∙ ap (λ (o : Option Header). header_rows o
-            ++ body_rows d.directions d.orientations d.rows) e in
+        ∙ ap (λ (o : Option Header). header_rows o
+        ++ body_rows d.directions d.orientations d.rows) e in
         let of_version : IsOfVersion h.version (sheet_of h d) = record {
           denominator = header.2;
           directions = λ k x below. (directions k x below).1;

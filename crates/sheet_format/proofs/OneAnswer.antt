@@ -30,18 +30,18 @@ sheet-read v s whole within =
     let h = header_for v s in
     let (none, same) = sheet-row-clean h (whole.name, whole.denominator.0, within.denominator) in
     let first = read-more all blank (draft h [] [] []) (sheet_fields v s.name s.denominator)
-        (body_rows s.directions s.orientations s.rows) (read-begin all) none same in
+    (body_rows s.directions s.orientations s.rows) (read-begin all) none same in
     let targets = targets-read all h [] s.directions
-        (map set_fields s.orientations ++ map obs_fields s.rows) first
-        (λ k d below. ((whole.directions.each k d below).name, within.directions k d below))
-        (omega (arith, whole.directions.few)) in
+    (map set_fields s.orientations ++ map obs_fields s.rows) first
+    (λ k d below. ((whole.directions.each k d below).name, within.directions k d below))
+    (omega (arith, whole.directions.few)) in
     let sets = sets-read all h s.directions [] s.orientations (map obs_fields s.rows)
-        (ne_eqb _ _ (λ e. absurd (omega (arith, e, whole.directions.some)))) targets
+    (ne_eqb _ _ (λ e. absurd (omega (arith, e, whole.directions.some)))) targets
     (λ k o below. ((whole.orientations.each k o below).set, within.orientations k o below))
-        (omega (arith, whole.orientations.few)) in
+    (omega (arith, whole.orientations.few)) in
     obs-read all h s.directions s.orientations [] s.rows
-        (ne_eqb _ _ (λ e. absurd (omega (arith, e, whole.orientations.some)))) sets whole.rows.each
-        (omega (arith, whole.rows.few))
+    (ne_eqb _ _ (λ e. absurd (omega (arith, e, whole.orientations.some)))) sets whole.rows.each
+    (omega (arith, whole.rows.few))
 
 -- no place of the rows of a sheet has a fault
 clean-end : (v : Version) (s : SheetValue) → IsSheet s
@@ -49,9 +49,9 @@ clean-end : (v : Version) (s : SheetValue) → IsSheet s
 clean-end v s whole =
     let d = draft (header_for v s) s.directions s.orientations s.rows in
     let last : last_row_type (rows_of v s) ≡ last_of_draft d =
-        ap (λ (b : Before). b.last) (said d (λ e. cc e)) in
+    ap (λ (b : Before). b.last) (said d (λ e. cc e)) in
     let some : (length s.rows == 0) ≡ false =
-        ne_eqb _ _ (λ e. absurd (omega (arith, e, whole.rows.some))) in
+    ne_eqb _ _ (λ e. absurd (omega (arith, e, whole.rows.some))) in
     rw (last, some) refl
 
 clean : (v : Version) (s : SheetValue) → IsSheet s → IsOfVersion v s → (place : ℕ)
@@ -77,7 +77,7 @@ never-both bytes s (Row number kind) text fault =
     let rows = text.rows in
     let within = text.within in
     none-some kind (sym (clean v s text.sheet within place)
-        ∙ ap (λ (all : List (List (List ℕ))). fault_at all place) (sym rows) ∙ found.here)
+    ∙ ap (λ (all : List (List (List ℕ))). fault_at all place) (sym rows) ∙ found.here)
 never-both bytes s Memory text fault = absurd fault
 
 -- bytes have one fault
@@ -137,8 +137,8 @@ made-of bytes s text =
     let rows = text.rows in
     let within = text.within in
     let made : drafted blank (records_of bytes)
-        ≡ draft (header_for v s) s.directions s.orientations s.rows = ap (drafted blank) rows
-        ∙ (sheet-read v s text.sheet within).made in
+    ≡ draft (header_for v s) s.directions s.orientations s.rows = ap (drafted blank) rows
+    ∙ (sheet-read v s text.sheet within).made in
     ap (λ (d : DraftValue). parts_of d.header d) made
 
 pub one-sheet : (bytes : List ℕ) (s t : SheetValue) → IsSheetText bytes s → IsSheetText bytes t
@@ -177,8 +177,10 @@ decided-rows : (bytes : List ℕ) → length bytes ≤ LONGEST_SHEET
 decided-rows bytes short [] d read = elim (whole-or-not d read.draft) [
   | inl whole ↦ let (s, parts, valid) = whole in
       inl (s, read-whole bytes d s short read parts valid)
-  | inr none ↦ inr (Row (length (rows_of_draft d) + 1) Unfinished,
-      (short, length (rows_of_draft d), refl, read-end (records_of bytes) d read none))
+  | inr none ↦ inr (
+    Row (length (rows_of_draft d) + 1) Unfinished,
+    (short, length (rows_of_draft d), refl, read-end (records_of bytes) d read none),
+  )
 ]
 decided-rows bytes short (row ∷ rest) d read =
     by (row_fault (said_by_draft d) row) refl
@@ -188,8 +190,10 @@ decided-rows bytes short (row ∷ rest) d read =
         → (HasRead (records_of bytes) (with_row d row) rest → SheetOrFault bytes)
         → SheetOrFault bytes
     by None e later = later (read-more (records_of bytes) d (with_row d row) row rest read e refl)
-    by (Some k) e later = inr (Row (length (rows_of_draft d) + 1) k,
-        (short, length (rows_of_draft d), refl, read-fault (records_of bytes) d row rest k read e))
+    by (Some k) e later = inr (
+      Row (length (rows_of_draft d) + 1) k,
+      (short, length (rows_of_draft d), refl, read-fault (records_of bytes) d row rest k read e),
+    )
 
 pub sheet-or-fault : (bytes : List ℕ) → SheetOrFault bytes
 sheet-or-fault bytes = elim (cases_lt LONGEST_SHEET (length bytes)) [

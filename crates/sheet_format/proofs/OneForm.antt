@@ -31,9 +31,10 @@ next-written : (v d : ℕ) (front : List ℕ) (c : ℕ) → decimal v ≡ front 
     → v * 10 + d < 10 ^ 64 → (decimal (v * 10 + d) ≡ front ++ (c ∷ [])) × (0 < v * 10 + d)
 next-written v d front c text above digit low small =
     let front_of : (v * 10 + d) / 10 ≡ v = omega arith in
-    let last_of : 48 + (v * 10 + d) % 10 ≡ c = omega arith in
-    (rw (decimal_step_wide (v * 10 + d) (omega arith) small, front_of, last_of, text) refl,
-        omega arith)
+    let last_of : 48 + (v * 10 + d) % 10 ≡ c = omega arith in (
+      rw (decimal_step_wide (v * 10 + d) (omega arith) small, front_of, last_of, text) refl,
+      omega arith,
+    )
 
 moved : (x y : ℕ) (a b : List ℕ) → x ≡ y → a ≡ b → (decimal y ≡ b) × (0 < y) → (decimal x ≡ a)
     × (0 < x)
@@ -49,21 +50,24 @@ front-written (c ∷ cs) zero e first small h =
     let d = digit-is c (and_parts _ _ e).0 in
     let one : 0 * 10 + digit_value c ≡ digit_value c = omega arith in
     let same : 48 + digit_value c ≡ c = omega (arith, d.0) in
-    rw one (decimal_digit (digit_value c) d.1
-        ∙ ap (λ (x : ℕ). x ∷ []) same, omega (arith, d.0, first))
+    rw one (
+      decimal_digit (digit_value c) d.1
+          ∙ ap (λ (x : ℕ). x ∷ []) same,
+      omega (arith, d.0, first),
+    )
 front-written (c ∷ cs) (suc k) e first small h =
     let ds = c ∷ cs in
     let (text, above) = front-written (c ∷ cs) k e first small (omega (arith, h)) in
     let d = digit-is (get_or ds (suc k) 0) (digit-at ds (suc k) e (omega (arith, h))) in
     let value : digits_value 10 (take (suc (suc k)) ds) ≡ digits_value 10 (take (suc k) ds) * 10
-        + digit_value (get_or ds (suc k) 0) =
-        rw add-one at (digits_value_more 10 ds (suc k) (omega (arith, h))) in
+    + digit_value (get_or ds (suc k) 0) =
+    rw add-one at (digits_value_more 10 ds (suc k) (omega (arith, h))) in
     let cells : take (suc (suc k)) ds ≡ take (suc k) ds ++ (get_or ds (suc k) 0 ∷ []) =
-        rw add-one at (take_more ds (suc k) 0 (omega (arith, h))) in
+    rw add-one at (take_more ds (suc k) 0 (omega (arith, h))) in
     let below = digits_value-take-le 10 ds (suc (suc k)) (omega arith) in
     moved _ _ _ _ value cells (next-written (digits_value 10 (take (suc k) ds))
-        (digit_value (get_or ds (suc k) 0)) (take (suc k) ds) (get_or ds (suc k) 0) text above d.0
-        d.1 (omega (arith, value, below, small)))
+    (digit_value (get_or ds (suc k) 0)) (take (suc k) ds) (get_or ds (suc k) 0) text above d.0
+    d.1 (omega (arith, value, below, small)))
 
 -- digits that begin with none or another
 pub positive-written : (ds : List ℕ) → is_positive ds ≡ true → digits_value 10 ds < 10 ^ 64
@@ -71,11 +75,11 @@ pub positive-written : (ds : List ℕ) → is_positive ds ≡ true → digits_va
 positive-written [] e small = cc e
 positive-written (c ∷ cs) e small =
     let whole = front-written (c ∷ cs) (length cs) (positive-digits (c ∷ cs) e)
-        (positive-first (c ∷ cs) e).0 small (omega arith) in
+    (positive-first (c ∷ cs) e).0 small (omega arith) in
     let all : take (suc (length cs)) (c ∷ cs) ≡ c ∷ cs =
-        take_all (suc (length cs)) (c ∷ cs) (omega arith) in
+    take_all (suc (length cs)) (c ∷ cs) (omega arith) in
     subst (λ (ds : List ℕ). (decimal (digits_value 10 ds) ≡ ds) × (0 < digits_value 10 ds)) all
-        whole
+    whole
 
 minus-written : (n : ℕ) (ds : List ℕ) → (decimal n ≡ ds) × (0 < n)
     → signed_decimal (neg_ℤ (pos n)) ≡ 45 ∷ ds
@@ -100,12 +104,12 @@ form-from c cs false true z m e f =
     let p : is_positive cs ≡ true = rw (z, m) at e in
     let g : FitsSigned w128 (neg_ℤ (pos (digits_value 10 cs))) = rw is45 at f in
     rw is45 (minus-written (digits_value 10 cs) cs
-        (positive-written cs p (minus-small (digits_value 10 cs) g)))
+    (positive-written cs p (minus-small (digits_value 10 cs) g)))
 form-from c cs false false z m e f =
     let p : is_positive (c ∷ cs) ≡ true = rw (z, m) at e in
     let value = positive-value (c ∷ cs) p in
     let g : FitsSigned w128 (pos (digits_value 10 (c ∷ cs))) =
-        subst (λ (v : ℤ). FitsSigned w128 v) value f in
+    subst (λ (v : ℤ). FitsSigned w128 v) value f in
     ap signed_decimal value ∙ (positive-written (c ∷ cs) p (omega (arith, g.sfits))).0
 
 -- a number's one form is what is written of its value

@@ -8,7 +8,7 @@ use Rattle.std.proofs.lemmas.Bool.{and_from, and_parts, leb-true, le-leb}
 use Rattle.std.proofs.lemmas.Float.{T_from_true}
 use Rattle.std.proofs.lemmas.Int.{ints}
 use Rattle.adjust_kernel.specs.Within.{IsWithin}
-use Rattle.adjust_kernel.specs.declared.limits.TheConstants.{LARGEST_ANGLE, LARGEST_DENOMINATOR, LARGEST_TURN}
+use Rattle.adjust_kernel.specs.declared.bounds.TheConstants.{LARGEST_ANGLE, LARGEST_DENOMINATOR, LARGEST_TURN}
 use Rattle.sheet_format.specs.Numbers.{is_at_most, is_canonical, is_within, natural_of, value_of}
 use Rattle.sheet_format.specs.Versions.{largest_angle, largest_denominator}
 use Rattle.sheet_format.specs.declared.version.Version.{Version}
@@ -80,7 +80,7 @@ pub natural-text : (low high : ℕ) (bs : List ℕ) → low < 2 ^ 127 → high <
 natural-text low high bs small big e w =
     let p = and_parts _ _ w in
     let fits = between-fits (pos low) (pos high) (value_of bs)
-        (record { sfits = omega (arith, small) }) (record { sfits = omega (arith, big) }) p.0 p.1 in
+    (record { sfits = omega (arith, small) }) (record { sfits = omega (arith, big) }) p.0 p.1 in
     natural-from low high bs (value_of bs) big (form-written bs e fits) w
 
 -- the text of a number in a range is canonical, and its number is that one

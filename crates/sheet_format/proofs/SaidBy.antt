@@ -45,8 +45,8 @@ row_type_from-map : {X : Type 0} (f : X → List (List ℕ)) (k : RowType)
 row_type_from-map f k named before [] = refl
 row_type_from-map f k named before (x ∷ xs) =
     row_type_from-map f k named (row_type_of (first_field (f x))) xs
-        ∙ ap (λ (o : Option RowType). if length xs == 0 then o else Some k) (named x)
-        ∙ either-way (length xs == 0) (Some k)
+    ∙ ap (λ (o : Option RowType). if length xs == 0 then o else Some k) (named x)
+    ∙ either-way (length xs == 0) (Some k)
     ∙ sym (rw (eqb-suc-zero (length xs)) refl)
 
 -- how many of joined rows are of a type
@@ -74,9 +74,15 @@ count_of-body : (k : RowType) (hs : List (List (List ℕ))) (ds : List Direction
     → count_of k (map obs_fields rs) ≡ e
     → count_of k (hs ++ body_rows ds os rs) ≡ a + (b + (c + e))
 count_of-body k hs ds os rs a b c e at_hs at_ds at_os at_rs =
-    rw (count_of-append k hs (body_rows ds os rs),
-        count_of-append k (map target_fields ds) (map set_fields os ++ map obs_fields rs),
-        count_of-append k (map set_fields os) (map obs_fields rs), at_hs, at_ds, at_os, at_rs) refl
+    rw (
+      count_of-append k hs (body_rows ds os rs),
+      count_of-append k (map target_fields ds) (map set_fields os ++ map obs_fields rs),
+      count_of-append k (map set_fields os) (map obs_fields rs),
+      at_hs,
+      at_ds,
+      at_os,
+      at_rs,
+    ) refl
 
 -- the rows of a header: of none of the other types
 header-count : (k : RowType) → names_row_type k (codes "sheet") ≡ false → (h : Option Header)
@@ -89,30 +95,30 @@ targets-counted : (h : Option Header) (ds : List Direction) (os : List Orientati
     → count_of row_type.Target (header_rows h ++ body_rows ds os rs) ≡ length ds
 targets-counted h ds os rs =
     count_of-body row_type.Target (header_rows h) ds os rs 0 (length ds) 0 0
-        (header-count row_type.Target refl h)
+    (header-count row_type.Target refl h)
     (count-all target_fields row_type.Target (λ x. refl) ds)
-        (count-none set_fields row_type.Target (λ x. refl) os)
-        (count-none obs_fields row_type.Target (λ x. refl) rs)
+    (count-none set_fields row_type.Target (λ x. refl) os)
+    (count-none obs_fields row_type.Target (λ x. refl) rs)
     ∙ omega arith
 
 sets-counted : (h : Option Header) (ds : List Direction) (os : List Orientation) (rs : List Row)
     → count_of row_type.Set (header_rows h ++ body_rows ds os rs) ≡ length os
 sets-counted h ds os rs =
     count_of-body row_type.Set (header_rows h) ds os rs 0 0 (length os) 0
-        (header-count row_type.Set refl h)
+    (header-count row_type.Set refl h)
     (count-none target_fields row_type.Set (λ x. refl) ds)
-        (count-all set_fields row_type.Set (λ x. refl) os)
-        (count-none obs_fields row_type.Set (λ x. refl) rs)
+    (count-all set_fields row_type.Set (λ x. refl) os)
+    (count-none obs_fields row_type.Set (λ x. refl) rs)
     ∙ omega arith
 
 obs-counted : (h : Option Header) (ds : List Direction) (os : List Orientation) (rs : List Row)
     → count_of row_type.Obs (header_rows h ++ body_rows ds os rs) ≡ length rs
 obs-counted h ds os rs =
     count_of-body row_type.Obs (header_rows h) ds os rs 0 0 0 (length rs)
-        (header-count row_type.Obs refl h)
+    (header-count row_type.Obs refl h)
     (count-none target_fields row_type.Obs (λ x. refl) ds)
-        (count-none set_fields row_type.Obs (λ x. refl) os)
-        (count-all obs_fields row_type.Obs (λ x. refl) rs)
+    (count-none set_fields row_type.Obs (λ x. refl) os)
+    (count-all obs_fields row_type.Obs (λ x. refl) rs)
     ∙ omega arith
 
 -- the last type of a draft's rows

@@ -5,7 +5,7 @@ use Rattle.std.proofs.lemmas.Bool.{lt-ltb}
 use Rattle.std.proofs.lemmas.List.{append-nil}
 use Rattle.std.proofs.lemmas.List.Elements.{All-head, All-tail}
 use Rattle.adjust_kernel.specs.Sheets.{IsRow}
-use Rattle.adjust_kernel.specs.declared.limits.TheConstants.{LARGEST_SET_NUMBER, LARGEST_TURN, MOST_ROWS, MOST_SETS, MOST_TARGETS, TURN}
+use Rattle.adjust_kernel.specs.declared.bounds.TheConstants.{LARGEST_SET_NUMBER, LARGEST_TURN, MOST_ROWS, MOST_SETS, MOST_TARGETS, TURN}
 use Rattle.adjust_kernel.specs.declared.row.Direction.{Direction}
 use Rattle.adjust_kernel.specs.declared.row.Orientation.{Orientation}
 use Rattle.adjust_kernel.specs.declared.row.Row.{Row}
@@ -40,10 +40,16 @@ pub sheet-row-clean : (h : Header) → IsVersionedHeader (Some h)
     × (draft h [] [] [] ≡ with_row blank (sheet_fields h.version h.name h.denominator))
 unfolding row_fault with_row
 sheet-row-clean h ok =
-    let d = natural-again h.denominator (denominator-small h.version h.denominator ok.2) in
-    (rw (version-again h.version, name-test h.name ok.0, d.form, d.value,
-        natural-within 1 (largest_denominator h.version) h.denominator ok.1 ok.2) refl,
-        rw (version-again h.version, d.value) refl)
+    let d = natural-again h.denominator (denominator-small h.version h.denominator ok.2) in (
+      rw (
+        version-again h.version,
+        name-test h.name ok.0,
+        d.form,
+        d.value,
+        natural-within 1 (largest_denominator h.version) h.denominator ok.1 ok.2,
+      ) refl,
+      rw (version-again h.version, d.value) refl,
+    )
 
 -- the row of a target, after the first row or other targets
 target-follows : (a : Bool) → may_follow (if a then Some row_type.Sheet else Some row_type.Target)
@@ -58,9 +64,17 @@ target-row-clean : (h : Header) (ds : List Direction) (x : Direction) → IsDire
 unfolding row_fault with_row
 target-row-clean h ds x ok room =
     let within = within-test (largest_angle h.version) x.value ok.1 in
-    let n = number-again (largest_angle h.version) x.value (angle-fits h.version) within in
-    (rw (target-follows (length ds == 0), name-test x.name ok.0, n.form, n.value, within,
-        lt-ltb (length ds) MOST_TARGETS room) refl, rw n.value refl)
+    let n = number-again (largest_angle h.version) x.value (angle-fits h.version) within in (
+      rw (
+        target-follows (length ds == 0),
+        name-test x.name ok.0,
+        n.form,
+        n.value,
+        within,
+        lt-ltb (length ds) MOST_TARGETS room,
+      ) refl,
+      rw n.value refl,
+    )
 
 pub targets-read : (all : List (List (List ℕ))) (h : Header) (ds xs : List Direction)
     (rest : List (List (List ℕ))) → HasRead all (draft h ds [] []) (map target_fields xs ++ rest)
@@ -69,13 +83,13 @@ pub targets-read : (all : List (List (List ℕ))) (h : Header) (ds xs : List Dir
 targets-read all h ds [] rest read ok room = rw (append-nil ds) read
 targets-read all h ds (x ∷ xs) rest read ok room =
     let (none, same) = target-row-clean h ds x (All-head (IsDirectionOf h.version) x xs ok)
-        (omega (arith, room)) in
+    (omega (arith, room)) in
     let next = read-more all (draft h ds [] []) (draft h (ds ++ (x ∷ [])) [] []) (target_fields x)
-        (map target_fields xs ++ rest) read none same in
+    (map target_fields xs ++ rest) read none same in
     subst (λ (ys : List Direction). HasRead all (draft h ys [] []) rest)
-        (append_assoc ds (x ∷ []) xs)
+    (append_assoc ds (x ∷ []) xs)
     (targets-read all h (ds ++ (x ∷ [])) xs rest next (All-tail (IsDirectionOf h.version) x xs ok)
-        (omega (arith, room, length-append ds (x ∷ []))))
+    (omega (arith, room, length-append ds (x ∷ []))))
 
 -- the row of a set, after targets or other sets
 set-follows : (a b : Bool) → b ≡ false → may_follow
@@ -93,10 +107,19 @@ unfolding row_fault with_row
 set-row-clean h ds os x targets ok room =
     let within = within-test (largest_angle h.version) x.value ok.1 in
     let n = number-again (largest_angle h.version) x.value (angle-fits h.version) within in
-    let s = natural-again x.set (omega (arith, ok.0.1)) in
-    (rw (set-follows (length os == 0) (length ds == 0) targets, s.form, s.value, n.form, n.value,
-        natural-within 1 LARGEST_SET_NUMBER x.set ok.0.0 ok.0.1, within,
-        lt-ltb (length os) MOST_SETS room) refl, rw (s.value, n.value) refl)
+    let s = natural-again x.set (omega (arith, ok.0.1)) in (
+      rw (
+        set-follows (length os == 0) (length ds == 0) targets,
+        s.form,
+        s.value,
+        n.form,
+        n.value,
+        natural-within 1 LARGEST_SET_NUMBER x.set ok.0.0 ok.0.1,
+        within,
+        lt-ltb (length os) MOST_SETS room,
+      ) refl,
+      rw (s.value, n.value) refl,
+    )
 
 pub sets-read : (all : List (List (List ℕ))) (h : Header) (ds : List Direction)
     (os xs : List Orientation) (rest : List (List (List ℕ))) → (length ds == 0) ≡ false
@@ -106,14 +129,14 @@ pub sets-read : (all : List (List (List ℕ))) (h : Header) (ds : List Direction
 sets-read all h ds os [] rest targets read ok room = rw (append-nil os) read
 sets-read all h ds os (x ∷ xs) rest targets read ok room =
     let (none, same) = set-row-clean h ds os x targets
-        (All-head (IsOrientationOf h.version) x xs ok) (omega (arith, room)) in
+    (All-head (IsOrientationOf h.version) x xs ok) (omega (arith, room)) in
     let next = read-more all (draft h ds os []) (draft h ds (os ++ (x ∷ [])) []) (set_fields x)
-        (map set_fields xs ++ rest) read none same in
+    (map set_fields xs ++ rest) read none same in
     subst (λ (ys : List Orientation). HasRead all (draft h ds ys []) rest)
-        (append_assoc os (x ∷ []) xs)
+    (append_assoc os (x ∷ []) xs)
     (sets-read all h ds (os ++ (x ∷ [])) xs rest targets next
-        (All-tail (IsOrientationOf h.version) x xs ok)
-        (omega (arith, room, length-append os (x ∷ []))))
+    (All-tail (IsOrientationOf h.version) x xs ok)
+    (omega (arith, room, length-append os (x ∷ []))))
 
 -- the row of an observation, after sets or other observations
 obs-follows : (a b c : Bool) → b ≡ false → may_follow
@@ -157,9 +180,9 @@ pub obs-read : (all : List (List (List ℕ))) (h : Header) (ds : List Direction)
 obs-read all h ds os rs [] sets read ok room = rw (append-nil rs) read
 obs-read all h ds os rs (x ∷ xs) sets read ok room =
     let (none, same) = obs-row-clean h ds os rs x sets (All-head IsRow x xs ok)
-        (omega (arith, room)) in
+    (omega (arith, room)) in
     let next = read-more all (draft h ds os rs) (draft h ds os (rs ++ (x ∷ []))) (obs_fields x)
-        (map obs_fields xs) read none same in
+    (map obs_fields xs) read none same in
     subst (λ (ys : List Row). HasRead all (draft h ds os ys) []) (append_assoc rs (x ∷ []) xs)
     (obs-read all h ds os (rs ++ (x ∷ [])) xs sets next (All-tail IsRow x xs ok)
-        (omega (arith, room, length-append rs (x ∷ []))))
+    (omega (arith, room, length-append rs (x ∷ []))))

@@ -32,7 +32,7 @@ unfolding next_record
 records-written n [] h = records-end n st.StartRecord [] refl
 records-written n (row ∷ rows) h =
     let r = records-step n st.StartRecord (rows_text (row ∷ rows))
-        (read_back row, st.StartRecord, rows_text rows) (read-write row (rows_text rows)) refl h in
+    (read_back row, st.StartRecord, rows_text rows) (read-write row (rows_text rows)) refl h in
     r.1 ∙ ap (λ (t : List (List (List ℕ))). read_back row ∷ t) (records-written r.0 rows r.2)
 
 -- rows that have fields are read back as they are
@@ -62,7 +62,7 @@ no-mark v s = refl
 records-again : (v : Version) (s : SheetValue) → records_of (rows_text (rows_of v s)) ≡ rows_of v s
 records-again v s =
     rw (no-mark v s) (records-written (length (rows_text (rows_of v s)) + 1) (rows_of v s)
-        (omega arith)
+    (omega arith)
     ∙ ap (λ (t : List (List (List ℕ))). sheet_fields v s.name s.denominator ∷ t)
     (back-body s.directions s.orientations s.rows))
 
@@ -73,7 +73,7 @@ all-within most f [] e = All-nil _
 all-within most f (x ∷ xs) e =
     let p = and_parts _ _ e in
     All-cons (λ x. IsWithin most (f x)) x xs (within-found most (f x) p.0)
-        (all-within most f xs p.1)
+    (all-within most f xs p.1)
 
 within-one : (s : SheetValue) → is_of_version One s ≡ true → IsOfVersion One s
 within-one s e =

@@ -9,7 +9,7 @@ use Rattle.csv.specs.Writing.{default_writer, escaped, field_text, fields_text, 
 use Rattle.adjust_kernel.specs.Names.{IsName}
 use Rattle.adjust_kernel.specs.Sheets.{IsDirection, IsOrientation, IsRow, IsSetNumber, IsSheet, SheetValue}
 use Rattle.adjust_kernel.specs.Within.{IsWithin}
-use Rattle.adjust_kernel.specs.declared.limits.TheConstants.{LARGEST_ANGLE, LARGEST_TURN}
+use Rattle.adjust_kernel.specs.declared.bounds.TheConstants.{LARGEST_ANGLE, LARGEST_TURN}
 use Rattle.adjust_kernel.specs.declared.row.Direction.{Direction}
 use Rattle.adjust_kernel.specs.declared.row.Orientation.{Orientation}
 use Rattle.adjust_kernel.specs.declared.row.Row.{Row}
@@ -39,8 +39,11 @@ length-field field = by (needs_quotes default_writer field)
   where
     by : (b : Bool) → length (if b then quoted default_writer field else field)
         ≤ 2 * length field + 2
-    by true = omega (arith, length-append (escaped default_writer field) (34 ∷ []),
-        length-escaped field)
+    by true = omega (
+      arith,
+      length-append (escaped default_writer field) (34 ∷ []),
+      length-escaped field,
+    )
     by false = omega arith
 
 -- the text of a row of five fields
@@ -53,17 +56,31 @@ joined-length a b c d e =
     let three = c ++ (44 ∷ four) in
     let two = b ++ (44 ∷ three) in
     let one = a ++ (44 ∷ two) in
-    omega (arith, length-append e [], length-append d (44 ∷ five), length-append c (44 ∷ four),
-        length-append b (44 ∷ three), length-append a (44 ∷ two), length-append one (10 ∷ []))
+    omega (
+      arith,
+      length-append e [],
+      length-append d (44 ∷ five),
+      length-append c (44 ∷ four),
+      length-append b (44 ∷ three),
+      length-append a (44 ∷ two),
+      length-append one (10 ∷ []),
+    )
 
 length-row : (a b c d e : List ℕ) → length (row_text default_writer (a ∷ b ∷ c ∷ d ∷ e ∷ []))
     ≤ 2 * (length a + length b + length c + length d + length e) + 15
 unfolding fields_text is_blank
 length-row a b c d e =
     let joined = joined-length (field_text default_writer a) (field_text default_writer b)
-        (field_text default_writer c) (field_text default_writer d) (field_text default_writer e) in
-    omega (arith, joined, length-field a, length-field b, length-field c, length-field d,
-        length-field e)
+    (field_text default_writer c) (field_text default_writer d) (field_text default_writer e) in
+    omega (
+      arith,
+      joined,
+      length-field a,
+      length-field b,
+      length-field c,
+      length-field d,
+      length-field e,
+    )
 
 -- numbers are short
 decimal-short : (k n : ℕ) → 0 < k → n < 10 ^ k → n < 10 ^ 64 → length (decimal n) ≤ k
@@ -107,32 +124,56 @@ sheet-short : (v : Version) (name : List ℕ) (d : ℕ) → IsName name → d < 
     → IsShort (sheet_fields v name d)
 sheet-short v name d named small =
     let digits = decimal-short 13 d (omega arith) small (omega (arith, small)) in
-    omega (arith, length-row (codes "sheet") (version_text v) name (decimal d) [], version-short v,
-        named.short, digits)
+    omega (
+      arith,
+      length-row (codes "sheet") (version_text v) name (decimal d) [],
+      version-short v,
+      named.short,
+      digits,
+    )
 
 target-short : (d : Direction) → IsDirection d → IsShort (target_fields d)
-target-short d ok = omega (arith, length-row (codes "target") [] d.name (signed_decimal d.value) [],
-    ok.name.short, angle-short d.value ok.value)
+target-short d ok = omega (
+  arith,
+  length-row (codes "target") [] d.name (signed_decimal d.value) [],
+  ok.name.short,
+  angle-short d.value ok.value,
+)
 
 set-row-short : (o : Orientation) → IsOrientation o → IsShort (set_fields o)
-set-row-short o ok = omega (arith, length-row (codes "set") (decimal o.set) []
-    (signed_decimal o.value) [], set-short o.set ok.set, angle-short o.value ok.value)
+set-row-short o ok = omega (
+  arith,
+  length-row (codes "set") (decimal o.set) []
+      (signed_decimal o.value) [],
+  set-short o.set ok.set,
+  angle-short o.value ok.value,
+)
 
 obs-short : (r : Row) → IsRow r → IsShort (obs_fields r)
 obs-short r ok =
     let value = decimal-short 8 r.value (omega arith) (omega (arith, ok.value))
-        (omega (arith, ok.value)) in
-    omega (arith, length-row (codes "obs") (decimal r.set) r.target (decimal r.value)
-        (signed_decimal r.turn), set-short r.set ok.set, ok.target.short, value,
-        turn-short r.turn ok.turn)
+    (omega (arith, ok.value)) in
+    omega (
+      arith,
+      length-row (codes "obs") (decimal r.set) r.target (decimal r.value)
+          (signed_decimal r.turn),
+      set-short r.set ok.set,
+      ok.target.short,
+      value,
+      turn-short r.turn ok.turn,
+    )
 
 pub entries-short : {X : Type 0} (P : X → Type 0) (f : X → List (List ℕ))
     → ((x : X) → P x → IsShort (f x)) → (xs : List X) → All P xs
     → length (rows_text (map f xs)) ≤ length xs * 128
 entries-short P f short [] ok = omega arith
 entries-short P f short (x ∷ xs) ok =
-    omega (arith, length-append (row_text default_writer (f x)) (rows_text (map f xs)),
-        short x (All-head P x xs ok), entries-short P f short xs (All-tail P x xs ok))
+    omega (
+      arith,
+      length-append (row_text default_writer (f x)) (rows_text (map f xs)),
+      short x (All-head P x xs ok),
+      entries-short P f short xs (All-tail P x xs ok),
+    )
 
 -- the whole text
 pub text-short : (s : SheetValue) → IsSheet s → length (sheet_text s) ≤ LONGEST_SHEET
@@ -142,9 +183,9 @@ text-short s ok =
     let sets = map set_fields s.orientations in
     let obs = map obs_fields s.rows in
     let parts : length (rows_text (targets ++ (sets ++ obs))) ≡ length (rows_text targets)
-        + (length (rows_text sets) + length (rows_text obs)) =
+    + (length (rows_text sets) + length (rows_text obs)) =
     ap length (rows_text-append targets (sets ++ obs))
-        ∙ length-append (rows_text targets) (rows_text (sets ++ obs))
+    ∙ length-append (rows_text targets) (rows_text (sets ++ obs))
     ∙ ap (λ (n : ℕ). length (rows_text targets) + n) (ap length (rows_text-append sets obs)
     ∙ length-append (rows_text sets) (rows_text obs)) in
     omega (

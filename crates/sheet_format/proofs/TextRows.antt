@@ -18,14 +18,14 @@ pub entries-more : {X : Type 0} (f : X → List (List ℕ)) (text : List ℕ) (x
 entries-more f text xs i d h =
     let x = get_or xs i d in
     let many : map f (take (i + 1) xs) ≡ map f (take i xs) ++ (f x ∷ []) =
-        ap (map f) (take_more xs i d h) ∙ map-append f (take i xs) (x ∷ []) in
+    ap (map f) (take_more xs i d h) ∙ map-append f (take i xs) (x ∷ []) in
     let pushed : rows_text (map f (take (i + 1) xs)) ≡ rows_text (map f (take i xs))
-        ++ row_text default_writer (f x) =
+    ++ row_text default_writer (f x) =
     ap rows_text many ∙ rows_text-append (map f (take i xs)) (f x ∷ [])
-        ∙ ap (λ (t : List ℕ). rows_text (map f (take i xs)) ++ t)
-        (append-nil (row_text default_writer (f x))) in
+    ∙ ap (λ (t : List ℕ). rows_text (map f (take i xs)) ++ t)
+    (append-nil (row_text default_writer (f x))) in
     append_assoc text (rows_text (map f (take i xs))) (row_text default_writer (f x))
-        ∙ ap (λ (t : List ℕ). text ++ t) (sym pushed)
+    ∙ ap (λ (t : List ℕ). text ++ t) (sym pushed)
 
 -- the same, where the entry is known by its place
 pub entry-more : {X : Type 0} (f : X → List (List ℕ)) (text : List ℕ) (xs : List X) (i : ℕ) (x : X)

@@ -23,27 +23,31 @@ positive-push [] d e h = cc e
 positive-push (c ∷ cs) d e h =
     let p = and_parts _ _ e in
     and_from _ _ p.0 (list_all-append is_ascii_digit cs (d ∷ [])
-        ∙ and_from _ _ p.1 (and_from _ _ h refl))
+    ∙ and_from _ _ p.1 (and_from _ _ h refl))
 
 pub decimal-positive : (n : ℕ) → n < 10 ^ 64 → 0 < n → is_positive (decimal n) ≡ true
 decimal-positive = decimal_by_steps_wide (λ n ds. 0 < n → is_positive ds ≡ true) first-digit
     (λ n ds le more p. positive-push ds (48 + n % 10) (more (omega arith))
-        (digit-glyph (n % 10) (omega arith)))
+    (digit-glyph (n % 10) (omega arith)))
 
 pub positive-canonical : (ds : List ℕ) → is_positive ds ≡ true → is_canonical ds ≡ true
 positive-canonical [] e = e
 positive-canonical (c ∷ cs) e =
     let f = positive-first (c ∷ cs) e in
-    rw (ne_eqb c 48 (λ q. absurd (omega (arith, f, q))),
-        ne_eqb c 45 (λ q. absurd (omega (arith, f, q)))) e
+    rw (
+      ne_eqb c 48 (λ q. absurd (omega (arith, f, q))),
+      ne_eqb c 45 (λ q. absurd (omega (arith, f, q))),
+    ) e
 
 pub positive-value : (ds : List ℕ) → is_positive ds ≡ true
     → signed_digits_value 10 ds ≡ pos (digits_value 10 ds)
 positive-value [] e = cc e
 positive-value (c ∷ cs) e =
     let f = positive-first (c ∷ cs) e in
-    rw (ne_eqb c 45 (λ q. absurd (omega (arith, f, q))),
-        ne_eqb c 43 (λ q. absurd (omega (arith, f, q)))) refl
+    rw (
+      ne_eqb c 45 (λ q. absurd (omega (arith, f, q))),
+      ne_eqb c 43 (λ q. absurd (omega (arith, f, q))),
+    ) refl
 
 -- the text of a number
 pub written : (z : ℤ) → FitsSigned w128 z → (is_canonical (signed_decimal z) ≡ true)
@@ -51,9 +55,11 @@ pub written : (z : ℤ) → FitsSigned w128 z → (is_canonical (signed_decimal 
 written (pos zero) f = rw (decimal_digit 0 (omega arith)) (refl, refl)
 written (pos (suc n)) f =
     let small : suc n < 10 ^ 64 = omega (arith, f.sfits) in
-    let p = decimal-positive (suc n) small (omega arith) in
-    (positive-canonical (decimal (suc n)) p, positive-value (decimal (suc n)) p
-        ∙ ap pos (decimal_is_IsNumeral_wide (suc n) small).1)
+    let p = decimal-positive (suc n) small (omega arith) in (
+      positive-canonical (decimal (suc n)) p,
+      positive-value (decimal (suc n)) p
+          ∙ ap pos (decimal_is_IsNumeral_wide (suc n) small).1,
+    )
 written (negsuc n) f =
     let small : suc n < 10 ^ 64 = omega (arith, f.sfits) in
     let p = decimal-positive (suc n) small (omega arith) in

@@ -3,7 +3,7 @@ use Rattle.std.specs.Prelude.{◌≡◌, ℕ, ◌+◌, ◌<◌, ◌≤◌, Bool,
 use Rattle.std.specs.Int.{is_in_range}
 use Rattle.std.specs.List.{count_by, last_or, list_all}
 use Rattle.std.specs.Option.{option_map_or, option_or}
-use Rattle.adjust_kernel.specs.declared.limits.TheConstants.{LARGEST_SET_NUMBER, LARGEST_TURN, LONGEST_NAME, MOST_ROWS, MOST_SETS, MOST_TARGETS, TURN}
+use Rattle.adjust_kernel.specs.declared.bounds.TheConstants.{LARGEST_SET_NUMBER, LARGEST_TURN, LONGEST_NAME, MOST_ROWS, MOST_SETS, MOST_TARGETS, TURN}
 use Rattle.adjust_kernel.specs.declared.name.TheConstants.{FIRST_PRINTABLE, LAST_PRINTABLE}
 use Rattle.sheet_format.specs.Columns.{Fields, columns_of}
 use Rattle.sheet_format.specs.RowTypes.{row_type_of, may_end, may_follow, names_row_type}
@@ -140,12 +140,14 @@ columns_fault b row_type.Target c =
     option_or (target_fault b.version c) (unless (nat_lt b.targets MOST_TARGETS) fault.TooMany)
 columns_fault b row_type.Set c =
     option_or (set_fault b.version c) (unless (nat_lt b.sets MOST_SETS) fault.TooMany)
-columns_fault b row_type.Obs c = option_or (obs_fault c) (unless (nat_lt b.obs MOST_ROWS) fault.TooMany)
+columns_fault b row_type.Obs c =
+    option_or (obs_fault c) (unless (nat_lt b.obs MOST_ROWS) fault.TooMany)
 
 -- the fault of a row of five columns: its type is none or may not stand there, and then its columns
 abbrev pub row_type_fault : Before → Option RowType → Fields → Option RowKind
 row_type_fault b None c = Some fault.Kind
-row_type_fault b (Some k) c = option_or (unless (may_follow b.last k) fault.Kind) (columns_fault b k c)
+row_type_fault b (Some k) c =
+    option_or (unless (may_follow b.last k) fault.Kind) (columns_fault b k c)
 
 -- the fault of a row by the number of its columns, and then by what they hold
 abbrev pub fields_fault : Before → Option Fields → Option RowKind

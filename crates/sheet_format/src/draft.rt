@@ -207,8 +207,8 @@ impl Draft {
 
     fn take_set(&mut self, columns: &Columns<'_>) -> Result<(), Refusal>
         ensures faultless { OnOk result
-            (faults.columns_fault (spec.said_by_draft self.old) row_type.Set (columns_view columns.now)
-            ≡ None) }
+            (faults.columns_fault (spec.said_by_draft self.old) row_type.Set
+            (columns_view columns.now) ≡ None) }
         ensures taken { OnOk result
             (self.new ≡ spec.with_columns row_type.Set self.old (columns_view columns.now)) }
         ensures err { IfErr result
@@ -226,8 +226,8 @@ impl Draft {
 
     fn take_obs(&mut self, columns: &Columns<'_>) -> Result<(), Refusal>
         ensures faultless { OnOk result
-            (faults.columns_fault (spec.said_by_draft self.old) row_type.Obs (columns_view columns.now)
-            ≡ None) }
+            (faults.columns_fault (spec.said_by_draft self.old) row_type.Obs
+            (columns_view columns.now) ≡ None) }
         ensures taken { OnOk result
             (self.new ≡ spec.with_columns row_type.Obs self.old (columns_view columns.now)) }
         ensures err { IfErr result

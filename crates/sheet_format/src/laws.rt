@@ -40,7 +40,7 @@ pub fn text_stands()
 
 /// The bounds of a sheet's text: its bytes, and what version 1 narrows. The other ranges are the
 /// kernel's.
-pub fn limits()
+pub fn bounds()
     ensures bytes { LONGEST_SHEET ≡ 1_048_576 }
     ensures denominator_of_one { LARGEST_DENOMINATOR_OF_ONE ≡ 1_000_000_000 }
     ensures angle_of_one { LARGEST_ANGLE_OF_ONE ≡ pos 1_000_000_000_000_000_000 }

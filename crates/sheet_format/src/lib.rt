@@ -17,10 +17,10 @@
 //! | `1` | 1 to 10^9 | -10^18 to 10^18 |
 //! | `2` | 1 to 10^12 | -10^21 to 10^21 |
 //!
-//! In both a set has a NUMBER from 1 to 9,999, p lies from 0 to 79,999,999, the full turns k from -9
-//! to 9, and STATION and NAME are 1 to 16 bytes from the blank to the tilde. A number has one form:
-//! `0`, or an optional `-`, a digit 1 to 9 and any digits. So `+5`, `007`, `-0` and a blank before
-//! or after the digits are no numbers.
+//! In both a set has a NUMBER from 1 to 9,999, p lies from 0 to 79,999,999, the full turns k from
+//! -9 to 9, and STATION and NAME are 1 to 16 bytes from the blank to the tilde. A number has one
+//! form: `0`, or an optional `-`, a digit 1 to 9 and any digits. So `+5`, `007`, `-0` and a blank
+//! before or after the digits are no numbers.
 //!
 //! [`read_sheet`] answers the sheet that bytes stand for, or their first fault, a [`SheetFault`];
 //! [`write_sheet`] writes the text of a sheet, which is read as the same sheet, as version 1 where

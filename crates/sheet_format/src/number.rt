@@ -1,7 +1,7 @@
 //! Numbers as text: each has one form, a canonical decimal.
 //!
-//! A short field, as nearly all are, is tested and read in one pass, digit by digit, in 64 bits. The
-//! number of a longer one is read where its range is asked for.
+//! A short field, as nearly all are, is tested and read in one pass, digit by digit, in 64 bits.
+//! The number of a longer one is read where its range is asked for.
 
 ghost use Rattle.std.specs.Prelude.{◌≡◌, ◌≤◌, ◌<◌, ◌^◌, ◌≤ℤ◌, length, pos, true, false, IfSome, IfNone, OnSome};
 ghost use Rattle.std.specs.Char.{is_ascii_digit};

@@ -3,7 +3,7 @@
 use Rattle.std.proofs.Common.{◌≡◌, ℕ, ◌+◌, ◌*◌, ◌<◌, List, [], length, get_or, ℤ, pos, ◌+ℤ◌, arith, ap, sym, ◌∙◌}
 use lib.IntN.{◌*ℤ◌}
 use Rattle.std.proofs.lemmas.List.{length-map, get_or-map}
-use Rattle.adjust_kernel.specs.declared.limits.TheConstants.{TURN}
+use Rattle.adjust_kernel.specs.declared.bounds.TheConstants.{TURN}
 use Rattle.adjust_kernel.specs.declared.row.Row.{Row}
 use Rattle.adjust_kernel.specs.Matching.{Key, key_of_row, key_of_obs}
 use Rattle.adjust_kernel.specs.Pairs.{reading_of, readings_of}

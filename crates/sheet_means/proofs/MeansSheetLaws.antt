@@ -5,7 +5,7 @@ use Rattle.std.proofs.Math.IntN.{◌*ℤ◌, ◌-ℤ◌}
 use Rattle.std.proofs.Math.Nat.{mul-le-mul}
 use Rattle.std.proofs.lemmas.Int.{ints}
 use Rattle.std.proofs.lemmas.List.{ext_get_or, length-map, get_or-map}
-use Rattle.adjust_kernel.specs.declared.limits.TheConstants.{TURN, MOST_ROWS, LARGEST_ANGLE}
+use Rattle.adjust_kernel.specs.declared.bounds.TheConstants.{TURN, MOST_ROWS, LARGEST_ANGLE}
 use Rattle.adjust_kernel.specs.declared.row.Direction.{Direction}
 use Rattle.adjust_kernel.specs.declared.row.Orientation.{Orientation}
 use Rattle.adjust_kernel.specs.declared.row.Row.{Row}

@@ -2,7 +2,7 @@
 -- the target's readings, less that of the first target, and each orientation the mean over the
 -- targets of direction less reading; all times sets times targets.
 use Rattle.std.specs.Prelude.{◌≡◌, ◌⊎◌, ℕ, ◌*◌, ◌<◌, ◌≤◌, List, All, length, ℤ, pos, ◌*ℤ◌, ◌-ℤ◌}
-use Rattle.adjust_kernel.specs.declared.limits.TheConstants.{MOST_ROWS}
+use Rattle.adjust_kernel.specs.declared.bounds.TheConstants.{MOST_ROWS}
 use Rattle.adjust_kernel.specs.Matching.{Matches}
 use Rattle.adjust_kernel.specs.Pairs.{choice_stated_by, readings_of}
 use Rattle.adjust_kernel.specs.Readings.{Reading}

@@ -3,7 +3,7 @@
 -- tie at half a circle is turned back).
 use Rattle.std.specs.Prelude.{ℕ, List, ℤ, pos, neg_ℤ, ◌+ℤ◌, ◌-ℤ◌, ◌*ℤ◌, ◌≤ℤ◌, ◌<ℤ◌, ◌==◌, ◌&&◌, find}
 use Rattle.std.specs.Option.{option_map_or}
-use Rattle.adjust_kernel.specs.declared.limits.TheConstants.{TURN}
+use Rattle.adjust_kernel.specs.declared.bounds.TheConstants.{TURN}
 use Rattle.adjust_kernel.specs.declared.obs.Obs.{Obs}
 use Rattle.adjust_kernel.specs.Readings.{Reading}
 use Rattle.sheet_means.specs.declared.turn.TheConstants.{HALF_TURN}

@@ -7,7 +7,7 @@ ghost use Rattle.sheet_means.specs.declared.turn.TheConstants.{HALF_TURN, MOST_T
 
 /// The bounds of sheets of means: angles in half units (0.005 mgon each), directions and
 /// orientations in half units times sets times targets.
-pub fn limits()
+pub fn bounds()
     ensures half_turn { HALF_TURN ≡ pos 40_000_000 }
     ensures full_turns { MOST_TURNS ≡ pos 2 }
     ensures reading { LARGEST_READING ≡ pos 240_000_000 }

@@ -1,6 +1,6 @@
 //! Angles on the circle, over the denominator of near sheets.
 ghost use Rattle.std.specs.Prelude.{◌≡◌};
-ghost use Rattle.adjust_kernel.specs.declared.limits.TheConstants.{LARGEST_ANGLE, LARGEST_TURN};
+ghost use Rattle.adjust_kernel.specs.declared.bounds.TheConstants.{LARGEST_ANGLE, LARGEST_TURN};
 ghost use Rattle.adjust_kernel.specs.Within.{IsWithin};
 
 use adjust_kernel::{LARGEST_ANGLE, LARGEST_DENOMINATOR, LARGEST_TURN, TURN};

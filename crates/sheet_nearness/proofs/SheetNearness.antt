@@ -4,7 +4,7 @@ use Rattle.std.proofs.lemmas.List.{length-map}
 use Rattle.std.proofs.lemmas.List.Elements.{recursion_from_All}
 use Rattle.adjust_kernel.specs.declared.kernel_fault.KernelFault.{KernelFault}
 use Rattle.adjust_kernel.specs.declared.kernel_fault.KernelFault.TheVariants.{Name, TargetRow, SetRow, ObsRow, Datum, TargetSum, SetSum, NotConnected, Residual}
-use Rattle.adjust_kernel.specs.declared.limits.TheConstants.{LARGEST_RESIDUAL_LIMIT}
+use Rattle.adjust_kernel.specs.declared.bounds.TheConstants.{LARGEST_RESIDUAL_LIMIT}
 use Rattle.adjust_kernel.specs.Matching.{Matches, key_of_row, key_of_obs}
 use Rattle.sheet_nearness.specs.Nearness.{AreTied, IsBesideSums, IsFirstBesideSums, IsNearAllLeast, IsNearAllNoLarger, IsTiedWithin, least_apart_of, most_apart_of}
 use Rattle.adjust_kernel.specs.Pairs.{choice_stated_by}

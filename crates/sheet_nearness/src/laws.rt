@@ -1,7 +1,7 @@
 //! Laws of the definitions that contracts cite. The functions do nothing.
 
 ghost use Rattle.std.specs.Prelude.{◌≤◌, ◌+◌, ◌-◌, ℕ, length};
-ghost use Rattle.adjust_kernel.specs.declared.limits.TheConstants.{LARGEST_RESIDUAL_LIMIT};
+ghost use Rattle.adjust_kernel.specs.declared.bounds.TheConstants.{LARGEST_RESIDUAL_LIMIT};
 ghost use Rattle.adjust_kernel.specs.Sheets.{SheetValue, IsSheet};
 ghost use Rattle.adjust_kernel.specs.Stations.{StationValue, IsStation};
 ghost use Rattle.adjust_kernel.specs.Verdict.{HoldsTogether, KeepsLimit};

@@ -1,6 +1,6 @@
 -- What the two readings of a target give, as the book computes it.
 use Rattle.std.specs.Prelude.{ℕ, ◌+◌, ◌-◌, ◌*◌, ◌%◌, ℤ, pos, ◌-ℤ◌}
-use Rattle.adjust_kernel.specs.declared.limits.TheConstants.{TURN}
+use Rattle.adjust_kernel.specs.declared.bounds.TheConstants.{TURN}
 use Rattle.station_book.specs.declared.bounds.TheConstants.{CIRCLE, HALF_CIRCLE}
 use Rattle.station_book.specs.TwoFaces.{Angles}
 

@@ -2,7 +2,7 @@
 use Rattle.std.specs.Prelude.{◌≡◌, ℕ, ◌-◌, ◌≤◌, nat_le, Bool, false, List, [], ◌∷◌, ◌++◌, length, Option, Some, None, All, AllPairs, ◌≢◌, position, replicate, slice_set}
 use Rattle.std.specs.Str.{bytes_eq}
 use Rattle.adjust_kernel.specs.declared.obs.Obs.{Obs}
-use Rattle.adjust_kernel.specs.declared.limits.TheConstants.{MOST_SETS, MOST_TARGETS}
+use Rattle.adjust_kernel.specs.declared.bounds.TheConstants.{MOST_SETS, MOST_TARGETS}
 use Rattle.station_book.specs.declared.fault.BookKind.{BookKind}
 use Rattle.station_book.specs.declared.fault.BookKind.TheVariants as kinds
 use Rattle.station_book.specs.Limits.{FaceLimits}

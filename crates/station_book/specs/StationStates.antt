@@ -2,7 +2,7 @@
 use Rattle.std.specs.Prelude.{◌≡◌, ℕ, ◌==◌, nat_le, Bool, List, [], ◌∷◌, length, map, reverse, All, Option}
 use Rattle.std.specs.List.{list_any}
 use Rattle.std.specs.Str.{bytes_eq}
-use Rattle.adjust_kernel.specs.declared.limits.TheConstants.{MOST_SETS}
+use Rattle.adjust_kernel.specs.declared.bounds.TheConstants.{MOST_SETS}
 use Rattle.adjust_kernel.specs.Names.{IsName}
 use Rattle.station_book.specs.declared.bounds.TheConstants.{MOST_STATIONS}
 use Rattle.station_book.specs.declared.fault.BookKind.{BookKind}

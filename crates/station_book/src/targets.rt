@@ -2,7 +2,7 @@
 //! found.
 
 ghost use Rattle.std.specs.Prelude.{◌≡◌, ◌≢◌, ◌<◌, AllPairs, None, Some, slice_get, slice_set, length, replicate, IfErr, IfNone, IfOk, IfSome, OnErr, []};
-ghost use Rattle.adjust_kernel.specs.declared.limits.TheConstants.{MOST_TARGETS};
+ghost use Rattle.adjust_kernel.specs.declared.bounds.TheConstants.{MOST_TARGETS};
 ghost use Rattle.station_book.specs.StationState.{is_named, place_of, new_target_fault};
 ghost use Rattle.station_book.specs.Slots.{slot_at, empty_slot};
 ghost use Rattle.station_book.specs.Targets.{with_first};
@@ -30,7 +30,7 @@ impl Model for Targets {
     ghost use Rattle.std.specs.Prelude.{◌+◌, ◌≤◌, length};
     ghost use Rattle.std.specs.Map.{keys_of, values_of};
     ghost use Rattle.indexmap.specs.IndexMap.{spare};
-    ghost use Rattle.adjust_kernel.specs.declared.limits.TheConstants.{MOST_TARGETS};
+    ghost use Rattle.adjust_kernel.specs.declared.bounds.TheConstants.{MOST_TARGETS};
     ghost use Rattle.station_book.specs.Targets.{TargetsValue};
 
     ghost Value = { TargetsValue };

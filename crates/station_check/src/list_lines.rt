@@ -4,7 +4,7 @@ ghost use Rattle.std.specs.Prelude.{◌≡◌, ◌<◌, ◌≤◌, ◌+◌, ◌+
 ghost use Rattle.std.specs.Prelude.{codes};
 ghost use Rattle.std.specs.Fmt.{signed_decimal};
 ghost use Rattle.adjust_kernel.specs.Matching.{key_of_obs};
-ghost use Rattle.adjust_kernel.specs.declared.limits.TheConstants.{LONGEST_NAME};
+ghost use Rattle.adjust_kernel.specs.declared.bounds.TheConstants.{LONGEST_NAME};
 ghost use Rattle.station_check.specs.ListTexts.{station_line, key_text, faces_text};
 ghost use Rattle.station_check.specs.ListTexts.{observation_line};
 

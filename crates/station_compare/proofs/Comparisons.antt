@@ -3,7 +3,7 @@ use Rattle.std.proofs.Common.{◌≡◌, ◌-◌, ◌≤◌, ℕ, ℤ, List, len
 use Rattle.std.proofs.Common.{inr}
 use Rattle.adjust_kernel.specs.Residuals.{Choice}
 use Rattle.adjust_kernel.specs.Stations.{StationValue}
-use Rattle.adjust_kernel.specs.declared.limits.TheConstants.{LARGEST_RESIDUAL_LIMIT}
+use Rattle.adjust_kernel.specs.declared.bounds.TheConstants.{LARGEST_RESIDUAL_LIMIT}
 use Rattle.stated_directions.specs.Told.{IsTold}
 use Rattle.byte_ends.specs.Input.{Input, Ended, BrokeOff, RanPast, input_within}
 use Rattle.byte_ends.specs.Source.{Told}

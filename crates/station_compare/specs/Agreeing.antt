@@ -4,7 +4,7 @@
 -- least over all directions, orientations and full turns.
 use Rattle.std.specs.Prelude.{◌≡◌, ℕ, ◌≤◌, ◌-◌, List, length, ℤ}
 use Rattle.adjust_kernel.specs.Residuals.{Choice}
-use Rattle.adjust_kernel.specs.declared.limits.TheConstants.{LARGEST_RESIDUAL_LIMIT}
+use Rattle.adjust_kernel.specs.declared.bounds.TheConstants.{LARGEST_RESIDUAL_LIMIT}
 use Rattle.byte_ends.specs.Input.{input_within, Ended}
 use Rattle.byte_ends.specs.Source.{Told}
 use Rattle.direction_table.specs.Tables.{IsTableText}

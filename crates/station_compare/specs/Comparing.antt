@@ -2,7 +2,7 @@
 use Rattle.std.specs.Prelude.{◌≡◌, ◌⊎◌, ℕ, ◌≤◌, ◌<◌, ◌-◌, List, length, ℤ, Result, Ok, Err}
 use Rattle.adjust_kernel.specs.Residuals.{Choice}
 use Rattle.adjust_kernel.specs.Stations.{StationValue}
-use Rattle.adjust_kernel.specs.declared.limits.TheConstants.{LARGEST_RESIDUAL_LIMIT}
+use Rattle.adjust_kernel.specs.declared.bounds.TheConstants.{LARGEST_RESIDUAL_LIMIT}
 use Rattle.byte_ends.specs.Input.{Input, Ended, BrokeOff, RanPast}
 use Rattle.direction_table.specs.Tables.{IsTableFault, IsTableText}
 use Rattle.direction_table.specs.declared.fault.TableFault.TheVariants.{TooLong}

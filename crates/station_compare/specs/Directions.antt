@@ -3,7 +3,7 @@ use Rattle.std.specs.Prelude.{◌≡◌, ℕ, ◌+◌, ◌*◌, List, All, lengt
 use Rattle.std.specs.Prelude.{Ok, Err}
 use Rattle.adjust_kernel.specs.Residuals.{Choice}
 use Rattle.adjust_kernel.specs.Stations.{StationValue}
-use Rattle.adjust_kernel.specs.declared.limits.TheConstants.{LARGEST_RESIDUAL_LIMIT}
+use Rattle.adjust_kernel.specs.declared.bounds.TheConstants.{LARGEST_RESIDUAL_LIMIT}
 use Rattle.direction_table.specs.TableTexts.{directions_of, names_of, table_text}
 use Rattle.direction_table.specs.Tables.{IsTableText}
 use Rattle.direction_table.specs.Texts.{IsWhole, step_of}

@@ -1,6 +1,6 @@
 -- The limits that a page states by numbers (profile).
 use Rattle.std.specs.Prelude.{◌≡◌, ◌≤◌, ℕ, Bool, true, false, Option, Some, None, ⊤}
-use Rattle.adjust_kernel.specs.declared.limits.TheConstants.{LARGEST_RESIDUAL_LIMIT}
+use Rattle.adjust_kernel.specs.declared.bounds.TheConstants.{LARGEST_RESIDUAL_LIMIT}
 use Rattle.station_book.specs.Limits.{FaceLimits}
 use Rattle.station_book.specs.declared.limits.TheConstants.{LARGEST_LIMIT}
 use Rattle.station_page.specs.declared.compare.TheConstants.{LARGEST_WITHIN}

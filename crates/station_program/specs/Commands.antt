@@ -6,7 +6,7 @@ use Rattle.clap.specs.Simple.{new_shape}
 use Rattle.clap.specs.Words.{App, Rule, Shape, Text, new_rule}
 use Rattle.clap.specs.declared.builder.action.ArgAction.TheVariants.{Set, Append}
 use Rattle.clap.specs.declared.builder.value_parser.ValueParser.TheVariants.{Signed}
-use Rattle.adjust_kernel.specs.declared.limits.TheConstants.{LARGEST_RESIDUAL_LIMIT}
+use Rattle.adjust_kernel.specs.declared.bounds.TheConstants.{LARGEST_RESIDUAL_LIMIT}
 use Rattle.station_book.specs.declared.limits.TheConstants.{LARGEST_LIMIT}
 
 -- An argument that must be given: one word.

@@ -1,6 +1,6 @@
 ghost use Rattle.std.specs.Prelude.{◌≡◌};
 
-use crate::limits::MOST_ROWS;
+use crate::bounds::MOST_ROWS;
 use crate::running::Running;
 use crate::scan::Scan;
 use crate::tally::Tally;

@@ -557,7 +557,7 @@ fn the_laws_are_calls(_rt: HostRuntime) {
     laws::some_verdict();
     laws::acceptance();
     laws::refusal();
-    laws::limits();
+    laws::bounds();
 }
 
 #[test]

@@ -9,14 +9,14 @@ use native.Mathlib.Decide.{dec_lt}
 pub loop-place-preserved : goal.loop-place-preserved
 loop-place-preserved c =
     below_more (λ (k : ℕ). slice_get (keys_of c.args.sheet.now) k
-        ≡ slice_get (observed c.args.station.now) k) c.loop-place.place c.loop-place.invariant
-        (c.if-not-is_same_row_at.ensures.0 refl)
+    ≡ slice_get (observed c.args.station.now) k) c.loop-place.place c.loop-place.invariant
+    (c.if-not-is_same_row_at.ensures.0 refl)
 
 pub returns-then-not-is_same_row_at-clause-some : goal.returns-then-not-is_same_row_at-clause-some
 returns-then-not-is_same_row_at-clause-some c =
     differ_at (keys_of c.args.sheet.now) (observed c.args.station.now) c.loop-place.place
-        c.loop-place.invariant (λ same. let e : false ≡ true =
-        c.if-not-is_same_row_at.ensures.1 same in cc)
+    c.loop-place.invariant (λ same. let e : false ≡ true =
+    c.if-not-is_same_row_at.ensures.1 same in cc)
 
 pub returns-then-rows-obs-clause-none : goal.returns-then-rows-obs-clause-none
 returns-then-rows-obs-clause-none c =
@@ -27,13 +27,29 @@ returns-then-rows-obs-clause-none c =
     let again = ap length c.obs-2.ensures.value in
     let as_long = length-map c.args.sheet.now.rows key_of_row in
     let as_many = length-map c.args.station.now.obs
-        (key_of_obs c.args.station.now.sets c.args.station.now.targets) in
+    (key_of_obs c.args.station.now.sets c.args.station.now.targets) in
     let both = c.min-both.ensures in
     same_lists xs ys c.loop-place.place
-    (omega (arith, of_sheet, of_station, again, as_long, both, c.if-rows-obs.true,
-        c.loop-place-test.false))
-    (omega (arith, of_sheet, of_station, again, as_many, both, c.if-rows-obs.true,
-        c.loop-place-test.false))
+    (omega (
+      arith,
+      of_sheet,
+      of_station,
+      again,
+      as_long,
+      both,
+      c.if-rows-obs.true,
+      c.loop-place-test.false,
+    ))
+    (omega (
+      arith,
+      of_sheet,
+      of_station,
+      again,
+      as_many,
+      both,
+      c.if-rows-obs.true,
+      c.loop-place-test.false,
+    ))
     c.loop-place.invariant
 
 pub returns-clause-some : goal.returns-clause-some

@@ -20,10 +20,10 @@ found c =
     let of_station = ap length c.targets.ensures.value in
     let as_long = length-map c.args.sheet.now.directions (λ (d : Direction). d.name) in
     first_difference xs ys c.max-places.result c.find.result
-        (omega (arith, longer, of_sheet, as_long)) (omega (arith, longer, of_station))
+    (omega (arith, longer, of_sheet, as_long)) (omega (arith, longer, of_station))
     (first_from_Range _ _ _ _ (λ i. slice_get xs i ≢ slice_get ys i)
-        (λ i. slice_get xs i ≡ slice_get ys i) c.find.ensures.ran (λ x q k. search rules)
-        (λ x q k. (search rules, search rules)))
+    (λ i. slice_get xs i ≡ slice_get ys i) c.find.ensures.ran (λ x q k. search rules)
+    (λ x q k. (search rules, search rules)))
 
 pub returns-clause-none : goal.returns-clause-none
 returns-clause-none c = (found c).0

@@ -15,8 +15,8 @@ loop-each-init c = none_seen c.args.sets c.args.targets c.args.obs.now
 pub loop-each-preserved : goal.loop-each-preserved
 loop-each-preserved c =
     seen_more c.args.sets c.args.targets c.args.obs.now c.requires.obs c.loop-each.seen
-        c.loop-each.each-index _ c.loop-each-test.true
-        (omega (arith, c.requires.sets, c.requires.targets)) c.loop-each.invariant
+    c.loop-each.each-index _ c.loop-each-test.true
+    (omega (arith, c.requires.sets, c.requires.targets)) c.loop-each.invariant
 
 pub returns : goal.returns
 returns c =
@@ -24,14 +24,14 @@ returns c =
     let targets = c.args.targets in
     let obs = c.args.obs.now in
     let end : c.loop-each.each-index ≡ length obs =
-        omega (arith, c.loop-each-test.false, c.loop-each.auto.each-index-end) in
+    omega (arith, c.loop-each-test.false, c.loop-each.auto.each-index-end) in
     let seen = subst (λ (n : ℕ). AreSeen sets targets obs c.loop-each.seen n) end
-        c.loop-each.invariant in
+    c.loop-each.invariant in
     decided c.are_marked.result
     (on_true c.are_marked.result (λ (all : (n : ℕ) → n < sets + targets
-        → mark c.loop-each.seen n ≡ true). each_observed sets targets obs c.requires.obs
-        c.loop-each.seen seen all) c.are_marked.ensures.all)
+    → mark c.loop-each.seen n ≡ true). each_observed sets targets obs c.requires.obs
+    c.loop-each.seen seen all) c.are_marked.ensures.all)
     (on_false c.are_marked.result (λ (u : (n : ℕ) × (n < sets + targets)
-        × (mark c.loop-each.seen n ≡ false)).
-        some_unobserved sets targets obs c.requires.obs c.loop-each.seen seen u.0 u.1 u.2)
-        c.are_marked.ensures.some_not)
+    × (mark c.loop-each.seen n ≡ false)).
+    some_unobserved sets targets obs c.requires.obs c.loop-each.seen seen u.0 u.1 u.2)
+    c.are_marked.ensures.some_not)

@@ -3,7 +3,7 @@ use mir.Syntax.{w8, w64}
 use mir.Val.{to_z, of_z}
 use Rattle.std.proofs.Math.IntN.{◌*ℤ◌}
 use Rattle.std.proofs.lemmas.Int.{ints, to_z-of_z}
-use Rattle.adjust_kernel.specs.declared.limits.TheConstants.{TURN}
+use Rattle.adjust_kernel.specs.declared.bounds.TheConstants.{TURN}
 use Rattle.adjust_kernel.specs.Residuals.{unrolled}
 use Rattle.adjust_kernel.specs.Pairs.{reading_of}
 use Rattle.adjust_kernel.proofs.residual.residual_at.Goals as goal
@@ -15,10 +15,10 @@ returns-clause-value c =
     let turn_fits : FitsSigned w8 c.args.row.now.turn = omega (arith, ints, low, high) in
     let value : c.unrolled.result ≡ unrolled (reading_of c.args.obs.now c.args.row.now.turn) =
     c.unrolled.ensures ∙ ap (λ k. pos c.args.obs.now.value +ℤ pos TURN *ℤ k)
-        (to_z-of_z w8 c.args.row.now.turn turn_fits) in
+    (to_z-of_z w8 c.args.row.now.turn turn_fits) in
     let fits : FitsSigned w64 c.unrolled.result = record { sfits = c.unrolled.type_inv } in
     let reading : c.scaled-reading.result ≡ pos c.args.sheet.now.denominator *ℤ unrolled
-        (reading_of c.args.obs.now c.args.row.now.turn) =
+    (reading_of c.args.obs.now c.args.row.now.turn) =
     c.scaled-reading.ensures.value
     ∙ ap (λ n. pos n *ℤ to_z w64 (of_z w64 c.unrolled.result)) c.denominator.ensures.value
     ∙ ap (λ z. pos c.args.sheet.now.denominator *ℤ z) (to_z-of_z w64 c.unrolled.result fits

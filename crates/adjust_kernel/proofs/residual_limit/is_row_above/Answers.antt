@@ -15,12 +15,12 @@ returns c =
     let none : Reading = record { set = 0; target = 0; value = 0; turn = pos 0 } in
     let readings = readings_of c.args.obs.now c.args.sheet.now.rows in
     let inside : c.args.row < length readings = let k =
-        length-readings_of c.args.obs.now c.args.sheet.now.rows c.requires.paired.same_length in
-        omega (arith, c.requires.row) in
+    length-readings_of c.args.obs.now c.args.sheet.now.rows c.requires.paired.same_length in
+    omega (arith, c.requires.row) in
     let fits : FitsSigned w128 c.row_residual.result = omega (arith, ints) in
     let is_residual = to_z-of_z w128 c.row_residual.result fits
     ∙ c.row_residual.ensures.value none
     ∙ sym (get_or-map (residual (choice_stated_by c.args.sheet.now)) readings c.args.row none
     (pos 0) inside) in
     subst (λ (p : ℕ × ℤ). IsTrue c.is_above.result ↔ (c.args.limit * p.0 < unsigned_abs p.1))
-        (λ i. (c.denominator.ensures.value i, is_residual i)) c.is_above.ensures
+    (λ i. (c.denominator.ensures.value i, is_residual i)) c.is_above.ensures

@@ -13,12 +13,12 @@ loop-one-preserved c =
     elim c.if-one-set.branch [
       | then-one-set w ↦
           let e = int_sum_where_more_yes (λ (a : Added). eqb a.set c.args.set) (λ a. a.residual)
-              c.args.added.now c.loop-one.one-index _ c.loop-one-test.true
-              (eq-eqb _ _ w.if-one-set.true) in
+          c.args.added.now c.loop-one.one-index _ c.loop-one-test.true
+          (eq-eqb _ _ w.if-one-set.true) in
           record { sum = omega (arith, ints); bound = omega (arith, ints) }
       | else-one-set w ↦
           let e = int_sum_where_more_no (λ (a : Added). eqb a.set c.args.set) (λ a. a.residual)
-              c.args.added.now c.loop-one.one-index _ c.loop-one-test.true
-              (ne_eqb _ _ w.if-one-set.false) in
+          c.args.added.now c.loop-one.one-index _ c.loop-one-test.true
+          (ne_eqb _ _ w.if-one-set.false) in
           record { sum = omega (arith, ints); bound = omega (arith, ints) }
     ]

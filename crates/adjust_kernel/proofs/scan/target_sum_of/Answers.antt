@@ -13,12 +13,12 @@ loop-one-preserved c =
     elim c.if-one-target.branch [
       | then-one-target w ↦
           let e = int_sum_where_more_yes (λ (a : Added). eqb a.target c.args.target)
-              (λ a. a.residual) c.args.added.now c.loop-one.one-index _ c.loop-one-test.true
-              (eq-eqb _ _ w.if-one-target.true) in
+          (λ a. a.residual) c.args.added.now c.loop-one.one-index _ c.loop-one-test.true
+          (eq-eqb _ _ w.if-one-target.true) in
           record { sum = omega (arith, ints); bound = omega (arith, ints) }
       | else-one-target w ↦
           let e = int_sum_where_more_no (λ (a : Added). eqb a.target c.args.target)
-              (λ a. a.residual) c.args.added.now c.loop-one.one-index _ c.loop-one-test.true
-              (ne_eqb _ _ w.if-one-target.false) in
+          (λ a. a.residual) c.args.added.now c.loop-one.one-index _ c.loop-one-test.true
+          (ne_eqb _ _ w.if-one-target.false) in
           record { sum = omega (arith, ints); bound = omega (arith, ints) }
     ]

@@ -31,18 +31,18 @@ loop-row-preserved g c =
     let fits : FitsSigned w128 c.row_residual-residual.result = omega (arith, ints) in
     let passed = to_z-of_z w128 c.row_residual-residual.result fits in
     let out : FitsSigned w128 c.larger_size-greatest.result =
-        record { sfits = c.larger_size-greatest.type_inv } in
+    record { sfits = c.larger_size-greatest.type_inv } in
     let inside : c.loop-row.row < length c.args.obs.now = let k =
-        ap length c.rows-row-end.ensures.value in
-        omega (arith, c.requires.paired.same_length, c.loop-row-test.true) in
+    ap length c.rows-row-end.ensures.value in
+    omega (arith, c.requires.paired.same_length, c.loop-row-test.true) in
     let among : c.loop-row.row < length readings = let k =
-        length-readings_of c.args.obs.now c.args.sheet.now.rows c.requires.paired.same_length in
-        omega (arith, inside) in
+    length-readings_of c.args.obs.now c.args.sheet.now.rows c.requires.paired.same_length in
+    omega (arith, inside) in
     record {
       stands = subst (λ (l : List Added). g.T.Tally.StandsFor c.add.new.self l)
           (all_added-more stated c.args.obs.now c.args.sheet.now.rows c.loop-row.row none no_row _
-              c.requires.paired.same_length inside (λ d. passed
-              ∙ c.row_residual-residual.ensures.value d))
+          c.requires.paired.same_length inside (λ d. passed
+          ∙ c.row_residual-residual.ensures.value d))
           (c.add.ensures.added earlier c.loop-row.invariant.stands);
       room = omega (arith, c.add.ensures.room, c.loop-row.invariant.room);
       greatest =
@@ -59,23 +59,27 @@ returns-clause-sums g c =
     let readings = readings_of c.args.obs.now c.args.sheet.now.rows in
     let rows_are = ap length c.rows-row-end.ensures.value in
     let all : length readings ≤ c.loop-row.row = let k =
-        length-readings_of c.args.obs.now c.args.sheet.now.rows c.requires.paired.same_length in
-        omega (arith, c.requires.paired.same_length) in
+    length-readings_of c.args.obs.now c.args.sheet.now.rows c.requires.paired.same_length in
+    omega (arith, c.requires.paired.same_length) in
     subst (λ (l : List Added). g.T.Tally.StandsFor c.loop-row.tally l)
-        (ap (all_added (choice_stated_by c.args.sheet.now)) (take_all c.loop-row.row readings all))
-        c.loop-row.invariant.stands
+    (ap (all_added (choice_stated_by c.args.sheet.now)) (take_all c.loop-row.row readings all))
+    c.loop-row.invariant.stands
 
 pub returns-clause-greatest : goal.returns-clause-greatest
 returns-clause-greatest g c =
     let readings = readings_of c.args.obs.now c.args.sheet.now.rows in
     let stated = choice_stated_by c.args.sheet.now in
     let as_many = length-readings_of c.args.obs.now c.args.sheet.now.rows
-        c.requires.paired.same_length in
+    c.requires.paired.same_length in
     let rows = ap length c.rows-row-end.ensures.value in
     let all : length readings ≤ c.loop-row.row =
-        omega (arith, as_many, c.requires.paired.same_length, c.loop-row-test.false) in
-    let some : 1 ≤ length readings = omega (arith, as_many, c.requires.paired.same_length,
-        c.rows-row-end.ensures.valid.rows.some) in
+    omega (arith, as_many, c.requires.paired.same_length, c.loop-row-test.false) in
+    let some : 1 ≤ length readings = omega (
+      arith,
+      as_many,
+      c.requires.paired.same_length,
+      c.rows-row-end.ensures.valid.rows.some,
+    ) in
     subst (IsGreatest stated readings) (sym (c.loop-row.invariant.greatest
-        ∙ ap (λ rs. pos (greatest_size stated rs)) (take_all c.loop-row.row readings all)))
+    ∙ ap (λ rs. pos (greatest_size stated rs)) (take_all c.loop-row.row readings all)))
     (greatest_is stated readings some)

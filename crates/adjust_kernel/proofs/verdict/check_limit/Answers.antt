@@ -12,8 +12,8 @@ returns-in-Some-first_above_limit-clause-err c =
     let sheet = c.args.sheet.now in
     let row = c.in-Some-first_above_limit.row in
     let first : IsFirstWhere (IsAbove c.in-Some.limit (choice_stated_by sheet)
-        (readings station sheet)) (length (readings station sheet)) row =
+    (readings station sheet)) (length (readings station sheet)) row =
     rw (← c.half_units.ensures.value, ← c.obs.ensures.value)
-        c.in-Some-first_above_limit.ensures.some in
+    c.in-Some-first_above_limit.ensures.some in
     rw c.in-Some.is (residual_fault station sheet c.in-Some.limit row c.requires.matches
-        c.requires.targets c.requires.sets c.requires.connected first)
+    c.requires.targets c.requires.sets c.requires.connected first)

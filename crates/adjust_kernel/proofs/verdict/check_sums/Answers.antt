@@ -10,7 +10,7 @@ returns-in-Some-clause-err g c =
     let added = rw c.obs.ensures.value at c.add_residuals-tally.ensures.sums in
     let first = c.in-Some.ensures.some (choice_stated_by sheet) (readings station sheet) added in
     target_sum_fault station sheet c.in-Some.target c.requires.matches
-        (rw (← c.targets.ensures.value) first)
+    (rw (← c.targets.ensures.value) first)
 
 pub returns-in-Some-first_uneven_set-clause-err : goal.returns-in-Some-first_uneven_set-clause-err
 returns-in-Some-first_uneven_set-clause-err g c =
@@ -18,8 +18,8 @@ returns-in-Some-first_uneven_set-clause-err g c =
     let sheet = c.args.sheet.now in
     let added = rw c.obs.ensures.value at c.add_residuals-tally.ensures.sums in
     let targets = c.in_default.ensures.none (choice_stated_by sheet) (readings station sheet)
-        added in
+    added in
     let first = c.in-Some-first_uneven_set.ensures.some (choice_stated_by sheet)
-        (readings station sheet) added in
+    (readings station sheet) added in
     set_sum_fault station sheet c.in-Some-first_uneven_set.set c.requires.matches
-        (rw (← c.targets.ensures.value) targets) (rw (← c.sets.ensures.value) first)
+    (rw (← c.targets.ensures.value) targets) (rw (← c.sets.ensures.value) first)

@@ -11,20 +11,20 @@ pub returns-in_err-greatest_residual-clause-verdict :
     goal.returns-in_err-greatest_residual-clause-verdict
 returns-in_err-greatest_residual-clause-verdict g c =
     let p = err_from_is_err_and c.from_residual-in_err-greatest_residual.result
-        c.from_residual-in_err-greatest_residual.ensures.1 in
+    c.from_residual-in_err-greatest_residual.ensures.1 in
     rw (p.1, p.2) (c.in_err-greatest_residual.ensures.err c.args.residual)
 
 pub returns-in_err-check_connection-clause-verdict :
     goal.returns-in_err-check_connection-clause-verdict
 returns-in_err-check_connection-clause-verdict g c =
     let p = err_from_is_err_and c.from_residual-in_err-check_connection.result
-        c.from_residual-in_err-check_connection.ensures.1 in
+    c.from_residual-in_err-check_connection.ensures.1 in
     rw (p.1, p.2) (c.in_err-check_connection.ensures.err c.args.residual)
 
 pub returns-clause-verdict : goal.returns-clause-verdict
 returns-clause-verdict g c =
     accepted_verdict c.args.station.now c.args.sheet.now c.args.residual c.acceptance.result
     c.in_ok-check_matches.ensures.ok c.in_ok-greatest_residual.ensures.targets
-        c.in_ok-greatest_residual.ensures.sets c.in_ok-check_connection.ensures.ok
-        c.in_ok-check_limit.ensures.ok
+    c.in_ok-greatest_residual.ensures.sets c.in_ok-check_connection.ensures.ok
+    c.in_ok-check_limit.ensures.ok
     c.acceptance.ensures

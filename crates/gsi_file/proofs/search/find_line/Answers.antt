@@ -23,7 +23,8 @@ returns-then-not-is_blank-clause-finds g c =
     (found_ended _ _ _ _ c.search.left line c.next_line_start.result c.line_end-end.result.printable
     h (omega arith) (omega arith) (omega (arith, c.next_line_start.ensures.within))
     (omega (arith, c.next_line_start.ensures.within))
-    (c.line_end-end.ensures.end c.if-line-seen.true) (ap not (sym c.is_blank.ensures ∙ c.if-not-is_blank.true))
+    (c.line_end-end.ensures.end c.if-line-seen.true)
+    (ap not (sym c.is_blank.ensures ∙ c.if-not-is_blank.true))
     c.line_end-end.ensures.printable c.next_line_start.ensures.next s)
 
 pub returns-then-not-is_blank-clause-through : goal.returns-then-not-is_blank-clause-through
@@ -77,7 +78,8 @@ search-preserved-then-line-seen g c =
         most = omega (arith, c.search.invariant.searching.most);
         plain = none_plain h';
         same = rw c.drop_front.ensures (passes _ _ _ _ c.search.left line h (omega arith)
-            (omega arith) (c.line_end-end.ensures.end c.if-line-seen.true) (ap not (sym c.is_blank.ensures
+            (omega arith) (c.line_end-end.ensures.end c.if-line-seen.true)
+            (ap not (sym c.is_blank.ensures
             ∙ c.if-not-is_blank.false)) s);
       };
       through = λ after may.
@@ -192,7 +194,8 @@ returns-then-not-is_blank-2-clause-finds g c =
     c.args.buffer.now c.fill.new.self f) (sym c.at_end.ensures)
     (found_at_end (told c.args.reader.now) (told c.search.reader) (told c.fill.new.from) _ _
     c.search.left line h c.fill.new.self c.in-Ok-eq0.field-0 (omega arith)
-    c.in-Ok-eq0.field-0-test (ap not (sym c.is_blank-in-Ok-eq0.ensures ∙ c.if-not-is_blank-2.true)) s
+    c.in-Ok-eq0.field-0-test (ap not (sym c.is_blank-in-Ok-eq0.ensures ∙ c.if-not-is_blank-2.true))
+    s
     c.in-Ok-eq0.ensures.fills)
 
 pub returns-then-not-is_blank-2-clause-through : goal.returns-then-not-is_blank-2-clause-through
@@ -236,7 +239,8 @@ returns-in-Ok-eq0-clause-finds g c =
     } in
     ends_by (told c.args.reader.now) (told c.search.reader) (told c.fill.new.from) _ _ c.search.left
     line h c.fill.new.self c.in-Ok-eq0.field-0 false (omega arith) c.in-Ok-eq0.field-0-test
-    (ap not (sym c.is_blank-in-Ok-eq0.ensures ∙ c.if-not-is_blank-2.false)) s c.in-Ok-eq0.ensures.fills
+    (ap not (sym c.is_blank-in-Ok-eq0.ensures ∙ c.if-not-is_blank-2.false)) s
+    c.in-Ok-eq0.ensures.fills
 
 pub returns-in-Ok-eq0-clause-through : goal.returns-in-Ok-eq0-clause-through
 returns-in-Ok-eq0-clause-through g c after may =

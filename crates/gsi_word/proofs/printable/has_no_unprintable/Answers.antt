@@ -10,5 +10,5 @@ returns c =
     let bytes = c.args.bytes.now in
     let whole : not c.loop-byte.unprintable ≡ list_all is_printable bytes =
     c.loop-byte.invariant ∙ ap (λ (r : List ℕ). list_all is_printable r)
-        (take_all c.loop-byte.byte-index bytes (omega arith)) in
+    (take_all c.loop-byte.byte-index bytes (omega arith)) in
     (λ h. printable_from_test bytes (sym whole ∙ h), λ h. whole ∙ test_from_printable bytes h)

@@ -11,7 +11,7 @@ returns c =
     let load = chunk c.args.at 16 bytes in
     let long = length-chunk c.args.at 16 bytes c.requires in
     let lanes = zip2_of_maps _ _ _ load (zip2_splat {Y = ℕ} _ load 16 _ long)
-        (zip2_splat_left (λ (a b : ℕ). cond (nat_lt a b) 255 0) _ 16 load long) in
+    (zip2_splat_left (λ (a b : ℕ). cond (nat_lt a b) 255 0) _ 16 load long) in
     record {
       within = run_is_short bytes c.args.at c.requires c.lowest_lane.result _ _
           c.lowest_lane.ensures lanes;

@@ -34,16 +34,26 @@ rows-preserved c =
     let got = rw c.if-not-found.false at (c.in_ok-found.ensures.reads trim ready) in
     let row = fields_of c.read_byte_record.new.row in
     let (z, at_z, next) = row-read (λ (b : Bor (List ℕ)). Some b.now) c.rows.reader
-        c.read_byte_record.new.self row y config source got in
+    c.read_byte_record.new.self row y config source got in
     let (m, more, room2, well2) = records-step n c.rows.reader.state y
-        (row, c.read_byte_record.new.self.state, z) next well room in
+    (row, c.read_byte_record.new.self.state, z) next well room in
     let rest = records_from default_config m c.read_byte_record.new.self.state z in
     let here = subst (HasRead (records_of c.args.bytes.now) c.rows.draft) {y = row ∷ rest} more
-        read in
+    read in
     let after = read-more (records_of c.args.bytes.now) c.rows.draft c.take_row.new.self row rest
-        here c.in-Ok.ensures.faultless c.in-Ok.ensures.taken in
-    (got.3 ∙ trim, inl (c.in_ok-found.ensures.ready trim), got.2
-        ∙ config, well2, z, at_z, m, room2, after, c.in_ok-found.ensures.flexible ∙ flexible)
+    here c.in-Ok.ensures.faultless c.in-Ok.ensures.taken in (
+      got.3 ∙ trim,
+      inl (c.in_ok-found.ensures.ready trim),
+      got.2
+          ∙ config,
+      well2,
+      z,
+      at_z,
+      m,
+      room2,
+      after,
+      c.in_ok-found.ensures.flexible ∙ flexible,
+    )
 
 pub returns-in-Err-Fault-clause-fault : goal.returns-in-Err-Fault-clause-fault
 returns-in-Err-Fault-clause-fault c =
@@ -51,15 +61,15 @@ returns-in-Err-Fault-clause-fault c =
     let got = rw c.if-not-found.false at (c.in_ok-found.ensures.reads trim ready) in
     let row = fields_of c.read_byte_record.new.row in
     let (z, at_z, next) = row-read (λ (b : Bor (List ℕ)). Some b.now) c.rows.reader
-        c.read_byte_record.new.self row y config source got in
+    c.read_byte_record.new.self row y config source got in
     let (m, more, room2, well2) = records-step n c.rows.reader.state y
-        (row, c.read_byte_record.new.self.state, z) next well room in
+    (row, c.read_byte_record.new.self.state, z) next well room in
     let rest = records_from default_config m c.read_byte_record.new.self.state z in
     let here = subst (HasRead (records_of c.args.bytes.now) c.rows.draft) {y = row ∷ rest} more
-        read in
+    read in
     let refused = rw c.in-Err-Fault.is at c.take_row.ensures.err in
     let found = read-fault (records_of c.args.bytes.now) c.rows.draft row rest c.in-Err-Fault.kind
-        here (rw c.in-Err-Fault.field-0-is at refused) in
+    here (rw c.in-Err-Fault.field-0-is at refused) in
     rw (c.taken-number.ensures, c.in-Err-Fault.kind-is) (inl (c.requires, _, refl, found))
 
 pub returns-in-None-clause-fault : goal.returns-in-None-clause-fault
@@ -67,9 +77,9 @@ returns-in-None-clause-fault c =
     let (trim, ready, config, well, y, source, n, room, read, flexible) = c.rows.invariant in
     let got = rw c.if-not-found.true at (c.in_ok-found.ensures.reads trim ready) in
     let end = rows-end (λ (b : Bor (List ℕ)). Some b.now) c.rows.reader c.read_byte_record.new.self
-        (fields_of c.read_byte_record.new.row) default_config y config source got in
+    (fields_of c.read_byte_record.new.row) default_config y config source got in
     let here = subst (HasRead (records_of c.args.bytes.now) c.rows.draft)
-        (records-end n c.rows.reader.state y end) read in
+    (records-end n c.rows.reader.state y end) read in
     let found = read-end (records_of c.args.bytes.now) c.rows.draft here c.in-None.ensures.none in
     rw c.taken-number.ensures (inl (c.requires, _, refl, found))
 
@@ -78,11 +88,11 @@ returns-in-Some-clause-sheet c =
     let (trim, ready, config, well, y, source, n, room, read, flexible) = c.rows.invariant in
     let got = rw c.if-not-found.true at (c.in_ok-found.ensures.reads trim ready) in
     let end = rows-end (λ (b : Bor (List ℕ)). Some b.now) c.rows.reader c.read_byte_record.new.self
-        (fields_of c.read_byte_record.new.row) default_config y config source got in
+    (fields_of c.read_byte_record.new.row) default_config y config source got in
     let here = subst (HasRead (records_of c.args.bytes.now) c.rows.draft)
-        (records-end n c.rows.reader.state y end) read in
+    (records-end n c.rows.reader.state y end) read in
     read-whole c.args.bytes.now c.rows.draft c.in-Some.sheet c.requires here c.in-Some.ensures.some
-        c.in-Some.ensures.valid
+    c.in-Some.ensures.valid
 
 pub rows-smaller : goal.rows-smaller
 rows-smaller c =
@@ -90,14 +100,16 @@ rows-smaller c =
     let got = rw c.if-not-found.false at (c.in_ok-found.ensures.reads trim ready) in
     let row = fields_of c.read_byte_record.new.row in
     let (z, at_z, next) = row-read (λ (b : Bor (List ℕ)). Some b.now) c.rows.reader
-        c.read_byte_record.new.self row y config source got in
+    c.read_byte_record.new.self row y config source got in
     let (m, more, room2, well2) = records-step n c.rows.reader.state y
-        (row, c.read_byte_record.new.self.state, z) next well room in
+    (row, c.read_byte_record.new.self.state, z) next well room in
     let rest = records_from default_config m c.read_byte_record.new.self.state z in
     let here = subst (HasRead (records_of c.args.bytes.now) c.rows.draft) {y = row ∷ rest} more
-        read in
+    read in
     let taken = row-taken c.rows.draft row here.draft c.in-Ok.ensures.faultless in
-    rw (c.in-Ok.ensures.taken, taken.rows) (omega
-        (arith, ap (λ (all : List (List (List ℕ))). length all) here.rows,
-        length-append (rows_of_draft c.rows.draft) (row ∷ rest),
-        length-append (rows_of_draft c.rows.draft) (row ∷ [])))
+    rw (c.in-Ok.ensures.taken, taken.rows) (omega (
+      arith,
+      ap (λ (all : List (List (List ℕ))). length all) here.rows,
+      length-append (rows_of_draft c.rows.draft) (row ∷ rest),
+      length-append (rows_of_draft c.rows.draft) (row ∷ []),
+    ))

@@ -14,15 +14,20 @@ loop-row-preserved g c text h =
     let number = c.as_bytes.ensures.value ∙ c.format.ensures.text in
     let value = c.as_bytes-in-loop-row.ensures.value ∙ c.format-in-loop-row.ensures.text in
     let turn = c.as_bytes-in-loop-row-2.ensures.value ∙ c.format-in-loop-row-2.ensures.text
-        ∙ ap signed_decimal (to_z-of_z w8 c.row-item.result.turn fits) in
+    ∙ ap signed_decimal (to_z-of_z w8 c.row-item.result.turn fits) in
     let before = text ++ rows_text (map obs_fields (take c.loop-row.row-index c.args.rows.now)) in
-    let row = rw (c.as_slice.ensures, number, c.bytes.ensures.value, value,
-        turn) at c.in_ok-push_row.ensures in
+    let row = rw (
+      c.as_slice.ensures,
+      number,
+      c.bytes.ensures.value,
+      value,
+      turn,
+    ) at c.in_ok-push_row.ensures in
     let written = row before (c.loop-row.invariant text h) in
     let more = entry-more obs_fields text c.args.rows.now c.loop-row.row-index c.row-item.result
-        c.row-item.is c.loop-row-test.true in
+    c.row-item.is c.loop-row-test.true in
     subst (λ (t : List ℕ). HasWritten {W = g.row.W.Denot} g.W.Write.contents c.push_row.new.writer
-        t) more written
+    t) more written
 
 pub returns : goal.returns
 returns g c text h =

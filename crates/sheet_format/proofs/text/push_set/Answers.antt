@@ -9,6 +9,11 @@ returns g c =
     let fits : FitsSigned w128 c.args.orientation.now.value = search rules in
     let number = c.as_bytes.ensures.value ∙ c.format.ensures.text in
     let value = c.as_bytes-2.ensures.value ∙ c.format-2.ensures.text
-        ∙ ap signed_decimal (to_z-of_z w128 c.args.orientation.now.value fits) in
-    rw (c.as_slice.ensures, number, c.as_slice-2.ensures, value,
-        c.as_slice-3.ensures) at c.push_row.ensures
+    ∙ ap signed_decimal (to_z-of_z w128 c.args.orientation.now.value fits) in
+    rw (
+      c.as_slice.ensures,
+      number,
+      c.as_slice-2.ensures,
+      value,
+      c.as_slice-3.ensures,
+    ) at c.push_row.ensures

@@ -8,6 +8,11 @@ pub returns : goal.returns
 returns g c =
     let fits : FitsSigned w128 c.args.direction.now.value = search rules in
     let value = c.as_bytes.ensures.value ∙ c.format.ensures.text
-        ∙ ap signed_decimal (to_z-of_z w128 c.args.direction.now.value fits) in
-    rw (c.as_slice.ensures, c.as_slice-2.ensures, c.bytes.ensures.value, value,
-        c.as_slice-3.ensures) at c.push_row.ensures
+    ∙ ap signed_decimal (to_z-of_z w128 c.args.direction.now.value fits) in
+    rw (
+      c.as_slice.ensures,
+      c.as_slice-2.ensures,
+      c.bytes.ensures.value,
+      value,
+      c.as_slice-3.ensures,
+    ) at c.push_row.ensures

@@ -2,7 +2,7 @@ use Rattle.std.proofs.Common.{◌≡◌, ◌+◌, ◌<◌, ℕ, List, length, po
 use Rattle.std.specs.Int.{w64}
 use Rattle.std.proofs.lemmas.Int.{ints, to_z-of_z}
 use Rattle.std.proofs.Math.IntN.{◌*ℤ◌, ◌-ℤ◌}
-use Rattle.adjust_kernel.specs.declared.limits.TheConstants.{MOST_SETS}
+use Rattle.adjust_kernel.specs.declared.bounds.TheConstants.{MOST_SETS}
 use Rattle.adjust_kernel.specs.declared.row.Direction.{Direction}
 use Rattle.adjust_kernel.specs.Pairs.{readings_of}
 use Rattle.adjust_kernel.specs.Within.{IsWithin}

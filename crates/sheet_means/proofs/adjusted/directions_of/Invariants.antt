@@ -1,6 +1,6 @@
 use Rattle.std.proofs.Common.{pos}
 use Rattle.std.proofs.Math.IntN.{◌*ℤ◌, ◌-ℤ◌}
-use Rattle.adjust_kernel.specs.declared.limits.TheConstants.{MOST_SETS}
+use Rattle.adjust_kernel.specs.declared.bounds.TheConstants.{MOST_SETS}
 use Rattle.adjust_kernel.specs.Pairs.{readings_of}
 use Rattle.sheet_means.specs.Parts.{AreEach, IsMeansDirection}
 use Rattle.sheet_means.specs.Totals.{target_total}

@@ -3,7 +3,7 @@ use Rattle.std.proofs.lemmas.Int.{to_z-of_z, ints}
 use Rattle.adjust_kernel.specs.Names.{IsName}
 use Rattle.adjust_kernel.specs.Sheets.{IsSetNumber}
 use Rattle.adjust_kernel.specs.Within.{IsWithin}
-use Rattle.adjust_kernel.specs.declared.limits.TheConstants.{LARGEST_TURN}
+use Rattle.adjust_kernel.specs.declared.bounds.TheConstants.{LARGEST_TURN}
 use Rattle.sheet_means.specs.declared.turn.TheConstants.{MOST_TURNS}
 use Rattle.sheet_means.proofs.rows.row_of.Goals as goal
 

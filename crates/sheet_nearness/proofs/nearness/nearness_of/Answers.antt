@@ -1,6 +1,6 @@
 use Rattle.std.proofs.Common.{subst, sym, arith}
 use Rattle.std.proofs.lemmas.Result.{err_from_is_err_and}
-use Rattle.adjust_kernel.specs.declared.limits.TheConstants.{LARGEST_RESIDUAL_LIMIT}
+use Rattle.adjust_kernel.specs.declared.bounds.TheConstants.{LARGEST_RESIDUAL_LIMIT}
 use Rattle.sheet_nearness.specs.Nearness.{IsNearAllLeast, IsNearAllNoLarger}
 use Rattle.sheet_nearness.proofs.SheetNearness.{early_fault, none_beside_sums, sheet_is_near_all_least, sheet_is_near_all_no_larger, tied_holds_together}
 use Rattle.sheet_nearness.proofs.nearness.nearness_of.Goals as goal

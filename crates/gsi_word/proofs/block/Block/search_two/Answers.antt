@@ -12,25 +12,31 @@ loop-word-preserved c =
     record {
       first = c.count.ensures words c.loop-word.i c.loop-word.invariant.first here;
       second = c.count-in-Some.ensures words c.loop-word.i c.loop-word.invariant.second here;
-      inside = omega (arith, below words c.loop-word.i c.in-Some.word here,
-          length_words_from b.width b.count b.bytes.now);
+      inside = omega (
+        arith,
+        below words c.loop-word.i c.in-Some.word here,
+        length_words_from b.width b.count b.bytes.now,
+      );
     }
 
 pub loop-word-smaller : goal.loop-word-smaller
 loop-word-smaller c =
     let b = c.args.self.now in
     let words = words_from b.width b.count b.bytes.now in
-    omega (arith, below words c.loop-word.i c.in-Some.word (sym c.in-Some.ensures.value),
-        length_words_from b.width b.count b.bytes.now)
+    omega (
+      arith,
+      below words c.loop-word.i c.in-Some.word (sym c.in-Some.ensures.value),
+      length_words_from b.width b.count b.bytes.now,
+    )
 
 pub returns-clause-first : goal.returns-clause-first
 returns-clause-first c =
     let b = c.args.self.now in
     c.loop-word.invariant.first ∙ found_all c.args.first (words_from b.width b.count b.bytes.now)
-        c.loop-word.i (sym c.in_default.ensures.value)
+    c.loop-word.i (sym c.in_default.ensures.value)
 
 pub returns-clause-second : goal.returns-clause-second
 returns-clause-second c =
     let b = c.args.self.now in
     c.loop-word.invariant.second ∙ found_all c.args.second (words_from b.width b.count b.bytes.now)
-        c.loop-word.i (sym c.in_default.ensures.value)
+    c.loop-word.i (sym c.in_default.ensures.value)

@@ -9,13 +9,13 @@ pub returns-then-self-clause-steps : goal.returns-then-self-clause-steps
 returns-then-self-clause-steps c =
     let b = c.args.self.now.block in
     first_left (words_from b.width b.count b.bytes.now) c.args.self.now.place
-        c.word_within-word.result c.word_within-word.ensures.value
+    c.word_within-word.result c.word_within-word.ensures.value
 
 pub returns-then-self-clause-goes : goal.returns-then-self-clause-goes
 returns-then-self-clause-goes c =
     let b = c.args.self.now.block in
     let step = first_left (words_from b.width b.count b.bytes.now) c.args.self.now.place
-        c.word_within-word.result c.word_within-word.ensures.value in
+    c.word_within-word.result c.word_within-word.ensures.value in
     let shorter = ap length step in
     search rules
 
@@ -24,5 +24,5 @@ returns-else-self-clause-steps c =
     let b = c.args.self.now.block in
     let words = words_from b.width b.count b.bytes.now in
     let none = drop_all c.args.self.now.place words
-        (omega (arith, c.if-self.false, length_words_from b.width b.count b.bytes.now)) in
+    (omega (arith, c.if-self.false, length_words_from b.width b.count b.bytes.now)) in
     (none, none)

@@ -1,7 +1,7 @@
 use Rattle.std.proofs.Common.{◌≡◌, ℕ, ◌+◌, ◌<◌, ◌≤◌, get_or, length}
 use Rattle.std.specs.Map.{keys_of, values_of}
 use Rattle.indexmap.specs.IndexMap.{spare}
-use Rattle.adjust_kernel.specs.declared.limits.TheConstants.{MOST_TARGETS}
+use Rattle.adjust_kernel.specs.declared.bounds.TheConstants.{MOST_TARGETS}
 use Rattle.station_book.specs.Slots.{empty_slot}
 use Rattle.station_book.proofs.targets.Targets.empty_slots.Given as goal
 

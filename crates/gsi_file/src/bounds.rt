@@ -1,4 +1,4 @@
-//! The limits of a field file, in bytes.
+//! The bounds of a field file, in bytes.
 
 /// The most bytes of a line, without the byte that ends it.
 pub const LONGEST_LINE: usize = 1_024;
