@@ -36,6 +36,19 @@ pub(crate) fn put<const N: usize>(room: &mut Room, at: usize, text: &[u8; N]) ->
     put_bytes(room, at, &text)
 }
 
+/// Puts bytes of a length that is known: a load and a store too.
+#[inline(always)]
+pub(crate) fn put_known<const N: usize>(room: &mut Room, at: usize, bytes: &[u8]) -> usize
+    requires room { at + N ≤ PAGE }
+    requires known { length bytes.now ≡ N }
+    ensures next { result ≡ at + N }
+    ensures text { take result room.new ≡ take at room.old ++ bytes.now }
+{
+    let mut text = [0; N];
+    text.copy_from_slice(bytes);
+    put(room, at, &text)
+}
+
 /// Puts the first n bytes of a text of a constant length, after which there is room for all of it.
 #[inline(always)]
 pub(crate) fn put_start<const N: usize>(
