@@ -14,7 +14,8 @@ use Rattle.station_book.specs.declared.stage.Stage.{Stage}
 use Rattle.station_book.specs.declared.stage.Stage.TheVariants.{Outside, Station, BetweenSets, InSet}
 use Rattle.station_book.specs.Faults.{station_faults, when, first_of, open_sets, fault_after, name_at}
 use Rattle.station_book.specs.State.{then_fault}
-use Rattle.station_book.specs.Blocks.{role_of, is_station, is_set_code, is_close, is_measurement, opens_station, opens_set, is_opening, has_direction, named, number, angles, is_of_face, other_face, found, is_absent, is_twice, name_found, has_two, lacks}
+use Rattle.gsi_word.specs.FoundWords.{is_absent, is_twice}
+use Rattle.station_book.specs.Blocks.{role_of, is_station, is_set_code, is_close, is_measurement, opens_station, opens_set, is_opening, has_direction, named, number, angles, is_of_face, other_face, found, name_found, has_two, lacks}
 use Rattle.station_book.specs.StationState.{with_set, with_reading}
 use Rattle.station_book.specs.StationStates.{StationStates, change_last}
 use Rattle.station_book.specs.State as states
