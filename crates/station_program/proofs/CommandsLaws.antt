@@ -46,8 +46,8 @@ adds_rule old a new grammar r added is_old is_rule simple =
 
 -- A command of this grammar, added to a program of that one.
 pub adds_command : (old sub new : Command) (grammar g : App) → AddsSubcommand old sub new
-    → app_of old ≡ grammar → app_of sub ≡ g → g.top.is_plain ≡ true → app_of new
-    ≡ with_subcommand grammar g.top
+    → app_of old ≡ grammar → app_of sub ≡ g → g.top.is_plain ≡ true
+    → app_of new ≡ with_subcommand grammar g.top
 adds_command old sub new grammar g added is_old is_sub plain =
     added.shape (plain_fields sub (ap (λ (x : App). x.top.is_plain) is_sub ∙ plain)).globals
     ∙ ap₂ with_subcommand is_old (ap (λ (x : App). x.top) is_sub)
@@ -60,8 +60,8 @@ module _ {Z : Type 0} where
   -- The name and the rows of one subcommand.
   named_as : (sub : Option (Box SubCommand Z)) (name : Text) (rows : List Row)
       → option_map (λ b. (out-SubCommand (box_value b)).name.now) sub ≡ Some name
-      → option_map (λ p. p.1) (subcommand_rows sub) ≡ Some rows → subcommand_rows sub
-      ≡ Some (name, rows)
+      → option_map (λ p. p.1) (subcommand_rows sub) ≡ Some rows
+      → subcommand_rows sub ≡ Some (name, rows)
   named_as (Some b) name rows is_name are_rows = ap₂ pair is_name are_rows
   named_as None name rows is_name are_rows = ap₂ pair is_name are_rows
 
@@ -79,8 +79,8 @@ module _ {Z : Type 0} where
 
 -- A parse met the subcommand of this name.
 pub meets : (m : ArgMatches) (name : Text) (found : Found) → subcommand_name_of m ≡ Some name
-    → option_map (λ p. p.1) (subcommand_rows_of m)
-    ≡ Some (rows_of found) → Meets (subcommand_rows_of m) name found
+    → option_map (λ p. p.1) (subcommand_rows_of m) ≡ Some (rows_of found)
+    → Meets (subcommand_rows_of m) name found
 meets m name found = named_as (out-ArgMatches m).subcommand name (rows_of found)
 
 -- A parse that met a subcommand of this name has it.
@@ -104,16 +104,16 @@ unfolding clap_on_literals
 has_known_faults = refl
 
 -- A parse by a command of the program's grammar takes the words.
-pub taken_by : (a : App) (words : List Text) → a
-    ≡ the_program → (is_simple_and_free a ≡ true → fault_of a words ≡ [])
+pub taken_by : (a : App) (words : List Text) → a ≡ the_program
+    → (is_simple_and_free a ≡ true → fault_of a words ≡ [])
     → fault_of the_program words ≡ []
 taken_by a words e taken =
     subst (λ (x : App). fault_of x words ≡ []) e
     (taken (ap is_simple_and_free e ∙ has_known_faults))
 
 -- It meets the subcommand that the words name.
-pub met_by : (a : App) (words : List Text) (m : ArgMatches) → a
-    ≡ the_program → HasMatchesOf a words m
+pub met_by : (a : App) (words : List Text) (m : ArgMatches) → a ≡ the_program
+    → HasMatchesOf a words m
     → subcommand_rows_of m ≡ named_by words
 met_by a words m e h = (h (ap is_simple e ∙ is_known)).1 ∙ ap (λ (x : App). subcommand_of x words) e
 

@@ -10,6 +10,7 @@ returns-clause-words c =
     let sheet : rule_of c.help.result ≡ given_rule (codes "SHEET") = search rules in
     let filed = adds_rule _ _ _ _ _ c.in_ok-arg.ensures named c.field_file.ensures refl in
     let sheeted = adds_rule _ _ _ _ _ c.in_ok-command.ensures filed sheet refl in
-    let limited = c.in_ok-command-2.ensures.limits
+    let limited =
+    c.in_ok-command-2.ensures.limits
     ∙ ap (λ (a : App). with_rule (with_rule a two_c_rule) two_i_rule) sheeted in
     adds_rule _ _ _ _ _ c.in_ok-arg-2.ensures limited c.residual_limit.ensures refl

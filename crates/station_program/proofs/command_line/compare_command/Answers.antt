@@ -11,6 +11,7 @@ returns-clause-words c =
     let filed = adds_rule _ _ _ _ _ c.in_ok-arg.ensures named c.field_file.ensures refl in
     let stationed = adds_rule _ _ _ _ _ c.in_ok-arg-2.ensures filed c.station_name.ensures refl in
     let tabled = adds_rule _ _ _ _ _ c.in_ok-command.ensures stationed table refl in
-    let limited = c.in_ok-command-2.ensures.limits
+    let limited =
+    c.in_ok-command-2.ensures.limits
     ∙ ap (λ (a : App). with_rule (with_rule a two_c_rule) two_i_rule) tabled in
     adds_rule _ _ _ _ _ c.in_ok-arg-3.ensures limited c.within.ensures refl

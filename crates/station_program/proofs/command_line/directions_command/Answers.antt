@@ -9,6 +9,7 @@ returns-clause-words c =
     let named : app_of c.after_help.result ≡ new_app (codes "directions") = search rules in
     let filed = adds_rule _ _ _ _ _ c.in_ok-arg.ensures named c.field_file.ensures refl in
     let stationed = adds_rule _ _ _ _ _ c.in_ok-command.ensures filed c.station_name.ensures refl in
-    let limited = c.in_ok-command-2.ensures.limits
+    let limited =
+    c.in_ok-command-2.ensures.limits
     ∙ ap (λ (a : App). with_rule (with_rule a two_c_rule) two_i_rule) stationed in
     adds_rule _ _ _ _ _ c.in_ok-arg-2.ensures limited c.decimals.ensures refl
