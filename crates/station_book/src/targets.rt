@@ -112,6 +112,7 @@ impl Targets {
 
     /// The place of the target of this name, by its hash, which is computed once. Where there is
     /// none of this name and there may be one more, it is added with this first reading.
+    // Apart from its caller, so that the usual way, a target beside the last one, stays small.
     #[inline(never)]
     fn search_or_add(&mut self, name: Name, first: Slot) -> Result<Option<usize>, BookKind>
         ensures place { IfOk result (λ place. place ≡ place_of name self.old.names) }
