@@ -259,12 +259,6 @@ added_kept s e t None none place few is h named low = subst IsStationState
     (λ i. state_of_parts (sym is i) e.sets e.obs e.faces)
     (target_is_state s e h (absent (λ t. bytes_eq t s.target) e.targets (sym place)) few named low)
 
--- where the target was found, nothing was added
-pub found_same : (name : List ℕ) (first : Slot) (old t : TargetsValue) (place : Option ℕ) (i : ℕ)
-    → place ≡ Some i → t ≡ with_first place name first old → t ≡ old
-found_same name first old t None i found is = cc
-found_same name first old t (Some k) i found is = is
-
 -- a reading more of a target, as the code notes it
 pub read_kept : (s : Reading) (e : StationState) (old t : TargetsValue) (i : ℕ) (new : Slot)
     → old ≡ targets_of e → t.names ≡ old.names → t.slots ≡ set old.slots i new

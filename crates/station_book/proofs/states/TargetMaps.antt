@@ -1,5 +1,5 @@
 -- The targets of a station, by the map that keeps them.
-use Rattle.std.proofs.Common.{◌≡◌, ℕ, zero, suc, cond, List, [], ◌∷◌, ◌++◌, length, position, slice_set, get_or, ◌+◌, ◌<◌, ◌≤◌, Some, None, is_some, Result, Ok, Err, IfOk, OnErr, inl, inr, refl, sym, ap, ◌∙◌, subst, arith}
+use Rattle.std.proofs.Common.{◌≡◌, ℕ, zero, suc, cond, List, [], ◌∷◌, ◌++◌, length, position, slice_set, get_or, ◌+◌, ◌<◌, ◌≤◌, Some, None, is_some, Result, Ok, IfOk, inl, inr, refl, sym, ap, ◌∙◌, subst, arith}
 use Rattle.std.specs.List.{position_or_len}
 use Rattle.std.specs.Map.{keys_of, values_of, lookup}
 use Rattle.std.proofs.lemmas.Bool.{cases_Bool, cases_eq, le-ltb, lt-ltb}
@@ -74,10 +74,6 @@ module _ {V : Type 0} where
   unknown_place name es e =
       sym (ap (λ v. cond v (Some (position_or_len (name_eq name) (keys_of es))) None)
       (le-ltb _ _ (none_before name es e))) ∙ found_place name (keys_of es)
-
-pub if_failed : {X E : Type 0} {P : Type 0} (r : Result X E) → P → OnErr r P
-if_failed (Ok x) p = tt
-if_failed (Err e) p = p
 
 pub of_ok : {X E : Type 0} (P : X → Type 0) (r : Result X E) (x : X) → r ≡ Ok x → IfOk r P → P x
 of_ok P r x e h = subst (λ s. IfOk s P) e h

@@ -1,17 +1,20 @@
-use Rattle.std.proofs.Common.{rules, ◌≡◌, ◌∷◌, [], None, Some, sym, ap, ◌∙◌, ℕ, List, length, arith}
+use Rattle.std.proofs.Common.{rules, ◌≡◌, ◌∷◌, [], None, Some, Err, OnErr, sym, ap, ◌∙◌, subst, ℕ, List, length, arith}
 use Rattle.std.specs.Map.{keys_of, values_of}
 use Rattle.std.proofs.lemmas.List.{length-map, map-append}
 use Rattle.indexmap.specs.Entry.{entry_index, entry_map, entry_value, map_with_value}
+use Rattle.station_book.specs.declared.fault.BookKind.TheVariants as kinds
 use Rattle.station_book.specs.declared.slot.Slot.{Slot}
 use Rattle.station_book.specs.StationState.{place_of}
 use Rattle.station_book.specs.Targets.{TargetsValue, with_target}
-use Rattle.station_book.proofs.states.TargetMaps.{added, found_place, known_place, unknown_place, if_failed, of_ok}
+use Rattle.station_book.proofs.states.TargetMaps.{added, found_place, known_place, unknown_place, of_ok}
 use Rattle.station_book.proofs.targets.Targets.search_or_add.Goals as goal
 
 pub returns-in_err-place-clause-absent : goal.returns-in_err-place-clause-absent
 returns-in_err-place-clause-absent c =
     let none : c.get_index_of.result ≡ None = search rules in
-    if_failed c.from_residual.result (sym (c.get_index_of.ensures.index
+    let it : Err kinds.TooManyTargets ≡ c.from_residual.result = search rules in
+    subst (λ r. OnErr r (place_of c.args.name c.args.self.now.names ≡ None)) it
+    (sym (c.get_index_of.ensures.index
     ∙ found_place c.args.name (keys_of c.self.inside.slots.entries)
     ∙ ap (λ (t : TargetsValue). place_of c.args.name t.names) c.self.view_is) ∙ none)
 
