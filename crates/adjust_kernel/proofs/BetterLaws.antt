@@ -1,14 +1,17 @@
 -- Where a sum of residuals does not vanish, moving that target or set by its mean residual lowers
 -- the sum of squares.
-use Rattle.std.proofs.Common.{◌≡◌, ◌≢◌, ℕ, suc, zero, ◌+◌, ◌*◌, ◌≤◌, Bool, true, false, cond, eqb, List, [], ◌∷◌, ℤ, pos, negsuc, ◌+ℤ◌, ◌<ℤ◌, arith, ap, refl, sym, ◌∙◌}
+use Rattle.std.proofs.Common.{◌≡◌, ◌≢◌, ℕ, suc, zero, ◌+◌, ◌*◌, ◌≤◌, Bool, true, false, cond, eqb}
+use Rattle.std.proofs.Common.{List, [], ◌∷◌, ℤ, pos, negsuc, ◌+ℤ◌, ◌<ℤ◌, arith, ap, refl, sym, ◌∙◌}
 use Rattle.std.proofs.Math.IntN.{◌*ℤ◌, ◌-ℤ◌}
 use Rattle.std.proofs.lemmas.Int.{ints}
 use Rattle.adjust_kernel.specs.Readings.{Reading}
 use Rattle.adjust_kernel.specs.Sums.{int_sum_where, squared}
-use Rattle.adjust_kernel.specs.Residuals.{Choice, residual, sum_of_squares, unrolled, target_sum, set_sum}
+use Rattle.adjust_kernel.specs.Residuals.{Choice, residual, sum_of_squares, unrolled, target_sum}
+use Rattle.adjust_kernel.specs.Residuals.{set_sum}
 use Rattle.adjust_kernel.specs.Least.{HasBetter}
 use Rattle.adjust_kernel.proofs.Ring.{num, ◌⊕◌, ◌⊖◌, ◌⊗◌, same_value}
-use Rattle.adjust_kernel.proofs.SumLaws.{int_sum_by-same, int_sum_by-add, int_sum_by-sub, int_sum_by-scale}
+use Rattle.adjust_kernel.proofs.SumLaws.{int_sum_by-same, int_sum_by-add, int_sum_by-sub}
+use Rattle.adjust_kernel.proofs.SumLaws.{int_sum_by-scale}
 
 -- how many pass
 abbrev passing : {X : Type 0} → (X → Bool) → List X → ℕ

@@ -11,7 +11,8 @@ use Rattle.adjust_kernel.specs.Within.{IsWithin}
 use Rattle.adjust_kernel.proofs.Ring.{num, ◌⊕◌, ◌⊗◌, same_value}
 use Rattle.adjust_kernel.proofs.SumLaws.{int_sum_by-add, int_sum_by-scale, AllByRecursion-map}
 use Rattle.adjust_kernel.proofs.LeastLaws.{squared-not_negative}
-use Rattle.adjust_kernel.proofs.SquareBounds.{int_sum_by-at_most, int_sum_by-below, each-at_most, squared_difference, within_squared, squared_within}
+use Rattle.adjust_kernel.proofs.SquareBounds.{int_sum_by-at_most, int_sum_by-below, each-at_most}
+use Rattle.adjust_kernel.proofs.SquareBounds.{squared_difference, within_squared, squared_within}
 
 -- more than any change of a residual, in half units
 abbrev pub MOST_CHANGE : ℕ

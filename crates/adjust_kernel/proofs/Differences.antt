@@ -1,5 +1,7 @@
 -- Lists that agree at each place, or differ at a first one.
-use Rattle.std.proofs.Common.{◌≡◌, ◌≢◌, ℕ, suc, zero, ◌+◌, ◌≤◌, ◌<◌, List, [], ◌∷◌, length, take, get_or, Option, Some, None, MatchOption, arith, ap, refl, sym, ◌∙◌, add-one}
+use Rattle.std.proofs.Common.{◌≡◌, ◌≢◌, ℕ, suc, zero, ◌+◌, ◌≤◌, ◌<◌, List, [], ◌∷◌, length, take}
+use Rattle.std.proofs.Common.{get_or, Option, Some, None, MatchOption, arith, ap, refl, sym, ◌∙◌}
+use Rattle.std.proofs.Common.{add-one}
 use Rattle.std.specs.Prelude.{IfNone, IfSome}
 use Rattle.std.specs.List.{slice_get}
 use Rattle.std.proofs.lemmas.List.{take_all}

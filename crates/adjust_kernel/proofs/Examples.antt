@@ -1,9 +1,11 @@
 -- The definitions at stations worked by hand.
-use Rattle.std.proofs.Common.{◌≡◌, inl, ℕ, zero, suc, Bool, true, false, List, [], ◌∷◌, ℤ, pos, neg_ℤ, arith, refl}
+use Rattle.std.proofs.Common.{◌≡◌, inl, ℕ, zero, suc, Bool, true, false, List, [], ◌∷◌, ℤ, pos}
+use Rattle.std.proofs.Common.{neg_ℤ, arith, refl}
 use Rattle.std.specs.Prelude.{map}
 use Rattle.std.proofs.lemmas.List.Elements.{All-from_recursion}
 use Rattle.adjust_kernel.specs.Readings.{Reading}
-use Rattle.adjust_kernel.specs.Residuals.{Choice, choice_of, residual, sum_of_squares, target_sum, set_sum}
+use Rattle.adjust_kernel.specs.Residuals.{Choice, choice_of, residual, sum_of_squares, target_sum}
+use Rattle.adjust_kernel.specs.Residuals.{set_sum}
 use Rattle.adjust_kernel.specs.Connected.{IsDivided}
 
 abbrev row : ℕ → ℕ → ℕ → ℤ → Reading

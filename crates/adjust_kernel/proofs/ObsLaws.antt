@@ -1,5 +1,6 @@
 -- The order of observations: each comes before all later ones where it comes before the next.
-use Rattle.std.proofs.Common.{zero, suc, refl, ◌≡◌, ◌*◌, ℕ, ◌+◌, ◌-◌, ◌<◌, ◌≤◌, inl, inr, List, length, get_or, arith, below_more}
+use Rattle.std.proofs.Common.{zero, suc, refl, ◌≡◌, ◌*◌, ℕ, ◌+◌, ◌-◌, ◌<◌, ◌≤◌, inl, inr, List}
+use Rattle.std.proofs.Common.{length, get_or, arith, below_more}
 use Rattle.std.proofs.lemmas.List.{get_or_default}
 use Rattle.adjust_kernel.specs.declared.obs.Obs.{Obs}
 use Rattle.adjust_kernel.specs.declared.bounds.TheConstants.{MOST_ROWS, MOST_SETS, MOST_TARGETS}

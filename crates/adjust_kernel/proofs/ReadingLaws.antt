@@ -1,5 +1,6 @@
 -- The readings of a station and a sheet, place by place.
-use Rattle.std.proofs.Common.{◌≡◌, ℕ, suc, zero, ◌<◌, List, [], ◌∷◌, length, get_or, ap, refl, arith}
+use Rattle.std.proofs.Common.{◌≡◌, ℕ, suc, zero, ◌<◌, List, [], ◌∷◌, length, get_or, ap, refl}
+use Rattle.std.proofs.Common.{arith}
 use Rattle.adjust_kernel.specs.declared.obs.Obs.{Obs}
 use Rattle.adjust_kernel.specs.declared.row.Row.{Row}
 use Rattle.adjust_kernel.specs.Readings.{Reading}

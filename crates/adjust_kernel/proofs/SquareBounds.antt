@@ -1,5 +1,6 @@
 -- A change of each residual is small where the other sum is not greater.
-use Rattle.std.proofs.Common.{◌≡◌, ℕ, suc, ◌*◌, ◌≤◌, List, [], ◌∷◌, length, ℤ, pos, negsuc, ◌+ℤ◌, ◌≤ℤ◌, arith}
+use Rattle.std.proofs.Common.{◌≡◌, ℕ, suc, ◌*◌, ◌≤◌, List, [], ◌∷◌, length, ℤ, pos, negsuc, ◌+ℤ◌}
+use Rattle.std.proofs.Common.{◌≤ℤ◌, arith}
 use Rattle.std.proofs.Math.IntN.{◌*ℤ◌, ◌-ℤ◌}
 use Rattle.std.proofs.Math.Nat.{mul-le-mul}
 use Rattle.std.specs.List.{AllByRecursion}

@@ -1,14 +1,18 @@
 -- One more residual in running sums.
-use Rattle.std.proofs.Common.{◌≡◌, ℕ, ◌+◌, ◌*◌, ◌<◌, cond, eqb, List, [], ◌∷◌, ◌++◌, length, take, replicate, set, get_or, All, ℤ, pos, ◌+ℤ◌, arith, ap, refl, sym, ◌∙◌, eq-eqb}
+use Rattle.std.proofs.Common.{◌≡◌, ℕ, ◌+◌, ◌*◌, ◌<◌, cond, eqb, List, [], ◌∷◌, ◌++◌, length, take}
+use Rattle.std.proofs.Common.{replicate, set, get_or, All, ℤ, pos, ◌+ℤ◌, arith, ap, refl, sym, ◌∙◌}
+use Rattle.std.proofs.Common.{eq-eqb}
 use Rattle.std.proofs.Math.IntN.{+ℤ_idr}
 use Rattle.std.proofs.lemmas.Int.{ints}
 use Rattle.std.proofs.lemmas.Bool.{ne_eqb}
-use Rattle.std.proofs.lemmas.List.{map-append, get_or-set_same, get_or-set_other, length-append, get_or-replicate, take_more}
+use Rattle.std.proofs.lemmas.List.{map-append, get_or-set_same, get_or-set_other, length-append}
+use Rattle.std.proofs.lemmas.List.{get_or-replicate, take_more}
 use Rattle.std.proofs.lemmas.List.Elements.{All-set, All-weaker, All-replicate}
 use Rattle.adjust_kernel.specs.declared.tally.Added.{Added}
 use Rattle.adjust_kernel.specs.Sums.{int_sum_by, int_sum_where}
 use Rattle.adjust_kernel.specs.Within.{IsWithin}
-use Rattle.adjust_kernel.specs.Tallies.{AreSumsOf, added_for_target, added_for_set, added_of, all_added}
+use Rattle.adjust_kernel.specs.Tallies.{AreSumsOf, added_for_target, added_for_set, added_of}
+use Rattle.adjust_kernel.specs.Tallies.{all_added}
 use Rattle.adjust_kernel.specs.declared.obs.Obs.{Obs}
 use Rattle.adjust_kernel.specs.declared.row.Row.{Row}
 use Rattle.adjust_kernel.specs.Readings.{Reading}

@@ -2,27 +2,32 @@
 -- same sum only those that turn targets and sets as a whole. The bound: with at most 140 sets and
 -- targets together, a reading's turns differ from those of its ends by at most 279 changes of a
 -- residual, which is below one turn, and so by none.
-use Rattle.std.proofs.Common.{◌≡◌, ℕ, suc, zero, ◌+◌, ◌-◌, ◌*◌, ◌≤◌, ◌<◌, List, [], ◌∷◌, length, All, ℤ, pos, negsuc, ◌+ℤ◌, ◌≤ℤ◌, arith, ap, refl, sym, ◌∙◌, subst}
+use Rattle.std.proofs.Common.{◌≡◌, ℕ, suc, zero, ◌+◌, ◌-◌, ◌*◌, ◌≤◌, ◌<◌, List, [], ◌∷◌, length}
+use Rattle.std.proofs.Common.{All, ℤ, pos, negsuc, ◌+ℤ◌, ◌≤ℤ◌, arith, ap, refl, sym, ◌∙◌, subst}
 use Rattle.std.specs.Prelude.{map}
 use Rattle.std.proofs.Math.IntN.{◌*ℤ◌, ◌-ℤ◌}
 use Rattle.std.proofs.Math.Nat.{mul-le-mul}
 use Rattle.std.specs.List.{AllByRecursion}
 use Rattle.std.proofs.lemmas.Int.{ints, by_lt_z}
 use Rattle.std.proofs.lemmas.List.Elements.{recursion_from_All}
-use Rattle.adjust_kernel.specs.declared.bounds.TheConstants.{TURN, MOST_TARGETS, MOST_SETS, MOST_ROWS, LARGEST_RESIDUAL_LIMIT}
+use Rattle.adjust_kernel.specs.declared.bounds.TheConstants.{TURN, MOST_TARGETS, MOST_SETS}
+use Rattle.adjust_kernel.specs.declared.bounds.TheConstants.{MOST_ROWS, LARGEST_RESIDUAL_LIMIT}
 use Rattle.adjust_kernel.specs.Sums.{int_sum_by, squared}
 use Rattle.adjust_kernel.specs.Within.{IsWithin}
 use Rattle.adjust_kernel.specs.Readings.{Reading}
 use Rattle.adjust_kernel.specs.Residuals.{Choice, residual, sum_of_squares}
 use Rattle.adjust_kernel.specs.Connected.{IsConnected}
 use Rattle.adjust_kernel.specs.Least.{IsNoLargerSum, sum_beside}
-use Rattle.adjust_kernel.specs.Turns.{IsLimited, with_turns, IsLeastOverTurns, AreTurnedWhole, OnlyTurnedWhole}
+use Rattle.adjust_kernel.specs.Turns.{IsLimited, with_turns, IsLeastOverTurns, AreTurnedWhole}
+use Rattle.adjust_kernel.specs.Turns.{OnlyTurnedWhole}
 use Rattle.adjust_kernel.proofs.BalanceLaws.{IsBalanced}
 use Rattle.adjust_kernel.proofs.ReadingLaws.{IsPlaced}
 use Rattle.adjust_kernel.proofs.Ring.{num, ◌⊕◌, ◌⊖◌, ◌⊗◌, same_value}
 use Rattle.adjust_kernel.proofs.SumLaws.{AllByRecursion-map, AllByRecursion-both}
 use Rattle.adjust_kernel.proofs.LeastLaws.{moved_direction, moved_orientation, balanced_is_least}
-use Rattle.adjust_kernel.proofs.PairedTurns.{Pair, paired, retuned, difference, own_squares, other_squares, length-paired, paired-all, differences-all, differences-divided, turns_by}
+use Rattle.adjust_kernel.proofs.PairedTurns.{Pair, paired, retuned, difference, own_squares}
+use Rattle.adjust_kernel.proofs.PairedTurns.{other_squares, length-paired, paired-all}
+use Rattle.adjust_kernel.proofs.PairedTurns.{differences-all, differences-divided, turns_by}
 use Rattle.adjust_kernel.proofs.ChangeBounds.{MOST_CHANGE, changes_in}
 use Rattle.adjust_kernel.proofs.NearLaws.{IsNear, EndsAreNear, AllAreNear, all_near}
 use native.Mathlib.Decide.{dec_lt}

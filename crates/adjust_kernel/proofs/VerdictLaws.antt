@@ -1,6 +1,8 @@
 -- Verdicts: just one stands for a station, a sheet and a limit; what holds where a fault of a kind
 -- does not stand; and the verdicts of each test, in their order.
-use Rattle.std.proofs.Common.{◌≡◌, ◌≢◌, ◌⊎◌, inl, inr, ℕ, ◌+◌, ◌*◌, ◌<◌, ◌≤◌, List, length, pos, Option, Some, None, Result, Ok, Err, arith, ap, refl, sym, ◌∙◌, subst, get_or}
+use Rattle.std.proofs.Common.{◌≡◌, ◌≢◌, ◌⊎◌, inl, inr, ℕ, ◌+◌, ◌*◌, ◌<◌, ◌≤◌, List, length, pos}
+use Rattle.std.proofs.Common.{Option, Some, None, Result, Ok, Err, arith, ap, refl, sym, ◌∙◌, subst}
+use Rattle.std.proofs.Common.{get_or}
 use Rattle.std.specs.Prelude.{map, slice_index_or, IfSome}
 use Rattle.std.specs.Int.RustNames.{unsigned_abs}
 use Rattle.std.specs.Str.{bytes_eq}
@@ -10,10 +12,15 @@ use Rattle.std.proofs.lemmas.Slice.Eq.{bytes_eq-Decides}
 use native.Mathlib.Decide.{dec_lt, ℕ_discrete}
 use Rattle.adjust_kernel.specs.declared.accepted.Accepted.{Accepted}
 use Rattle.adjust_kernel.specs.declared.kernel_fault.KernelFault.{KernelFault}
-use Rattle.adjust_kernel.specs.declared.kernel_fault.KernelFault.TheVariants.{Name, TargetRow, SetRow, ObsRow, Datum, TargetSum, SetSum, NotConnected, Residual}
+use Rattle.adjust_kernel.specs.declared.kernel_fault.KernelFault.TheVariants.{Name, TargetRow}
+use Rattle.adjust_kernel.specs.declared.kernel_fault.KernelFault.TheVariants.{SetRow, ObsRow, Datum}
+use Rattle.adjust_kernel.specs.declared.kernel_fault.KernelFault.TheVariants.{TargetSum, SetSum}
+use Rattle.adjust_kernel.specs.declared.kernel_fault.KernelFault.TheVariants.{NotConnected}
+use Rattle.adjust_kernel.specs.declared.kernel_fault.KernelFault.TheVariants.{Residual}
 use Rattle.adjust_kernel.specs.Connected.{IsDivided}
 use Rattle.adjust_kernel.specs.Firsts.{IsFirstDifference, IsFirstWhere}
-use Rattle.adjust_kernel.specs.Matching.{Key, Matches, key_of_row, key_of_obs, names_of, numbers_of, keys_of, observed}
+use Rattle.adjust_kernel.specs.Matching.{Key, Matches, key_of_row, key_of_obs, names_of, numbers_of}
+use Rattle.adjust_kernel.specs.Matching.{keys_of, observed}
 use Rattle.adjust_kernel.specs.Pairs.{choice_stated_by}
 use Rattle.adjust_kernel.specs.Readings.{Reading}
 use Rattle.adjust_kernel.specs.Residuals.{residual, target_sum, set_sum}
@@ -21,10 +28,14 @@ use Rattle.adjust_kernel.specs.Sheets.{SheetValue}
 use Rattle.adjust_kernel.specs.Stations.{StationValue}
 use Rattle.adjust_kernel.specs.Turns.{IsAbove}
 use Rattle.adjust_kernel.specs.Within.{IsWithin}
-use Rattle.adjust_kernel.specs.Verdict.{AtNth, Stands, IsAcceptance, IsAcceptedSheet, IsFault, IsVerdict, TargetsAddUp, SetsAddUp, HoldsTogether, KeepsLimit, order_of, readings}
+use Rattle.adjust_kernel.specs.Verdict.{AtNth, Stands, IsAcceptance, IsAcceptedSheet, IsFault}
+use Rattle.adjust_kernel.specs.Verdict.{IsVerdict, TargetsAddUp, SetsAddUp, HoldsTogether}
+use Rattle.adjust_kernel.specs.Verdict.{KeepsLimit, order_of, readings}
 use Rattle.adjust_kernel.proofs.ConnectionLaws.{connected_or_divided}
-use Rattle.adjust_kernel.proofs.FirstLaws.{one_difference, no_difference, one_first, same_or_first, none_or_first, dec_by, dec_not, by_not_not}
-use Rattle.adjust_kernel.proofs.GreatestLaws.{size_within, within_size, greatest_size, greatest_is, one_greatest}
+use Rattle.adjust_kernel.proofs.FirstLaws.{one_difference, no_difference, one_first, same_or_first}
+use Rattle.adjust_kernel.proofs.FirstLaws.{none_or_first, dec_by, dec_not, by_not_not}
+use Rattle.adjust_kernel.proofs.GreatestLaws.{size_within, within_size, greatest_size, greatest_is}
+use Rattle.adjust_kernel.proofs.GreatestLaws.{one_greatest}
 use Rattle.adjust_kernel.proofs.ReadingLaws.{length-readings_of}
 
 -- No fault of this kind stands, whatever its number: what holds in its place.

@@ -2,7 +2,8 @@
 use Rattle.std.specs.Prelude.{◌≡◌, ℕ, List, length, Option, IfSome, Result, Ok, Err, OnOk, ⊤}
 use Rattle.adjust_kernel.specs.declared.accepted.Accepted.{Accepted}
 use Rattle.adjust_kernel.specs.declared.kernel_fault.KernelFault.{KernelFault}
-use Rattle.adjust_kernel.specs.declared.kernel_fault.KernelFault.TheVariants.{TargetSum, SetSum, NotConnected}
+use Rattle.adjust_kernel.specs.declared.kernel_fault.KernelFault.TheVariants.{TargetSum, SetSum}
+use Rattle.adjust_kernel.specs.declared.kernel_fault.KernelFault.TheVariants.{NotConnected}
 use Rattle.adjust_kernel.specs.Least.{IsLeast, IsUnique, HasBetter, HasAnother}
 use Rattle.adjust_kernel.specs.Matching.{Matches}
 use Rattle.adjust_kernel.specs.Pairs.{choice_stated_by}

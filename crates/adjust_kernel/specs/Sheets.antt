@@ -1,7 +1,10 @@
 -- Sheets: what an adjustment answered for a station, as contracts see it, and the limits that it
 -- keeps.
 use Rattle.std.specs.Prelude.{ℕ, List, ◌≤◌, ◌<◌, length, All}
-use Rattle.adjust_kernel.specs.declared.bounds.TheConstants.{LARGEST_ANGLE, LARGEST_DENOMINATOR, LARGEST_SET_NUMBER, LARGEST_TURN, MOST_ROWS, MOST_SETS, MOST_TARGETS, TURN}
+use Rattle.adjust_kernel.specs.declared.bounds.TheConstants.{LARGEST_ANGLE, LARGEST_DENOMINATOR}
+use Rattle.adjust_kernel.specs.declared.bounds.TheConstants.{LARGEST_SET_NUMBER, LARGEST_TURN}
+use Rattle.adjust_kernel.specs.declared.bounds.TheConstants.{MOST_ROWS, MOST_SETS, MOST_TARGETS}
+use Rattle.adjust_kernel.specs.declared.bounds.TheConstants.{TURN}
 use Rattle.adjust_kernel.specs.declared.row.Direction.{Direction}
 use Rattle.adjust_kernel.specs.declared.row.Orientation.{Orientation}
 use Rattle.adjust_kernel.specs.declared.row.Row.{Row}

@@ -1,9 +1,14 @@
 -- The verdict on a sheet of a station: the first of its faults, in a stated order, or the
 -- acceptance. An office may state a residual limit.
-use Rattle.std.specs.Prelude.{◌≡◌, ◌≢◌, ℕ, pos, ◌+◌, ◌<◌, List, length, Option, Result, Ok, Err, IsSomeAnd}
+use Rattle.std.specs.Prelude.{◌≡◌, ◌≢◌, ℕ, pos, ◌+◌, ◌<◌, List, length, Option, Result, Ok, Err}
+use Rattle.std.specs.Prelude.{IsSomeAnd}
 use Rattle.adjust_kernel.specs.declared.accepted.Accepted.{Accepted}
 use Rattle.adjust_kernel.specs.declared.kernel_fault.KernelFault.{KernelFault}
-use Rattle.adjust_kernel.specs.declared.kernel_fault.KernelFault.TheVariants.{Name, TargetRow, SetRow, ObsRow, Datum, TargetSum, SetSum, NotConnected, Residual}
+use Rattle.adjust_kernel.specs.declared.kernel_fault.KernelFault.TheVariants.{Name, TargetRow}
+use Rattle.adjust_kernel.specs.declared.kernel_fault.KernelFault.TheVariants.{SetRow, ObsRow, Datum}
+use Rattle.adjust_kernel.specs.declared.kernel_fault.KernelFault.TheVariants.{TargetSum, SetSum}
+use Rattle.adjust_kernel.specs.declared.kernel_fault.KernelFault.TheVariants.{NotConnected}
+use Rattle.adjust_kernel.specs.declared.kernel_fault.KernelFault.TheVariants.{Residual}
 use Rattle.adjust_kernel.specs.Connected.{IsConnected, IsDivided}
 use Rattle.adjust_kernel.specs.Firsts.{IsFirstDifference, IsFirstWhere}
 use Rattle.adjust_kernel.specs.Greatest.{IsGreatest}

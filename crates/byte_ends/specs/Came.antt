@@ -6,8 +6,8 @@ use Rattle.byte_ends.specs.declared.input.InputFault.{InputFault}
 use Rattle.byte_ends.specs.declared.input.InputFault.TheVariants.{Read, TooLong, Memory}
 
 -- Some bytes came of a reader, and then an end or a failed read, of which this is so. Where the
--- reader tells its bytes they are these, and it ends or fails as it tells. Of any other, as a file's,
--- they are not known beforehand, and so it is said that there are such.
+-- reader tells its bytes they are these, and it ends or fails as it tells. Of any other, as a
+-- file's, they are not known beforehand, and so it is said that there are such.
 pub record SomeBytesCame (told : Option Told) (So : Told → Type 0) : Type 0 where
   pub came : Told
   pub as_told : MayGive told came
@@ -24,8 +24,8 @@ ExplainsInput input Memory = Unit {0}
 abbrev pub IsReadOut : Option Told → Bool → Bool → Type 0
 IsReadOut told failed failed' = (told ≡ Some ended) × (failed' ≡ failed)
 
--- How a source is left: it has ended where its bytes were had; a read of it failed, and it has broken
--- off, exactly where that is answered.
+-- How a source is left: it has ended where its bytes were had; a read of it failed, and it has
+-- broken off, exactly where that is answered.
 abbrev pub LeavesSource : {A : Type 0} → Result A InputFault → Option Told → Bool → Bool → Type 0
 LeavesSource (Ok bytes) told failed failed' = IsReadOut told failed failed'
 LeavesSource (Err Read) told failed failed' = (told ≡ Some broken_off) × (failed' ≡ true)

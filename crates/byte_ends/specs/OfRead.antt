@@ -1,5 +1,6 @@
 -- The reader behind an `OfRead`, and what is known of it.
-use Rattle.std.specs.Prelude.{ℕ, Bool, true, false, ◌==◌, not, ◌&&◌, Option, Some, None, Result, Ok, Err, if◌then◌else◌}
+use Rattle.std.specs.Prelude.{ℕ, Bool, true, false, ◌==◌, not, ◌&&◌, Option, Some, None, Result, Ok}
+use Rattle.std.specs.Prelude.{Err, if◌then◌else◌}
 use Rattle.byte_ends.specs.declared.of_read.OfRead.{OfRead}
 use Rattle.byte_ends.specs.declared.of_read.State.{State}
 use Rattle.byte_ends.specs.declared.of_read.State.TheVariants.{Open, Ended, BrokenOff}

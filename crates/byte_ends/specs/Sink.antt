@@ -1,6 +1,7 @@
 -- What a write does to a sink.
 use Rattle.std.specs.Io.KnownBytes.{Appends}
-use Rattle.std.specs.Prelude.{ℕ, zero, suc, ◌<◌, ◌≤◌, Bool, true, false, List, take, ⊤, Option, Result, Ok, Err}
+use Rattle.std.specs.Prelude.{ℕ, zero, suc, ◌<◌, ◌≤◌, Bool, true, false, List, take, ⊤, Option}
+use Rattle.std.specs.Prelude.{Result, Ok, Err}
 
 -- A write takes at most the bytes that it was given, and of some bytes at least one.
 abbrev pub TakesSome : {E : Type 0} → Result ℕ E → ℕ → Type 0
@@ -12,7 +13,8 @@ abbrev pub failed_after : {T E : Type 0} → Bool → Result T E → Bool
 failed_after old (Ok x) = old
 failed_after old (Err e) = true
 
--- whether all that was written is handed on after so many more bytes were taken: only where none was
+-- whether all that was written is handed on after so many more bytes were taken: only where none
+-- was
 abbrev pub handed_on_after : Bool → ℕ → Bool
 handed_on_after old zero = old
 handed_on_after old (suc n) = false

@@ -1,6 +1,7 @@
 -- What a source tells, and what a read does to it. To tell is to let contracts know the bytes that
 -- are still to come, beforehand: a slice does, a file does not.
-use Rattle.std.specs.Prelude.{◌≡◌, ℕ, ◌<◌, Bool, true, false, List, [], ◌++◌, length, take, ⊤, Option, Some, None, IfSome, Result, Ok, Err}
+use Rattle.std.specs.Prelude.{◌≡◌, ℕ, ◌<◌, Bool, true, false, List, [], ◌++◌, length, take, ⊤}
+use Rattle.std.specs.Prelude.{Option, Some, None, IfSome, Result, Ok, Err}
 
 -- the bytes that a source still gives, and whether it then fails
 pub record Told : Type 0 where

@@ -1,5 +1,6 @@
 -- The target that has a name, as a search finds it.
-use Rattle.std.proofs.Common.{◌≡◌, ℕ, Bool, true, false, List, [], length, get_or, Option, None, Some, IfSome, IfNone, OnSome, sym, refl, arith}
+use Rattle.std.proofs.Common.{◌≡◌, ℕ, Bool, true, false, List, [], length, get_or, Option, None}
+use Rattle.std.proofs.Common.{Some, IfSome, IfNone, OnSome, sym, refl, arith}
 use Rattle.std.specs.Prelude.{nat_lt, if◌then◌else◌}
 use Rattle.std.specs.List.{list_any, position, position_or_len}
 use Rattle.std.specs.Str.{bytes_eq}
@@ -13,27 +14,33 @@ use Rattle.direction_table.specs.Rows.{has_name}
 abbrev pub is_named : List ℕ → List ℕ → Bool
 is_named name target = bytes_eq target name
 
-none-passes : (p : List ℕ → Bool) (names : List (List ℕ)) → position p names ≡ None → list_any p names ≡ false
+none-passes : (p : List ℕ → Bool) (names : List (List ℕ)) → position p names ≡ None
+    → list_any p names ≡ false
 none-passes p names e = by (nat_lt (position_or_len p names) (length names)) refl e
   where
-    by : (b : Bool) → nat_lt (position_or_len p names) (length names) ≡ b → (if b then Some (position_or_len p names) else None) ≡ None → list_any p names ≡ false
+    by : (b : Bool) → nat_lt (position_or_len p names) (length names) ≡ b
+        → (if b then Some (position_or_len p names) else None) ≡ None → list_any p names ≡ false
     by true h q = cc q
     by false h q =
         let past = ltb-false _ _ h in
-        list_any_none p names (λ k d below. fails_before_first p names k d (omega (arith, past, below)))
+        list_any_none p names (λ k d below. fails_before_first p names k d
+        (omega (arith, past, below)))
 
-pub named-name : (targets : List (List ℕ)) (name : List ℕ) (o : Option ℕ) → o ≡ position (is_named name) targets → IfSome o (λ place. get_or targets place [] ≡ name)
+pub named-name : (targets : List (List ℕ)) (name : List ℕ) (o : Option ℕ)
+    → o ≡ position (is_named name) targets → IfSome o (λ place. get_or targets place [] ≡ name)
 named-name targets name None e = tt
 named-name targets name (Some place) e =
     let found = position-Some (is_named name) targets place [] (sym e) in
     (bytes_eq-Decides (get_or targets place []) name).0 found.1
 
-pub named-some : (targets : List (List ℕ)) (name : List ℕ) (o : Option ℕ) → o ≡ position (is_named name) targets → OnSome o (has_name targets name ≡ true)
+pub named-some : (targets : List (List ℕ)) (name : List ℕ) (o : Option ℕ)
+    → o ≡ position (is_named name) targets → OnSome o (has_name targets name ≡ true)
 named-some targets name None e = tt
 named-some targets name (Some place) e =
     let found = position-Some (is_named name) targets place [] (sym e) in
     list_any_at (is_named name) targets place [] found.0 found.1
 
-pub named-none : (targets : List (List ℕ)) (name : List ℕ) (o : Option ℕ) → o ≡ position (is_named name) targets → IfNone o (has_name targets name ≡ false)
+pub named-none : (targets : List (List ℕ)) (name : List ℕ) (o : Option ℕ)
+    → o ≡ position (is_named name) targets → IfNone o (has_name targets name ≡ false)
 named-none targets name None e = none-passes (is_named name) targets (sym e)
 named-none targets name (Some place) e = tt

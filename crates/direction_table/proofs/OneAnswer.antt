@@ -1,16 +1,21 @@
 -- Bytes are a table of at most one list of directions, have at most one fault, and never both.
 use Rattle.std.specs.Prelude.{◌⊎◌, IfOk, IfErr, MatchResult}
-use Rattle.std.proofs.Common.{◌≡◌, ◌∙◌, ℕ, ◌+◌, ◌<◌, ◌≤◌, List, [], ◌∷◌, ◌++◌, map, length, get_or, Option, Some, None, refl, ap, sym, subst, arith, inl, inr, ℤ, pos, Result, Ok, Err, append_assoc, length-append, take}
+use Rattle.std.proofs.Common.{◌≡◌, ◌∙◌, ℕ, ◌+◌, ◌<◌, ◌≤◌, List, [], ◌∷◌, ◌++◌, map, length, get_or}
+use Rattle.std.proofs.Common.{Option, Some, None, refl, ap, sym, subst, arith, inl, inr, ℤ, pos}
+use Rattle.std.proofs.Common.{Result, Ok, Err, append_assoc, length-append, take}
 use Rattle.std.proofs.Math.Seq.{take-append_seam}
 use Rattle.std.proofs.lemmas.Bool.{cases_lt}
 use Rattle.std.proofs.lemmas.List.{append-nil, get_or-map, length-map, map-append}
 use Rattle.std.proofs.lemmas.Option.{none-some}
 use Rattle.sheet_format.specs.Rows.{records_of}
-use Rattle.direction_table.specs.Faults.{HasNoFault, IsFirstFault, NoFaultBefore, fault_at, row_fault}
-use Rattle.direction_table.specs.Tables.{IsFaultOrMemory, IsFirstMissing, IsMissingOrMemory, IsNoneAt, IsTableFault, IsTableText, stated_by}
+use Rattle.direction_table.specs.Faults.{HasNoFault, IsFirstFault, NoFaultBefore, fault_at}
+use Rattle.direction_table.specs.Faults.{row_fault}
+use Rattle.direction_table.specs.Tables.{IsFaultOrMemory, IsFirstMissing, IsMissingOrMemory}
+use Rattle.direction_table.specs.Tables.{IsNoneAt, IsTableFault, IsTableText, stated_by}
 use Rattle.direction_table.specs.declared.fault.RowKind.{RowKind}
 use Rattle.direction_table.specs.declared.fault.TableFault.{TableFault}
-use Rattle.direction_table.specs.declared.fault.TableFault.TheVariants.{TooLong, Row, Missing, Memory}
+use Rattle.direction_table.specs.declared.fault.TableFault.TheVariants.{TooLong, Row, Missing}
+use Rattle.direction_table.specs.declared.fault.TableFault.TheVariants.{Memory}
 use Rattle.direction_table.specs.declared.reading.TheConstants.{LONGEST_TABLE}
 use Rattle.direction_table.proofs.RowsRead.{clean-end, clean-more, first-here}
 use Rattle.direction_table.proofs.StatedDirections.{not-before}
@@ -25,19 +30,30 @@ same-directions (x ∷ xs) (y ∷ ys) e =
     let rest : map Some xs ≡ map Some ys = cc e in
     rw (first, same-directions xs ys rest) refl
 
-pub one-table : (targets : List (List ℕ)) (bytes : List ℕ) (a b : List ℤ) → IsTableText targets bytes a → IsTableText targets bytes b → a ≡ b
+pub one-table : (targets : List (List ℕ)) (bytes : List ℕ) (a b : List ℤ)
+    → IsTableText targets bytes a → IsTableText targets bytes b → a ≡ b
 one-table targets bytes a b s t = same-directions a b (sym s.stated ∙ t.stated)
 
 -- where all is stated, nothing is missing
-not-missing : (stated : List (Option ℤ)) (directions : List ℤ) (place : ℕ) → stated ≡ map Some directions → place < length stated → IsNoneAt stated place → ⊥
+not-missing : (stated : List (Option ℤ)) (directions : List ℤ) (place : ℕ)
+    → stated ≡ map Some directions → place < length stated → IsNoneAt stated place → ⊥
 not-missing stated directions place same inside none =
     none-some (get_or directions place (pos 0)) (
     sym none
     ∙ ap (λ (all : List (Option ℤ)). get_or all place None) same
-    ∙ get_or-map Some directions place (pos 0) None (omega (arith, inside, ap (λ (all : List (Option ℤ)). length all) same, length-map directions Some))
+    ∙ get_or-map Some directions place (pos 0) None
+    (omega (
+      arith,
+      inside,
+      ap (λ (all : List (Option ℤ)). length all) same,
+      length-map
+          directions Some,
+    ))
     )
 
-pub never-both : (targets : List (List ℕ)) (bytes : List ℕ) (directions : List ℤ) (fault : TableFault) → IsTableText targets bytes directions → IsTableFault targets bytes fault → ⊥
+pub never-both : (targets : List (List ℕ)) (bytes : List ℕ) (directions : List ℤ)
+    (fault : TableFault) → IsTableText targets bytes directions → IsTableFault targets bytes fault
+    → ⊥
 never-both targets bytes directions TooLong text fault = omega (arith, text.short, fault)
 never-both targets bytes directions (Row number kind) text fault =
     let (short, place, counted, found) = fault in
@@ -45,11 +61,13 @@ never-both targets bytes directions (Row number kind) text fault =
 never-both targets bytes directions (Missing number) text fault =
     let (short, clean, missing_at) = fault in
     let (place, counted, first) = missing_at in
-    not-missing (stated_by (records_of bytes) targets) directions place text.stated first.inside first.here
+    not-missing (stated_by (records_of bytes) targets) directions place text.stated first.inside
+    first.here
 never-both targets bytes directions Memory text fault = absurd fault
 
 -- the first place of two
-one-place : (P : ℕ → Type 0) (p q : ℕ) → P p → P q → ((m : ℕ) → m < p → P m → ⊥) → ((m : ℕ) → m < q → P m → ⊥) → p ≡ q
+one-place : (P : ℕ → Type 0) (p q : ℕ) → P p → P q → ((m : ℕ) → m < p → P m → ⊥)
+    → ((m : ℕ) → m < q → P m → ⊥) → p ≡ q
 one-place P p q one two before after =
     let not_before : p < q → ⊥ = λ below. after p below one in
     let not_after : q < p → ⊥ = λ below. before q below two in
@@ -58,18 +76,21 @@ one-place P p q one two before after =
 abbrev HasFaultAt : List (List ℕ) → List (List (List ℕ)) → ℕ → Type 0
 HasFaultAt targets rows place = (k : RowKind) × (fault_at targets rows place ≡ Some k)
 
-same-place : (targets : List (List ℕ)) (rows : List (List (List ℕ))) (p q : ℕ) (j k : RowKind) → IsFirstFault targets rows p j → IsFirstFault targets rows q k → p ≡ q
+same-place : (targets : List (List ℕ)) (rows : List (List (List ℕ))) (p q : ℕ) (j k : RowKind)
+    → IsFirstFault targets rows p j → IsFirstFault targets rows q k → p ≡ q
 same-place targets rows p q j k one two =
     one-place (HasFaultAt targets rows) p q (j, one.here) (k, two.here)
     (λ m below found. none-some found.0 (sym (one.before m below) ∙ found.1))
     (λ m below found. none-some found.0 (sym (two.before m below) ∙ found.1))
 
-same-kind : (targets : List (List ℕ)) (rows : List (List (List ℕ))) (p q : ℕ) (j k : RowKind) → IsFirstFault targets rows p j → IsFirstFault targets rows q k → p ≡ q → j ≡ k
+same-kind : (targets : List (List ℕ)) (rows : List (List (List ℕ))) (p q : ℕ) (j k : RowKind)
+    → IsFirstFault targets rows p j → IsFirstFault targets rows q k → p ≡ q → j ≡ k
 same-kind targets rows p q j k one two same =
     let both : Some j ≡ Some k = sym one.here ∙ ap (fault_at targets rows) same ∙ two.here in
     cc both
 
-pub one-fault : (targets : List (List ℕ)) (bytes : List ℕ) (f g : TableFault) → IsTableFault targets bytes f → IsTableFault targets bytes g → f ≡ g
+pub one-fault : (targets : List (List ℕ)) (bytes : List ℕ) (f g : TableFault)
+    → IsTableFault targets bytes f → IsTableFault targets bytes g → f ≡ g
 one-fault targets bytes TooLong TooLong a b = refl
 one-fault targets bytes TooLong (Row n k) a b = absurd (omega (arith, a, b.0))
 one-fault targets bytes TooLong (Missing n) a b = absurd (omega (arith, a, b.0))
@@ -92,7 +113,8 @@ one-fault targets bytes (Missing n) (Row m k) a b =
 one-fault targets bytes (Missing n) (Missing m) a b =
     let (p, at_p, one) = a.2 in
     let (q, at_q, two) = b.2 in
-    let place = one-place (IsNoneAt (stated_by (records_of bytes) targets)) p q one.here two.here one.before two.before in
+    let place = one-place (IsNoneAt (stated_by (records_of bytes) targets)) p q one.here two.here
+    one.before two.before in
     let number : n ≡ m = omega (arith, at_p, at_q, place) in
     rw number refl
 one-fault targets bytes (Missing n) Memory a b = absurd b
@@ -100,75 +122,139 @@ one-fault targets bytes Memory g a b = absurd a
 
 -- An answer that is right whenever it is a table or a fault is the one that the bytes have, or
 -- memory ran out.
-pub answers-table : {V : Type 0} (items : V → List ℤ) (targets : List (List ℕ)) (bytes : List ℕ) (r : Result V TableFault) → IfOk r (λ v. IsTableText targets bytes (items v)) → IfErr r (IsFaultOrMemory targets bytes)
-    → (directions : List ℤ) → IsTableText targets bytes directions → MatchResult r (λ v. items v ≡ directions) (λ fault. fault ≡ Memory)
-answers-table items targets bytes (Ok v) ok err directions text = one-table targets bytes (items v) directions ok text
+pub answers-table : {V : Type 0} (items : V → List ℤ) (targets : List (List ℕ)) (bytes : List ℕ)
+    (r : Result V TableFault) → IfOk r (λ v. IsTableText targets bytes (items v))
+    → IfErr r (IsFaultOrMemory targets bytes)
+    → (directions : List ℤ) → IsTableText targets bytes directions
+    → MatchResult r (λ v. items v ≡ directions) (λ fault. fault ≡ Memory)
+answers-table items targets bytes (Ok v) ok err directions text =
+    one-table targets bytes (items v) directions ok text
 answers-table items targets bytes (Err f) ok err directions text = elim err [
   | inl fault ↦ absurd (never-both targets bytes directions f text fault)
   | inr memory ↦ memory
 ]
 
-pub answers-fault : {V : Type 0} (items : V → List ℤ) (targets : List (List ℕ)) (bytes : List ℕ) (r : Result V TableFault) → IfOk r (λ v. IsTableText targets bytes (items v)) → IfErr r (IsFaultOrMemory targets bytes)
+pub answers-fault : {V : Type 0} (items : V → List ℤ) (targets : List (List ℕ)) (bytes : List ℕ)
+    (r : Result V TableFault) → IfOk r (λ v. IsTableText targets bytes (items v))
+    → IfErr r (IsFaultOrMemory targets bytes)
     → (fault : TableFault) → IsTableFault targets bytes fault → (r ≡ Err fault) ⊎ (r ≡ Err Memory)
-answers-fault items targets bytes (Ok v) ok err f fault = absurd (never-both targets bytes (items v) f ok fault)
+answers-fault items targets bytes (Ok v) ok err f fault =
+    absurd (never-both targets bytes (items v) f ok fault)
 answers-fault items targets bytes (Err g) ok err f fault = elim err [
   | inl same ↦ inl (ap (λ (x : TableFault). Err x) (one-fault targets bytes g f same fault))
   | inr memory ↦ inr (ap (λ (x : TableFault). Err x) memory)
 ]
 
 -- what the rows state of all targets makes a table
-pub whole-table : {V : Type 0} (items : V → List ℤ) (targets : List (List ℕ)) (bytes : List ℕ) (stated : List (Option ℤ)) (r : Result V TableFault) → length bytes ≤ LONGEST_TABLE → HasNoFault targets (records_of bytes)
-    → stated ≡ stated_by (records_of bytes) targets → IfOk r (λ v. stated ≡ map Some (items v)) → IfOk r (λ v. IsTableText targets bytes (items v))
-whole-table items targets bytes stated (Ok v) short clean same all = record { short = short; faultless = clean; stated = sym same ∙ all }
+pub whole-table : {V : Type 0} (items : V → List ℤ) (targets : List (List ℕ)) (bytes : List ℕ)
+    (stated : List (Option ℤ)) (r : Result V TableFault) → length bytes ≤ LONGEST_TABLE
+    → HasNoFault targets (records_of bytes)
+    → stated ≡ stated_by (records_of bytes) targets → IfOk r (λ v. stated ≡ map Some (items v))
+    → IfOk r (λ v. IsTableText targets bytes (items v))
+whole-table items targets bytes stated (Ok v) short clean same all = record {
+  short = short;
+  faultless = clean;
+  stated = sym same ∙ all;
+}
 whole-table items targets bytes stated (Err f) short clean same all = tt
 
-pub missing-fault : {V : Type 0} (targets : List (List ℕ)) (bytes : List ℕ) (stated : List (Option ℤ)) (r : Result V TableFault) → length bytes ≤ LONGEST_TABLE → HasNoFault targets (records_of bytes)
-    → stated ≡ stated_by (records_of bytes) targets → IfErr r (IsMissingOrMemory stated) → IfErr r (IsFaultOrMemory targets bytes)
+pub missing-fault : {V : Type 0} (targets : List (List ℕ)) (bytes : List ℕ)
+    (stated : List (Option ℤ)) (r : Result V TableFault) → length bytes ≤ LONGEST_TABLE
+    → HasNoFault targets (records_of bytes)
+    → stated ≡ stated_by (records_of bytes) targets → IfErr r (IsMissingOrMemory stated)
+    → IfErr r (IsFaultOrMemory targets bytes)
 missing-fault targets bytes stated (Ok v) short clean same none = tt
 missing-fault targets bytes stated (Err f) short clean same none = elim none [
   | inl first ↦
       let (number, is, found) = first in
-      inl (subst (IsTableFault targets bytes) (sym is) (short, clean, subst (λ (all : List (Option ℤ)). IsFirstMissing all number) same found))
+      inl (subst (IsTableFault targets bytes) (sym is)
+      (short, clean, subst (λ (all : List (Option ℤ)). IsFirstMissing all number) same found))
   | inr memory ↦ inr memory
 ]
 
 -- bytes are a table or have a fault
 abbrev pub TableOrFault : List (List ℕ) → List ℕ → Type 0
-TableOrFault targets bytes = ((directions : List ℤ) × IsTableText targets bytes directions) ⊎ ((fault : TableFault) × IsTableFault targets bytes fault)
+TableOrFault targets bytes = ((directions : List ℤ) × IsTableText targets bytes directions)
+    ⊎ ((fault : TableFault) × IsTableFault targets bytes fault)
 
-at-seam : (before rest : List (Option ℤ)) → get_or (before ++ (None ∷ rest)) (length before) None ≡ None
+at-seam : (before rest : List (Option ℤ)) → get_or (before ++ (None ∷ rest)) (length before) None
+    ≡ None
 at-seam [] rest = refl
 at-seam (first ∷ before) rest = at-seam before rest
 
 abbrev AllOrFirst : List (Option ℤ) → Type 0
-AllOrFirst stated = ((directions : List ℤ) × (stated ≡ map Some directions)) ⊎ ((number : ℕ) × IsFirstMissing stated number)
+AllOrFirst stated = ((directions : List ℤ) × (stated ≡ map Some directions))
+    ⊎ ((number : ℕ) × IsFirstMissing stated number)
 
-all-or-first : (stated rest : List (Option ℤ)) (items : List ℤ) → stated ≡ map Some items ++ rest → AllOrFirst stated
+all-or-first : (stated rest : List (Option ℤ)) (items : List ℤ) → stated ≡ map Some items ++ rest
+    → AllOrFirst stated
 all-or-first stated [] items e = inl (items, e ∙ append-nil (map Some items))
-all-or-first stated (Some z ∷ rest) items e = all-or-first stated rest (items ++ (z ∷ [])) (e ∙ sym (append_assoc (map Some items) (Some z ∷ []) rest) ∙ ap (λ (all : List (Option ℤ)). all ++ rest) (sym (map-append Some items (z ∷ []))))
+all-or-first stated (Some z ∷ rest) items e = all-or-first stated rest (items ++ (z ∷ [])) (e
+    ∙ sym (append_assoc (map Some items) (Some z ∷ []) rest)
+    ∙ ap (λ (all : List (Option ℤ)). all ++ rest) (sym (map-append Some items (z ∷ []))))
 all-or-first stated (None ∷ rest) items e =
     let size : length (map Some items) ≡ length items = length-map items Some in
-    let inside : length (map Some items) < length stated = omega (arith, ap (λ (all : List (Option ℤ)). length all) e, length-append (map Some items) (None ∷ rest)) in
-    let front : take (length (map Some items)) stated ≡ map Some items = ap (λ (all : List (Option ℤ)). take (length (map Some items)) all) e ∙ take-append_seam (map Some items) (None ∷ rest) in
-    let here : get_or stated (length (map Some items)) None ≡ None = ap (λ (all : List (Option ℤ)). get_or all (length (map Some items)) None) e ∙ at-seam (map Some items) rest in
-    inr (length (map Some items) + 1, (length (map Some items), refl, record { inside = inside; here = here; before = λ m below. not-before stated items (length (map Some items)) m inside front below }))
+    let inside : length (map Some items) < length stated =
+    omega (
+      arith,
+      ap (λ (all : List (Option ℤ)). length all) e,
+      length-append (map Some items)
+          (None ∷ rest),
+    ) in
+    let front : take (length (map Some items)) stated ≡ map Some items =
+    ap (λ (all : List (Option ℤ)). take (length (map Some items)) all) e
+    ∙ take-append_seam (map Some items) (None ∷ rest) in
+    let here : get_or stated (length (map Some items)) None ≡ None =
+    ap (λ (all : List (Option ℤ)). get_or all (length (map Some items)) None) e
+    ∙ at-seam (map Some items) rest in
+    inr (
+      length (map Some items) + 1,
+      (
+        length (map Some items),
+        refl,
+        record {
+          inside = inside;
+          here = here;
+          before = λ m below. not-before stated items
+              (length (map Some items)) m inside front below;
+        },
+      ),
+    )
 
-decided-rows : (targets : List (List ℕ)) (bytes : List ℕ) → length bytes ≤ LONGEST_TABLE → (before rest : List (List (List ℕ))) → records_of bytes ≡ before ++ rest → NoFaultBefore targets (records_of bytes) (length before) → TableOrFault targets bytes
+decided-rows : (targets : List (List ℕ)) (bytes : List ℕ) → length bytes ≤ LONGEST_TABLE
+    → (before rest : List (List (List ℕ))) → records_of bytes ≡ before ++ rest
+    → NoFaultBefore targets (records_of bytes) (length before) → TableOrFault targets bytes
 decided-rows targets bytes short before [] whole clean =
     let none = clean-end targets (records_of bytes) before (whole ∙ append-nil before) clean in
-    elim (all-or-first (stated_by (records_of bytes) targets) (stated_by (records_of bytes) targets) [] refl) [
+    elim (all-or-first (stated_by (records_of bytes) targets)
+    (stated_by (records_of bytes) targets) [] refl) [
       | inl all ↦ inl (all.0, record { short = short; faultless = none; stated = all.1 })
       | inr first ↦ inr (Missing first.0, (short, none, first.1))
     ]
-decided-rows targets bytes short before (row ∷ rest) whole clean = by (row_fault targets before row) refl (decided-rows targets bytes short (before ++ (row ∷ [])) rest)
+decided-rows targets bytes short before (row ∷ rest) whole clean =
+    by (row_fault targets before row) refl (decided-rows targets bytes short (before
+    ++ (row ∷ [])) rest)
   where
     by : (o : Option RowKind) → row_fault targets before row ≡ o
-        → (records_of bytes ≡ (before ++ (row ∷ [])) ++ rest → NoFaultBefore targets (records_of bytes) (length (before ++ (row ∷ []))) → TableOrFault targets bytes) → TableOrFault targets bytes
-    by None e later = later (whole ∙ sym (append_assoc before (row ∷ []) rest)) (clean-more targets (records_of bytes) before rest row whole clean e)
-    by (Some k) e later = inr (Row (length before + 1) k, (short, length before, refl, first-here targets (records_of bytes) before rest row k whole clean e))
+        → (records_of bytes ≡ (before ++ (row ∷ [])) ++ rest
+        → NoFaultBefore targets (records_of bytes) (length (before ++ (row ∷ [])))
+        → TableOrFault targets bytes) → TableOrFault targets bytes
+    by None e later = later (whole ∙ sym (append_assoc before (row ∷ []) rest))
+        (clean-more targets (records_of bytes) before rest row whole clean e)
+    by (Some k) e later = inr (
+      Row (length before + 1) k,
+      (
+        short,
+        length before,
+        refl,
+        first-here targets
+            (records_of bytes) before rest row k whole clean e,
+      ),
+    )
 
 pub table-or-fault : (targets : List (List ℕ)) (bytes : List ℕ) → TableOrFault targets bytes
 table-or-fault targets bytes = elim (cases_lt LONGEST_TABLE (length bytes)) [
   | inl long ↦ inr (TooLong, long)
-  | inr short ↦ decided-rows targets bytes short [] (records_of bytes) refl (λ earlier below. absurd (omega (arith, below)))
+  | inr short ↦ decided-rows targets bytes short [] (records_of bytes) refl
+      (λ earlier below. absurd (omega (arith, below)))
 ]

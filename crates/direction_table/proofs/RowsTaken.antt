@@ -1,5 +1,7 @@
 -- The directions that rows state, as one more row comes.
-use Rattle.std.proofs.Common.{◌≡◌, ◌≢◌, ◌∙◌, ℕ, ◌<◌, Bool, true, false, List, [], ◌∷◌, ◌++◌, map, length, get_or, Option, None, Some, refl, sym, ap, arith, ℤ, inl, inr, length-set, get_or-set_other, get_or-set_same, ◌==◌, Result, Ok, Err}
+use Rattle.std.proofs.Common.{◌≡◌, ◌≢◌, ◌∙◌, ℕ, ◌<◌, Bool, true, false, List, [], ◌∷◌, ◌++◌, map}
+use Rattle.std.proofs.Common.{length, get_or, Option, None, Some, refl, sym, ap, arith, ℤ, inl, inr}
+use Rattle.std.proofs.Common.{length-set, get_or-set_other, get_or-set_same, ◌==◌, Result, Ok, Err}
 use Rattle.std.specs.Prelude.{if◌then◌else◌, not, slice_set, ◌||◌}
 use Rattle.std.specs.Option.{is_some, option_or}
 use Rattle.std.specs.Result.{IfErr, IsErr, IsErrAnd, MatchResult}
@@ -10,131 +12,196 @@ use Rattle.std.proofs.lemmas.Slice.Eq.{bytes_eq-Decides}
 use Rattle.adjust_kernel.specs.Stations.{AreTargets}
 use Rattle.direction_table.specs.Faults.{columns_fault, entry_fault, row_fault, unless}
 use Rattle.direction_table.specs.Gons.{direction_value}
-use Rattle.direction_table.specs.Rows.{Fields, beside_name, columns_of, direction_in, has_name, name_of}
+use Rattle.direction_table.specs.Rows.{Fields, beside_name, columns_of, direction_in, has_name}
+use Rattle.direction_table.specs.Rows.{name_of}
 use Rattle.direction_table.specs.declared.fault.RowKind.{RowKind}
 use Rattle.direction_table.specs.declared.fault.RowKind.TheVariants as fault
 use Rattle.direction_table.proofs.TwoColumns.{direction-column, name-column}
 
 -- a row has a name where a direction is stated of it, and not where none is
-pub earlier-some : (rows : List (List (List ℕ))) (name : List ℕ) (v : ℤ) → direction_in rows name ≡ Some v → has_name (map name_of rows) name ≡ true
+pub earlier-some : (rows : List (List (List ℕ))) (name : List ℕ) (v : ℤ)
+    → direction_in rows name ≡ Some v → has_name (map name_of rows) name ≡ true
 earlier-some [] name v e = cc e
 earlier-some (row ∷ rows) name v e = by (bytes_eq (name_of row) name) e (earlier-some rows name v)
   where
-    by : (b : Bool) → (if b then Some (direction_value (beside_name row)) else direction_in rows name) ≡ Some v → (direction_in rows name ≡ Some v → has_name (map name_of rows) name ≡ true)
+    by : (b : Bool)
+        → (if b then Some (direction_value (beside_name row)) else direction_in rows name) ≡ Some v
+        → (direction_in rows name ≡ Some v → has_name (map name_of rows) name ≡ true)
         → (b || has_name (map name_of rows) name) ≡ true
     by true q later = refl
     by false q later = later q
 
-pub earlier-none : (rows : List (List (List ℕ))) (name : List ℕ) → direction_in rows name ≡ None → has_name (map name_of rows) name ≡ false
+pub earlier-none : (rows : List (List (List ℕ))) (name : List ℕ) → direction_in rows name ≡ None
+    → has_name (map name_of rows) name ≡ false
 earlier-none [] name e = refl
 earlier-none (row ∷ rows) name e = by (bytes_eq (name_of row) name) e (earlier-none rows name)
   where
-    by : (b : Bool) → (if b then Some (direction_value (beside_name row)) else direction_in rows name) ≡ None → (direction_in rows name ≡ None → has_name (map name_of rows) name ≡ false)
+    by : (b : Bool)
+        → (if b then Some (direction_value (beside_name row)) else direction_in rows name) ≡ None
+        → (direction_in rows name ≡ None → has_name (map name_of rows) name ≡ false)
         → (b || has_name (map name_of rows) name) ≡ false
     by true q later = cc q
     by false q later = later q
 
 -- one row more states nothing of other names
-pub more-other : (rows : List (List (List ℕ))) (row : List (List ℕ)) (name : List ℕ) → bytes_eq (name_of row) name ≡ false → direction_in (rows ++ (row ∷ [])) name ≡ direction_in rows name
-more-other [] row name e = ap (λ (b : Bool). if b then Some (direction_value (beside_name row)) else None) e
-more-other (first ∷ rows) row name e = ap (λ (o : Option ℤ). if bytes_eq (name_of first) name then Some (direction_value (beside_name first)) else o) (more-other rows row name e)
+pub more-other : (rows : List (List (List ℕ))) (row : List (List ℕ)) (name : List ℕ)
+    → bytes_eq (name_of row) name ≡ false → direction_in (rows ++ (row ∷ [])) name
+    ≡ direction_in rows name
+more-other [] row name e = ap (λ (b : Bool). if b then Some
+    (direction_value (beside_name row)) else None) e
+more-other (first ∷ rows) row name e = ap (λ (o : Option ℤ). if bytes_eq
+    (name_of first) name then Some (direction_value (beside_name first)) else o)
+    (more-other rows row name e)
 
 -- and its own direction of a name that no row before has
-pub more-same : (rows : List (List (List ℕ))) (row : List (List ℕ)) (name : List ℕ) → bytes_eq (name_of row) name ≡ true → direction_in rows name ≡ None
+pub more-same : (rows : List (List (List ℕ))) (row : List (List ℕ)) (name : List ℕ)
+    → bytes_eq (name_of row) name ≡ true → direction_in rows name ≡ None
     → direction_in (rows ++ (row ∷ [])) name ≡ Some (direction_value (beside_name row))
-more-same [] row name e none = ap (λ (b : Bool). if b then Some (direction_value (beside_name row)) else None) e
-more-same (first ∷ rows) row name e none = by (bytes_eq (name_of first) name) none (more-same rows row name e)
+more-same [] row name e none = ap (λ (b : Bool). if b then Some
+    (direction_value (beside_name row)) else None) e
+more-same (first ∷ rows) row name e none = by (bytes_eq (name_of first) name) none
+    (more-same rows row name e)
   where
-    by : (b : Bool) → (if b then Some (direction_value (beside_name first)) else direction_in rows name) ≡ None → (direction_in rows name ≡ None → direction_in (rows ++ (row ∷ [])) name ≡ Some (direction_value (beside_name row)))
-        → (if b then Some (direction_value (beside_name first)) else direction_in (rows ++ (row ∷ [])) name) ≡ Some (direction_value (beside_name row))
+    by : (b : Bool)
+        → (if b then Some (direction_value (beside_name first)) else direction_in rows name) ≡ None
+        → (direction_in rows name ≡ None → direction_in (rows ++ (row ∷ [])) name
+        ≡ Some (direction_value (beside_name row)))
+        → (if b then Some (direction_value (beside_name first)) else direction_in (rows
+        ++ (row ∷ [])) name) ≡ Some (direction_value (beside_name row))
     by true q later = cc q
     by false q later = later q
 
 -- A row that is about to be taken: its columns, and the place of its target.
-pub record Taken (targets : List (List ℕ)) (row : List (List ℕ)) (place : ℕ) (c : Fields) : Type 0 where
+pub record Taken (targets : List (List ℕ)) (row : List (List ℕ)) (place : ℕ)
+    (c : Fields) : Type 0 where
   pub columns : columns_of row ≡ Some c
   pub inside : place < length targets
   pub name : get_or targets place [] ≡ c.name
 
 -- what is kept at the place is what the rows before state of the row's name
-pub kept : (targets : List (List ℕ)) (before : List (List (List ℕ))) (directions : List (Option ℤ)) (row : List (List ℕ)) (place : ℕ) (c : Fields) (d : Option ℤ)
-    → Taken targets row place c → directions ≡ map (direction_in before) targets → get_or directions place d ≡ direction_in before c.name
+pub kept : (targets : List (List ℕ)) (before : List (List (List ℕ))) (directions : List (Option ℤ))
+    (row : List (List ℕ)) (place : ℕ) (c : Fields) (d : Option ℤ)
+    → Taken targets row place c → directions ≡ map (direction_in before) targets
+    → get_or directions place d ≡ direction_in before c.name
 kept targets before directions row place c d t same =
-    ap (λ (all : List (Option ℤ)). get_or all place d) same ∙ get_or-map (direction_in before) targets place [] d t.inside ∙ ap (direction_in before) t.name
+    ap (λ (all : List (Option ℤ)). get_or all place d) same
+    ∙ get_or-map (direction_in before) targets place [] d t.inside
+    ∙ ap (direction_in before) t.name
 
-pub twice : (targets : List (List ℕ)) (before : List (List (List ℕ))) (row : List (List ℕ)) (place : ℕ) (c : Fields) (v : ℤ)
-    → Taken targets row place c → entry_fault targets c ≡ None → direction_in before c.name ≡ Some v → row_fault targets before row ≡ Some fault.Twice
+pub twice : (targets : List (List ℕ)) (before : List (List (List ℕ))) (row : List (List ℕ))
+    (place : ℕ) (c : Fields) (v : ℤ)
+    → Taken targets row place c → entry_fault targets c ≡ None
+    → direction_in before c.name ≡ Some v → row_fault targets before row ≡ Some fault.Twice
 unfolding row_fault
 twice targets before row place c v t clean there =
     ap (columns_fault targets (map name_of before)) t.columns
-    ∙ ap (λ (o : Option RowKind). option_or o (unless (not (has_name (map name_of before) c.name)) fault.Twice)) clean
+    ∙ ap (λ (o : Option RowKind). option_or o
+    (unless (not (has_name (map name_of before) c.name)) fault.Twice)) clean
     ∙ ap (λ (b : Bool). unless (not b) fault.Twice) (earlier-some before c.name v there)
 
-pub faultless : (targets : List (List ℕ)) (before : List (List (List ℕ))) (row : List (List ℕ)) (place : ℕ) (c : Fields)
-    → Taken targets row place c → entry_fault targets c ≡ None → direction_in before c.name ≡ None → row_fault targets before row ≡ None
+pub faultless : (targets : List (List ℕ)) (before : List (List (List ℕ))) (row : List (List ℕ))
+    (place : ℕ) (c : Fields)
+    → Taken targets row place c → entry_fault targets c ≡ None → direction_in before c.name ≡ None
+    → row_fault targets before row ≡ None
 unfolding row_fault
 faultless targets before row place c t clean none =
     ap (columns_fault targets (map name_of before)) t.columns
-    ∙ ap (λ (o : Option RowKind). option_or o (unless (not (has_name (map name_of before) c.name)) fault.Twice)) clean
+    ∙ ap (λ (o : Option RowKind). option_or o
+    (unless (not (has_name (map name_of before) c.name)) fault.Twice)) clean
     ∙ ap (λ (b : Bool). unless (not b) fault.Twice) (earlier-none before c.name none)
 
-pub columns-refused : (targets : List (List ℕ)) (before : List (List (List ℕ))) (row : List (List ℕ)) → columns_of row ≡ None → row_fault targets before row ≡ Some fault.Fields
+pub columns-refused : (targets : List (List ℕ)) (before : List (List (List ℕ)))
+    (row : List (List ℕ)) → columns_of row ≡ None → row_fault targets before row ≡ Some fault.Fields
 unfolding row_fault
 columns-refused targets before row none = ap (columns_fault targets (map name_of before)) none
 
-pub entry-refused : (targets : List (List ℕ)) (before : List (List (List ℕ))) (row : List (List ℕ)) (c : Fields) (k : RowKind) → columns_of row ≡ Some c → entry_fault targets c ≡ Some k → row_fault targets before row ≡ Some k
+pub entry-refused : (targets : List (List ℕ)) (before : List (List (List ℕ))) (row : List (List ℕ))
+    (c : Fields) (k : RowKind) → columns_of row ≡ Some c → entry_fault targets c ≡ Some k
+    → row_fault targets before row ≡ Some k
 unfolding row_fault
 entry-refused targets before row c k columns found =
     ap (columns_fault targets (map name_of before)) columns
-    ∙ ap (λ (o : Option RowKind). option_or o (unless (not (has_name (map name_of before) c.name)) fault.Twice)) found
+    ∙ ap (λ (o : Option RowKind). option_or o
+    (unless (not (has_name (map name_of before) c.name)) fault.Twice)) found
 
 -- the names of two places are not alike
-other-name : (targets : List (List ℕ)) (i place : ℕ) → AreTargets targets → i < length targets → place < length targets → i ≢ place → get_or targets place [] ≢ get_or targets i []
+other-name : (targets : List (List ℕ)) (i place : ℕ) → AreTargets targets → i < length targets
+    → place < length targets → i ≢ place → get_or targets place [] ≢ get_or targets i []
 other-name targets i place ok inside at other same = elim (cases_lt i place) [
   | inl before ↦ ok.different i place [] before at (sym same)
   | inr after ↦ ok.different place i [] (omega (arith, after, other)) inside same
 ]
 
 -- the directions with that of one more row
-pub taken : (targets : List (List ℕ)) (before : List (List (List ℕ))) (directions : List (Option ℤ)) (row : List (List ℕ)) (place : ℕ) (c : Fields) (v : ℤ)
-    → AreTargets targets → Taken targets row place c → directions ≡ map (direction_in before) targets → direction_in before c.name ≡ None → v ≡ direction_value c.direction
+pub taken : (targets : List (List ℕ)) (before : List (List (List ℕ)))
+    (directions : List (Option ℤ)) (row : List (List ℕ)) (place : ℕ) (c : Fields) (v : ℤ)
+    → AreTargets targets → Taken targets row place c
+    → directions ≡ map (direction_in before) targets → direction_in before c.name ≡ None
+    → v ≡ direction_value c.direction
     → slice_set directions place (Some v) ≡ map (direction_in (before ++ (row ∷ []))) targets
 taken targets before directions row place c v ok t same none value =
-    ext_get_or None (slice_set directions place (Some v)) (map (direction_in (before ++ (row ∷ []))) targets) long at
+    ext_get_or None (slice_set directions place (Some v))
+    (map (direction_in (before ++ (row ∷ []))) targets) long at
   where
     size : length directions ≡ length targets
-    size = ap (λ (all : List (Option ℤ)). length all) same ∙ length-map targets (direction_in before)
+    size = ap (λ (all : List (Option ℤ)). length all) same
+        ∙ length-map targets (direction_in before)
 
-    long : length (slice_set directions place (Some v)) ≡ length (map (direction_in (before ++ (row ∷ []))) targets)
-    long = length-set directions place (Some v) ∙ size ∙ sym (length-map targets (direction_in (before ++ (row ∷ []))))
+    long : length (slice_set directions place (Some v))
+        ≡ length (map (direction_in (before ++ (row ∷ []))) targets)
+    long = length-set directions place (Some v) ∙ size
+        ∙ sym (length-map targets (direction_in (before ++ (row ∷ []))))
 
     name : name_of row ≡ c.name
     name = name-column row c t.columns
 
-    at : (i : ℕ) → i < length (slice_set directions place (Some v)) → get_or (slice_set directions place (Some v)) i None ≡ get_or (map (direction_in (before ++ (row ∷ []))) targets) i None
+    at : (i : ℕ) → i < length (slice_set directions place (Some v))
+        → get_or (slice_set directions place (Some v)) i None
+        ≡ get_or (map (direction_in (before ++ (row ∷ []))) targets) i None
     at i below = elim (cases_Bool (i == place)) [
       | inl here ↦
           let is : i ≡ place = eqb-true _ _ here in
-          let own : name_of row ≡ get_or targets i [] = name ∙ sym t.name ∙ ap (λ (n : ℕ). get_or targets n []) (sym is) in
-          let bare : direction_in before (get_or targets i []) ≡ None = ap (direction_in before) (ap (λ (n : ℕ). get_or targets n []) is ∙ t.name) ∙ none in
-          let stated = more-same before row (get_or targets i []) ((bytes_eq-Decides (name_of row) (get_or targets i [])).1 own) bare in
+          let own : name_of row ≡ get_or targets i [] = name ∙ sym t.name
+          ∙ ap (λ (n : ℕ). get_or targets n []) (sym is) in
+          let bare : direction_in before (get_or targets i []) ≡ None =
+          ap (direction_in before) (ap (λ (n : ℕ). get_or targets n []) is ∙ t.name) ∙ none in
+          let stated = more-same before row (get_or targets i [])
+          ((bytes_eq-Decides (name_of row) (get_or targets i [])).1 own) bare in
           ap (λ (n : ℕ). get_or (slice_set directions place (Some v)) n None) is
           ∙ get_or-set_same directions place (Some v) None (omega (arith, size, t.inside))
-          ∙ ap (λ (z : ℤ). Some z) (value ∙ ap direction_value (sym (direction-column row c t.columns)))
-          ∙ sym (get_or-map (direction_in (before ++ (row ∷ []))) targets i [] None (omega (arith, below, long, length-map targets (direction_in (before ++ (row ∷ []))))) ∙ stated)
+          ∙ ap (λ (z : ℤ). Some z) (value
+          ∙ ap direction_value (sym (direction-column row c t.columns)))
+          ∙ sym (get_or-map (direction_in (before ++ (row ∷ []))) targets i [] None
+          (omega (
+            arith,
+            below,
+            long,
+            length-map targets
+                (direction_in (before ++ (row ∷ []))),
+          )) ∙ stated)
       | inr other ↦
           let apart : i ≢ place = eqb-false _ _ other in
-          let inside : i < length targets = omega (arith, below, long, length-map targets (direction_in (before ++ (row ∷ [])))) in
+          let inside : i < length targets = omega (
+            arith,
+            below,
+            long,
+            length-map targets
+                (direction_in (before ++ (row ∷ []))),
+          ) in
           let differ : bytes_eq (name_of row) (get_or targets i []) ≡ false =
-          false_from_ne_true (bytes_eq (name_of row) (get_or targets i [])) (λ e. other-name targets i place ok inside t.inside apart (t.name ∙ sym name ∙ (bytes_eq-Decides (name_of row) (get_or targets i [])).0 e)) in
+          false_from_ne_true (bytes_eq (name_of row) (get_or targets i []))
+          (λ e. other-name targets i place ok inside t.inside apart (t.name ∙ sym name
+          ∙ (bytes_eq-Decides (name_of row) (get_or targets i [])).0 e)) in
           get_or-set_other directions place i (Some v) None apart
           ∙ ap (λ (all : List (Option ℤ)). get_or all i None) same
           ∙ get_or-map (direction_in before) targets i [] None inside
-          ∙ sym (get_or-map (direction_in (before ++ (row ∷ []))) targets i [] None inside ∙ more-other before row (get_or targets i []) differ)
+          ∙ sym (get_or-map (direction_in (before ++ (row ∷ []))) targets i [] None inside
+          ∙ more-other before row (get_or targets i []) differ)
     ]
 
 -- what a refusal that is handed on says
-pub lifted : {T E : Type 0} (r : Result T E) (P Q : E → Type 0) → IsErrAnd r P → ((k : E) → P k → Q k) → IfErr r Q
+pub lifted : {T E : Type 0} (r : Result T E) (P Q : E → Type 0) → IsErrAnd r P
+    → ((k : E) → P k → Q k) → IfErr r Q
 lifted (Ok x) P Q h f = tt
 lifted (Err k) P Q h f = f k h
 
@@ -146,6 +213,7 @@ pub none-there : (o : Option ℤ) → is_some o ≡ false → o ≡ None
 none-there None e = refl
 none-there (Some v) e = cc e
 
-pub lifted-cases : {T E : Type 0} (r : Result T E) (P Q : E → Type 0) (R : T → Type 0) → IsErr r × IsErrAnd r P → ((k : E) → P k → Q k) → MatchResult r R Q
+pub lifted-cases : {T E : Type 0} (r : Result T E) (P Q : E → Type 0) (R : T → Type 0)
+    → IsErr r × IsErrAnd r P → ((k : E) → P k → Q k) → MatchResult r R Q
 lifted-cases (Ok x) P Q R h f = cc (h.0)
 lifted-cases (Err k) P Q R h f = f k h.1

@@ -1,9 +1,12 @@
 -- The text of a table of all targets is a table of them and of their directions.
 use Rattle.std.specs.Prelude.{if◌then◌else◌}
-use Rattle.std.proofs.Common.{◌≡◌, ◌≢◌, ◌∙◌, ℕ, suc, ◌+◌, ◌<◌, Bool, true, false, List, [], ◌∷◌, ◌++◌, map, length, get_or, All, AllPairs, Some, None, refl, ap, sym, subst, arith, append_assoc, length-append}
+use Rattle.std.proofs.Common.{◌≡◌, ◌≢◌, ◌∙◌, ℕ, suc, ◌+◌, ◌<◌, Bool, true, false, List, [], ◌∷◌}
+use Rattle.std.proofs.Common.{◌++◌, map, length, get_or, All, AllPairs, Some, None, refl, ap, sym}
+use Rattle.std.proofs.Common.{subst, arith, append_assoc, length-append}
 use Rattle.std.specs.Str.{bytes_eq}
 use Rattle.std.proofs.lemmas.Bool.{false_from_ne_true, ne_eqb}
-use Rattle.std.proofs.lemmas.List.{append-nil, get_or_append_left, get_or-map, length-map, map-append}
+use Rattle.std.proofs.lemmas.List.{append-nil, get_or_append_left, get_or-map, length-map}
+use Rattle.std.proofs.lemmas.List.{map-append}
 use Rattle.std.proofs.lemmas.List.Elements.{All-head, All-tail}
 use Rattle.std.proofs.lemmas.List.Folds.{list_any_at, list_any_none}
 use Rattle.std.proofs.lemmas.Slice.Eq.{bytes_eq-Decides}
@@ -33,42 +36,65 @@ unmarked a (b ∷ []) low = refl
 unmarked a (b ∷ c ∷ rest) low = rw (ne_eqb a 239 (λ same. absurd (omega (arith, low, same)))) refl
 
 no-mark-before : (name field end others : List ℕ) → IsName name
-    → strip_bom (((field_text default_writer name ++ field) ++ end) ++ others) ≡ ((field_text default_writer name ++ field) ++ end) ++ others
+    → strip_bom (((field_text default_writer name ++ field) ++ end) ++ others)
+    ≡ ((field_text default_writer name ++ field) ++ end) ++ others
 no-mark-before [] field end others named = absurd (omega (arith, named.some))
 no-mark-before (c ∷ name) field end others named = by (needs_quotes default_writer (c ∷ name))
   where
-    by : (b : Bool) → strip_bom ((((if b then quoted default_writer (c ∷ name) else c ∷ name) ++ field) ++ end) ++ others)
+    by : (b : Bool) → strip_bom ((((if b then quoted default_writer (c ∷ name) else c ∷ name)
+        ++ field) ++ end) ++ others)
         ≡ (((if b then quoted default_writer (c ∷ name) else c ∷ name) ++ field) ++ end) ++ others
     by true = unmarked 34 _ (omega arith)
-    by false = unmarked c _ (let printable = All-head IsPrintable c name named.printable in omega (arith, printable.1))
+    by false = unmarked c _ (let printable = All-head IsPrintable c name named.printable in
+        omega (arith, printable.1))
 
-no-mark : (count : ℕ) (stated : List TargetDirection) → All (IsWritten count) stated → strip_bom (table_text count stated) ≡ table_text count stated
+no-mark : (count : ℕ) (stated : List TargetDirection) → All (IsWritten count) stated
+    → strip_bom (table_text count stated) ≡ table_text count stated
 unfolding strip_bom
 no-mark count [] ok = refl
-no-mark count (row ∷ rest) ok = no-mark-before row.name _ _ _ (All-head (IsWritten count) row rest ok).name
+no-mark count (row ∷ rest) ok = no-mark-before row.name _ _ _
+    (All-head (IsWritten count) row rest ok).name
 
 -- so its records are the rows that were written
-pub rows-again : (count : ℕ) (stated : List TargetDirection) → All (IsWritten count) stated → records_of (table_text count stated) ≡ map (row_of count) stated
+pub rows-again : (count : ℕ) (stated : List TargetDirection) → All (IsWritten count) stated
+    → records_of (table_text count stated) ≡ map (row_of count) stated
 rows-again count stated ok =
-    rw (no-mark count stated ok) (records-written (length (table_text count stated) + 1) (map (row_of count) stated) (omega arith) ∙ back-entries (row_of count) (λ row. refl) stated)
+    rw (no-mark count stated ok) (records-written (length (table_text count stated) + 1)
+    (map (row_of count) stated) (omega arith)
+    ∙ back-entries (row_of count) (λ row. refl) stated)
 
 -- whether a name is among others
-found : (names : List (List ℕ)) (place : ℕ) (name : List ℕ) → place < length names → get_or names place [] ≡ name → has_name names name ≡ true
-found names place name inside same = list_any_at (is_named name) names place [] inside ((bytes_eq-Decides (get_or names place []) name).1 same)
+found : (names : List (List ℕ)) (place : ℕ) (name : List ℕ) → place < length names
+    → get_or names place [] ≡ name → has_name names name ≡ true
+found names place name inside same = list_any_at (is_named name) names place [] inside
+    ((bytes_eq-Decides (get_or names place []) name).1 same)
 
-not-found : (names : List (List ℕ)) (name : List ℕ) → All (λ other. other ≢ name) names → has_name names name ≡ false
+not-found : (names : List (List ℕ)) (name : List ℕ) → All (λ other. other ≢ name) names
+    → has_name names name ≡ false
 not-found names name others =
-    list_any_none (is_named name) names (λ k d below. false_from_ne_true (bytes_eq (get_or names k d) name) (λ same. others k d below ((bytes_eq-Decides (get_or names k d) name).0 same)))
+    list_any_none (is_named name) names (λ k d below. false_from_ne_true
+    (bytes_eq (get_or names k d) name) (λ same. others k d below
+    ((bytes_eq-Decides (get_or names k d) name).0 same)))
 
 -- a row of a target, which no row before it names, has no fault
-clean-row : (targets : List (List ℕ)) (before : List (List (List ℕ))) (count : ℕ) (row : TargetDirection) → AreDecimals count → IsWritten count row → has_name targets row.name ≡ true → has_name (map name_of before) row.name ≡ false
+clean-row : (targets : List (List ℕ)) (before : List (List (List ℕ))) (count : ℕ)
+    (row : TargetDirection) → AreDecimals count → IsWritten count row
+    → has_name targets row.name ≡ true → has_name (map name_of before) row.name ≡ false
     → row_fault targets before (row_of count row) ≡ None
 unfolding row_fault
 clean-row targets before count row few ok known new =
-    rw (name-test row.name ok.name, text-form count row.direction few ok.exact, text-below count row.direction few ok.exact, known, new) refl
+    rw (
+      name-test row.name ok.name,
+      text-form count row.direction few ok.exact,
+      text-below count
+          row.direction few ok.exact,
+      known,
+      new,
+    ) refl
 
 -- the name after others
-at-seam : (before rest : List (List ℕ)) (name d : List ℕ) → get_or (before ++ (name ∷ rest)) (length before) d ≡ name
+at-seam : (before rest : List (List ℕ)) (name d : List ℕ)
+    → get_or (before ++ (name ∷ rest)) (length before) d ≡ name
 at-seam [] rest name d = refl
 at-seam (first ∷ before) rest name d = at-seam before rest name d
 
@@ -77,66 +103,109 @@ record IsNext (targets before : List (List ℕ)) (name : List ℕ) : Type 0 wher
   known : has_name targets name ≡ true
   new : has_name before name ≡ false
 
-next-name : (targets before rest : List (List ℕ)) (name : List ℕ) → AreTargets targets → targets ≡ before ++ (name ∷ rest) → IsNext targets before name
+next-name : (targets before rest : List (List ℕ)) (name : List ℕ) → AreTargets targets
+    → targets ≡ before ++ (name ∷ rest) → IsNext targets before name
 next-name targets before rest name ok same =
-    let size : length targets ≡ length before + suc (length rest) = ap (λ (names : List (List ℕ)). length names) same ∙ length-append before (name ∷ rest) in
+    let size : length targets ≡ length before + suc (length rest) =
+    ap (λ (names : List (List ℕ)). length names) same ∙ length-append before (name ∷ rest) in
     let inside : length before < length targets = omega (arith, size) in
-    let here : (d : List ℕ) → get_or targets (length before) d ≡ name = λ d. ap (λ (names : List (List ℕ)). get_or names (length before) d) same ∙ at-seam before rest name d in
+    let here : (d : List ℕ) → get_or targets (length before) d ≡ name =
+    λ d. ap (λ (names : List (List ℕ)). get_or names (length before) d) same
+    ∙ at-seam before rest name d in
     record {
       known = found targets (length before) name inside (here []);
       new = not-found before name (λ k d below alike.
           ok.different k (length before) d below inside
-          (ap (λ (names : List (List ℕ)). get_or names k d) same ∙ get_or_append_left before (name ∷ rest) d k below ∙ alike ∙ sym (here d)));
+          (ap (λ (names : List (List ℕ)). get_or names k d) same
+          ∙ get_or_append_left before (name ∷ rest) d k below ∙ alike ∙ sym (here d)));
     }
 
 -- the rows of all targets have no fault
-clean-from : (targets : List (List ℕ)) (all before : List (List (List ℕ))) (count : ℕ) (rest : List TargetDirection) → AreTargets targets → AreDecimals count
-    → targets ≡ map name_of before ++ names_of rest → all ≡ before ++ map (row_of count) rest → All (IsWritten count) rest → NoFaultBefore targets all (length before) → HasNoFault targets all
-clean-from targets all before count [] ok few names whole written clean = clean-end targets all before (whole ∙ append-nil before) clean
+clean-from : (targets : List (List ℕ)) (all before : List (List (List ℕ))) (count : ℕ)
+    (rest : List TargetDirection) → AreTargets targets → AreDecimals count
+    → targets ≡ map name_of before ++ names_of rest → all ≡ before ++ map (row_of count) rest
+    → All (IsWritten count) rest → NoFaultBefore targets all (length before)
+    → HasNoFault targets all
+clean-from targets all before count [] ok few names whole written clean =
+    clean-end targets all before (whole ∙ append-nil before) clean
 clean-from targets all before count (row ∷ rest) ok few names whole written clean =
     let next = next-name targets (map name_of before) (names_of rest) row.name ok names in
-    let none = clean-row targets before count row few (All-head (IsWritten count) row rest written) next.known next.new in
+    let none = clean-row targets before count row few
+    (All-head (IsWritten count) row rest written) next.known next.new in
     clean-from targets all (before ++ (row_of count row ∷ [])) count rest ok few
-    (names ∙ sym (append_assoc (map name_of before) (row.name ∷ []) (names_of rest)) ∙ ap (λ (t : List (List ℕ)). t ++ names_of rest) (sym (map-append name_of before (row_of count row ∷ []))))
+    (names ∙ sym (append_assoc (map name_of before) (row.name ∷ []) (names_of rest))
+    ∙ ap (λ (t : List (List ℕ)). t ++ names_of rest)
+    (sym (map-append name_of before (row_of count row ∷ []))))
     (whole ∙ sym (append_assoc before (row_of count row ∷ []) (map (row_of count) rest)))
     (All-tail (IsWritten count) row rest written)
     (clean-more targets all before (map (row_of count) rest) (row_of count row) whole clean none)
 
 -- a row says nothing of other names
-passed-over : (row : List (List ℕ)) (rows : List (List (List ℕ))) (names : List (List ℕ)) → All (λ name. name_of row ≢ name) names → map (direction_in (row ∷ rows)) names ≡ map (direction_in rows) names
+passed-over : (row : List (List ℕ)) (rows : List (List (List ℕ))) (names : List (List ℕ))
+    → All (λ name. name_of row ≢ name) names → map (direction_in (row ∷ rows)) names
+    ≡ map (direction_in rows) names
 passed-over row rows [] others = refl
 passed-over row rows (name ∷ names) others =
-    let differ : bytes_eq (name_of row) name ≡ false = false_from_ne_true (bytes_eq (name_of row) name) (λ same. All-head (λ other. name_of row ≢ other) name names others ((bytes_eq-Decides (name_of row) name).0 same)) in
-    rw (differ, passed-over row rows names (All-tail (λ other. name_of row ≢ other) name names others)) refl
+    let differ : bytes_eq (name_of row) name ≡ false =
+    false_from_ne_true (bytes_eq (name_of row) name)
+    (λ same. All-head (λ other. name_of row ≢ other) name names others
+    ((bytes_eq-Decides (name_of row) name).0 same)) in
+    rw (
+      differ,
+      passed-over row rows names (All-tail
+          (λ other. name_of row ≢ other) name names others),
+    ) refl
 
 -- the rows of targets state their directions
-stated-again : (count : ℕ) (stated : List TargetDirection) → AreDecimals count → AllPairs (λ a b. a ≢ b) (names_of stated) → All (IsWritten count) stated
-    → map (direction_in (map (row_of count) stated)) (names_of stated) ≡ map Some (directions_of stated)
+stated-again : (count : ℕ) (stated : List TargetDirection) → AreDecimals count
+    → AllPairs (λ a b. a ≢ b) (names_of stated) → All (IsWritten count) stated
+    → map (direction_in (map (row_of count) stated)) (names_of stated)
+    ≡ map Some (directions_of stated)
 stated-again count [] few different written = refl
 stated-again count (row ∷ rest) few different written =
     let own : bytes_eq row.name row.name ≡ true = (bytes_eq-Decides row.name row.name).1 refl in
-    let value = text-value count row.direction few (All-head (IsWritten count) row rest written).exact in
-    let others = passed-over (row_of count row) (map (row_of count) rest) (names_of rest) (λ k d below. different 0 (suc k) d (omega arith) (omega (arith, below))) in
-    let later = stated-again count rest few (λ i j d order inside. different (suc i) (suc j) d (omega (arith, order)) (omega (arith, inside))) (All-tail (IsWritten count) row rest written) in
+    let value = text-value count row.direction few
+    (All-head (IsWritten count) row rest written).exact in
+    let others = passed-over (row_of count row) (map (row_of count) rest) (names_of rest)
+    (λ k d below. different 0 (suc k) d (omega arith) (omega (arith, below))) in
+    let later = stated-again count rest few (λ i j d order inside. different (suc i) (suc j) d
+    (omega (arith, order)) (omega (arith, inside)))
+    (All-tail (IsWritten count) row rest written) in
     rw (own, value, others, later) refl
 
 -- what is asked of each row
-written : (count : ℕ) (stated : List TargetDirection) → All IsName (names_of stated) → All (λ row. IsWhole count row.direction) stated → All (IsWritten count) stated
+written : (count : ℕ) (stated : List TargetDirection) → All IsName (names_of stated)
+    → All (λ row. IsWhole count row.direction) stated → All (IsWritten count) stated
 written count stated names exact k d below = record {
-  name = subst IsName (get_or-map (λ (row : TargetDirection). row.name) stated k d d.name below) (names k d.name (omega (arith, below, length-map stated (λ (row : TargetDirection). row.name))));
+  name = subst IsName (get_or-map (λ (row : TargetDirection). row.name) stated k d d.name below)
+      (names k d.name (omega (
+        arith,
+        below,
+        length-map stated
+            (λ (row : TargetDirection). row.name),
+      )));
   exact = exact k d below;
 }
 
-pub table-again : (targets : List (List ℕ)) (count : ℕ) (stated : List TargetDirection) → AreTargets targets → names_of stated ≡ targets → AreDecimals count
-    → All (λ row. IsWhole count row.direction) stated → IsTableText targets (table_text count stated) (directions_of stated)
+pub table-again : (targets : List (List ℕ)) (count : ℕ) (stated : List TargetDirection)
+    → AreTargets targets → names_of stated ≡ targets → AreDecimals count
+    → All (λ row. IsWhole count row.direction) stated
+    → IsTableText targets (table_text count stated) (directions_of stated)
 table-again targets count stated ok names few exact =
     let mine : AreTargets (names_of stated) = subst AreTargets (sym names) ok in
     let each = written count stated mine.names exact in
     let rows = rows-again count stated each in
     record {
-      short = table-short count stated (omega (arith, mine.few, length-map stated (λ (row : TargetDirection). row.name))) few each;
-      faultless = clean-from targets (records_of (table_text count stated)) [] count stated ok few (sym names) rows each (λ earlier below. absurd (omega (arith, below)));
+      short = table-short count stated (omega (
+        arith,
+        mine.few,
+        length-map stated
+            (λ (row : TargetDirection). row.name),
+      )) few each;
+      faultless = clean-from targets (records_of (table_text count stated)) [] count stated ok few
+          (sym names) rows each (λ earlier below. absurd (omega (arith, below)));
       stated = ap (λ (all : List (List (List ℕ))). stated_by all targets) rows
-          ∙ ap (λ (all : List (List ℕ)). map (direction_in (map (row_of count) stated)) all) (sym names)
+          ∙ ap (λ (all : List (List ℕ)). map (direction_in (map (row_of count) stated)) all)
+          (sym names)
           ∙ stated-again count stated few mine.different each;
     }

@@ -1,5 +1,6 @@
 -- The text of a table of all targets is far shorter than a table may be.
-use Rattle.std.proofs.Common.{◌≡◌, ℕ, ◌+◌, ◌*◌, ◌≤◌, List, [], ◌∷◌, ◌++◌, length, All, arith, length-append}
+use Rattle.std.proofs.Common.{◌≡◌, ℕ, ◌+◌, ◌*◌, ◌≤◌, List, [], ◌∷◌, ◌++◌, length, All, arith}
+use Rattle.std.proofs.Common.{length-append}
 use Rattle.csv.specs.Writing.{default_writer, field_text, fields_text, is_blank, row_text}
 use Rattle.adjust_kernel.specs.Names.{IsName}
 use Rattle.adjust_kernel.specs.declared.bounds.TheConstants.{MOST_TARGETS}
@@ -16,22 +17,37 @@ pub record IsWritten (count : ℕ) (stated : TargetDirection) : Type 0 where
   pub exact : IsWhole count stated.direction
 
 -- the text of a row of two fields
-joined-length : (a b : List ℕ) → length ((a ++ (44 ∷ (b ++ []))) ++ (10 ∷ [])) ≡ length a + length b + 2
+joined-length : (a b : List ℕ) → length ((a ++ (44 ∷ (b ++ []))) ++ (10 ∷ []))
+    ≡ length a + length b + 2
 joined-length a b =
     let second = b ++ [] in
     let both = a ++ (44 ∷ second) in
     omega (arith, length-append b [], length-append a (44 ∷ second), length-append both (10 ∷ []))
 
-length-row : (a b : List ℕ) → length (row_text default_writer (a ∷ b ∷ [])) ≤ 2 * (length a + length b) + 6
+length-row : (a b : List ℕ) → length (row_text default_writer (a ∷ b ∷ []))
+    ≤ 2 * (length a + length b) + 6
 unfolding fields_text is_blank
 length-row a b =
     let joined = joined-length (field_text default_writer a) (field_text default_writer b) in
     omega (arith, joined, length-field a, length-field b)
 
-row-short : (count : ℕ) → AreDecimals count → (stated : TargetDirection) → IsWritten count stated → IsShort (row_of count stated)
+row-short : (count : ℕ) → AreDecimals count → (stated : TargetDirection) → IsWritten count stated
+    → IsShort (row_of count stated)
 row-short count few stated ok =
-    omega (arith, length-row stated.name (direction_text count stated.direction), ok.name.short, text-length count stated.direction few ok.exact)
+    omega (
+      arith,
+      length-row stated.name (direction_text count stated.direction),
+      ok.name.short,
+      text-length count stated.direction few ok.exact,
+    )
 
-pub table-short : (count : ℕ) (stated : List TargetDirection) → length stated ≤ MOST_TARGETS → AreDecimals count → All (IsWritten count) stated → length (table_text count stated) ≤ LONGEST_TABLE
+pub table-short : (count : ℕ) (stated : List TargetDirection) → length stated ≤ MOST_TARGETS
+    → AreDecimals count → All (IsWritten count) stated
+    → length (table_text count stated) ≤ LONGEST_TABLE
 table-short count stated room few ok =
-    omega (arith, room, entries-short (IsWritten count) (row_of count) (row-short count few) stated ok)
+    omega (
+      arith,
+      room,
+      entries-short (IsWritten count) (row_of count)
+          (row-short count few) stated ok,
+    )

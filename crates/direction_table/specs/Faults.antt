@@ -1,5 +1,6 @@
 -- The faults of the rows of a table, in their order, by the targets and the rows before.
-use Rattle.std.specs.Prelude.{◌≡◌, ℕ, ◌<◌, Bool, not, if◌then◌else◌, List, [], ◌∷◌, map, take, drop, Option, Some, None}
+use Rattle.std.specs.Prelude.{◌≡◌, ℕ, ◌<◌, Bool, not, if◌then◌else◌, List, [], ◌∷◌, map, take, drop}
+use Rattle.std.specs.Prelude.{Option, Some, None}
 use Rattle.std.specs.Option.{option_or}
 use Rattle.sheet_format.specs.Faults.{is_name}
 use Rattle.direction_table.specs.Gons.{is_below_circle, is_direction}

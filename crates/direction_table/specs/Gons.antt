@@ -1,5 +1,6 @@
 -- Directions in gon, as programs print them.
-use Rattle.std.specs.Prelude.{ℕ, ◌+◌, ◌-◌, ◌*◌, ◌^◌, Bool, true, false, ◌&&◌, ◌==◌, nat_le, nat_lt, if◌then◌else◌, List, [], ◌∷◌, length, take, drop, ℤ, pos, unwrap_or}
+use Rattle.std.specs.Prelude.{ℕ, ◌+◌, ◌-◌, ◌*◌, ◌^◌, Bool, true, false, ◌&&◌, ◌==◌, nat_le, nat_lt}
+use Rattle.std.specs.Prelude.{if◌then◌else◌, List, [], ◌∷◌, length, take, drop, ℤ, pos, unwrap_or}
 use lib.IntN.{neg_ℤ}
 use Rattle.std.specs.Char.{is_ascii_digit}
 use Rattle.std.specs.List.{list_all, position}
@@ -22,7 +23,8 @@ is_fraction (point ∷ digits) = are_digits 9 digits
 
 -- 1 to 3 digits, and optionally a point and 1 to 9 digits (profile)
 abbrev pub is_size : List ℕ → Bool
-is_size bytes = are_digits 3 (take (point_of bytes) bytes) && is_fraction (drop (point_of bytes) bytes)
+is_size bytes = are_digits 3 (take (point_of bytes) bytes)
+    && is_fraction (drop (point_of bytes) bytes)
 
 -- the fraction in units of the ninth decimal
 abbrev pub fraction_value : List ℕ → ℕ
@@ -32,7 +34,8 @@ fraction_value (point ∷ digits) = digits_value 10 digits * 10 ^ (9 - length di
 -- the number that such bytes write, in units of the ninth decimal of a gon
 abbrev pub size_value : List ℕ → ℕ
 size_value bytes =
-    digits_value 10 (take (point_of bytes) bytes) * 10 ^ 9 + fraction_value (drop (point_of bytes) bytes)
+    digits_value 10 (take (point_of bytes) bytes) * 10 ^ 9
+    + fraction_value (drop (point_of bytes) bytes)
 
 -- the digits of a direction without its minus
 abbrev pub unsigned : List ℕ → List ℕ

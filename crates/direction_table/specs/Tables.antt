@@ -1,12 +1,14 @@
 -- A table of directions: a row of two columns for each target, its name and its direction, in any
 -- order.
-use Rattle.std.specs.Prelude.{◌≡◌, ◌⊎◌, ℕ, ◌≤◌, ◌<◌, ◌+◌, List, length, map, slice_index_or, ℤ, Option, Some, None}
+use Rattle.std.specs.Prelude.{◌≡◌, ◌⊎◌, ℕ, ◌≤◌, ◌<◌, ◌+◌, List, length, map, slice_index_or, ℤ}
+use Rattle.std.specs.Prelude.{Option, Some, None}
 use Rattle.adjust_kernel.specs.Firsts.{IsFirstWhere}
 use Rattle.sheet_format.specs.Rows.{records_of}
 use Rattle.direction_table.specs.Faults.{HasNoFault, IsFirstFault}
 use Rattle.direction_table.specs.Rows.{direction_in}
 use Rattle.direction_table.specs.declared.fault.TableFault.{TableFault}
-use Rattle.direction_table.specs.declared.fault.TableFault.TheVariants.{TooLong, Row, Missing, Memory}
+use Rattle.direction_table.specs.declared.fault.TableFault.TheVariants.{TooLong, Row, Missing}
+use Rattle.direction_table.specs.declared.fault.TableFault.TheVariants.{Memory}
 use Rattle.direction_table.specs.declared.reading.TheConstants.{LONGEST_TABLE}
 
 -- what these rows state of each of the targets: a direction, or none

@@ -1,5 +1,6 @@
 -- The text of a direction, as it is written. Directions are in units of the ninth decimal of a gon.
-use Rattle.std.specs.Prelude.{◌≡◌, ℕ, zero, suc, ◌+◌, ◌-◌, ◌^◌, ◌/◌, ◌%◌, ◌≤◌, ◌<◌, List, [], ◌∷◌, ◌++◌}
+use Rattle.std.specs.Prelude.{◌≡◌, ℕ, zero, suc, ◌+◌, ◌-◌, ◌^◌, ◌/◌, ◌%◌, ◌≤◌, ◌<◌, List, [], ◌∷◌}
+use Rattle.std.specs.Prelude.{◌++◌}
 use Rattle.std.specs.Fmt.{decimal}
 use Rattle.direction_table.specs.declared.decimals.TheConstants.{MOST_WRITTEN}
 use Rattle.direction_table.specs.declared.gon.TheConstants.{CIRCLE}
@@ -23,6 +24,7 @@ AreDecimals count = (1 ≤ count) × (count ≤ MOST_WRITTEN)
 abbrev pub step_of : ℕ → ℕ
 step_of count = 10 ^ (9 - count)
 
--- a direction that so many decimals write exactly: below a full circle, and a multiple of their step
+-- a direction that so many decimals write exactly: below a full circle, and a multiple of their
+-- step
 abbrev pub IsWhole : ℕ → ℕ → Type 0
 IsWhole count direction = (direction < CIRCLE) × (direction % step_of count ≡ 0)

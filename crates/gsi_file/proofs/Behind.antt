@@ -1,8 +1,11 @@
 -- A read behind the first bytes of a buffer.
-use Rattle.std.proofs.Common.{◌≡◌, ℕ, suc, ◌+◌, ◌-◌, ◌<◌, ◌≤◌, List, [], ◌∷◌, ◌++◌, length, take, drop, Option, None, Some, Result, Ok, Err, slice_range, MatchResult, refl, sym, ap, subst, ◌∙◌, arith, length-take, drop-drop}
+use Rattle.std.proofs.Common.{◌≡◌, ℕ, suc, ◌+◌, ◌-◌, ◌<◌, ◌≤◌, List, [], ◌∷◌, ◌++◌, length, take}
+use Rattle.std.proofs.Common.{drop, Option, None, Some, Result, Ok, Err, slice_range, MatchResult}
+use Rattle.std.proofs.Common.{refl, sym, ap, subst, ◌∙◌, arith, length-take, drop-drop}
 use Rattle.std.specs.Prelude.{IfOk}
 use Rattle.std.proofs.lemmas.List.{drop-take, drop-append-le, take-append-le}
-use Rattle.byte_ends.specs.Source.{Told, Reads, AfterRead, TellsOver, MayGive, Through, ended, broken_off}
+use Rattle.byte_ends.specs.Source.{Told, Reads, AfterRead, TellsOver, MayGive, Through, ended}
+use Rattle.byte_ends.specs.Source.{broken_off}
 use Rattle.byte_ends.specs.declared.failed.Failed.{Failed}
 use Rattle.gsi_file.specs.Filling.{Grows, GivesTold, FailsTold}
 

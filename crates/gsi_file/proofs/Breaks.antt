@@ -1,11 +1,14 @@
 -- The first byte that breaks a limit, and the first bytes up to it.
-use Rattle.std.proofs.Common.{◌≡◌, ℕ, zero, suc, ◌-◌, ◌<◌, ◌≤◌, Bool, true, false, cond, not, List, [], ◌∷◌, length, take, Option, None, Some, refl, sym, ap, ◌∙◌, arith, length-take, take-take}
+use Rattle.std.proofs.Common.{◌≡◌, ℕ, zero, suc, ◌-◌, ◌<◌, ◌≤◌, Bool, true, false, cond, not, List}
+use Rattle.std.proofs.Common.{[], ◌∷◌, length, take, Option, None, Some, refl, sym, ap, ◌∙◌, arith}
+use Rattle.std.proofs.Common.{length-take, take-take}
 use Rattle.std.specs.Prelude.{if◌then◌else◌, nat_lt}
 use Rattle.std.specs.Option.{option_map}
 use Rattle.gsi_file.specs.declared.file_fault.FileKind.TheVariants.{FileTooLong, LineTooLong}
 use Rattle.gsi_file.specs.Parts.{front_of, ended_lines}
 use Rattle.gsi_file.specs.FileAnswers as spec
-use Rattle.gsi_file.specs.FileAnswers.{FileAnswers, IsFirstBreak, is_within, least, first_break, answers_before, answers_of_all, answers_within}
+use Rattle.gsi_file.specs.FileAnswers.{FileAnswers, IsFirstBreak, is_within, least, first_break}
+use Rattle.gsi_file.specs.FileAnswers.{answers_before, answers_of_all, answers_within}
 use Rattle.gsi_file.proofs.Fronts.{shortest_front}
 
 -- whether a limit is broken

@@ -1,5 +1,6 @@
 -- A line at fault is what comes next.
-use Rattle.std.proofs.Common.{◌≡◌, ℕ, ◌+◌, ◌≤◌, Bool, true, false, List, [], take, Some, IfSome, refl, ap, inr}
+use Rattle.std.proofs.Common.{◌≡◌, ℕ, ◌+◌, ◌≤◌, Bool, true, false, List, [], take, Some, IfSome}
+use Rattle.std.proofs.Common.{refl, ap, inr}
 use Rattle.byte_ends.specs.Source.{Told}
 use Rattle.gsi_file.specs.declared.file_fault.FileKind.{FileKind}
 use Rattle.gsi_file.specs.declared.search.FoundLine.{FoundLine}
@@ -30,7 +31,7 @@ pub fault_to_come : (state : State) (count room room' : ℕ) (hand hand' rest : 
     × ((comes_in state count room hand (Some before)).number + 1 ≤ LONGEST_FILE)
 fault_to_come Open count room room' hand hand' rest before after f kind unsettled fits found fault =
     let next = next_at_fault before after room f.line f.used f.room hand hand' f.last kind
-        found.told fault in
+    found.told fault in
     (next, refl, fits)
 fault_to_come End count room room' hand hand' rest before after f kind unsettled fits found fault =
     cc

@@ -1,7 +1,11 @@
 -- The next line of what is in hand and what the source gives.
-use Rattle.std.proofs.Common.{◌≡◌, ℕ, zero, suc, ◌+◌, ◌-◌, ◌<◌, ◌≤◌, Bool, true, false, cond, List, [], ◌∷◌, ◌++◌, length, take, drop, All, Option, None, Some, refl, sym, ap, subst, ◌∙◌, arith, append_assoc, add-one, length-take, length-drop, length-append, drop-cons, drop-drop, ◌⊎◌, inl, inr}
+use Rattle.std.proofs.Common.{◌≡◌, ℕ, zero, suc, ◌+◌, ◌-◌, ◌<◌, ◌≤◌, Bool, true, false, cond, List}
+use Rattle.std.proofs.Common.{[], ◌∷◌, ◌++◌, length, take, drop, All, Option, None, Some, refl, sym}
+use Rattle.std.proofs.Common.{ap, subst, ◌∙◌, arith, append_assoc, add-one, length-take}
+use Rattle.std.proofs.Common.{length-drop, length-append, drop-cons, drop-drop, ◌⊎◌, inl, inr}
 use Rattle.std.specs.Prelude.{slice_index}
-use Rattle.std.proofs.lemmas.List.{take-append-drop, take-take, take_all, get_or-take, get_or-drop, append-nil}
+use Rattle.std.proofs.lemmas.List.{take-append-drop, take-take, take_all, get_or-take, get_or-drop}
+use Rattle.std.proofs.lemmas.List.{append-nil}
 use Rattle.std.proofs.lemmas.List.Elements.{All-nil, All-take}
 use Rattle.std.proofs.lemmas.Bool.{true≢false, false≢true}
 use Rattle.byte_ends.specs.Source.{Told, HasBrokenOff}
@@ -10,8 +14,10 @@ use Rattle.gsi_file.specs.declared.file_fault.FileKind.TheVariants.{Read, FileTo
 use Rattle.gsi_file.specs.Parts.{is_line_end, is_line, HasNoEnd}
 use Rattle.gsi_file.specs.FileAnswers.{answers_within, line_before}
 use Rattle.gsi_file.specs.Filling.{Grows, FailsTold}
-use Rattle.gsi_file.specs.Finding.{answers_in, SameAnswers, AnswersAre, AnswersBegin, HasFound, BreaksOff}
-use Rattle.gsi_file.proofs.FirstBytes.{with_line, answers_end, answers_failed, answers_line, answers_long_file, answers_long_line}
+use Rattle.gsi_file.specs.Finding.{answers_in, SameAnswers, AnswersAre, AnswersBegin, HasFound}
+use Rattle.gsi_file.specs.Finding.{BreaksOff}
+use Rattle.gsi_file.proofs.FirstBytes.{with_line, answers_end, answers_failed, answers_line}
+use Rattle.gsi_file.proofs.FirstBytes.{answers_long_file, answers_long_line}
 
 none_of : (xs : List ℕ) → length xs ≡ 0 → xs ≡ []
 none_of [] e = refl

@@ -7,7 +7,8 @@ use Rattle.gsi_word.specs.declared.line_fault.LineFault.TheVariants as line
 use Rattle.gsi_file.specs.ToCome.{IsFileFault, kind_of}
 use Rattle.gsi_file.specs.Failing.{failed_at}
 use Rattle.gsi_file.specs.declared.file_fault.FileKind.{FileKind}
-use Rattle.gsi_file.specs.declared.file_fault.FileKind.TheVariants.{Read, FileTooLong, LineTooLong, Byte, Word, FirstWord}
+use Rattle.gsi_file.specs.declared.file_fault.FileKind.TheVariants.{Read, FileTooLong, LineTooLong}
+use Rattle.gsi_file.specs.declared.file_fault.FileKind.TheVariants.{Byte, Word, FirstWord}
 
 pub as_file_fault : (l : List ℕ) (f : LineFault) → IsLineFault l f → IsFileFault l (kind_of f)
 as_file_fault l (line.Byte at) h = h

@@ -3,7 +3,8 @@ use Rattle.std.specs.Prelude.{Bool, true, Result, Ok, Err, if◌then◌else◌}
 use Rattle.gsi_file.specs.declared.file_fault.FileFault.{FileFault}
 use Rattle.gsi_file.specs.declared.file_fault.FileFault.TheVariants.{At, Memory}
 use Rattle.gsi_file.specs.declared.file_fault.FileKind.{FileKind}
-use Rattle.gsi_file.specs.declared.file_fault.FileKind.TheVariants.{Read, FileTooLong, LineTooLong, Byte, Word, FirstWord}
+use Rattle.gsi_file.specs.declared.file_fault.FileKind.TheVariants.{Read, FileTooLong, LineTooLong}
+use Rattle.gsi_file.specs.declared.file_fault.FileKind.TheVariants.{Byte, Word, FirstWord}
 
 -- whether a read has failed after a fault: only `Read` comes of one
 abbrev pub failed_at : Bool → FileKind → Bool

@@ -1,5 +1,6 @@
 -- What filling the buffer does, where the source tells.
-use Rattle.std.specs.Prelude.{◌≡◌, ℕ, ◌+◌, List, ◌++◌, length, take, Option, Result, Ok, Err, MatchResult}
+use Rattle.std.specs.Prelude.{◌≡◌, ℕ, ◌+◌, List, ◌++◌, length, take, Option, Result, Ok, Err}
+use Rattle.std.specs.Prelude.{MatchResult}
 use Rattle.byte_ends.specs.Source.{Told, WhereTold, Gives, HasBrokenOff}
 
 -- The source gave these bytes, where it tells.

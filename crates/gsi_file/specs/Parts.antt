@@ -1,5 +1,6 @@
 -- The parts and the lines of the bytes of a file (profile).
-use Rattle.std.specs.Prelude.{◌≡◌, ℕ, ◌-◌, Bool, false, All, not, ◌||◌, ◌==◌, List, length, take, filter}
+use Rattle.std.specs.Prelude.{◌≡◌, ℕ, ◌-◌, Bool, false, All, not, ◌||◌, ◌==◌, List, length, take}
+use Rattle.std.specs.Prelude.{filter}
 use Rattle.std.specs.List.{slice_split, list_all}
 
 -- A carriage return ends a line, and so does a line feed: after both of them stands an empty part.

@@ -1,5 +1,6 @@
 -- What lines stand for.
-use Rattle.std.specs.Prelude.{◌≡◌, Bool, true, false, ℕ, ◌<◌, List, ⊤, Option, Some, None, Result, Ok, Err}
+use Rattle.std.specs.Prelude.{◌≡◌, Bool, true, false, ℕ, ◌<◌, List, ⊤, Option, Some, None, Result}
+use Rattle.std.specs.Prelude.{Ok, Err}
 use Rattle.std.specs.Option.{option_map}
 use Rattle.byte_ends.specs.Source.{Told}
 use Rattle.gsi_file.specs.declared.file_fault.FileFault.{FileFault}

@@ -1,5 +1,6 @@
 -- What is still to come of a file's lines, and what a call answers.
-use Rattle.std.specs.Prelude.{◌≡◌, ℕ, ◌+◌, ◌≤◌, List, [], ◌∷◌, ⊤, Option, Some, None, IfSome, Result, Ok, Err, ◌⊎◌}
+use Rattle.std.specs.Prelude.{◌≡◌, ℕ, ◌+◌, ◌≤◌, List, [], ◌∷◌, ⊤, Option, Some, None, IfSome}
+use Rattle.std.specs.Prelude.{Result, Ok, Err, ◌⊎◌}
 use Rattle.byte_ends.specs.Source.{WhereTold}
 use Rattle.gsi_word.specs.Blocks.{GsiBlock, IsBlock}
 use Rattle.gsi_word.specs.BlockViews.{block_of}
@@ -10,7 +11,8 @@ use Rattle.gsi_word.specs.declared.line_fault.LineFault.{LineFault}
 use Rattle.gsi_word.specs.declared.line_fault.LineFault.TheVariants as line
 use Rattle.gsi_file.specs.declared.line.Line.{Line}
 use Rattle.gsi_file.specs.declared.file_fault.FileKind.{FileKind}
-use Rattle.gsi_file.specs.declared.file_fault.FileKind.TheVariants.{Read, FileTooLong, LineTooLong, Byte, Word, FirstWord}
+use Rattle.gsi_file.specs.declared.file_fault.FileKind.TheVariants.{Read, FileTooLong, LineTooLong}
+use Rattle.gsi_file.specs.declared.file_fault.FileKind.TheVariants.{Byte, Word, FirstWord}
 use Rattle.gsi_file.specs.declared.file_fault.FileFault.{FileFault}
 use Rattle.gsi_file.specs.declared.file_fault.FileFault.TheVariants.{At, Memory}
 use Rattle.gsi_file.specs.declared.bounds.TheConstants.{LONGEST_FILE}

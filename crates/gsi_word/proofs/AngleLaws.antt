@@ -1,14 +1,17 @@
 -- The tests of an angle, one after another, find the angle of a word exactly where it has one.
-use Rattle.std.proofs.Common.{◌≡◌, ℕ, ◌≤◌, Bool, true, false, not, leb, List, Option, Some, None, Result, Ok, Err, ◌↔◌, refl, sym, ap, ◌∙◌}
+use Rattle.std.proofs.Common.{◌≡◌, ℕ, ◌≤◌, Bool, true, false, not, leb, List, Option, Some, None}
+use Rattle.std.proofs.Common.{Result, Ok, Err, ◌↔◌, refl, sym, ap, ◌∙◌}
 use Rattle.std.specs.Prelude.{if◌then◌else◌, slice_index}
 use Rattle.std.specs.Char.{is_ascii_digit}
 use Rattle.std.specs.List.{list_all, AllPass}
 use Rattle.std.proofs.lemmas.Bool.{leb-true, le-leb}
 use Rattle.std.proofs.lemmas.List.Sums.{AllPass-from_list_all, list_all-from_AllPass}
 use Rattle.gsi_word.specs.Words.{GsiWord}
-use Rattle.gsi_word.specs.Angles.{decimal_value, decimal_number, is_gon, is_input_mode, last_unit, angle_within_turn, angle_of, IsAngle}
+use Rattle.gsi_word.specs.Angles.{decimal_value, decimal_number, is_gon, is_input_mode, last_unit}
+use Rattle.gsi_word.specs.Angles.{angle_within_turn, angle_of, IsAngle}
 use Rattle.gsi_word.specs.declared.angle.AngleFault.{AngleFault}
-use Rattle.gsi_word.specs.declared.angle.AngleFault.TheVariants.{Unit as WrongUnit, InputMode, Sign, Digits, Range}
+use Rattle.gsi_word.specs.declared.angle.AngleFault.TheVariants.{Unit as WrongUnit, InputMode, Sign}
+use Rattle.gsi_word.specs.declared.angle.AngleFault.TheVariants.{Digits, Range}
 
 err_ok : (fault : AngleFault) (n : ℕ) → ◌≡◌ {A = Result ℕ AngleFault} (Err fault) (Ok n) → ⊥
 err_ok fault n e = cc

@@ -1,8 +1,10 @@
 -- A block kept as bytes, a width and a number of words.
-use Rattle.std.proofs.Common.{◌≡◌, ℕ, zero, suc, ◌+◌, ◌-◌, ◌*◌, ◌<◌, ◌≤◌, List, length, take, drop, IsTrue, subst, Some, None, refl, ap, ◌∙◌, arith}
+use Rattle.std.proofs.Common.{◌≡◌, ℕ, zero, suc, ◌+◌, ◌-◌, ◌*◌, ◌<◌, ◌≤◌, List, length, take, drop}
+use Rattle.std.proofs.Common.{IsTrue, subst, Some, None, refl, ap, ◌∙◌, arith}
 use Rattle.std.specs.Prelude.{slice_get}
 use Rattle.std.proofs.lemmas.List.{length-take, get_or-take}
-use Rattle.gsi_word.specs.Layout.{word_of, words_from, is_width, HasIndex, IsWordBytes, IsWholeWord, KeepsWords}
+use Rattle.gsi_word.specs.Layout.{word_of, words_from, is_width, HasIndex, IsWordBytes, IsWholeWord}
+use Rattle.gsi_word.specs.Layout.{KeepsWords}
 use Rattle.gsi_word.proofs.RunLaws.{drop_words}
 
 pub slice_get-words_from : (width count i : ℕ) (bytes : List ℕ) → i < count

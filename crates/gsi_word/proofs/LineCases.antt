@@ -1,11 +1,14 @@
 -- Each line is a block or has a fault.
-use Rattle.std.proofs.Common.{◌≡◌, ◌≢◌, ℕ, zero, suc, ◌+◌, ◌≤◌, Bool, true, false, eqb, List, [], ◌∷◌, length, drop, replicate, All, Any, ◌⊎◌, inl, inr, refl, ap, arith}
+use Rattle.std.proofs.Common.{◌≡◌, ◌≢◌, ℕ, zero, suc, ◌+◌, ◌≤◌, Bool, true, false, eqb, List, []}
+use Rattle.std.proofs.Common.{◌∷◌, length, drop, replicate, All, Any, ◌⊎◌, inl, inr, refl, ap}
+use Rattle.std.proofs.Common.{arith}
 use Rattle.std.specs.Prelude.{if◌then◌else◌}
 use Rattle.std.proofs.lemmas.Bool.{cases_Bool, eqb-true, eqb-false}
 use Rattle.std.proofs.lemmas.List.{length-drop}
 use Rattle.std.proofs.lemmas.List.Elements.{All-nil, All-cons, All-drop}
 use Rattle.gsi_word.specs.Words.{GsiWord, IsPrintable}
-use Rattle.gsi_word.specs.Blocks.{GsiBlock, width_of, word_bytes, AreWords, BeginsBlock, IsBlock, is_starred}
+use Rattle.gsi_word.specs.Blocks.{GsiBlock, width_of, word_bytes, AreWords, BeginsBlock, IsBlock}
+use Rattle.gsi_word.specs.Blocks.{is_starred}
 use Rattle.gsi_word.specs.LineFaults.{IsByteFault, IsWordFault, IsLineFault}
 use Rattle.gsi_word.specs.Layout.{is_printable, begins_word, words_from}
 use Rattle.gsi_word.specs.declared.line_fault.LineFault.{LineFault}

@@ -1,13 +1,18 @@
 -- A line is one block at most or has one fault at most, and never both.
-use Rattle.std.proofs.Common.{◌≡◌, ◌≢◌, ℕ, zero, suc, ◌+◌, ◌-◌, ◌/◌, ◌<◌, Bool, true, false, List, [], ◌∷◌, ◌++◌, length, get_or, take, drop, map, replicate, All, Any, ◌⊎◌, inl, inr, refl, sym, ap, subst, ◌∙◌, append_assoc, arith}
+use Rattle.std.proofs.Common.{◌≡◌, ◌≢◌, ℕ, zero, suc, ◌+◌, ◌-◌, ◌/◌, ◌<◌, Bool, true, false, List}
+use Rattle.std.proofs.Common.{[], ◌∷◌, ◌++◌, length, get_or, take, drop, map, replicate, All, Any}
+use Rattle.std.proofs.Common.{◌⊎◌, inl, inr, refl, sym, ap, subst, ◌∙◌, append_assoc, arith}
 use Rattle.std.specs.Prelude.{if◌then◌else◌, nat_eq, codes}
 use Rattle.std.proofs.lemmas.Bool.{eqb-true, and_parts}
 use Rattle.std.specs.List.{flat_map, join_with_byte, starts_with}
-use Rattle.std.proofs.lemmas.List.{drop-replicate, drop_more, get_or_default, get_or_at, get_or-take, length-append, length-take, take-append-drop}
-use Rattle.std.proofs.lemmas.List.Elements.{All-head, All-tail, All-append, All-cons, All-from_get_or, All-replicate}
+use Rattle.std.proofs.lemmas.List.{drop-replicate, drop_more, get_or_default, get_or_at}
+use Rattle.std.proofs.lemmas.List.{get_or-take, length-append, length-take, take-append-drop}
+use Rattle.std.proofs.lemmas.List.Elements.{All-head, All-tail, All-append, All-cons}
+use Rattle.std.proofs.lemmas.List.Elements.{All-from_get_or, All-replicate}
 use Rattle.gsi_word.specs.Words.{GsiWord, IsPrintable, IsWord, spelled}
 use Rattle.gsi_word.specs.Blocks.{GsiBlock, width_of, word_bytes, AreWords, IsBlock, BeginsBlock}
-use Rattle.gsi_word.specs.LineFaults.{EndsWord, BeginsWord, followed, IsByteFault, IsWordFault, IsLineFault}
+use Rattle.gsi_word.specs.LineFaults.{EndsWord, BeginsWord, followed, IsByteFault, IsWordFault}
+use Rattle.gsi_word.specs.LineFaults.{IsLineFault}
 use Rattle.gsi_word.specs.declared.line_fault.LineFault.{LineFault}
 use Rattle.gsi_word.specs.declared.line_fault.LineFault.TheVariants.{Byte, Word, FirstWord}
 use Rattle.gsi_word.proofs.WordLaws.{one_word, spelled_printable}

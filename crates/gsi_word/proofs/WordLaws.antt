@@ -1,11 +1,16 @@
 -- One word at the front of printable bytes: the test finds it exactly where it stands, and it is
 -- the only one.
-use Rattle.std.proofs.Common.{◌≡◌, ◌≢◌, ℕ, suc, ◌+◌, ◌-◌, ◌*◌, ◌/◌, ◌%◌, ◌<◌, ◌≤◌, Bool, true, false, ◌||◌, eqb, List, [], ◌∷◌, ◌++◌, length, get_or, take, drop, All, ◌⊎◌, inl, inr, refl, sym, ap, subst, ◌∙◌, arith}
+use Rattle.std.proofs.Common.{◌≡◌, ◌≢◌, ℕ, suc, ◌+◌, ◌-◌, ◌*◌, ◌/◌, ◌%◌, ◌<◌, ◌≤◌, Bool, true}
+use Rattle.std.proofs.Common.{false, ◌||◌, eqb, List, [], ◌∷◌, ◌++◌, length, get_or, take, drop}
+use Rattle.std.proofs.Common.{All, ◌⊎◌, inl, inr, refl, sym, ap, subst, ◌∙◌, arith}
 use Rattle.std.specs.Char.{is_ascii_digit}
 use Rattle.std.specs.List.{list_any}
-use Rattle.std.proofs.lemmas.Bool.{false≢true, not-true, leb-true, le-leb, eqb-true, eq-eqb, ne_eqb, and_parts, and_from, or_cases, or_left, or_right, not_from_false}
-use Rattle.std.proofs.lemmas.List.{length-append, length-take, length-drop, get_or-drop, get_or_at, take_at, drop_at}
-use Rattle.std.proofs.lemmas.List.Elements.{All-from_recursion, All-take, All-drop, All-cons, All-append, All-weaker}
+use Rattle.std.proofs.lemmas.Bool.{false≢true, not-true, leb-true, le-leb, eqb-true, eq-eqb, ne_eqb}
+use Rattle.std.proofs.lemmas.Bool.{and_parts, and_from, or_cases, or_left, or_right, not_from_false}
+use Rattle.std.proofs.lemmas.List.{length-append, length-take, length-drop, get_or-drop, get_or_at}
+use Rattle.std.proofs.lemmas.List.{take_at, drop_at}
+use Rattle.std.proofs.lemmas.List.Elements.{All-from_recursion, All-take, All-drop, All-cons}
+use Rattle.std.proofs.lemmas.List.Elements.{All-append, All-weaker}
 use Rattle.std.proofs.lemmas.List.Folds.{list_any_none, list_any_at}
 use Rattle.gsi_word.specs.Words.{GsiWord, IsPrintable, IsGraphic, IsWord, sign_byte, spelled}
 use Rattle.gsi_word.specs.LineFaults.{EndsWord, BeginsWord}

@@ -1,10 +1,13 @@
 -- The angle that a word holds, in units of 0.00001 gon (GSI manual; the accepted bytes of unit and
 -- input mode are profile).
-use Rattle.std.specs.Prelude.{◌≡◌, ◌≤◌, ◌==◌, ℕ, ◌+◌, ◌-◌, ◌*◌, nat_le, Bool, false, IsTrue, ◌||◌, not, List, fold, Option, Some, None, Result, Ok, Err, if◌then◌else◌, slice_index}
+use Rattle.std.specs.Prelude.{◌≡◌, ◌≤◌, ◌==◌, ℕ, ◌+◌, ◌-◌, ◌*◌, nat_le, Bool, false, IsTrue, ◌||◌}
+use Rattle.std.specs.Prelude.{not, List, fold, Option, Some, None, Result, Ok, Err, if◌then◌else◌}
+use Rattle.std.specs.Prelude.{slice_index}
 use Rattle.std.specs.List.{list_all, AllPass}
 use Rattle.std.specs.Char.{is_ascii_digit}
 use Rattle.gsi_word.specs.declared.angle.AngleFault.{AngleFault}
-use Rattle.gsi_word.specs.declared.angle.AngleFault.TheVariants.{Unit as WrongUnit, InputMode, Sign, Digits, Range}
+use Rattle.gsi_word.specs.declared.angle.AngleFault.TheVariants.{Unit as WrongUnit, InputMode, Sign}
+use Rattle.gsi_word.specs.declared.angle.AngleFault.TheVariants.{Digits, Range}
 use Rattle.gsi_word.specs.Words.{GsiWord}
 
 -- the number that decimal digits write

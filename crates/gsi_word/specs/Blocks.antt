@@ -1,6 +1,7 @@
 -- A line that is a block of words (GSI manual; that a line may end with its last word, or with any
 -- number of blanks, is profile).
-use Rattle.std.specs.Prelude.{◌≡◌, ℕ, ◌<◌, Bool, nat_eq, codes, List, [], ◌∷◌, ◌++◌, length, drop, map, All, replicate, if◌then◌else◌, ◌⊎◌}
+use Rattle.std.specs.Prelude.{◌≡◌, ℕ, ◌<◌, Bool, nat_eq, codes, List, [], ◌∷◌, ◌++◌, length, drop}
+use Rattle.std.specs.Prelude.{map, All, replicate, if◌then◌else◌, ◌⊎◌}
 use Rattle.std.specs.List.{join_with_byte, starts_with}
 use Rattle.gsi_word.specs.Words.{GsiWord, IsWord, spelled}
 

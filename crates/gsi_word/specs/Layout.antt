@@ -1,6 +1,7 @@
 -- Where the words of a line and the parts of a word lie in their bytes: how the code finds and
 -- keeps them. What they mean is said in Words and Blocks.
-use Rattle.std.specs.Prelude.{◌≡◌, ℕ, zero, suc, ◌+◌, ◌-◌, ◌*◌, ◌<◌, ◌≤◌, Bool, ◌&&◌, ◌||◌, not, nat_le, ◌==◌, IsTrue, List, [], ◌∷◌, length, take, drop, slice_index}
+use Rattle.std.specs.Prelude.{◌≡◌, ℕ, zero, suc, ◌+◌, ◌-◌, ◌*◌, ◌<◌, ◌≤◌, Bool, ◌&&◌, ◌||◌, not}
+use Rattle.std.specs.Prelude.{nat_le, ◌==◌, IsTrue, List, [], ◌∷◌, length, take, drop, slice_index}
 use Rattle.std.specs.Char.{is_ascii_digit}
 use Rattle.std.specs.Int.{is_in_range}
 use Rattle.std.specs.List.{list_any}

@@ -1,6 +1,7 @@
 -- The name or code that a content holds (GSI manual: the instrument fills the content with zeros
 -- from the left).
-use Rattle.std.specs.Prelude.{◌≡◌, ◌≢◌, ◌==◌, ℕ, ◌<◌, List, [], ◌∷◌, ◌++◌, length, replicate, if◌then◌else◌, Some, slice_get, ◌⊎◌}
+use Rattle.std.specs.Prelude.{◌≡◌, ◌≢◌, ◌==◌, ℕ, ◌<◌, List, [], ◌∷◌, ◌++◌, length, replicate}
+use Rattle.std.specs.Prelude.{if◌then◌else◌, Some, slice_get, ◌⊎◌}
 
 -- the content without the zeros before it, at least one byte kept
 abbrev pub name_of : List ℕ → List ℕ

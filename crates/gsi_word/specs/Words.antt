@@ -1,5 +1,6 @@
 -- A word of a GSI line, and the bytes that it is written with (GSI manual).
-use Rattle.std.specs.Prelude.{◌≡◌, ℕ, ◌+◌, ◌/◌, ◌%◌, ◌<◌, ◌≤◌, Bool, List, ◌∷◌, ◌++◌, length, All, if◌then◌else◌}
+use Rattle.std.specs.Prelude.{◌≡◌, ℕ, ◌+◌, ◌/◌, ◌%◌, ◌<◌, ◌≤◌, Bool, List, ◌∷◌, ◌++◌, length, All}
+use Rattle.std.specs.Prelude.{if◌then◌else◌}
 
 -- What a word says: its index, its information, whether its sign is minus, and its content.
 pub record GsiWord : Type 0 where

@@ -1,5 +1,6 @@
 -- The way round a circle, and arcs that hold angles.
-use Rattle.std.proofs.Common.{◌≡◌, ℕ, zero, suc, ◌+◌, ◌*◌, ◌/◌, ◌%◌, ◌≤◌, ◌<◌, ◌+ℤ◌, ℤ, pos, negsuc, arith, subst}
+use Rattle.std.proofs.Common.{◌≡◌, ℕ, zero, suc, ◌+◌, ◌*◌, ◌/◌, ◌%◌, ◌≤◌, ◌<◌, ◌+ℤ◌, ℤ, pos, negsuc}
+use Rattle.std.proofs.Common.{arith, subst}
 use Rattle.std.specs.Prelude.{max, min}
 use Rattle.std.specs.Int.{int_rem_euclid}
 use Rattle.std.specs.Int.RustNames.{unsigned_abs}
@@ -13,47 +14,65 @@ use Rattle.sheet_apart.specs.Arcs.{IsExtent, IsWayRound}
 
 -- what is left of a number after full circles
 left_of_circles : (z : ℤ) (circle : ℕ) → 1 ≤ circle
-    → (turns : ℤ) × (pos (unsigned_abs (int_rem_euclid z (pos circle))) ≡ z +ℤ pos circle *ℤ turns) × (unsigned_abs (int_rem_euclid z (pos circle)) < circle)
+    → (turns : ℤ) × (pos (unsigned_abs (int_rem_euclid z (pos circle))) ≡ z +ℤ pos circle *ℤ turns)
+    × (unsigned_abs (int_rem_euclid z (pos circle)) < circle)
 left_of_circles (pos a) circle h =
     let q = a / circle in
-    let e : pos circle *ℤ (pos 0 -ℤ pos q) ≡ pos 0 -ℤ pos (circle * q) = same_value (num (pos circle) ⊗ (num (pos 0) ⊖ num (pos q))) (num (pos 0) ⊖ num (pos (circle * q))) (omega arith) in
+    let e : pos circle *ℤ (pos 0 -ℤ pos q) ≡ pos 0 -ℤ pos (circle * q) =
+    same_value (num (pos circle) ⊗ (num (pos 0) ⊖ num (pos q))) (num (pos 0)
+    ⊖ num (pos (circle * q))) (omega arith) in
     let d : circle * q + a % circle ≡ a = omega arith in
     (pos 0 -ℤ pos q, omega (arith, ints, e, d), omega arith)
 left_of_circles (negsuc a) circle h =
     let q = a / circle in
-    let e : pos circle *ℤ pos (q + 1) ≡ pos (circle * q + circle) = same_value (num (pos circle) ⊗ num (pos (q + 1))) (num (pos (circle * q + circle))) (omega arith) in
+    let e : pos circle *ℤ pos (q + 1) ≡ pos (circle * q + circle) =
+    same_value (num (pos circle) ⊗ num (pos (q + 1))) (num (pos (circle * q + circle)))
+    (omega arith) in
     let d : circle * q + a % circle ≡ a = omega arith in
     (pos (q + 1), omega (arith, ints, e, d), omega arith)
 
-pub way_round_is : (circle : ℕ) (from to : ℤ) → 1 ≤ circle → IsWayRound circle from to (unsigned_abs (int_rem_euclid (to -ℤ from) (pos circle)))
+pub way_round_is : (circle : ℕ) (from to : ℤ) → 1 ≤ circle
+    → IsWayRound circle from to (unsigned_abs (int_rem_euclid (to -ℤ from) (pos circle)))
 way_round_is circle from to h =
     let (turns, is, below) = left_of_circles (to -ℤ from) circle h in
     record { turns = turns; there = omega (arith, ints, is); below = below }
 
 -- numbers below a circle that differ by full circles are one
-pub no_circle : (circle x y : ℕ) (k : ℤ) → x < circle → y < circle → pos x ≡ pos y +ℤ pos circle *ℤ k → x ≡ y
+pub no_circle : (circle x y : ℕ) (k : ℤ) → x < circle → y < circle
+    → pos x ≡ pos y +ℤ pos circle *ℤ k → x ≡ y
 no_circle circle x y (pos zero) hx hy e =
-    let f : pos circle *ℤ pos 0 ≡ pos 0 = same_value (num (pos circle) ⊗ num (pos 0)) (num (pos 0)) (omega arith) in
+    let f : pos circle *ℤ pos 0 ≡ pos 0 = same_value (num (pos circle) ⊗ num (pos 0)) (num (pos 0))
+    (omega arith) in
     omega (arith, ints, e, f)
 no_circle circle x y (pos (suc n)) hx hy e =
-    let f : pos circle *ℤ pos (suc n) ≡ pos (circle + circle * n) = same_value (num (pos circle) ⊗ num (pos (suc n))) (num (pos (circle + circle * n))) (omega arith) in
+    let f : pos circle *ℤ pos (suc n) ≡ pos (circle + circle * n) =
+    same_value (num (pos circle) ⊗ num (pos (suc n))) (num (pos (circle + circle * n)))
+    (omega arith) in
     absurd (omega (arith, ints, e, f))
 no_circle circle x y (negsuc n) hx hy e =
-    let f : pos circle *ℤ (pos 0 -ℤ pos (suc n)) ≡ pos 0 -ℤ pos (circle + circle * n) = same_value (num (pos circle) ⊗ (num (pos 0) ⊖ num (pos (suc n)))) (num (pos 0) ⊖ num (pos (circle + circle * n))) (omega arith) in
+    let f : pos circle *ℤ (pos 0 -ℤ pos (suc n)) ≡ pos 0 -ℤ pos (circle + circle * n) =
+    same_value (num (pos circle) ⊗ (num (pos 0) ⊖ num (pos (suc n)))) (num (pos 0)
+    ⊖ num (pos (circle + circle * n))) (omega arith) in
     absurd (omega (arith, ints, e, f))
 
 -- there is one way round
-pub one_way : (circle : ℕ) (from to : ℤ) (a b : ℕ) → IsWayRound circle from to a → IsWayRound circle from to b → a ≡ b
+pub one_way : (circle : ℕ) (from to : ℤ) (a b : ℕ) → IsWayRound circle from to a
+    → IsWayRound circle from to b → a ≡ b
 one_way circle from to a b f g =
     let s = f.turns in
     let t = g.turns in
-    let d : pos circle *ℤ (s -ℤ t) ≡ pos circle *ℤ s -ℤ pos circle *ℤ t = same_value (num (pos circle) ⊗ (num s ⊖ num t)) (num (pos circle) ⊗ num s ⊖ num (pos circle) ⊗ num t) (omega arith) in
+    let d : pos circle *ℤ (s -ℤ t) ≡ pos circle *ℤ s -ℤ pos circle *ℤ t =
+    same_value (num (pos circle) ⊗ (num s ⊖ num t)) (num (pos circle) ⊗ num s
+    ⊖ num (pos circle) ⊗ num t) (omega arith) in
     let p = f.there in
     let q = g.there in
     no_circle circle a b (s -ℤ t) f.below g.below (omega (arith, ints, p, q, d))
 
 pub no_extent : (circle : ℕ) (angle : ℕ → ℤ) (start : ℕ) → IsExtent circle angle 0 start 0
-no_extent circle angle start = record { held = λ i h. absurd (omega arith); narrowest = λ width h. omega arith }
+no_extent circle angle start = record {
+  held = λ i h. absurd (omega arith);
+  narrowest = λ width h. omega arith;
+}
 
 -- the larger and the smaller of two numbers, as `max` and `min` answer
 pub larger_is : (a b : ℕ) → ord_max nat_cmp a b ≡ max a b
@@ -63,7 +82,9 @@ pub smaller_is : (a b : ℕ) → ord_min nat_cmp a b ≡ min a b
 smaller_is a b = grind (arith, common_steps)
 
 -- the extent with one angle more
-pub next_extent : (circle : ℕ) (angle : ℕ → ℤ) (count start extent way : ℕ) → IsExtent circle angle count start extent → IsWayRound circle (angle start) (angle count) way → IsExtent circle angle (count + 1) start (max extent way)
+pub next_extent : (circle : ℕ) (angle : ℕ → ℤ) (count start extent way : ℕ)
+    → IsExtent circle angle count start extent → IsWayRound circle (angle start) (angle count) way
+    → IsExtent circle angle (count + 1) start (max extent way)
 next_extent circle angle count start extent way e w = record {
   held = λ i h other v. by i h other v (dec_le (suc i) count);
   narrowest = λ width all.
@@ -71,9 +92,11 @@ next_extent circle angle count start extent way e w = record {
       let b = all count (omega arith) way w in
       omega (arith, a, b);
 } where
-  by : (i : ℕ) → i < count + 1 → (other : ℕ) → IsWayRound circle (angle start) (angle i) other → Dec (suc i ≤ count) → other ≤ max extent way
+  by : (i : ℕ) → i < count + 1 → (other : ℕ) → IsWayRound circle (angle start) (angle i) other
+      → Dec (suc i ≤ count) → other ≤ max extent way
   by i h other v (yes f) = let a = e.held i f other v in omega (arith, a)
   by i h other v (no f) =
       let here : i ≡ count = omega (arith, h, f) in
-      let same = one_way circle (angle start) (angle count) other way (subst (λ n. IsWayRound circle (angle start) (angle n) other) here v) w in
+      let same = one_way circle (angle start) (angle count) other way
+      (subst (λ n. IsWayRound circle (angle start) (angle n) other) here v) w in
       omega (arith, same)

@@ -8,8 +8,8 @@ pub record IsWayRound (circle : ℕ) (from to : ℤ) (way : ℕ) : Type 0 where
   pub there : from +ℤ pos way ≡ to +ℤ pos circle *ℤ turns
   pub below : way < circle
 
--- An arc of this width, from some start, holds the first so many angles, but for full circles. Start
--- and width are divided by the parts, so they may be fractions.
+-- An arc of this width, from some start, holds the first so many angles, but for full circles.
+-- Start and width are divided by the parts, so they may be fractions.
 pub record IsArc (circle : ℕ) (angle : ℕ → ℤ) (count parts width : ℕ) : Type 0 where
   pub start : ℤ
   pub circles : ℕ → ℤ
@@ -28,5 +28,6 @@ pub record IsExtent (circle : ℕ) (angle : ℕ → ℤ) (count start extent : �
   pub held : (i : ℕ) → i < count
       → (way : ℕ) → IsWayRound circle (angle start) (angle i) way → way ≤ extent
   pub narrowest : (width : ℕ)
-      → ((i : ℕ) → i < count → (way : ℕ) → IsWayRound circle (angle start) (angle i) way → way ≤ width)
+      → ((i : ℕ) → i < count → (way : ℕ) → IsWayRound circle (angle start) (angle i) way
+      → way ≤ width)
       → extent ≤ width

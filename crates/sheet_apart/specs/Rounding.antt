@@ -9,8 +9,8 @@ abbrev pub twice_more : Choice → ℕ → ℕ → ℤ → ℤ
 twice_more c t rounded circles =
     pos 2 *ℤ (difference c (λ _. pos rounded) t +ℤ pos (circle_of c) *ℤ circles)
 
--- A direction rounded to whole steps, from 0 and below a full circle: but for full circles it is the
--- choice's direction within half a step, and what lies in the middle of two is rounded up.
+-- A direction rounded to whole steps, from 0 and below a full circle: but for full circles it is
+-- the choice's direction within half a step, and what lies in the middle of two is rounded up.
 pub record IsRounded (c : Choice) (t step rounded : ℕ) : Type 0 where
   pub whole : rounded % step ≡ 0
   pub below : rounded < CIRCLE

@@ -1,6 +1,8 @@
 -- Canonical decimals: each is a numeral of plain digits, so the library reads it, whatever its
 -- length.
-use Rattle.std.proofs.Common.{◌≡◌, ℕ, ◌≤◌, Bool, true, false, List, [], ◌∷◌, length, refl, arith, rules, slice_index, ◌==◌, inl, inr, ℤ, pos, negsuc, FitsSigned, int_le}
+use Rattle.std.proofs.Common.{◌≡◌, ℕ, ◌≤◌, Bool, true, false, List, [], ◌∷◌, length, refl, arith}
+use Rattle.std.proofs.Common.{rules, slice_index, ◌==◌, inl, inr, ℤ, pos, negsuc, FitsSigned}
+use Rattle.std.proofs.Common.{int_le}
 use Rattle.std.specs.Char.{is_ascii_digit}
 use Rattle.std.specs.List.{list_all}
 use Rattle.std.specs.Str.{IsAscii}

@@ -1,7 +1,9 @@
 -- A draft stands for the rows that it took: each row without a fault is the text of the entry that
 -- it adds.
 use Rattle.std.specs.Prelude.{if◌then◌else◌}
-use Rattle.std.proofs.Common.{◌≡◌, ℕ, ◌<◌, ◌≤◌, ◌^◌, Bool, true, false, List, [], ◌∷◌, ◌++◌, map, length, Option, Some, None, All, refl, ap, sym, subst, ◌∙◌, arith, ◌==◌, inl, inr, append_assoc, length-append}
+use Rattle.std.proofs.Common.{◌≡◌, ℕ, ◌<◌, ◌≤◌, ◌^◌, Bool, true, false, List, [], ◌∷◌, ◌++◌, map}
+use Rattle.std.proofs.Common.{length, Option, Some, None, All, refl, ap, sym, subst, ◌∙◌, arith}
+use Rattle.std.proofs.Common.{◌==◌, inl, inr, append_assoc, length-append}
 use Rattle.std.specs.Prelude.{◌⊎◌, ◌-◌, codes}
 use Rattle.std.specs.Option.{option_map_or, option_or}
 use Rattle.std.proofs.lemmas.Bool.{and_parts, eqb-true, eqb-false, cases_Bool, ltb-true, true≢false}
@@ -12,17 +14,25 @@ use Rattle.std.specs.Str.{bytes_eq}
 use Rattle.adjust_kernel.specs.Names.{IsName}
 use Rattle.adjust_kernel.specs.Sheets.{IsRow, IsSetNumber}
 use Rattle.adjust_kernel.specs.Within.{IsWithin}
-use Rattle.adjust_kernel.specs.declared.bounds.TheConstants.{LARGEST_SET_NUMBER, LARGEST_TURN, MOST_ROWS, MOST_SETS, MOST_TARGETS, TURN}
+use Rattle.adjust_kernel.specs.declared.bounds.TheConstants.{LARGEST_SET_NUMBER, LARGEST_TURN}
+use Rattle.adjust_kernel.specs.declared.bounds.TheConstants.{MOST_ROWS, MOST_SETS, MOST_TARGETS}
+use Rattle.adjust_kernel.specs.declared.bounds.TheConstants.{TURN}
 use Rattle.adjust_kernel.specs.declared.row.Direction.{Direction}
 use Rattle.adjust_kernel.specs.declared.row.Orientation.{Orientation}
 use Rattle.adjust_kernel.specs.declared.row.Row.{Row}
 use Rattle.sheet_format.specs.Columns.{Fields, columns_of}
-use Rattle.sheet_format.specs.Drafts.{DraftValue, blank, direction_of, header_of, header_rows, last_of_draft, last_of_header, obs_row_of, orientation_of, rows_of_draft, said_by_draft, version_of_header, with_columns, with_fields, with_row_type, with_row}
-use Rattle.sheet_format.specs.Faults.{columns_fault, fields_fault, row_type_fault, obs_fault, row_fault, set_fault, sheet_row_fault, target_fault, unless, versioned_fault}
+use Rattle.sheet_format.specs.Drafts.{DraftValue, blank, direction_of, header_of, header_rows}
+use Rattle.sheet_format.specs.Drafts.{last_of_draft, last_of_header, obs_row_of, orientation_of}
+use Rattle.sheet_format.specs.Drafts.{rows_of_draft, said_by_draft, version_of_header, with_columns}
+use Rattle.sheet_format.specs.Drafts.{with_fields, with_row_type, with_row}
+use Rattle.sheet_format.specs.Faults.{columns_fault, fields_fault, row_type_fault, obs_fault}
+use Rattle.sheet_format.specs.Faults.{row_fault, set_fault, sheet_row_fault, target_fault, unless}
+use Rattle.sheet_format.specs.Faults.{versioned_fault}
 use Rattle.sheet_format.specs.RowTypes.{row_type_of, row_type_text, may_follow, names_row_type}
 use Rattle.sheet_format.specs.Numbers.{natural_of, value_of}
 use Rattle.sheet_format.specs.Rows.{obs_fields, set_fields, sheet_fields, target_fields}
-use Rattle.sheet_format.specs.Versions.{largest_angle, largest_denominator, version_of, version_text}
+use Rattle.sheet_format.specs.Versions.{largest_angle, largest_denominator, version_of}
+use Rattle.sheet_format.specs.Versions.{version_text}
 use Rattle.sheet_format.specs.declared.entry.Header.{Header}
 use Rattle.sheet_format.specs.declared.fault.RowKind.{RowKind}
 use Rattle.sheet_format.specs.declared.fault.RowKind.TheVariants as fault
@@ -31,7 +41,8 @@ use Rattle.sheet_format.specs.declared.row_type.RowType.TheVariants as row_type
 use Rattle.sheet_format.specs.declared.version.Version.{Version}
 use Rattle.sheet_format.specs.declared.version.Version.TheVariants as version
 use Rattle.sheet_format.proofs.NameTests.{name-found}
-use Rattle.sheet_format.proofs.Ranges.{angle-fits, natural-text, number-text, turn-fits, within-found}
+use Rattle.sheet_format.proofs.Ranges.{angle-fits, natural-text, number-text, turn-fits}
+use Rattle.sheet_format.proofs.Ranges.{within-found}
 use Rattle.sheet_format.proofs.SaidBy.{IsBare}
 
 -- what the first row states is within the limits of its version

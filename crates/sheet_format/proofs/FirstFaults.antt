@@ -1,15 +1,20 @@
 -- The rows that were read: none of them has a fault, and what the next row or the end says of the
 -- whole.
 use Rattle.std.specs.Prelude.{if◌then◌else◌, ◌⊎◌}
-use Rattle.std.proofs.Common.{◌≡◌, ℕ, ◌<◌, ◌≤◌, Bool, true, false, List, [], ◌∷◌, ◌++◌, length, Option, Some, None, All, get_or, refl, ap, sym, subst, ◌∙◌, arith, inl, inr, ◌==◌, length-append, append_assoc}
+use Rattle.std.proofs.Common.{◌≡◌, ℕ, ◌<◌, ◌≤◌, Bool, true, false, List, [], ◌∷◌, ◌++◌, length}
+use Rattle.std.proofs.Common.{Option, Some, None, All, get_or, refl, ap, sym, subst, ◌∙◌, arith}
+use Rattle.std.proofs.Common.{inl, inr, ◌==◌, length-append, append_assoc}
 use Rattle.std.proofs.Math.Seq.{drop-append_seam, take-append_seam}
 use Rattle.std.proofs.lemmas.Bool.{cases_Bool, eqb-false, eqb-true}
 use Rattle.std.proofs.lemmas.List.{append-nil}
 use Rattle.adjust_kernel.specs.declared.row.Direction.{Direction}
 use Rattle.adjust_kernel.specs.declared.row.Orientation.{Orientation}
 use Rattle.adjust_kernel.specs.Sheets.{IsDirection, IsOrientation, IsSheet, SheetValue}
-use Rattle.sheet_format.specs.Drafts.{DraftValue, IsOfDraft, HasParts, blank, header_rows, last_of_draft, last_of_header, rows_of_draft, said_by_draft, sheet_of, version_of_header, with_row}
-use Rattle.sheet_format.specs.Faults.{Before, IsFirstFault, NoFaultBefore, fault_at, fault_between, last_row_type, row_fault, said_by}
+use Rattle.sheet_format.specs.Drafts.{DraftValue, IsOfDraft, HasParts, blank, header_rows}
+use Rattle.sheet_format.specs.Drafts.{last_of_draft, last_of_header, rows_of_draft, said_by_draft}
+use Rattle.sheet_format.specs.Drafts.{sheet_of, version_of_header, with_row}
+use Rattle.sheet_format.specs.Faults.{Before, IsFirstFault, NoFaultBefore, fault_at, fault_between}
+use Rattle.sheet_format.specs.Faults.{last_row_type, row_fault, said_by}
 use Rattle.sheet_format.specs.RowTypes.{may_end}
 use Rattle.sheet_format.specs.Rows.{IsOfVersion, IsSheetText, body_rows, records_of, rows_of}
 use Rattle.sheet_format.specs.declared.entry.Header.{Header}
@@ -18,7 +23,8 @@ use Rattle.sheet_format.specs.declared.fault.RowKind.TheVariants.{Unfinished}
 use Rattle.sheet_format.specs.declared.row_type.RowType.TheVariants as row_type
 use Rattle.sheet_format.specs.declared.reading.TheConstants.{LONGEST_SHEET}
 use Rattle.sheet_format.specs.declared.version.Version.{Version}
-use Rattle.sheet_format.proofs.DraftRows.{IsDirectionOf, IsDraft, IsVersionedHeader, IsOrientationOf, blank-draft, none-or-some, row-taken}
+use Rattle.sheet_format.proofs.DraftRows.{IsDirectionOf, IsDraft, IsVersionedHeader}
+use Rattle.sheet_format.proofs.DraftRows.{IsOrientationOf, blank-draft, none-or-some, row-taken}
 use Rattle.sheet_format.proofs.Ranges.{angle-below, denominator-below}
 use Rattle.sheet_format.proofs.SaidBy.{said}
 

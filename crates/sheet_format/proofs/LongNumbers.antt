@@ -1,5 +1,6 @@
 -- Numbers of 32 bits are short as text, so a long field has none of them.
-use Rattle.std.proofs.Common.{◌≡◌, ℕ, suc, ◌^◌, ◌<◌, ◌≤◌, true, false, List, length, ap, arith, inl, inr, ℤ, pos, negsuc, FitsSigned, int_le}
+use Rattle.std.proofs.Common.{◌≡◌, ℕ, suc, ◌^◌, ◌<◌, ◌≤◌, true, false, List, length, ap, arith, inl}
+use Rattle.std.proofs.Common.{inr, ℤ, pos, negsuc, FitsSigned, int_le}
 use Rattle.std.specs.Fmt.{signed_decimal}
 use Rattle.std.specs.Int.{w128, w32}
 use Rattle.std.proofs.lemmas.Bool.{and_parts, cases_Bool, leb-true}

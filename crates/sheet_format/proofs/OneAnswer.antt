@@ -1,13 +1,18 @@
 -- Bytes stand for at most one sheet, have at most one fault, and never both.
-use Rattle.std.proofs.Common.{◌≡◌, ℕ, ◌+◌, ◌<◌, ◌≤◌, true, false, List, [], ◌∷◌, ◌++◌, map, length, Option, Some, None, refl, ap, sym, ◌∙◌, arith, inl, inr, ◌==◌, Result, Ok, Err}
+use Rattle.std.proofs.Common.{◌≡◌, ℕ, ◌+◌, ◌<◌, ◌≤◌, true, false, List, [], ◌∷◌, ◌++◌, map, length}
+use Rattle.std.proofs.Common.{Option, Some, None, refl, ap, sym, ◌∙◌, arith, inl, inr, ◌==◌, Result}
+use Rattle.std.proofs.Common.{Ok, Err}
 use Rattle.std.specs.Prelude.{◌⊎◌, nat_lt, IfOk, IfErr}
 use Rattle.std.proofs.lemmas.Bool.{cases_Bool, cases_lt, ltb-false, ltb-true, ne_eqb}
 use Rattle.std.proofs.lemmas.List.{take_all, drop_all}
 use Rattle.adjust_kernel.specs.Sheets.{IsSheet, SheetValue}
-use Rattle.sheet_format.specs.Drafts.{DraftValue, blank, last_of_draft, rows_of_draft, said_by_draft, with_row}
-use Rattle.sheet_format.specs.Faults.{Before, IsFaultOrMemory, IsFirstFault, IsSheetFault, fault_at, fault_between, last_row_type, row_fault}
+use Rattle.sheet_format.specs.Drafts.{DraftValue, blank, last_of_draft, rows_of_draft}
+use Rattle.sheet_format.specs.Drafts.{said_by_draft, with_row}
+use Rattle.sheet_format.specs.Faults.{Before, IsFaultOrMemory, IsFirstFault, IsSheetFault, fault_at}
+use Rattle.sheet_format.specs.Faults.{fault_between, last_row_type, row_fault}
 use Rattle.sheet_format.specs.RowTypes.{may_end}
-use Rattle.sheet_format.specs.Rows.{IsOfVersion, IsSheetText, body_rows, obs_fields, records_of, rows_of, set_fields, sheet_fields}
+use Rattle.sheet_format.specs.Rows.{IsOfVersion, IsSheetText, body_rows, obs_fields, records_of}
+use Rattle.sheet_format.specs.Rows.{rows_of, set_fields, sheet_fields}
 use Rattle.sheet_format.specs.declared.entry.Header.{Header}
 use Rattle.sheet_format.specs.declared.fault.RowKind.{RowKind}
 use Rattle.sheet_format.specs.declared.fault.RowKind.TheVariants.{Unfinished}
@@ -15,7 +20,8 @@ use Rattle.sheet_format.specs.declared.fault.SheetFault.{SheetFault}
 use Rattle.sheet_format.specs.declared.fault.SheetFault.TheVariants.{TooLong, Row, Memory}
 use Rattle.sheet_format.specs.declared.reading.TheConstants.{LONGEST_SHEET}
 use Rattle.sheet_format.specs.declared.version.Version.{Version}
-use Rattle.sheet_format.proofs.FirstFaults.{HasRead, drafted, read-begin, read-end, read-fault, read-more, read-whole, whole-or-not}
+use Rattle.sheet_format.proofs.FirstFaults.{HasRead, drafted, read-begin, read-end, read-fault}
+use Rattle.sheet_format.proofs.FirstFaults.{read-more, read-whole, whole-or-not}
 use Rattle.sheet_format.proofs.SaidBy.{said}
 use Rattle.sheet_format.proofs.SheetRows.{draft, obs-read, sets-read, sheet-row-clean, targets-read}
 

@@ -1,6 +1,7 @@
 -- Numbers in their ranges: what the tests say of a field, and that the text of a number in its
 -- range passes them.
-use Rattle.std.proofs.Common.{◌≡◌, ℕ, ◌<◌, ◌≤◌, ◌^◌, Bool, true, false, T, List, ◌≤ℤ◌, ℤ, pos, negsuc, neg_ℤ, FitsSigned, int_le, refl, arith}
+use Rattle.std.proofs.Common.{◌≡◌, ℕ, ◌<◌, ◌≤◌, ◌^◌, Bool, true, false, T, List, ◌≤ℤ◌, ℤ, pos}
+use Rattle.std.proofs.Common.{negsuc, neg_ℤ, FitsSigned, int_le, refl, arith}
 use Rattle.std.specs.Fmt.{decimal, signed_decimal}
 use Rattle.std.specs.Int.{w128}
 use Rattle.std.specs.Int.Signed.{le_z_yes}
@@ -8,7 +9,8 @@ use Rattle.std.proofs.lemmas.Bool.{and_from, and_parts, leb-true, le-leb}
 use Rattle.std.proofs.lemmas.Float.{T_from_true}
 use Rattle.std.proofs.lemmas.Int.{ints}
 use Rattle.adjust_kernel.specs.Within.{IsWithin}
-use Rattle.adjust_kernel.specs.declared.bounds.TheConstants.{LARGEST_ANGLE, LARGEST_DENOMINATOR, LARGEST_TURN}
+use Rattle.adjust_kernel.specs.declared.bounds.TheConstants.{LARGEST_ANGLE, LARGEST_DENOMINATOR}
+use Rattle.adjust_kernel.specs.declared.bounds.TheConstants.{LARGEST_TURN}
 use Rattle.sheet_format.specs.Numbers.{is_at_most, is_canonical, is_within, natural_of, value_of}
 use Rattle.sheet_format.specs.Versions.{largest_angle, largest_denominator}
 use Rattle.sheet_format.specs.declared.version.Version.{Version}

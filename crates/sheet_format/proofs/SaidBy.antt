@@ -1,14 +1,17 @@
 -- What the rows of a draft say of the next row: the lists of the draft tell it as the rows do.
 use Rattle.std.specs.Prelude.{if◌then◌else◌, unwrap_or, option_and_then}
 use Rattle.std.specs.List.{last_or}
-use Rattle.std.proofs.Common.{◌≡◌, ℕ, ◌+◌, Bool, true, false, List, [], ◌∷◌, ◌++◌, map, length, Option, Some, None, refl, ap, sym, ◌∙◌, arith, ◌==◌, codes}
+use Rattle.std.proofs.Common.{◌≡◌, ℕ, ◌+◌, Bool, true, false, List, [], ◌∷◌, ◌++◌, map, length}
+use Rattle.std.proofs.Common.{Option, Some, None, refl, ap, sym, ◌∙◌, arith, ◌==◌, codes}
 use Rattle.std.proofs.lemmas.List.Sums.{sum_by-append, sum_by-cons}
 use Rattle.std.proofs.Math.Dec.{eqb-suc-zero}
 use Rattle.adjust_kernel.specs.declared.row.Direction.{Direction}
 use Rattle.adjust_kernel.specs.declared.row.Orientation.{Orientation}
 use Rattle.adjust_kernel.specs.declared.row.Row.{Row}
-use Rattle.sheet_format.specs.Drafts.{DraftValue, header_rows, last_of_draft, last_of_header, rows_of_draft, said_by_draft, version_of_header}
-use Rattle.sheet_format.specs.Faults.{Before, count_of, first_field, last_row_type, said_by, version_of_rows}
+use Rattle.sheet_format.specs.Drafts.{DraftValue, header_rows, last_of_draft, last_of_header}
+use Rattle.sheet_format.specs.Drafts.{rows_of_draft, said_by_draft, version_of_header}
+use Rattle.sheet_format.specs.Faults.{Before, count_of, first_field, last_row_type, said_by}
+use Rattle.sheet_format.specs.Faults.{version_of_rows}
 use Rattle.sheet_format.specs.RowTypes.{row_type_of, names_row_type}
 use Rattle.sheet_format.specs.Rows.{body_rows, obs_fields, set_fields, sheet_fields, target_fields}
 use Rattle.sheet_format.specs.Versions.{version_of, version_text}

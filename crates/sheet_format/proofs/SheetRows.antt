@@ -1,11 +1,15 @@
 -- The rows of a sheet within its limits have no fault, and are read as that sheet.
 use Rattle.std.specs.Prelude.{if◌then◌else◌, ◌-◌}
-use Rattle.std.proofs.Common.{◌≡◌, ℕ, ◌+◌, ◌<◌, ◌≤◌, ◌^◌, Bool, true, false, List, [], ◌∷◌, ◌++◌, map, length, Some, None, All, refl, subst, arith, ◌==◌, length-append, append_assoc}
+use Rattle.std.proofs.Common.{◌≡◌, ℕ, ◌+◌, ◌<◌, ◌≤◌, ◌^◌, Bool, true, false, List, [], ◌∷◌, ◌++◌}
+use Rattle.std.proofs.Common.{map, length, Some, None, All, refl, subst, arith, ◌==◌, length-append}
+use Rattle.std.proofs.Common.{append_assoc}
 use Rattle.std.proofs.lemmas.Bool.{lt-ltb}
 use Rattle.std.proofs.lemmas.List.{append-nil}
 use Rattle.std.proofs.lemmas.List.Elements.{All-head, All-tail}
 use Rattle.adjust_kernel.specs.Sheets.{IsRow}
-use Rattle.adjust_kernel.specs.declared.bounds.TheConstants.{LARGEST_SET_NUMBER, LARGEST_TURN, MOST_ROWS, MOST_SETS, MOST_TARGETS, TURN}
+use Rattle.adjust_kernel.specs.declared.bounds.TheConstants.{LARGEST_SET_NUMBER, LARGEST_TURN}
+use Rattle.adjust_kernel.specs.declared.bounds.TheConstants.{MOST_ROWS, MOST_SETS, MOST_TARGETS}
+use Rattle.adjust_kernel.specs.declared.bounds.TheConstants.{TURN}
 use Rattle.adjust_kernel.specs.declared.row.Direction.{Direction}
 use Rattle.adjust_kernel.specs.declared.row.Orientation.{Orientation}
 use Rattle.adjust_kernel.specs.declared.row.Row.{Row}
@@ -13,7 +17,8 @@ use Rattle.sheet_format.specs.Drafts.{DraftValue, blank, said_by_draft, with_row
 use Rattle.sheet_format.specs.Faults.{row_fault}
 use Rattle.sheet_format.specs.RowTypes.{may_follow}
 use Rattle.sheet_format.specs.Rows.{obs_fields, set_fields, sheet_fields, target_fields}
-use Rattle.sheet_format.specs.Versions.{largest_angle, largest_denominator, version_of, version_text}
+use Rattle.sheet_format.specs.Versions.{largest_angle, largest_denominator, version_of}
+use Rattle.sheet_format.specs.Versions.{version_text}
 use Rattle.sheet_format.specs.declared.entry.Header.{Header}
 use Rattle.sheet_format.specs.declared.row_type.RowType.TheVariants as row_type
 use Rattle.sheet_format.specs.declared.version.Version.{Version}
@@ -21,7 +26,8 @@ use Rattle.sheet_format.specs.declared.version.Version.TheVariants as version
 use Rattle.sheet_format.proofs.DraftRows.{IsDirectionOf, IsVersionedHeader, IsOrientationOf}
 use Rattle.sheet_format.proofs.FirstFaults.{HasRead, read-more}
 use Rattle.sheet_format.proofs.NameTests.{name-test}
-use Rattle.sheet_format.proofs.Ranges.{angle-fits, natural-again, natural-within, number-again, turn-fits, within-test}
+use Rattle.sheet_format.proofs.Ranges.{angle-fits, natural-again, natural-within, number-again}
+use Rattle.sheet_format.proofs.Ranges.{turn-fits, within-test}
 
 abbrev pub draft : Header → List Direction → List Orientation → List Row → DraftValue
 draft h ds os rs = record { header = Some h; directions = ds; orientations = os; rows = rs }

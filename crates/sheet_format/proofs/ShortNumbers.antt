@@ -1,5 +1,6 @@
 -- Numbers of few digits, read digit by digit.
-use Rattle.std.proofs.Common.{◌≡◌, ◌∙◌, ℕ, true, List, length, take, get_or, arith, ◌+◌, ◌*◌, ◌-◌, ◌<◌, ◌≤◌}
+use Rattle.std.proofs.Common.{◌≡◌, ◌∙◌, ℕ, true, List, length, take, get_or, arith, ◌+◌, ◌*◌, ◌-◌}
+use Rattle.std.proofs.Common.{◌<◌, ◌≤◌}
 use Rattle.std.specs.Char.{is_ascii_digit}
 use Rattle.std.specs.Int.{IsInRange}
 use Rattle.std.specs.List.{list_all}

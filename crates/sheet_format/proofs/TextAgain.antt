@@ -1,6 +1,7 @@
 -- The text of a sheet stands for that sheet.
 use Rattle.std.specs.Prelude.{if◌then◌else◌}
-use Rattle.std.proofs.Common.{◌≡◌, ℕ, ◌+◌, ◌<◌, Bool, true, false, List, [], ◌∷◌, ◌++◌, map, length, All, refl, ap, ◌∙◌, arith, ℤ}
+use Rattle.std.proofs.Common.{◌≡◌, ℕ, ◌+◌, ◌<◌, Bool, true, false, List, [], ◌∷◌, ◌++◌, map, length}
+use Rattle.std.proofs.Common.{All, refl, ap, ◌∙◌, arith, ℤ}
 use Rattle.std.specs.List.{list_all}
 use Rattle.std.proofs.lemmas.Bool.{and_parts, leb-true}
 use Rattle.std.proofs.lemmas.List.{map-append}
@@ -16,7 +17,8 @@ use Rattle.adjust_kernel.specs.declared.row.Direction.{Direction}
 use Rattle.adjust_kernel.specs.declared.row.Orientation.{Orientation}
 use Rattle.adjust_kernel.specs.declared.row.Row.{Row}
 use Rattle.sheet_format.specs.Numbers.{is_at_most}
-use Rattle.sheet_format.specs.Rows.{IsOfVersion, IsSheetText, body_rows, obs_fields, records_of, rows_of, set_fields, sheet_fields, target_fields}
+use Rattle.sheet_format.specs.Rows.{IsOfVersion, IsSheetText, body_rows, obs_fields, records_of}
+use Rattle.sheet_format.specs.Rows.{rows_of, set_fields, sheet_fields, target_fields}
 use Rattle.sheet_format.specs.Texts.{is_of_version, rows_text, sheet_text, version_for}
 use Rattle.sheet_format.specs.Versions.{largest_angle}
 use Rattle.sheet_format.specs.declared.version.Version.{Version}

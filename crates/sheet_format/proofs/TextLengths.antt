@@ -1,13 +1,17 @@
 -- The text of a sheet within its limits is far shorter than a sheet may be.
 use Rattle.std.specs.Prelude.{if◌then◌else◌, codes}
-use Rattle.std.proofs.Common.{◌≡◌, ℕ, suc, ◌+◌, ◌*◌, ◌<◌, ◌≤◌, ◌^◌, Bool, true, false, List, [], ◌∷◌, ◌++◌, map, length, All, ℤ, pos, negsuc, refl, ap, ◌∙◌, arith, length-append, ◌==◌}
+use Rattle.std.proofs.Common.{◌≡◌, ℕ, suc, ◌+◌, ◌*◌, ◌<◌, ◌≤◌, ◌^◌, Bool, true, false, List, []}
+use Rattle.std.proofs.Common.{◌∷◌, ◌++◌, map, length, All, ℤ, pos, negsuc, refl, ap, ◌∙◌, arith}
+use Rattle.std.proofs.Common.{length-append, ◌==◌}
 use Rattle.std.specs.Fmt.{decimal, signed_decimal}
 use Rattle.std.proofs.lemmas.Fmt.{length-decimal-le_wide}
 use Rattle.std.proofs.lemmas.Int.{ints}
 use Rattle.std.proofs.lemmas.List.Elements.{All-head, All-tail}
-use Rattle.csv.specs.Writing.{default_writer, escaped, field_text, fields_text, is_blank, needs_quotes, quoted, row_text}
+use Rattle.csv.specs.Writing.{default_writer, escaped, field_text, fields_text, is_blank}
+use Rattle.csv.specs.Writing.{needs_quotes, quoted, row_text}
 use Rattle.adjust_kernel.specs.Names.{IsName}
-use Rattle.adjust_kernel.specs.Sheets.{IsDirection, IsOrientation, IsRow, IsSetNumber, IsSheet, SheetValue}
+use Rattle.adjust_kernel.specs.Sheets.{IsDirection, IsOrientation, IsRow, IsSetNumber, IsSheet}
+use Rattle.adjust_kernel.specs.Sheets.{SheetValue}
 use Rattle.adjust_kernel.specs.Within.{IsWithin}
 use Rattle.adjust_kernel.specs.declared.bounds.TheConstants.{LARGEST_ANGLE, LARGEST_TURN}
 use Rattle.adjust_kernel.specs.declared.row.Direction.{Direction}

@@ -1,9 +1,13 @@
 -- The faults of a sheet: of a row by the rows before it, and the first of all.
-use Rattle.std.specs.Prelude.{◌≡◌, ℕ, ◌+◌, ◌<◌, ◌≤◌, Bool, ◌&&◌, ◌==◌, if◌then◌else◌, nat_lt, nat_le, List, [], ◌∷◌, length, take, drop, ℤ, pos, Option, Some, None, unwrap_or, option_and_then, ◌-◌, ◌⊎◌}
+use Rattle.std.specs.Prelude.{◌≡◌, ℕ, ◌+◌, ◌<◌, ◌≤◌, Bool, ◌&&◌, ◌==◌, if◌then◌else◌, nat_lt}
+use Rattle.std.specs.Prelude.{nat_le, List, [], ◌∷◌, length, take, drop, ℤ, pos, Option, Some, None}
+use Rattle.std.specs.Prelude.{unwrap_or, option_and_then, ◌-◌, ◌⊎◌}
 use Rattle.std.specs.Int.{is_in_range}
 use Rattle.std.specs.List.{count_by, last_or, list_all}
 use Rattle.std.specs.Option.{option_map_or, option_or}
-use Rattle.adjust_kernel.specs.declared.bounds.TheConstants.{LARGEST_SET_NUMBER, LARGEST_TURN, LONGEST_NAME, MOST_ROWS, MOST_SETS, MOST_TARGETS, TURN}
+use Rattle.adjust_kernel.specs.declared.bounds.TheConstants.{LARGEST_SET_NUMBER, LARGEST_TURN}
+use Rattle.adjust_kernel.specs.declared.bounds.TheConstants.{LONGEST_NAME, MOST_ROWS, MOST_SETS}
+use Rattle.adjust_kernel.specs.declared.bounds.TheConstants.{MOST_TARGETS, TURN}
 use Rattle.adjust_kernel.specs.declared.name.TheConstants.{FIRST_PRINTABLE, LAST_PRINTABLE}
 use Rattle.sheet_format.specs.Columns.{Fields, columns_of}
 use Rattle.sheet_format.specs.RowTypes.{row_type_of, may_end, may_follow, names_row_type}

@@ -1,7 +1,9 @@
 -- The text of a sheet, as it is written.
-use Rattle.std.specs.Prelude.{◌≡◌, ℕ, Bool, false, ◌&&◌, nat_le, if◌then◌else◌, ◌++◌, List, Option, Some}
+use Rattle.std.specs.Prelude.{◌≡◌, ℕ, Bool, false, ◌&&◌, nat_le, if◌then◌else◌, ◌++◌, List, Option}
+use Rattle.std.specs.Prelude.{Some}
 use Rattle.std.specs.List.{flat_map, list_all}
-use Rattle.csv.specs.Writing.{default_writer, fields_written, has_written, row_text, text_written, writer_setup}
+use Rattle.csv.specs.Writing.{default_writer, fields_written, has_written, row_text, text_written}
+use Rattle.csv.specs.Writing.{writer_setup}
 use Rattle.csv.specs.declared.writer.Writer.{Writer}
 use Rattle.adjust_kernel.specs.Sheets.{SheetValue}
 use Rattle.sheet_format.specs.Numbers.{is_at_most}

@@ -2,7 +2,8 @@
 use Rattle.std.specs.Prelude.{ℕ, if◌then◌else◌, List, ℤ, Option, Some, None, codes}
 use Rattle.std.specs.Str.{bytes_eq}
 use Rattle.adjust_kernel.specs.declared.bounds.TheConstants.{LARGEST_ANGLE, LARGEST_DENOMINATOR}
-use Rattle.sheet_format.specs.declared.version.TheConstants.{LARGEST_ANGLE_OF_ONE, LARGEST_DENOMINATOR_OF_ONE}
+use Rattle.sheet_format.specs.declared.version.TheConstants.{LARGEST_ANGLE_OF_ONE}
+use Rattle.sheet_format.specs.declared.version.TheConstants.{LARGEST_DENOMINATOR_OF_ONE}
 use Rattle.sheet_format.specs.declared.version.Version.{Version}
 use Rattle.sheet_format.specs.declared.version.Version.TheVariants.{One, Two}
 

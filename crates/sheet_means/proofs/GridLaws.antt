@@ -1,5 +1,6 @@
 -- Sums over the readings of a complete station: over its sets, and within a set over its targets.
-use Rattle.std.proofs.Common.{◌≡◌, ℕ, suc, zero, ◌+◌, ◌*◌, ◌≤◌, ◌<◌, Bool, true, false, cond, eqb, List, length, take, get_or, ℤ, pos, ◌+ℤ◌, arith, ap, refl, sym, ◌∙◌}
+use Rattle.std.proofs.Common.{◌≡◌, ℕ, suc, zero, ◌+◌, ◌*◌, ◌≤◌, ◌<◌, Bool, true, false, cond, eqb}
+use Rattle.std.proofs.Common.{List, length, take, get_or, ℤ, pos, ◌+ℤ◌, arith, ap, refl, sym, ◌∙◌}
 use Rattle.std.proofs.Math.IntN.{◌*ℤ◌, ◌-ℤ◌, *ℤ-zero, suc_ℤ-*ℤ}
 use Rattle.std.proofs.Math.Nat.{mul-le-mul}
 use Rattle.std.proofs.lemmas.Int.{ints}
@@ -19,15 +20,19 @@ abbrev pub sum_below : ℕ → (ℕ → ℤ) → ℤ
 sum_below zero f = pos 0
 sum_below (suc n) f = sum_below n f +ℤ f n
 
-pub sum_below-same : (n : ℕ) (f g : ℕ → ℤ) → ((k : ℕ) → k < n → f k ≡ g k) → sum_below n f ≡ sum_below n g
+pub sum_below-same : (n : ℕ) (f g : ℕ → ℤ) → ((k : ℕ) → k < n → f k ≡ g k)
+    → sum_below n f ≡ sum_below n g
 sum_below-same zero f g h = refl
-sum_below-same (suc n) f g h = λ i. sum_below-same n f g (λ k l. h k (omega arith)) i +ℤ h n (omega arith) i
+sum_below-same (suc n) f g h = λ i. sum_below-same n f g (λ k l. h k (omega arith)) i
+    +ℤ h n (omega arith) i
 
-pub sum_below-add : (n : ℕ) (f g : ℕ → ℤ) → sum_below n (λ k. f k +ℤ g k) ≡ sum_below n f +ℤ sum_below n g
+pub sum_below-add : (n : ℕ) (f g : ℕ → ℤ) → sum_below n (λ k. f k +ℤ g k)
+    ≡ sum_below n f +ℤ sum_below n g
 sum_below-add zero f g = refl
 sum_below-add (suc n) f g = let e = sum_below-add n f g in omega (arith, ints)
 
-pub sum_below-sub : (n : ℕ) (f g : ℕ → ℤ) → sum_below n (λ k. f k -ℤ g k) ≡ sum_below n f -ℤ sum_below n g
+pub sum_below-sub : (n : ℕ) (f g : ℕ → ℤ) → sum_below n (λ k. f k -ℤ g k)
+    ≡ sum_below n f -ℤ sum_below n g
 sum_below-sub zero f g = refl
 sum_below-sub (suc n) f g = let e = sum_below-sub n f g in omega (arith, ints)
 
@@ -41,34 +46,42 @@ sum_below-const zero z = omega (arith, ints)
 sum_below-const (suc n) z = ap (λ s. s +ℤ z) (sum_below-const n z) ∙ sym (suc_ℤ-*ℤ (pos n) z)
 
 -- rows and columns may be exchanged
-pub sum_below-swap : (n m : ℕ) (f : ℕ → ℕ → ℤ) → sum_below n (λ i. sum_below m (λ j. f i j)) ≡ sum_below m (λ j. sum_below n (λ i. f i j))
+pub sum_below-swap : (n m : ℕ) (f : ℕ → ℕ → ℤ) → sum_below n (λ i. sum_below m (λ j. f i j))
+    ≡ sum_below m (λ j. sum_below n (λ i. f i j))
 sum_below-swap zero m f = sym (sum_below-const m (pos 0) ∙ *ℤ-zero (pos m))
-sum_below-swap (suc n) m f = ap (λ s. s +ℤ sum_below m (λ j. f n j)) (sum_below-swap n m f) ∙ sym (sum_below-add m (λ j. sum_below n (λ i. f i j)) (λ j. f n j))
+sum_below-swap (suc n) m f = ap (λ s. s +ℤ sum_below m (λ j. f n j)) (sum_below-swap n m f)
+    ∙ sym (sum_below-add m (λ j. sum_below n (λ i. f i j)) (λ j. f n j))
 
 none_below : (n k : ℕ) (f : ℕ → ℤ) → n ≤ k → sum_below n (λ j. cond (eqb j k) (f j) (pos 0)) ≡ pos 0
 none_below zero k f h = refl
-none_below (suc n) k f h = λ i. none_below n k f (omega arith) i +ℤ cond (ne_eqb n k (λ e. apart n k e h) i) (f n) (pos 0)
+none_below (suc n) k f h = λ i. none_below n k f (omega arith) i
+    +ℤ cond (ne_eqb n k (λ e. apart n k e h) i) (f n) (pos 0)
   where
     apart : (a b : ℕ) → a ≡ b → suc a ≤ b → ⊥
     apart a b e h = omega arith
 
 -- one term alone
-pub sum_below-only : (n k : ℕ) (f : ℕ → ℤ) → k < n → sum_below n (λ j. cond (eqb j k) (f j) (pos 0)) ≡ f k
+pub sum_below-only : (n k : ℕ) (f : ℕ → ℤ) → k < n
+    → sum_below n (λ j. cond (eqb j k) (f j) (pos 0)) ≡ f k
 sum_below-only zero k f h = absurd (omega arith)
 sum_below-only (suc n) k f h = by (ℕ_discrete n k) (sum_below-only n k f)
   where
-    by : Dec (n ≡ k) → (k < n → sum_below n (λ j. cond (eqb j k) (f j) (pos 0)) ≡ f k) → sum_below (suc n) (λ j. cond (eqb j k) (f j) (pos 0)) ≡ f k
+    by : Dec (n ≡ k) → (k < n → sum_below n (λ j. cond (eqb j k) (f j) (pos 0)) ≡ f k)
+        → sum_below (suc n) (λ j. cond (eqb j k) (f j) (pos 0)) ≡ f k
     by (yes e) below =
         let t : eqb n k ≡ true = grind (arith, nat_tests) in
-        let a : sum_below n (λ j. cond (eqb j k) (f j) (pos 0)) ≡ pos 0 = none_below n k f (omega arith) in
+        let a : sum_below n (λ j. cond (eqb j k) (f j) (pos 0)) ≡ pos 0 =
+        none_below n k f (omega arith) in
         let b : cond (eqb n k) (f n) (pos 0) ≡ f k = ap (λ c. cond c (f n) (pos 0)) t ∙ ap f e in
         omega (arith, ints)
     by (no d) below =
         let a = below (omega arith) in
-        let b : cond (eqb n k) (f n) (pos 0) ≡ pos 0 = ap (λ c. cond c (f n) (pos 0)) (ne_eqb n k d) in
+        let b : cond (eqb n k) (f n) (pos 0) ≡ pos 0 =
+        ap (λ c. cond c (f n) (pos 0)) (ne_eqb n k d) in
         omega (arith, ints)
 
-sum_below-where : (b : Bool) (n : ℕ) (f : ℕ → ℤ) → sum_below n (λ k. cond b (f k) (pos 0)) ≡ cond b (sum_below n f) (pos 0)
+sum_below-where : (b : Bool) (n : ℕ) (f : ℕ → ℤ) → sum_below n (λ k. cond b (f k) (pos 0))
+    ≡ cond b (sum_below n f) (pos 0)
 sum_below-where true n f = refl
 sum_below-where false n f = sum_below-const n (pos 0) ∙ *ℤ-zero (pos n)
 
@@ -78,52 +91,76 @@ any_reading = record { set = 0; target = 0; value = 0; turn = pos 0 }
 -- the readings of a complete station: one of each set and target, set by set
 pub record AreGrid (sets targets : ℕ) (readings : List Reading) : Type 0 where
   pub long : length readings ≡ sets * targets
-  pub at_place : (s t : ℕ) → s < sets → t < targets → ((get_or readings (s * targets + t) any_reading).set ≡ s) × ((get_or readings (s * targets + t) any_reading).target ≡ t)
+  pub at_place : (s t : ℕ) → s < sets → t < targets
+      → ((get_or readings (s * targets + t) any_reading).set ≡ s)
+      × ((get_or readings (s * targets + t) any_reading).target ≡ t)
 
 module _ (sets targets : ℕ) (readings : List Reading) (grid : AreGrid sets targets readings) where
   abbrev pub at : ℕ → ℕ → Reading
   at s t = reading_at readings targets s t
 
   pub inside : (s t : ℕ) → s < sets → t < targets → s * targets + t < length readings
-  inside s t h k = let e : suc s * targets ≤ sets * targets = mul-le-mul h (omega arith) in let f = grid.long in omega arith
+  inside s t h k = let e : suc s * targets ≤ sets * targets = mul-le-mul h (omega arith) in
+      let f = grid.long in omega arith
 
   module _ (f : Reading → ℤ) where
-    set_more : (s t : ℕ) → s < sets → t ≤ targets → int_sum_by f (take (s * targets + t) readings) ≡ int_sum_by f (take (s * targets) readings) +ℤ sum_below t (λ k. f (at s k))
-    set_more s zero h k = let e : s * targets + 0 ≡ s * targets = omega arith in let g : int_sum_by f (take (s * targets + 0) readings) ≡ int_sum_by f (take (s * targets) readings) = ap (λ n. int_sum_by f (take n readings)) e in omega (arith, ints)
+    set_more : (s t : ℕ) → s < sets → t ≤ targets → int_sum_by f (take (s * targets + t) readings)
+        ≡ int_sum_by f (take (s * targets) readings) +ℤ sum_below t (λ k. f (at s k))
+    set_more s zero h k = let e : s * targets + 0 ≡ s * targets = omega arith in
+        let g : int_sum_by f (take (s * targets + 0) readings)
+        ≡ int_sum_by f (take (s * targets) readings) =
+        ap (λ n. int_sum_by f (take n readings)) e in omega (arith, ints)
     set_more s (suc t) h k =
         let e : s * targets + suc t ≡ s * targets + t + 1 = omega arith in
-        let g : int_sum_by f (take (s * targets + suc t) readings) ≡ int_sum_by f (take (s * targets + t + 1) readings) = ap (λ n. int_sum_by f (take n readings)) e in
-        let m = int_sum_by_more f readings (s * targets + t) any_reading (inside s t h (omega arith)) in
+        let g : int_sum_by f (take (s * targets + suc t) readings)
+        ≡ int_sum_by f (take (s * targets + t + 1) readings) =
+        ap (λ n. int_sum_by f (take n readings)) e in
+        let m = int_sum_by_more f readings (s * targets + t) any_reading
+        (inside s t h (omega arith)) in
         let r = set_more s t h (omega arith) in
         omega (arith, ints)
 
-    sets_to : (s : ℕ) → s ≤ sets → int_sum_by f (take (s * targets) readings) ≡ sum_below s (λ j. sum_below targets (λ k. f (at j k)))
-    sets_to zero h = let e : 0 * targets ≡ 0 = omega arith in ap (λ n. int_sum_by f (take n readings)) e
+    sets_to : (s : ℕ) → s ≤ sets → int_sum_by f (take (s * targets) readings)
+        ≡ sum_below s (λ j. sum_below targets (λ k. f (at j k)))
+    sets_to zero h = let e : 0 * targets ≡ 0 = omega arith in
+        ap (λ n. int_sum_by f (take n readings)) e
     sets_to (suc s) h =
         let e : suc s * targets ≡ s * targets + targets = omega arith in
-        let g : int_sum_by f (take (suc s * targets) readings) ≡ int_sum_by f (take (s * targets + targets) readings) = ap (λ n. int_sum_by f (take n readings)) e in
+        let g : int_sum_by f (take (suc s * targets) readings)
+        ≡ int_sum_by f (take (s * targets + targets) readings) =
+        ap (λ n. int_sum_by f (take n readings)) e in
         let m = set_more s targets (omega arith) (omega arith) in
         let r = sets_to s (omega arith) in
         omega (arith, ints)
 
     -- a sum over all readings
-    pub sum_of_all : int_sum_by f readings ≡ sum_below sets (λ s. sum_below targets (λ t. f (at s t)))
-    sum_of_all = ap (int_sum_by f) (sym (take_all (sets * targets) readings (omega (arith, grid.long)))) ∙ sets_to sets (omega arith)
+    pub sum_of_all : int_sum_by f readings ≡ sum_below sets
+        (λ s. sum_below targets (λ t. f (at s t)))
+    sum_of_all = ap (int_sum_by f) (sym (take_all (sets * targets) readings
+        (omega (arith, grid.long)))) ∙ sets_to sets (omega arith)
 
   -- a sum over the readings of a target
-  pub sum_of_target : (f : Reading → ℤ) (t : ℕ) → t < targets → int_sum_where (λ r. eqb r.target t) f readings ≡ sum_below sets (λ s. f (at s t))
+  pub sum_of_target : (f : Reading → ℤ) (t : ℕ) → t < targets
+      → int_sum_where (λ r. eqb r.target t) f readings ≡ sum_below sets (λ s. f (at s t))
   sum_of_target f t h =
       sum_of_all (λ r. cond (eqb r.target t) (f r) (pos 0))
-      ∙ sum_below-same sets (λ s. sum_below targets (λ k. cond (eqb (at s k).target t) (f (at s k)) (pos 0))) (λ s. f (at s t))
-      (λ s l. sum_below-same targets (λ k. cond (eqb (at s k).target t) (f (at s k)) (pos 0)) (λ k. cond (eqb k t) (f (at s k)) (pos 0)) (λ k m. ap (λ n. cond (eqb n t) (f (at s k)) (pos 0)) (grid.at_place s k l m).1)
+      ∙ sum_below-same sets (λ s. sum_below targets (λ k. cond (eqb (at s k).target t) (f (at s k))
+      (pos 0))) (λ s. f (at s t))
+      (λ s l. sum_below-same targets (λ k. cond (eqb (at s k).target t) (f (at s k)) (pos 0))
+      (λ k. cond (eqb k t) (f (at s k)) (pos 0))
+      (λ k m. ap (λ n. cond (eqb n t) (f (at s k)) (pos 0)) (grid.at_place s k l m).1)
       ∙ sum_below-only targets t (λ k. f (at s k)) h)
 
   -- a sum over the readings of a set
-  pub sum_of_set : (f : Reading → ℤ) (s : ℕ) → s < sets → int_sum_where (λ r. eqb r.set s) f readings ≡ sum_below targets (λ t. f (at s t))
+  pub sum_of_set : (f : Reading → ℤ) (s : ℕ) → s < sets
+      → int_sum_where (λ r. eqb r.set s) f readings ≡ sum_below targets (λ t. f (at s t))
   sum_of_set f s h =
       sum_of_all (λ r. cond (eqb r.set s) (f r) (pos 0))
-      ∙ sum_below-same sets (λ j. sum_below targets (λ k. cond (eqb (at j k).set s) (f (at j k)) (pos 0))) (λ j. cond (eqb j s) (sum_below targets (λ k. f (at j k))) (pos 0))
-      (λ j l. sum_below-same targets (λ k. cond (eqb (at j k).set s) (f (at j k)) (pos 0)) (λ k. cond (eqb j s) (f (at j k)) (pos 0)) (λ k m. ap (λ n. cond (eqb n s) (f (at j k)) (pos 0)) (grid.at_place j k l m).0)
+      ∙ sum_below-same sets (λ j. sum_below targets (λ k. cond (eqb (at j k).set s) (f (at j k))
+      (pos 0))) (λ j. cond (eqb j s) (sum_below targets (λ k. f (at j k))) (pos 0))
+      (λ j l. sum_below-same targets (λ k. cond (eqb (at j k).set s) (f (at j k)) (pos 0))
+      (λ k. cond (eqb j s) (f (at j k)) (pos 0))
+      (λ k m. ap (λ n. cond (eqb n s) (f (at j k)) (pos 0)) (grid.at_place j k l m).0)
       ∙ sum_below-where (eqb j s) targets (λ k. f (at j k)))
       ∙ sum_below-only sets s (λ j. sum_below targets (λ k. f (at j k))) h
 
@@ -132,12 +169,17 @@ module _ (sets targets : ℕ) (readings : List Reading) (grid : AreGrid sets tar
   whole_by_targets =
       sum_of_all unrolled
       ∙ sum_below-swap sets targets (λ s t. unrolled (at s t))
-      ∙ sum_below-same targets (λ t. sum_below sets (λ s. unrolled (at s t))) (target_total readings) (λ t h. sym (sum_of_target unrolled t h))
+      ∙ sum_below-same targets (λ t. sum_below sets (λ s. unrolled (at s t)))
+      (target_total readings) (λ t h. sym (sum_of_target unrolled t h))
 
   -- all readings, less those of one target as often as there are targets
-  pub whole_less : (z : ℤ) → sum_below targets (λ t. target_total readings t -ℤ z) ≡ whole_total readings -ℤ pos targets *ℤ z
-  whole_less z = sum_below-sub targets (target_total readings) (λ t. z) ∙ (λ i. sym whole_by_targets i -ℤ sum_below-const targets z i)
+  pub whole_less : (z : ℤ) → sum_below targets (λ t. target_total readings t -ℤ z)
+      ≡ whole_total readings -ℤ pos targets *ℤ z
+  whole_less z = sum_below-sub targets (target_total readings) (λ t. z)
+      ∙ (λ i. sym whole_by_targets i -ℤ sum_below-const targets z i)
 
   -- all readings are those of the sets together
   pub whole_by_sets : whole_total readings ≡ sum_below sets (set_total readings)
-  whole_by_sets = sum_of_all unrolled ∙ sum_below-same sets (λ s. sum_below targets (λ t. unrolled (at s t))) (set_total readings) (λ s h. sym (sum_of_set unrolled s h))
+  whole_by_sets = sum_of_all unrolled
+      ∙ sum_below-same sets (λ s. sum_below targets (λ t. unrolled (at s t))) (set_total readings)
+      (λ s h. sym (sum_of_set unrolled s h))

@@ -1,6 +1,7 @@
 -- The readings of a complete station with the rows of its sheet of means: one of each set and
 -- target, in order.
-use Rattle.std.proofs.Common.{◌≡◌, ℕ, ◌+◌, ◌*◌, ◌<◌, List, [], length, get_or, ℤ, pos, ◌+ℤ◌, arith, ap, sym, ◌∙◌}
+use Rattle.std.proofs.Common.{◌≡◌, ℕ, ◌+◌, ◌*◌, ◌<◌, List, [], length, get_or, ℤ, pos, ◌+ℤ◌, arith}
+use Rattle.std.proofs.Common.{ap, sym, ◌∙◌}
 use lib.IntN.{◌*ℤ◌}
 use Rattle.std.proofs.lemmas.List.{length-map, get_or-map}
 use Rattle.adjust_kernel.specs.declared.bounds.TheConstants.{TURN}
@@ -24,32 +25,45 @@ any_row = record { set = 0; target = []; value = 0; turn = pos 0 }
 abbrev pub unrolled_row : Row → ℤ
 unrolled_row r = pos r.value +ℤ pos TURN *ℤ r.turn
 
-module _ (station : StationValue) (valid : IsStation station) (complete : IsComplete station) (rows : List Row) (means : AreMeansRows station rows) where
+module _ (station : StationValue) (valid : IsStation station) (complete : IsComplete station)
+    (rows : List Row) (means : AreMeansRows station rows) where
   abbrev pub T : ℕ
   T = length station.targets
 
   pub same_length : length station.obs ≡ length rows
-  same_length = sym (length-map station.obs (key_of_obs station.sets station.targets)) ∙ ap length (sym means.keys) ∙ length-map rows key_of_row
+  same_length = sym (length-map station.obs (key_of_obs station.sets station.targets))
+      ∙ ap length (sym means.keys) ∙ length-map rows key_of_row
 
   pub row_inside : (s t : ℕ) → s < length station.sets → t < T → s * T + t < length rows
-  row_inside s t h k = let e = place_inside station valid complete s t h k in let f = same_length in omega arith
+  row_inside s t h k = let e = place_inside station valid complete s t h k in
+      let f = same_length in omega arith
 
-  reading_at : (i : ℕ) → i < length station.obs → get_or (readings_of station.obs rows) i any_reading ≡ reading_of (get_or station.obs i any_obs) (get_or rows i any_row).turn
+  reading_at : (i : ℕ) → i < length station.obs
+      → get_or (readings_of station.obs rows) i any_reading
+      ≡ reading_of (get_or station.obs i any_obs) (get_or rows i any_row).turn
   reading_at i h = get_or-readings_of station.obs rows i any_obs any_row any_reading same_length h
 
   pub grid : AreGrid (length station.sets) T (readings_of station.obs rows)
   grid = record {
-    long = length-readings_of station.obs rows same_length ∙ full_where_complete station valid complete;
+    long = length-readings_of station.obs rows same_length
+        ∙ full_where_complete station valid complete;
     at_place = λ s t h k.
-        let p = at_place (length station.sets) T station.obs valid.obs.within valid.obs.ordered (full_where_complete station valid complete) s t h k in
+        let p = at_place (length station.sets) T station.obs valid.obs.within valid.obs.ordered
+        (full_where_complete station valid complete) s t h k in
         let e = reading_at (s * T + t) (place_inside station valid complete s t h k) in
         (ap (λ (r : Reading). r.set) e ∙ p.0, ap (λ (r : Reading). r.target) e ∙ p.1);
   }
 
-  same_value_at : (i : ℕ) → i < length station.obs → (get_or rows i any_row).value ≡ (get_or station.obs i any_obs).value
+  same_value_at : (i : ℕ) → i < length station.obs
+      → (get_or rows i any_row).value ≡ (get_or station.obs i any_obs).value
   same_value_at i h =
       let k : Key = record { set = 0; target = []; value = 0 } in
-      ap (λ (k : Key). k.value) (sym (get_or-map key_of_row rows i any_row k (omega (arith, h, same_length))) ∙ ap (λ (l : List Key). get_or l i k) means.keys ∙ get_or-map (key_of_obs station.sets station.targets) station.obs i any_obs k h)
+      ap (λ (k : Key). k.value) (sym (get_or-map key_of_row rows i any_row k
+      (omega (arith, h, same_length))) ∙ ap (λ (l : List Key). get_or l i k) means.keys
+      ∙ get_or-map (key_of_obs station.sets station.targets) station.obs i any_obs k h)
 
-  pub unrolled_at : (i : ℕ) → i < length station.obs → unrolled (get_or (readings_of station.obs rows) i any_reading) ≡ unrolled_row (get_or rows i any_row)
-  unrolled_at i h = ap unrolled (reading_at i h) ∙ ap (λ n. pos n +ℤ pos TURN *ℤ (get_or rows i any_row).turn) (sym (same_value_at i h))
+  pub unrolled_at : (i : ℕ) → i < length station.obs
+      → unrolled (get_or (readings_of station.obs rows) i any_reading)
+      ≡ unrolled_row (get_or rows i any_row)
+  unrolled_at i h = ap unrolled (reading_at i h)
+      ∙ ap (λ n. pos n +ℤ pos TURN *ℤ (get_or rows i any_row).turn) (sym (same_value_at i h))

@@ -1,6 +1,7 @@
 -- The sheet of means: within the limits of a sheet, as defined, unturned in its first row and first
 -- column of readings, and accepted.
-use Rattle.std.proofs.Common.{◌≡◌, ◌⊎◌, inl, inr, ℕ, suc, zero, ◌*◌, ◌<◌, ◌≤◌, List, [], length, map, get_or, ℤ, pos, negsuc, ◌+ℤ◌, arith, ap, refl, sym, ◌∙◌, subst}
+use Rattle.std.proofs.Common.{◌≡◌, ◌⊎◌, inl, inr, ℕ, suc, zero, ◌*◌, ◌<◌, ◌≤◌, List, [], length}
+use Rattle.std.proofs.Common.{map, get_or, ℤ, pos, negsuc, ◌+ℤ◌, arith, ap, refl, sym, ◌∙◌, subst}
 use Rattle.std.proofs.Math.IntN.{◌*ℤ◌, ◌-ℤ◌}
 use Rattle.std.proofs.Math.Nat.{mul-le-mul}
 use Rattle.std.proofs.lemmas.Int.{ints}
@@ -39,12 +40,17 @@ first_difference : (a b : ℤ) → (a -ℤ a) -ℤ (b -ℤ b) ≡ pos 0
 first_difference a b = omega (arith, ints)
 
 within_larger : (z : ℤ) → IsWithin LARGEST_MEAN z → IsWithin LARGEST_ANGLE z
-within_larger z w = let l = w.low in let h = w.high in record { low = omega (arith, ints); high = omega (arith, ints) }
+within_larger z w = let l = w.low in let h = w.high in record {
+  low = omega (arith, ints);
+  high = omega (arith, ints);
+}
 
 module _ (station : StationValue) (valid : IsStation station) (complete : IsComplete station)
     (rows : List Row) (means_rows : AreMeansRows station rows)
-    (directions : List Direction) (each_direction : AreEach (IsMeansDirection station (readings_of station.obs rows)) (length station.targets) directions)
-    (orientations : List Orientation) (each_orientation : AreEach (IsMeansOrientation station (readings_of station.obs rows)) (length station.sets) orientations) where
+    (directions : List Direction) (each_direction : AreEach (IsMeansDirection station
+    (readings_of station.obs rows)) (length station.targets) directions)
+    (orientations : List Orientation) (each_orientation : AreEach (IsMeansOrientation station
+    (readings_of station.obs rows)) (length station.sets) orientations) where
   abbrev S : ℕ
   S = length station.sets
 
@@ -55,7 +61,13 @@ module _ (station : StationValue) (valid : IsStation station) (complete : IsComp
   readings = readings_of station.obs rows
 
   abbrev pub means_sheet : SheetValue
-  means_sheet = record { name = station.name; denominator = S * T; directions = directions; orientations = orientations; rows = rows }
+  means_sheet = record {
+    name = station.name;
+    denominator = S * T;
+    directions = directions;
+    orientations = orientations;
+    rows = rows;
+  }
 
   abbrev any_direction : Direction
   any_direction = record { name = []; value = pos 0 }
@@ -64,20 +76,29 @@ module _ (station : StationValue) (valid : IsStation station) (complete : IsComp
   any_orientation = record { set = 0; value = pos 0 }
 
   names : map (λ (d : Direction). d.name) directions ≡ station.targets
-  names = ext_get_or [] (map (λ (d : Direction). d.name) directions) station.targets (length-map directions (λ (d : Direction). d.name) ∙ each_direction.long)
-      (λ i h. let k : i < length directions = subst (λ (n : ℕ). i < n) (length-map directions (λ (d : Direction). d.name)) h in
-      get_or-map (λ (d : Direction). d.name) directions i any_direction [] k ∙ (each_direction.at i any_direction (omega (arith, each_direction.long))).name)
+  names = ext_get_or [] (map (λ (d : Direction). d.name) directions) station.targets
+      (length-map directions (λ (d : Direction). d.name) ∙ each_direction.long)
+      (λ i h. let k : i < length directions =
+      subst (λ (n : ℕ). i < n) (length-map directions (λ (d : Direction). d.name)) h in
+      get_or-map (λ (d : Direction). d.name) directions i any_direction [] k
+      ∙ (each_direction.at i any_direction (omega (arith, each_direction.long))).name)
 
   numbers : map (λ (o : Orientation). o.set) orientations ≡ station.sets
-  numbers = ext_get_or 0 (map (λ (o : Orientation). o.set) orientations) station.sets (length-map orientations (λ (o : Orientation). o.set) ∙ each_orientation.long)
-      (λ i h. let k : i < length orientations = subst (λ (n : ℕ). i < n) (length-map orientations (λ (o : Orientation). o.set)) h in
-      get_or-map (λ (o : Orientation). o.set) orientations i any_orientation 0 k ∙ (each_orientation.at i any_orientation (omega (arith, each_orientation.long))).set)
+  numbers = ext_get_or 0 (map (λ (o : Orientation). o.set) orientations) station.sets
+      (length-map orientations (λ (o : Orientation). o.set) ∙ each_orientation.long)
+      (λ i h. let k : i < length orientations =
+      subst (λ (n : ℕ). i < n) (length-map orientations (λ (o : Orientation). o.set)) h in
+      get_or-map (λ (o : Orientation). o.set) orientations i any_orientation 0 k
+      ∙ (each_orientation.at i any_orientation (omega (arith, each_orientation.long))).set)
 
   means : AreMeans S T readings (choice_stated_by means_sheet)
   means = record {
     denominator = refl;
-    directions = λ t h. get_or-map (λ (d : Direction). d.value) directions t any_direction (pos 0) (omega (arith, each_direction.long)) ∙ (each_direction.at t any_direction h).value;
-    orientations = λ s h. get_or-map (λ (o : Orientation). o.value) orientations s any_orientation (pos 0) (omega (arith, each_orientation.long)) ∙ (each_orientation.at s any_orientation h).value;
+    directions = λ t h. get_or-map (λ (d : Direction). d.value) directions t any_direction (pos 0)
+        (omega (arith, each_direction.long)) ∙ (each_direction.at t any_direction h).value;
+    orientations = λ s h. get_or-map (λ (o : Orientation). o.value) orientations s any_orientation
+        (pos 0) (omega (arith, each_orientation.long))
+        ∙ (each_orientation.at s any_orientation h).value;
   }
 
   pub is_means_sheet : IsMeansSheet station means_sheet
@@ -87,19 +108,25 @@ module _ (station : StationValue) (valid : IsStation station) (complete : IsComp
       targets = names;
       sets = numbers;
       rows = means_rows.keys;
-      datum = first_direction S T readings (grid station valid complete rows means_rows) (choice_stated_by means_sheet) means valid.targets.some;
+      datum = first_direction S T readings (grid station valid complete rows means_rows)
+          (choice_stated_by means_sheet) means valid.targets.some;
     };
     turned = means_rows.turned;
     means = means;
   }
 
-  unturned_at : (r : Reading) → IsTurned station.obs r → (r.set ≡ 0) ⊎ (r.target ≡ 0) → r.turn ≡ pos 0
+  unturned_at : (r : Reading) → IsTurned station.obs r → (r.set ≡ 0) ⊎ (r.target ≡ 0)
+      → r.turn ≡ pos 0
   unturned_at r h (inl e) =
       let v = value_of station.obs in
-      no_turns r.turn (subst (λ (z : ℤ). IsInHalfCircle (z +ℤ pos TURN *ℤ r.turn)) (ap (λ (s : ℕ). angle_difference station.obs s r.target) e ∙ no_difference (v 0 r.target) (v 0 0)) h)
+      no_turns r.turn (subst (λ (z : ℤ). IsInHalfCircle (z +ℤ pos TURN *ℤ r.turn))
+      (ap (λ (s : ℕ). angle_difference station.obs s r.target) e
+      ∙ no_difference (v 0 r.target) (v 0 0)) h)
   unturned_at r h (inr e) =
       let v = value_of station.obs in
-      no_turns r.turn (subst (λ (z : ℤ). IsInHalfCircle (z +ℤ pos TURN *ℤ r.turn)) (ap (λ (t : ℕ). angle_difference station.obs r.set t) e ∙ first_difference (v r.set 0) (v 0 0)) h)
+      no_turns r.turn (subst (λ (z : ℤ). IsInHalfCircle (z +ℤ pos TURN *ℤ r.turn))
+      (ap (λ (t : ℕ). angle_difference station.obs r.set t) e
+      ∙ first_difference (v r.set 0) (v 0 0)) h)
 
   pub is_unturned : IsUnturnedAtFirst station means_sheet
   is_unturned k d h = unturned_at (get_or readings k d) (means_rows.turned k d h)
@@ -120,7 +147,10 @@ module _ (station : StationValue) (valid : IsStation station) (complete : IsComp
       each = λ k d h.
           let inside : k < T = omega (arith, each_direction.long) in
           let p = each_direction.at k d inside in
-          record { name = subst IsName (sym p.name) (valid.targets.names k [] inside); value = within_larger _ p.bound };
+          record {
+            name = subst IsName (sym p.name) (valid.targets.names k [] inside);
+            value = within_larger _ p.bound;
+          };
     };
     orientations = record {
       some = omega (arith, each_orientation.long, valid.sets.some);
@@ -128,23 +158,31 @@ module _ (station : StationValue) (valid : IsStation station) (complete : IsComp
       each = λ k d h.
           let inside : k < S = omega (arith, each_orientation.long) in
           let p = each_orientation.at k d inside in
-          record { set = subst IsSetNumber (sym p.set) (valid.sets.numbers k 0 inside); value = within_larger _ p.bound };
+          record {
+            set = subst IsSetNumber (sym p.set) (valid.sets.numbers k 0 inside);
+            value = within_larger _ p.bound;
+          };
     };
     rows = record {
-      some = let e = same_length station valid complete rows means_rows in let f = full_where_complete station valid complete in omega (arith, some);
-      few = let e = same_length station valid complete rows means_rows in let f = full_where_complete station valid complete in omega (arith, few);
+      some = let e = same_length station valid complete rows means_rows in
+          let f = full_where_complete station valid complete in omega (arith, some);
+      few = let e = same_length station valid complete rows means_rows in
+          let f = full_where_complete station valid complete in omega (arith, few);
       each = λ k d h. (means_rows.each k d h).row;
     };
   }
 
   pub targets_add_up : TargetsAddUp station means_sheet
-  targets_add_up = target_sums_vanish S T readings (grid station valid complete rows means_rows) (choice_stated_by means_sheet) means valid.targets.some
+  targets_add_up = target_sums_vanish S T readings (grid station valid complete rows means_rows)
+      (choice_stated_by means_sheet) means valid.targets.some
 
   pub sets_add_up : SetsAddUp station means_sheet
-  sets_add_up = set_sums_vanish S T readings (grid station valid complete rows means_rows) (choice_stated_by means_sheet) means valid.targets.some
+  sets_add_up = set_sums_vanish S T readings (grid station valid complete rows means_rows)
+      (choice_stated_by means_sheet) means valid.targets.some
 
   pub holds_together : HoldsTogether station means_sheet
-  holds_together = complete_is_connected S T readings (grid station valid complete rows means_rows) valid.sets.some valid.targets.some
+  holds_together = complete_is_connected S T readings
+      (grid station valid complete rows means_rows) valid.sets.some valid.targets.some
 
   pub some_readings : 1 ≤ length readings
   some_readings = let g = (grid station valid complete rows means_rows).long in omega (arith, some)

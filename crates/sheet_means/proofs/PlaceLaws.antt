@@ -1,5 +1,6 @@
 -- The readings of a station and a sheet place by place, and sums over the first of a list.
-use Rattle.std.proofs.Common.{◌≡◌, ℕ, suc, zero, ◌+◌, ◌<◌, List, [], ◌∷◌, ◌++◌, length, take, get_or, ℤ, ◌+ℤ◌, ap, refl, arith, ◌∙◌}
+use Rattle.std.proofs.Common.{◌≡◌, ℕ, suc, zero, ◌+◌, ◌<◌, List, [], ◌∷◌, ◌++◌, length, take}
+use Rattle.std.proofs.Common.{get_or, ℤ, ◌+ℤ◌, ap, refl, arith, ◌∙◌}
 use Rattle.std.proofs.lemmas.Int.{ints}
 use Rattle.std.proofs.lemmas.List.{take_more}
 use Rattle.adjust_kernel.specs.declared.obs.Obs.{Obs}
@@ -8,22 +9,28 @@ use Rattle.adjust_kernel.specs.Readings.{Reading}
 use Rattle.adjust_kernel.specs.Pairs.{reading_of, readings_of}
 use Rattle.adjust_kernel.specs.Sums.{int_sum_by}
 
-pub length-readings_of : (obs : List Obs) (rows : List Row) → length obs ≡ length rows → length (readings_of obs rows) ≡ length obs
+pub length-readings_of : (obs : List Obs) (rows : List Row) → length obs ≡ length rows
+    → length (readings_of obs rows) ≡ length obs
 length-readings_of [] rows e = refl
 length-readings_of (o ∷ obs) [] e = cc
 length-readings_of (o ∷ obs) (r ∷ rows) e = ap suc (length-readings_of obs rows (omega (arith, e)))
 
-pub get_or-readings_of : (obs : List Obs) (rows : List Row) (n : ℕ) (o : Obs) (r : Row) (d : Reading) → length obs ≡ length rows → n < length obs
+pub get_or-readings_of : (obs : List Obs) (rows : List Row) (n : ℕ) (o : Obs) (r : Row)
+    (d : Reading) → length obs ≡ length rows → n < length obs
     → get_or (readings_of obs rows) n d ≡ reading_of (get_or obs n o) (get_or rows n r).turn
 get_or-readings_of [] rows n o r d e below = absurd (omega (arith, below))
 get_or-readings_of (o2 ∷ obs) [] n o r d e below = cc
 get_or-readings_of (o2 ∷ obs) (r2 ∷ rows) zero o r d e below = refl
-get_or-readings_of (o2 ∷ obs) (r2 ∷ rows) (suc n) o r d e below = get_or-readings_of obs rows n o r d (omega (arith, e)) (omega (arith, below))
+get_or-readings_of (o2 ∷ obs) (r2 ∷ rows) (suc n) o r d e below =
+    get_or-readings_of obs rows n o r d (omega (arith, e)) (omega (arith, below))
 
 -- one more element
-pub int_sum_by_more : {X : Type 0} (f : X → ℤ) (xs : List X) (i : ℕ) (d : X) → i < length xs → int_sum_by f (take (i + 1) xs) ≡ int_sum_by f (take i xs) +ℤ f (get_or xs i d)
-int_sum_by_more f xs i d h = ap (int_sum_by f) (take_more xs i d h) ∙ snoc f (take i xs) (get_or xs i d)
+pub int_sum_by_more : {X : Type 0} (f : X → ℤ) (xs : List X) (i : ℕ) (d : X) → i < length xs
+    → int_sum_by f (take (i + 1) xs) ≡ int_sum_by f (take i xs) +ℤ f (get_or xs i d)
+int_sum_by_more f xs i d h = ap (int_sum_by f) (take_more xs i d h)
+    ∙ snoc f (take i xs) (get_or xs i d)
   where
-    snoc : {X : Type 0} (f : X → ℤ) (xs : List X) (x : X) → int_sum_by f (xs ++ x ∷ []) ≡ int_sum_by f xs +ℤ f x
+    snoc : {X : Type 0} (f : X → ℤ) (xs : List X) (x : X)
+        → int_sum_by f (xs ++ x ∷ []) ≡ int_sum_by f xs +ℤ f x
     snoc f [] x = omega (arith, ints)
     snoc f (y ∷ xs) x = let e = snoc f xs x in omega (arith, ints)

@@ -5,13 +5,24 @@ use Rattle.std.proofs.lemmas.Int.{ints}
 use borrow.Author.Differences.{up, down, sum_is_lem, neg_is, product_is}
 
 pub over_sum : (c a b : ℤ) → c *ℤ (a +ℤ b) ≡ c *ℤ a +ℤ c *ℤ b
-over_sum c a b = let e = sum_is_lem a b in omega (arith, ints, ap (λ n. up c * n) e, ap (λ n. down c * n) e)
+over_sum c a b = let e = sum_is_lem a b in
+    omega (arith, ints, ap (λ n. up c * n) e, ap (λ n. down c * n) e)
 
 pub over_difference : (c a b : ℤ) → c *ℤ (a -ℤ b) ≡ c *ℤ a -ℤ c *ℤ b
 over_difference c a b =
     let e = over_sum c a (neg_ℤ b) in
     let (n, m) = neg_is b in
-    omega (arith, ints, e, ap (λ k. up c * k) n, ap (λ k. up c * k) m, ap (λ k. down c * k) n, ap (λ k. down c * k) m)
+    omega (
+      arith,
+      ints,
+      e,
+      ap (λ k. up c * k) n,
+      ap (λ k. up c * k) m,
+      ap (λ k. down c
+          * k) n,
+      ap (λ k. down c * k) m,
+    )
 
 pub three_factors : (m n : ℕ) (z : ℤ) → pos m *ℤ (pos n *ℤ z) ≡ pos (m * n) *ℤ z
-three_factors m n z = let e = product_is (pos n) z in omega (arith, ints, ap (λ k. m * k) e.0, ap (λ k. m * k) e.1)
+three_factors m n z = let e = product_is (pos n) z in
+    omega (arith, ints, ap (λ k. m * k) e.0, ap (λ k. m * k) e.1)

@@ -1,5 +1,6 @@
 -- The rows of the first observations.
-use Rattle.std.proofs.Common.{◌≡◌, ℕ, ◌+◌, ◌<◌, List, [], ◌∷◌, ◌++◌, All, length, map, take, get_or, arith, ap, refl, sym, ◌∙◌, subst}
+use Rattle.std.proofs.Common.{◌≡◌, ℕ, ◌+◌, ◌<◌, List, [], ◌∷◌, ◌++◌, All, length, map, take, get_or}
+use Rattle.std.proofs.Common.{arith, ap, refl, sym, ◌∙◌, subst}
 use Rattle.std.proofs.lemmas.List.{take_more, map-append, length-map}
 use Rattle.std.proofs.lemmas.List.Elements.{All-push}
 use Rattle.adjust_kernel.specs.declared.obs.Obs.{Obs}
@@ -12,23 +13,31 @@ use Rattle.sheet_means.specs.Turning.{IsTurned}
 use Rattle.sheet_means.specs.Parts.{IsMeansRow}
 
 pub record AreRowsTo (station : StationValue) (rows : List Row) (n : ℕ) : Type 0 where
-  pub keys : map key_of_row rows ≡ map (key_of_obs station.sets station.targets) (take n station.obs)
+  pub keys : map key_of_row rows ≡ map (key_of_obs station.sets station.targets)
+      (take n station.obs)
   pub turned : All (IsTurned station.obs) (readings_of (take n station.obs) rows)
   pub rows_in : All IsMeansRow rows
 
-readings_of-push : (obs : List Obs) (rows : List Row) (o : Obs) (r : Row) → length obs ≡ length rows → readings_of (obs ++ o ∷ []) (rows ++ r ∷ []) ≡ readings_of obs rows ++ reading_of o r.turn ∷ []
+readings_of-push : (obs : List Obs) (rows : List Row) (o : Obs) (r : Row)
+    → length obs ≡ length rows → readings_of (obs ++ o ∷ []) (rows ++ r ∷ [])
+    ≡ readings_of obs rows ++ reading_of o r.turn ∷ []
 readings_of-push [] [] o r e = refl
 readings_of-push [] (r' ∷ rows) o r e = absurd (omega arith)
 readings_of-push (o' ∷ obs) [] o r e = absurd (omega arith)
-readings_of-push (o' ∷ obs) (r' ∷ rows) o r e = ap (λ (l : List Reading). reading_of o' r'.turn ∷ l) (readings_of-push obs rows o r (omega arith))
+readings_of-push (o' ∷ obs) (r' ∷ rows) o r e =
+    ap (λ (l : List Reading). reading_of o' r'.turn ∷ l) (readings_of-push obs rows o r
+    (omega arith))
 
 module _ (station : StationValue) (rows : List Row) (n : ℕ) (known : AreRowsTo station rows n) where
   as_long : length (take n station.obs) ≡ length rows
-  as_long = sym (length-map (take n station.obs) (key_of_obs station.sets station.targets)) ∙ ap length (sym known.keys) ∙ length-map rows key_of_row
+  as_long = sym (length-map (take n station.obs) (key_of_obs station.sets station.targets))
+      ∙ ap length (sym known.keys) ∙ length-map rows key_of_row
 
   -- one more row
-  pub rows_more : (d : Obs) (r : Row) → n < length station.obs → key_of_row r ≡ key_of_obs station.sets station.targets (get_or station.obs n d)
-      → IsTurned station.obs (reading_of (get_or station.obs n d) r.turn) → IsMeansRow r → AreRowsTo station (rows ++ r ∷ []) (n + 1)
+  pub rows_more : (d : Obs) (r : Row) → n < length station.obs
+      → key_of_row r ≡ key_of_obs station.sets station.targets (get_or station.obs n d)
+      → IsTurned station.obs (reading_of (get_or station.obs n d) r.turn) → IsMeansRow r
+      → AreRowsTo station (rows ++ r ∷ []) (n + 1)
   rows_more d r inside key turned row =
       let o = get_or station.obs n d in
       let next = take_more station.obs n d inside in
@@ -39,13 +48,20 @@ module _ (station : StationValue) (rows : List Row) (n : ℕ) (known : AreRowsTo
             ∙ (λ i. known.keys i ++ key i ∷ [])
             ∙ sym (map-append f (take n station.obs) (o ∷ []))
             ∙ ap (map f) (sym next);
-        turned = subst (All (IsTurned station.obs)) (sym (ap (λ (l : List Obs). readings_of l (rows ++ r ∷ [])) next ∙ readings_of-push (take n station.obs) rows o r as_long))
-            (All-push (IsTurned station.obs) (readings_of (take n station.obs) rows) (reading_of o r.turn) known.turned turned);
+        turned = subst (All (IsTurned station.obs))
+            (sym (ap (λ (l : List Obs). readings_of l (rows ++ r ∷ [])) next
+            ∙ readings_of-push (take n station.obs) rows o r as_long))
+            (All-push (IsTurned station.obs) (readings_of (take n station.obs) rows)
+            (reading_of o r.turn) known.turned turned);
         rows_in = All-push IsMeansRow rows r known.rows_in row;
       }
 
 pub no_rows : (station : StationValue) → AreRowsTo station [] 0
-no_rows station = record { keys = refl; turned = nothing (IsTurned station.obs); rows_in = nothing IsMeansRow }
+no_rows station = record {
+  keys = refl;
+  turned = nothing (IsTurned station.obs);
+  rows_in = nothing IsMeansRow;
+}
   where
     nothing : {X : Type 0} (P : X → Type 0) → All P []
     nothing P k d h = absurd (omega arith)

@@ -10,7 +10,8 @@ pub record IsSumTo (f : ℕ → ℤ) (most : ℤ) (n : ℕ) (total : ℤ) : Type
   pub total_is : total ≡ sum_below n f
   pub bound : IsWithin (most *ℤ pos n) total
 
-pub sum_more : (f : ℕ → ℤ) (most : ℤ) (n : ℕ) (total : ℤ) → IsSumTo f most n total → IsWithin most (f n) → IsSumTo f most (n + 1) (total +ℤ f n)
+pub sum_more : (f : ℕ → ℤ) (most : ℤ) (n : ℕ) (total : ℤ) → IsSumTo f most n total
+    → IsWithin most (f n) → IsSumTo f most (n + 1) (total +ℤ f n)
 sum_more f most n total s w =
     let e : most *ℤ pos (n + 1) ≡ most *ℤ pos n +ℤ most = omega (arith, ints) in
     let a = s.bound.low in let b = s.bound.high in let c = w.low in let d = w.high in

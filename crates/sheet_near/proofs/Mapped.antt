@@ -1,12 +1,15 @@
 -- Lists that are made element by element: what each element has of another list's.
 use Rattle.std.specs.List.{Any}
-use Rattle.std.proofs.Common.{◌≡◌, ℕ, ◌+◌, ◌<◌, ◌≤◌, List, [], ◌∷◌, ◌++◌, length, map, take, get_or, arith, ap, sym, ◌∙◌, add-one}
+use Rattle.std.proofs.Common.{◌≡◌, ℕ, ◌+◌, ◌<◌, ◌≤◌, List, [], ◌∷◌, ◌++◌, length, map, take, get_or}
+use Rattle.std.proofs.Common.{arith, ap, sym, ◌∙◌, add-one}
 use Rattle.std.proofs.Math.Seq.{take-suc}
 use Rattle.std.proofs.lemmas.List.{map-append}
 
 -- one element more
-pub mapped_more : {A B : Type 0} (f : A → B) (made : List A) (one : A) (all : List B) (n : ℕ) (none : B)
-    → map f made ≡ take n all → n < length all → f one ≡ get_or all n none → map f (made ++ (one ∷ [])) ≡ take (n + 1) all
+pub mapped_more : {A B : Type 0} (f : A → B) (made : List A) (one : A) (all : List B) (n : ℕ)
+    (none : B)
+    → map f made ≡ take n all → n < length all → f one ≡ get_or all n none
+    → map f (made ++ (one ∷ [])) ≡ take (n + 1) all
 mapped_more f made one all n none so_far inside same =
     map-append f made (one ∷ [])
     ∙ (λ i. so_far i ++ (same i ∷ []))

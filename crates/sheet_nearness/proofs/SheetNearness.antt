@@ -3,14 +3,21 @@ use Rattle.std.proofs.Common.{ℕ, ◌+◌, ◌-◌, ◌≤◌, ◌<◌, length,
 use Rattle.std.proofs.lemmas.List.{length-map}
 use Rattle.std.proofs.lemmas.List.Elements.{recursion_from_All}
 use Rattle.adjust_kernel.specs.declared.kernel_fault.KernelFault.{KernelFault}
-use Rattle.adjust_kernel.specs.declared.kernel_fault.KernelFault.TheVariants.{Name, TargetRow, SetRow, ObsRow, Datum, TargetSum, SetSum, NotConnected, Residual}
+use Rattle.adjust_kernel.specs.declared.kernel_fault.KernelFault.TheVariants.{Name, TargetRow}
+use Rattle.adjust_kernel.specs.declared.kernel_fault.KernelFault.TheVariants.{SetRow, ObsRow, Datum}
+use Rattle.adjust_kernel.specs.declared.kernel_fault.KernelFault.TheVariants.{TargetSum, SetSum}
+use Rattle.adjust_kernel.specs.declared.kernel_fault.KernelFault.TheVariants.{NotConnected}
+use Rattle.adjust_kernel.specs.declared.kernel_fault.KernelFault.TheVariants.{Residual}
 use Rattle.adjust_kernel.specs.declared.bounds.TheConstants.{LARGEST_RESIDUAL_LIMIT}
 use Rattle.adjust_kernel.specs.Matching.{Matches, key_of_row, key_of_obs}
-use Rattle.sheet_nearness.specs.Nearness.{AreTied, IsBesideSums, IsFirstBesideSums, IsNearAllLeast, IsNearAllNoLarger, IsTiedWithin, least_apart_of, most_apart_of}
+use Rattle.sheet_nearness.specs.Nearness.{AreTied, IsBesideSums, IsFirstBesideSums, IsNearAllLeast}
+use Rattle.sheet_nearness.specs.Nearness.{IsNearAllNoLarger, IsTiedWithin, least_apart_of}
+use Rattle.sheet_nearness.specs.Nearness.{most_apart_of}
 use Rattle.adjust_kernel.specs.Pairs.{choice_stated_by}
 use Rattle.adjust_kernel.specs.Sheets.{SheetValue, IsSheet}
 use Rattle.adjust_kernel.specs.Stations.{StationValue, IsStation}
-use Rattle.adjust_kernel.specs.Verdict.{HoldsTogether, IsFault, KeepsLimit, Stands, order_of, readings}
+use Rattle.adjust_kernel.specs.Verdict.{HoldsTogether, IsFault, KeepsLimit, Stands, order_of}
+use Rattle.adjust_kernel.specs.Verdict.{readings}
 use Rattle.sheet_nearness.proofs.NearnessLaws.{all_least_are_near, all_no_larger_are_near}
 use Rattle.adjust_kernel.proofs.ReadingLaws.{IsPlaced}
 use Rattle.sheet_nearness.proofs.StepLaws.{connected_within}
@@ -19,8 +26,10 @@ use Rattle.adjust_kernel.proofs.VerdictLaws.{IsClearOf, not_standing}
 use Rattle.adjust_kernel.proofs.VerdictSquares.{readings_placed, length-readings_of}
 
 module _ (station : StationValue) (sheet : SheetValue) where
-  held_under : (limit : ℕ) → IsStation station → IsSheet sheet → limit ≤ LARGEST_RESIDUAL_LIMIT → HoldsTogether station sheet → KeepsLimit station sheet limit
-      → IsHeldUnder limit (length station.sets) (length station.targets) (choice_stated_by sheet) (readings station sheet)
+  held_under : (limit : ℕ) → IsStation station → IsSheet sheet → limit ≤ LARGEST_RESIDUAL_LIMIT
+      → HoldsTogether station sheet → KeepsLimit station sheet limit
+      → IsHeldUnder limit (length station.sets) (length station.targets) (choice_stated_by sheet)
+      (readings station sheet)
   held_under limit is_station is_sheet limit_in connected limited = record {
     denominator = is_sheet.denominator.0;
     some = is_station.targets.some;
@@ -28,32 +37,46 @@ module _ (station : StationValue) (sheet : SheetValue) where
     targets_in = is_station.targets.few;
     limit_in = limit_in;
     readings_in = omega (arith, length-readings_of station.obs sheet.rows, is_sheet.rows.few);
-    placed = readings_placed (length station.sets) (length station.targets) station.obs sheet.rows is_station.obs.within;
+    placed = readings_placed (length station.sets)
+        (length station.targets) station.obs sheet.rows is_station.obs.within;
     connected = connected;
     limited = limited;
   }
 
-  pub sheet_is_near_all_no_larger : (limit steps : ℕ) → IsStation station → IsSheet sheet → limit ≤ LARGEST_RESIDUAL_LIMIT
-      → HoldsTogether station sheet → KeepsLimit station sheet limit → IsTiedWithin station sheet steps → IsNearAllNoLarger station sheet (most_apart_of station sheet steps)
+  pub sheet_is_near_all_no_larger : (limit steps : ℕ) → IsStation station → IsSheet sheet
+      → limit ≤ LARGEST_RESIDUAL_LIMIT
+      → HoldsTogether station sheet → KeepsLimit station sheet limit
+      → IsTiedWithin station sheet steps → IsNearAllNoLarger station sheet
+      (most_apart_of station sheet steps)
   sheet_is_near_all_no_larger limit steps is_station is_sheet limit_in connected limited within =
-      all_no_larger_are_near limit steps (length station.sets) (length station.targets) (choice_stated_by sheet) (readings station sheet) (held_under limit is_station is_sheet limit_in connected limited) within
+      all_no_larger_are_near limit steps (length station.sets) (length station.targets)
+      (choice_stated_by sheet) (readings station sheet)
+      (held_under limit is_station is_sheet limit_in connected limited) within
 
-  pub sheet_is_near_all_least : (limit steps : ℕ) → IsStation station → IsSheet sheet → limit ≤ LARGEST_RESIDUAL_LIMIT
-      → HoldsTogether station sheet → KeepsLimit station sheet limit → IsTiedWithin station sheet steps → IsNearAllLeast station sheet (least_apart_of station sheet steps)
+  pub sheet_is_near_all_least : (limit steps : ℕ) → IsStation station → IsSheet sheet
+      → limit ≤ LARGEST_RESIDUAL_LIMIT
+      → HoldsTogether station sheet → KeepsLimit station sheet limit
+      → IsTiedWithin station sheet steps → IsNearAllLeast station sheet
+      (least_apart_of station sheet steps)
   sheet_is_near_all_least limit steps is_station is_sheet limit_in connected limited within =
-      all_least_are_near limit steps (length station.sets) (length station.targets) (choice_stated_by sheet) (readings station sheet) (held_under limit is_station is_sheet limit_in connected limited) within
+      all_least_are_near limit steps (length station.sets) (length station.targets)
+      (choice_stated_by sheet) (readings station sheet)
+      (held_under limit is_station is_sheet limit_in connected limited) within
 
-  pub tied_within : IsStation station → HoldsTogether station sheet → IsTiedWithin station sheet (length station.sets + length station.targets - 1)
+  pub tied_within : IsStation station → HoldsTogether station sheet
+      → IsTiedWithin station sheet (length station.sets + length station.targets - 1)
   tied_within is_station connected =
       let sets = length station.sets in
       let targets = length station.targets in
       connected_within sets targets (readings station sheet) is_station.targets.some
-      (recursion_from_All (IsPlaced sets targets) (readings station sheet) (readings_placed sets targets station.obs sheet.rows is_station.obs.within)) connected
+      (recursion_from_All (IsPlaced sets targets) (readings station sheet)
+      (readings_placed sets targets station.obs sheet.rows is_station.obs.within)) connected
 
   -- the sheet's full turns are some of those that may be added
   pub tied_holds_together : Matches station sheet → AreTied station → HoldsTogether station sheet
   tied_holds_together matches tied =
-      tied sheet.rows (sym (length-map sheet.rows key_of_row) ∙ ap length matches.rows ∙ length-map station.obs (key_of_obs station.sets station.targets))
+      tied sheet.rows (sym (length-map sheet.rows key_of_row) ∙ ap length matches.rows
+      ∙ length-map station.obs (key_of_obs station.sets station.targets))
 
   early_is_beside_sums : (fault : KernelFault) → order_of fault < 6 → IsBesideSums fault
   early_is_beside_sums (TargetSum n) h = absurd (omega arith)
@@ -67,16 +90,25 @@ module _ (station : StationValue) (sheet : SheetValue) where
   early_is_beside_sums (Residual n) h = tt
 
   -- a fault that is looked for before the sums
-  pub early_fault : (limit : ℕ) (fault : KernelFault) → IsFault station sheet fault → order_of fault < 6 → IsFirstBesideSums station sheet limit fault
+  pub early_fault : (limit : ℕ) (fault : KernelFault) → IsFault station sheet fault
+      → order_of fault < 6 → IsFirstBesideSums station sheet limit fault
   early_fault limit fault is early =
       let verdict = is (Some limit) in
-      record { kind = early_is_beside_sums fault early; stands = verdict.0; before = λ other kind less stands. verdict.1 other less stands }
+      record {
+        kind = early_is_beside_sums fault early;
+        stands = verdict.0;
+        before = λ other kind less stands. verdict.1 other less stands;
+      }
 
   -- no fault beside the sums is left
-  pub none_beside_sums : (limit : ℕ) → Matches station sheet → HoldsTogether station sheet → KeepsLimit station sheet limit → (fault : KernelFault) → IsBesideSums fault → Stands station sheet (Some limit) fault → ⊥
-  none_beside_sums limit matches connected limited fault kind = not_standing station sheet (Some limit) fault (clear fault kind)
+  pub none_beside_sums : (limit : ℕ) → Matches station sheet → HoldsTogether station sheet
+      → KeepsLimit station sheet limit → (fault : KernelFault) → IsBesideSums fault
+      → Stands station sheet (Some limit) fault → ⊥
+  none_beside_sums limit matches connected limited fault kind =
+      not_standing station sheet (Some limit) fault (clear fault kind)
     where
-      clear : (fault : KernelFault) → IsBesideSums fault → IsClearOf station sheet (Some limit) fault
+      clear : (fault : KernelFault) → IsBesideSums fault
+          → IsClearOf station sheet (Some limit) fault
       clear (TargetSum n) kind = absurd kind
       clear (SetSum n) kind = absurd kind
       clear Name kind = matches.name

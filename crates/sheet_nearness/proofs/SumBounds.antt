@@ -1,6 +1,7 @@
 -- How large a sum is in which each element has a factor that goes with its key: at most the largest
 -- factor times the sizes of the sums of all keys.
-use Rattle.std.proofs.Common.{◌≡◌, ℕ, suc, zero, ◌+◌, ◌*◌, ◌≤◌, ◌<◌, true, false, cond, eqb, ltb, List, [], ◌∷◌, ℤ, pos, negsuc, ◌+ℤ◌, arith, ap, refl, sym, ◌∙◌, subst}
+use Rattle.std.proofs.Common.{◌≡◌, ℕ, suc, zero, ◌+◌, ◌*◌, ◌≤◌, ◌<◌, true, false, cond, eqb, ltb}
+use Rattle.std.proofs.Common.{List, [], ◌∷◌, ℤ, pos, negsuc, ◌+ℤ◌, arith, ap, refl, sym, ◌∙◌, subst}
 use Rattle.std.specs.Int.RustNames.{unsigned_abs}
 use Rattle.std.specs.List.{AllByRecursion}
 use Rattle.std.proofs.Math.IntN.{◌*ℤ◌}
@@ -13,14 +14,33 @@ use Rattle.adjust_kernel.specs.Within.{IsWithin}
 use Rattle.adjust_kernel.proofs.SumLaws.{int_sum_by-same, int_sum_by-zero, int_sum_where-next_key}
 
 -- a factor within a bound, times a number, is within the bound times its size
-within_product : (m : ℕ) (x z : ℤ) → IsWithin (pos m) x → IsWithin (pos (m * unsigned_abs z)) (x *ℤ z)
-within_product m (pos a) (pos b) h = let e : a * b ≤ m * b = mul-le-mul (omega (arith, ints, h.high)) (omega arith) in record { low = omega (arith, ints); high = omega (arith, ints) }
-within_product m (pos a) (negsuc b) h = let e : a * suc b ≤ m * suc b = mul-le-mul (omega (arith, ints, h.high)) (omega arith) in record { low = omega (arith, ints); high = omega (arith, ints) }
-within_product m (negsuc a) (pos b) h = let e : suc a * b ≤ m * b = mul-le-mul (omega (arith, ints, h.low)) (omega arith) in record { low = omega (arith, ints); high = omega (arith, ints) }
-within_product m (negsuc a) (negsuc b) h = let e : suc a * suc b ≤ m * suc b = mul-le-mul (omega (arith, ints, h.low)) (omega arith) in record { low = omega (arith, ints); high = omega (arith, ints) }
+within_product : (m : ℕ) (x z : ℤ) → IsWithin (pos m) x
+    → IsWithin (pos (m * unsigned_abs z)) (x *ℤ z)
+within_product m (pos a) (pos b) h = let e : a * b ≤ m * b =
+    mul-le-mul (omega (arith, ints, h.high)) (omega arith) in record {
+      low = omega (arith, ints);
+      high = omega (arith, ints);
+    }
+within_product m (pos a) (negsuc b) h = let e : a * suc b ≤ m * suc b =
+    mul-le-mul (omega (arith, ints, h.high)) (omega arith) in record {
+      low = omega (arith, ints);
+      high = omega (arith, ints);
+    }
+within_product m (negsuc a) (pos b) h = let e : suc a * b ≤ m * b =
+    mul-le-mul (omega (arith, ints, h.low)) (omega arith) in record {
+      low = omega (arith, ints);
+      high = omega (arith, ints);
+    }
+within_product m (negsuc a) (negsuc b) h = let e : suc a * suc b ≤ m * suc b =
+    mul-le-mul (omega (arith, ints, h.low)) (omega arith) in record {
+      low = omega (arith, ints);
+      high = omega (arith, ints);
+    }
 
-within_both : (m s t : ℕ) (x y : ℤ) → IsWithin (pos (m * s)) x → IsWithin (pos (m * t)) y → IsWithin (pos (m * (s + t))) (x +ℤ y)
-within_both m s t x y h k = let a = h.low in let b = h.high in let c = k.low in let d = k.high in record { low = omega (arith, ints); high = omega (arith, ints) }
+within_both : (m s t : ℕ) (x y : ℤ) → IsWithin (pos (m * s)) x → IsWithin (pos (m * t)) y
+    → IsWithin (pos (m * (s + t))) (x +ℤ y)
+within_both m s t x y h k = let a = h.low in let b = h.high in let c = k.low in let d = k.high in
+    record { low = omega (arith, ints); high = omega (arith, ints) }
 
 module _ {X : Type 0} (key : X → ℕ) (f : X → ℤ) (a : ℕ → ℤ) (m : ℕ) where
   abbrev sum_of : List X → ℕ → ℤ
@@ -28,10 +48,13 @@ module _ {X : Type 0} (key : X → ℕ) (f : X → ℤ) (a : ℕ → ℤ) (m : �
 
   -- the elements whose keys are below a number
   below : (xs : List X) (n : ℕ) → ((k : ℕ) → k < n → IsWithin (pos m) (a k))
-      → IsWithin (pos (m * sizes_below (sum_of xs) n)) (int_sum_where (λ x. ltb (key x) n) (λ x. f x *ℤ a (key x)) xs)
+      → IsWithin (pos (m * sizes_below (sum_of xs) n)) (int_sum_where (λ x. ltb (key x) n)
+      (λ x. f x *ℤ a (key x)) xs)
   below xs zero h =
       subst (IsWithin (pos (m * 0)))
-      (sym (int_sum_by-same (λ x. cond (ltb (key x) 0) (f x *ℤ a (key x)) (pos 0)) (λ x. pos 0) (λ x. ap (λ t. cond t (f x *ℤ a (key x)) (pos 0)) (never (key x))) xs ∙ int_sum_by-zero xs))
+      (sym (int_sum_by-same (λ x. cond (ltb (key x) 0) (f x *ℤ a (key x)) (pos 0)) (λ x. pos 0)
+      (λ x. ap (λ t. cond t (f x *ℤ a (key x)) (pos 0)) (never (key x))) xs
+      ∙ int_sum_by-zero xs))
       record { low = omega (arith, ints); high = omega (arith, ints) }
     where
       never : (k : ℕ) → ltb k 0 ≡ false
@@ -39,14 +62,20 @@ module _ {X : Type 0} (key : X → ℕ) (f : X → ℤ) (a : ℕ → ℤ) (m : �
   below xs (suc n) h =
       subst (IsWithin (pos (m * (sizes_below (sum_of xs) n + unsigned_abs (sum_of xs n)))))
       (sym (int_sum_where-next_key key f a xs n))
-      (within_both m (sizes_below (sum_of xs) n) (unsigned_abs (sum_of xs n)) _ (a n *ℤ sum_of xs n) (below xs n (λ k l. h k (omega arith))) (within_product m (a n) (sum_of xs n) (h n (omega arith))))
+      (within_both m (sizes_below (sum_of xs) n) (unsigned_abs (sum_of xs n)) _
+      (a n *ℤ sum_of xs n) (below xs n (λ k l. h k (omega arith)))
+      (within_product m (a n) (sum_of xs n) (h n (omega arith))))
 
   -- all elements
-  pub int_sum_by-within : (xs : List X) (n : ℕ) → AllByRecursion (λ x. key x < n) xs → ((k : ℕ) → k < n → IsWithin (pos m) (a k))
+  pub int_sum_by-within : (xs : List X) (n : ℕ) → AllByRecursion (λ x. key x < n) xs
+      → ((k : ℕ) → k < n → IsWithin (pos m) (a k))
       → IsWithin (pos (m * sizes_below (sum_of xs) n)) (int_sum_by (λ x. f x *ℤ a (key x)) xs)
-  int_sum_by-within xs n all h = subst (IsWithin (pos (m * sizes_below (sum_of xs) n))) (each xs all) (below xs n h)
+  int_sum_by-within xs n all h = subst (IsWithin (pos (m * sizes_below (sum_of xs) n)))
+      (each xs all) (below xs n h)
     where
-      each : (ys : List X) → AllByRecursion (λ x. key x < n) ys → int_sum_where (λ x. ltb (key x) n) (λ x. f x *ℤ a (key x)) ys ≡ int_sum_by (λ x. f x *ℤ a (key x)) ys
+      each : (ys : List X) → AllByRecursion (λ x. key x < n) ys
+          → int_sum_where (λ x. ltb (key x) n) (λ x. f x *ℤ a (key x)) ys
+          ≡ int_sum_by (λ x. f x *ℤ a (key x)) ys
       each [] k = refl
       each (y ∷ ys) k =
           let inside : key y < n = k.0 in

@@ -1,10 +1,11 @@
 -- How near a choice is to those with no larger sum of squares, where its own sums aren't 0
 -- (textbook). With S for the sizes of its sums, added up, and h for how many readings lead from the
 -- first target to the target or set that is furthest from it, 2 in a complete station: what has no
--- larger sum of squares is within 2 h S of it, and what is least within h S, in half units times its
--- denominator. Of a list that is printed to 0.1 mgon this says little, some mgon for 4 sets of 10
--- targets; it is for numbers with two or three decimals more than are printed.
-use Rattle.std.specs.Prelude.{◌≡◌, ℕ, zero, suc, ◌+◌, ◌*◌, ◌≤◌, ◌<◌, List, length, ℤ, pos, ◌-ℤ◌, ◌*ℤ◌, Some, Result, Ok, Err, ⊤}
+-- larger sum of squares is within 2 h S of it, and what is least within h S, in half units times
+-- its denominator. Of a list that is printed to 0.1 mgon this says little, some mgon for 4 sets of
+-- 10 targets; it is for numbers with two or three decimals more than are printed.
+use Rattle.std.specs.Prelude.{◌≡◌, ℕ, zero, suc, ◌+◌, ◌*◌, ◌≤◌, ◌<◌, List, length, ℤ, pos, ◌-ℤ◌}
+use Rattle.std.specs.Prelude.{◌*ℤ◌, Some, Result, Ok, Err, ⊤}
 use Rattle.std.specs.Int.RustNames.{unsigned_abs}
 use Rattle.adjust_kernel.specs.declared.kernel_fault.KernelFault.{KernelFault}
 use Rattle.adjust_kernel.specs.declared.kernel_fault.KernelFault.TheVariants.{TargetSum, SetSum}

@@ -1,5 +1,6 @@
 -- Every least-squares choice of a station is near a sheet of it, with what the sheet leaves open.
-use Rattle.std.proofs.Common.{◌≡◌, ℕ, ◌≤◌, List, [], ◌∷◌, map, length, ℤ, pos, arith, ap, refl, sym, ◌∙◌, subst}
+use Rattle.std.proofs.Common.{◌≡◌, ℕ, ◌≤◌, List, [], ◌∷◌, map, length, ℤ, pos, arith, ap, refl, sym}
+use Rattle.std.proofs.Common.{◌∙◌, subst}
 use Rattle.std.proofs.lemmas.List.{length-map}
 use Rattle.adjust_kernel.specs.Least.{IsNoLargerSum}
 use Rattle.adjust_kernel.specs.Matching.{Matches, key_of_row, key_of_obs}
@@ -21,43 +22,61 @@ abbrev plain : List Obs → List Reading
 plain obs = map (λ o. reading_of o (pos 0)) obs
 
 -- other turns take the place of those of the rows
-other_turns : (obs : List Obs) (rows : List Row) (turns : List ℤ) → length rows ≡ length obs → with_turns (readings_of obs rows) turns ≡ with_turns (plain obs) turns
+other_turns : (obs : List Obs) (rows : List Row) (turns : List ℤ) → length rows ≡ length obs
+    → with_turns (readings_of obs rows) turns ≡ with_turns (plain obs) turns
 other_turns [] rows turns h = refl
 other_turns (o ∷ obs) [] turns h = absurd (omega (arith, h))
 other_turns (o ∷ obs) (r ∷ rows) [] h = refl
-other_turns (o ∷ obs) (r ∷ rows) (k ∷ turns) h = ap (λ rs. reading_of o k ∷ rs) (other_turns obs rows turns (omega (arith, h)))
+other_turns (o ∷ obs) (r ∷ rows) (k ∷ turns) h =
+    ap (λ rs. reading_of o k ∷ rs) (other_turns obs rows turns (omega (arith, h)))
 
 -- the turns of the rows are such turns
-own_turns : (obs : List Obs) (rows : List Row) → length rows ≡ length obs → readings_of obs rows ≡ with_turns (plain obs) (map (λ r. r.turn) rows)
+own_turns : (obs : List Obs) (rows : List Row) → length rows ≡ length obs
+    → readings_of obs rows ≡ with_turns (plain obs) (map (λ r. r.turn) rows)
 own_turns [] rows h = refl
 own_turns (o ∷ obs) [] h = absurd (omega (arith, h))
-own_turns (o ∷ obs) (r ∷ rows) h = ap (λ rs. reading_of o r.turn ∷ rs) (own_turns obs rows (omega (arith, h)))
+own_turns (o ∷ obs) (r ∷ rows) h = ap (λ rs. reading_of o r.turn ∷ rs)
+    (own_turns obs rows (omega (arith, h)))
 
-as_many : (obs : List Obs) (rows : List Row) → length rows ≡ length obs → length (readings_of obs rows) ≡ length obs
+as_many : (obs : List Obs) (rows : List Row) → length rows ≡ length obs
+    → length (readings_of obs rows) ≡ length obs
 as_many [] rows h = refl
 as_many (o ∷ obs) [] h = absurd (omega (arith, h))
 as_many (o ∷ obs) (r ∷ rows) h = omega (arith, as_many obs rows (omega (arith, h)))
 
 -- a sheet of the station has a row for each observation
-pub a_row_each : (station : StationValue) (sheet : SheetValue) → Matches station sheet → length sheet.rows ≡ length station.obs
-a_row_each station sheet matches = sym (length-map sheet.rows key_of_row) ∙ ap length matches.rows ∙ length-map station.obs (key_of_obs station.sets station.targets)
+pub a_row_each : (station : StationValue) (sheet : SheetValue) → Matches station sheet
+    → length sheet.rows ≡ length station.obs
+a_row_each station sheet matches = sym (length-map sheet.rows key_of_row) ∙ ap length matches.rows
+    ∙ length-map station.obs (key_of_obs station.sets station.targets)
 
 -- and a direction for each target
-pub a_direction_each : (station : StationValue) (sheet : SheetValue) → Matches station sheet → length sheet.directions ≡ length station.targets
-a_direction_each station sheet matches = sym (length-map sheet.directions (λ (d : Direction). d.name)) ∙ ap length matches.targets
+pub a_direction_each : (station : StationValue) (sheet : SheetValue) → Matches station sheet
+    → length sheet.directions ≡ length station.targets
+a_direction_each station sheet matches = sym (length-map sheet.directions
+    (λ (d : Direction). d.name)) ∙ ap length matches.targets
 
 -- every least-squares choice is near
-pub least_is_near : (station : StationValue) (sheet : SheetValue) (near : ℕ) (c : Choice) (turns : List ℤ)
-    → Matches station sheet → 1 ≤ sheet.denominator → IsNearAllNoLarger station sheet near → IsLeastOf station c turns
-    → IsNear (length station.sets) (length station.targets) (choice_stated_by sheet) (readings station sheet) near c turns
+pub least_is_near : (station : StationValue) (sheet : SheetValue) (near : ℕ) (c : Choice)
+    (turns : List ℤ)
+    → Matches station sheet → 1 ≤ sheet.denominator → IsNearAllNoLarger station sheet near
+    → IsLeastOf station c turns
+    → IsNear (length station.sets) (length station.targets) (choice_stated_by sheet)
+    (readings station sheet) near c turns
 least_is_near station sheet near c turns matches positive all l =
     let rows : length sheet.rows ≡ length station.obs = a_row_each station sheet matches in
-    let count : length (readings station sheet) ≡ length station.obs = as_many station.obs sheet.rows rows in
-    let no_larger : IsNoLargerSum c (observed_with station turns) (choice_stated_by sheet) (observed_with station (map (λ r. r.turn) sheet.rows)) =
-    l.least (choice_stated_by sheet) (map (λ r. r.turn) sheet.rows) (length-map sheet.rows (λ (r : Row). r.turn) ∙ rows) positive in
-    let here : IsNoLargerSum c (with_turns (readings station sheet) turns) (choice_stated_by sheet) (readings station sheet) =
-    subst (λ rs. IsNoLargerSum c rs (choice_stated_by sheet) (readings station sheet)) (sym (other_turns station.obs sheet.rows turns rows))
-    (subst (λ rs. IsNoLargerSum c (observed_with station turns) (choice_stated_by sheet) rs) (sym (own_turns station.obs sheet.rows rows)) no_larger) in
+    let count : length (readings station sheet) ≡ length station.obs =
+    as_many station.obs sheet.rows rows in
+    let no_larger : IsNoLargerSum c (observed_with station turns) (choice_stated_by sheet)
+    (observed_with station (map (λ r. r.turn) sheet.rows)) =
+    l.least (choice_stated_by sheet) (map (λ r. r.turn) sheet.rows)
+    (length-map sheet.rows (λ (r : Row). r.turn) ∙ rows) positive in
+    let here : IsNoLargerSum c (with_turns (readings station sheet) turns) (choice_stated_by sheet)
+    (readings station sheet) =
+    subst (λ rs. IsNoLargerSum c rs (choice_stated_by sheet) (readings station sheet))
+    (sym (other_turns station.obs sheet.rows turns rows))
+    (subst (λ rs. IsNoLargerSum c (observed_with station turns) (choice_stated_by sheet) rs)
+    (sym (own_turns station.obs sheet.rows rows)) no_larger) in
     all c turns (l.each ∙ sym count) l.positive here
 
 -- the turns of a sheet's rows
@@ -66,15 +85,21 @@ turns_of sheet = map (λ r. r.turn) sheet.rows
 
 -- a sheet with no larger sum of squares than another of its station is near that
 pub sheet_is_near : (station : StationValue) (sheet other : SheetValue) (near : ℕ)
-    → Matches station sheet → Matches station other → 1 ≤ other.denominator → IsNearAllNoLarger station sheet near
-    → IsNoLargerSum (choice_stated_by other) (readings station other) (choice_stated_by sheet) (readings station sheet)
-    → IsNear (length station.sets) (length station.targets) (choice_stated_by sheet) (readings station sheet) near (choice_stated_by other) (turns_of other)
+    → Matches station sheet → Matches station other → 1 ≤ other.denominator
+    → IsNearAllNoLarger station sheet near
+    → IsNoLargerSum (choice_stated_by other) (readings station other) (choice_stated_by sheet)
+    (readings station sheet)
+    → IsNear (length station.sets) (length station.targets) (choice_stated_by sheet)
+    (readings station sheet) near (choice_stated_by other) (turns_of other)
 sheet_is_near station sheet other near matches others positive all no_larger =
     let rows = a_row_each station sheet matches in
     let other_rows = a_row_each station other others in
     let count : length (turns_of other) ≡ length (readings station sheet) =
-    length-map other.rows (λ (r : Row). r.turn) ∙ other_rows ∙ sym (as_many station.obs sheet.rows rows) in
+    length-map other.rows (λ (r : Row). r.turn) ∙ other_rows
+    ∙ sym (as_many station.obs sheet.rows rows) in
     let same : with_turns (readings station sheet) (turns_of other) ≡ readings station other =
-    other_turns station.obs sheet.rows (turns_of other) rows ∙ sym (own_turns station.obs other.rows other_rows) in
+    other_turns station.obs sheet.rows (turns_of other) rows
+    ∙ sym (own_turns station.obs other.rows other_rows) in
     all (choice_stated_by other) (turns_of other) count positive
-    (subst (λ rs. IsNoLargerSum (choice_stated_by other) rs (choice_stated_by sheet) (readings station sheet)) (sym same) no_larger)
+    (subst (λ rs. IsNoLargerSum (choice_stated_by other) rs (choice_stated_by sheet)
+    (readings station sheet)) (sym same) no_larger)

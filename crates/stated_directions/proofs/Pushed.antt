@@ -1,5 +1,6 @@
 -- Lists that are made element by element: what each element is at its place.
-use Rattle.std.proofs.Common.{◌≡◌, ℕ, suc, ◌<◌, ◌≤◌, List, [], ◌∷◌, ◌++◌, length, get_or, length-append, arith, refl, sym, subst}
+use Rattle.std.proofs.Common.{◌≡◌, ℕ, suc, ◌<◌, ◌≤◌, List, [], ◌∷◌, ◌++◌, length, get_or}
+use Rattle.std.proofs.Common.{length-append, arith, refl, sym, subst}
 use Rattle.std.proofs.lemmas.List.{get_or_append_left, get_or_push}
 use native.Mathlib.Decide.{dec_le}
 
@@ -14,4 +15,5 @@ one_more P made one all last t h = by (dec_le (suc t) (length made))
     by (no e) =
         let more = length-append made (one ∷ []) in
         let here : t ≡ length made = omega (arith, h, e, more) in
-        subst (λ n. P n (get_or (made ++ (one ∷ [])) n 0)) (sym here) (subst (P (length made)) (sym (get_or_push made one 0 (length made) refl)) last)
+        subst (λ n. P n (get_or (made ++ (one ∷ [])) n 0)) (sym here) (subst (P (length made))
+        (sym (get_or_push made one 0 (length made) refl)) last)

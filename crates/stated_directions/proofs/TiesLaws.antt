@@ -19,21 +19,26 @@ module _ (part_of_set part_of_target : ℕ → Bool) where
 
   -- no reading stands between two parts, with other full turns either
   with_other_turns : (obs : List Obs) (rows others : List Row) → length rows ≡ length obs
-      → HasNoneBetween part_of_set part_of_target (readings_of obs rows) → HasNoneBetween part_of_set part_of_target (readings_of obs others)
+      → HasNoneBetween part_of_set part_of_target (readings_of obs rows)
+      → HasNoneBetween part_of_set part_of_target (readings_of obs others)
   with_other_turns [] rows others count h = All-nil in_one_part
   with_other_turns (o ∷ obs) [] others count h = absurd (omega (arith, count))
   with_other_turns (o ∷ obs) (r ∷ rows) [] count h = All-nil in_one_part
   with_other_turns (o ∷ obs) (r ∷ rows) (other ∷ others) count h =
-      All-cons in_one_part _ (readings_of obs others) (All-head in_one_part _ (readings_of obs rows) h)
-      (with_other_turns obs rows others (omega (arith, count)) (All-tail in_one_part _ (readings_of obs rows) h))
+      All-cons in_one_part _ (readings_of obs others)
+      (All-head in_one_part _ (readings_of obs rows) h)
+      (with_other_turns obs rows others (omega (arith, count))
+      (All-tail in_one_part _ (readings_of obs rows) h))
 
 -- a station whose sheet is measured is held together
-pub measured_is_tied : (station : StationValue) (limit : ℕ) (sheet : SheetValue) (nearness : Nearness) → IsMeasured station limit sheet nearness → AreTied station
+pub measured_is_tied : (station : StationValue) (limit : ℕ) (sheet : SheetValue)
+    (nearness : Nearness) → IsMeasured station limit sheet nearness → AreTied station
 measured_is_tied station limit sheet nearness m = λ rows count divided.
     m.is_nearness.none NotConnected tt (record {
       part_of_set = divided.part_of_set;
       part_of_target = divided.part_of_target;
-      none_between = with_other_turns divided.part_of_set divided.part_of_target station.obs rows sheet.rows count divided.none_between;
+      none_between = with_other_turns divided.part_of_set divided.part_of_target station.obs rows
+          sheet.rows count divided.none_between;
       first_part = divided.first_part;
       second_part = divided.second_part;
     })

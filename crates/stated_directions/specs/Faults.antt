@@ -31,8 +31,8 @@ pub record IsFarInSheet (station : StationValue) (limit number : ℕ) : Type 0 w
   pub matches : Matches station sheet
   pub far : Stands station sheet (Some limit) (kernel.Residual number)
 
--- Some sheet of the station keeps the limit, and by the fewest observations that lead from the first
--- target to all others, what is near it is not known to an eighth of 0.000001 gon.
+-- Some sheet of the station keeps the limit, and by the fewest observations that lead from the
+-- first target to all others, what is near it is not known to an eighth of 0.000001 gon.
 pub record IsUnclear (station : StationValue) (limit : ℕ) : Type 0 where
   pub sheet : SheetValue
   pub nearness : Nearness

@@ -9,8 +9,8 @@ use Rattle.sheet_apart.specs.Rounding.{IsRounded}
 use Rattle.sheet_nearness.specs.Nearness.{IsNearAllNoLarger, IsNearnessOf}
 use Rattle.sheet_nearness.specs.declared.nearness.Nearness.{Nearness}
 
--- The sheet is of the station and keeps the limit, and so near it is every choice that has no larger
--- sum of squares.
+-- The sheet is of the station and keeps the limit, and so near it is every choice that has no
+-- larger sum of squares.
 pub record IsMeasured (station : StationValue) (limit : ℕ) (sheet : SheetValue)
     (nearness : Nearness) : Type 0 where
   pub matches : Matches station sheet
@@ -24,7 +24,8 @@ pub record IsTold (station : StationValue) (limit : ℕ) (stated : ℕ → ℤ) 
   pub nearness : Nearness
   pub measured : IsMeasured station limit sheet nearness
   pub clear : IsClear (choice_stated_by sheet) nearness.most
-  pub is_apart : IsApart (length station.targets) (choice_stated_by sheet) stated nearness.most apart
+  pub is_apart : IsApart (length station.targets)
+      (choice_stated_by sheet) stated nearness.most apart
 
 -- rounded directions, as directions that are stated
 abbrev pub as_stated : List ℕ → ℕ → ℤ

@@ -7,7 +7,8 @@ use Rattle.station_book.specs.declared.faces.Faces.{Faces}
 use Rattle.station_book.specs.Limits.{FaceLimits}
 use Rattle.station_book.specs.TwoFaces.{IsTwoC, IsTwoI, IsTwoFace}
 use Rattle.station_book.specs.Blocks.{is_of_face}
-use Rattle.station_book.specs.Places.{History, Place, places, number_at, before, opening, station, is_set, is_reading, target_at, passes_at}
+use Rattle.station_book.specs.Places.{History, Place, places, number_at, before, opening, station}
+use Rattle.station_book.specs.Places.{is_set, is_reading, target_at, passes_at}
 use Rattle.station_book.specs.Faults.{name_at, angles_at}
 use Rattle.station_book.specs.Stations.{SurveyedStation}
 

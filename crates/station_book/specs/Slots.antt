@@ -1,5 +1,6 @@
 -- The readings of a set by target, as a book keeps them.
-use Rattle.std.specs.Prelude.{ℕ, Bool, ◌&&◌, ◌||◌, is_some, is_none, List, [], ◌∷◌, Option, Some, None, IfSome, filter_map, slice_index_or}
+use Rattle.std.specs.Prelude.{ℕ, Bool, ◌&&◌, ◌||◌, is_some, is_none, List, [], ◌∷◌, Option, Some}
+use Rattle.std.specs.Prelude.{None, IfSome, filter_map, slice_index_or}
 use Rattle.std.specs.List.{list_any, list_all, enumerate_from}
 use Rattle.adjust_kernel.specs.declared.obs.Obs.{Obs}
 use Rattle.station_book.specs.declared.face.Face.{Face}

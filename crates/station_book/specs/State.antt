@@ -1,20 +1,24 @@
 -- What a book keeps, and what each kind of block does to it.
-use Rattle.std.specs.Prelude.{ℕ, ◌+◌, Bool, true, false, if◌then◌else◌, Result, Ok, Err, List, Option, Some, None, ◌<◌, length}
+use Rattle.std.specs.Prelude.{ℕ, ◌+◌, Bool, true, false, if◌then◌else◌, Result, Ok, Err, List}
+use Rattle.std.specs.Prelude.{Option, Some, None, ◌<◌, length}
 use Rattle.station_book.specs.declared.fault.BookKind.{BookKind}
 use Rattle.station_book.specs.declared.fault.BookKind.TheVariants as kinds
 use Rattle.station_book.specs.Limits.{FaceLimits}
 use Rattle.station_book.specs.declared.angles.Reading.{Reading}
 use Rattle.station_book.specs.declared.stage.Stage.{Stage}
-use Rattle.station_book.specs.declared.stage.Stage.TheVariants.{Outside, Station, BetweenSets, InSet}
+use Rattle.station_book.specs.declared.stage.Stage.TheVariants.{Outside, Station, BetweenSets}
+use Rattle.station_book.specs.declared.stage.Stage.TheVariants.{InSet}
 use Rattle.station_book.specs.Faults.{when, first_of, station_faults}
 use Rattle.gsi_word.specs.Blocks.{GsiBlock}
 use Rattle.station_book.specs.declared.role.Role.{Role}
-use Rattle.station_book.specs.declared.role.Role.TheVariants.{Station as AsStation, Set, Close, Measurement, Other}
+use Rattle.station_book.specs.declared.role.Role.TheVariants.{Station as AsStation, Set, Close}
+use Rattle.station_book.specs.declared.role.Role.TheVariants.{Measurement, Other}
 use Rattle.station_book.specs.Blocks.{role_of, has_two, named, number}
 use Rattle.station_book.specs.Readings.{read}
 use Rattle.station_book.specs.Slots.{closing_faults}
 use Rattle.station_book.specs.StationState.{with_set, state_faults, with_reading}
-use Rattle.station_book.specs.StationStates.{StationStates, last_of, LastMayEnd, change_last, with_station, first_set_faults, more_set_faults}
+use Rattle.station_book.specs.StationStates.{StationStates, last_of, LastMayEnd, change_last}
+use Rattle.station_book.specs.StationStates.{with_station, first_set_faults, more_set_faults}
 
 -- what a book keeps: its limits, how many blocks it took, where it stands, and its stations with
 -- sets

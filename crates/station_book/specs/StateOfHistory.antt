@@ -1,6 +1,7 @@
 -- What is kept of the stations, and where the book stands, by the blocks before: station by
 -- station, from the sets and the readings that are the station's.
-use Rattle.std.specs.Prelude.{◌≡◌, ℕ, true, false, List, [], ◌∷◌, ◌++◌, length, filter, map, Option, Some}
+use Rattle.std.specs.Prelude.{◌≡◌, ℕ, true, false, List, [], ◌∷◌, ◌++◌, length, filter, map, Option}
+use Rattle.std.specs.Prelude.{Some}
 use Rattle.std.specs.Option.{option_map}
 use Rattle.adjust_kernel.specs.declared.obs.Obs.{Obs}
 use Rattle.station_book.specs.declared.face.Face.TheVariants.{One, Two}
@@ -8,11 +9,14 @@ use Rattle.station_book.specs.declared.faces.Faces.{Faces}
 use Rattle.station_book.specs.TwoFaces.{Angles}
 use Rattle.station_book.specs.declared.slot.Slot.{Slot}
 use Rattle.station_book.specs.declared.stage.Stage.{Stage}
-use Rattle.station_book.specs.declared.stage.Stage.TheVariants.{Outside, Station, BetweenSets, InSet}
+use Rattle.station_book.specs.declared.stage.Stage.TheVariants.{Outside, Station, BetweenSets}
+use Rattle.station_book.specs.declared.stage.Stage.TheVariants.{InSet}
 use Rattle.station_book.specs.Slots.{obs_of, faces_of}
 use Rattle.station_book.specs.StationState.{StationState}
 use Rattle.station_book.specs.StationStates.{StationStates}
-use Rattle.station_book.specs.Places.{History, Place, number_at, before, opening, station, is_same, is_empty, is_open, sets_of, station_readings, first_sets, distinct, reading_in, target_at}
+use Rattle.station_book.specs.Places.{History, Place, number_at, before, opening, station, is_same}
+use Rattle.station_book.specs.Places.{is_empty, is_open, sets_of, station_readings, first_sets}
+use Rattle.station_book.specs.Places.{distinct, reading_in, target_at}
 use Rattle.station_book.specs.Stations.{SurveyedStation}
 use Rattle.station_book.specs.Faults.{open_sets, name_at, angles_at}
 

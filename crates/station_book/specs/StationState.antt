@@ -1,5 +1,7 @@
 -- What a book keeps of a station that has sets.
-use Rattle.std.specs.Prelude.{◌≡◌, ℕ, ◌-◌, ◌≤◌, nat_le, Bool, false, List, [], ◌∷◌, ◌++◌, length, Option, Some, None, All, AllPairs, ◌≢◌, position, replicate, slice_set}
+use Rattle.std.specs.Prelude.{◌≡◌, ℕ, ◌-◌, ◌≤◌, nat_le, Bool, false, List, [], ◌∷◌, ◌++◌, length}
+use Rattle.std.specs.Prelude.{Option, Some, None, All, AllPairs, ◌≢◌, position, replicate}
+use Rattle.std.specs.Prelude.{slice_set}
 use Rattle.std.specs.Str.{bytes_eq}
 use Rattle.adjust_kernel.specs.declared.obs.Obs.{Obs}
 use Rattle.adjust_kernel.specs.declared.bounds.TheConstants.{MOST_SETS, MOST_TARGETS}
@@ -13,7 +15,8 @@ use Rattle.station_book.specs.Faults.{when, first_of}
 use Rattle.adjust_kernel.specs.Names.{IsName}
 use Rattle.adjust_kernel.specs.Sheets.{IsSetNumber}
 use Rattle.station_book.specs.SoFar.{AreSoFar}
-use Rattle.station_book.specs.Slots.{slot_at, with_face_reading, empty_slot, slot_faults, closing_faults, IsKeptSlot, obs_of, faces_of}
+use Rattle.station_book.specs.Slots.{slot_at, with_face_reading, empty_slot, slot_faults}
+use Rattle.station_book.specs.Slots.{closing_faults, IsKeptSlot, obs_of, faces_of}
 
 -- the names of its targets, their readings in its last set, the numbers of its sets, and what all
 -- sets before the last gave

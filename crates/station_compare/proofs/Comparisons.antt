@@ -122,6 +122,7 @@ compared station bytes targets directions stated apart same_targets same states 
       brought = subst (λ s. (c : Choice) (turns : List ℤ) → IsLeastOf station c turns
           → AreBroughtWithin (length station.targets) c (stated_by s) apart) same brought;
       no_nearer = subst (λ s. 2 ≤ apart → (c : Choice) (turns : List ℤ) → IsLeastOf station c turns
-          → AreBroughtWithin (length station.targets) c (stated_by s) (apart - 2) → ⊥) same no_nearer;
+          → AreBroughtWithin (length station.targets) c (stated_by s) (apart - 2)
+          → ⊥) same no_nearer;
       told = subst (λ s. IsTold station LARGEST_RESIDUAL_LIMIT (stated_by s) apart) same told;
     }

@@ -1,7 +1,8 @@
 use Rattle.std.proofs.Common.{arith, Bool, All, subst}
 use Rattle.std.specs.Bool.{OnFalse}
 use Rattle.adjust_kernel.specs.Marks.{AreAlike}
-use Rattle.adjust_kernel.proofs.MarkLaws.{spread_start, marked_is_whole, marks_divide, on_true, on_false}
+use Rattle.adjust_kernel.proofs.MarkLaws.{spread_start, marked_is_whole, marks_divide, on_true}
+use Rattle.adjust_kernel.proofs.MarkLaws.{on_false}
 use Rattle.adjust_kernel.proofs.connection.is_connected.Goals as goal
 
 pub sweeps-init : goal.sweeps-init

@@ -1,5 +1,8 @@
-use Rattle.adjust_kernel.specs.declared.kernel_fault.KernelFault.TheVariants.{TargetSum, SetSum, NotConnected, Residual}
-use Rattle.adjust_kernel.proofs.VerdictLaws.{accepted_sheet, clear_where_accepted, matches_where_accepted}
+use Rattle.adjust_kernel.specs.declared.kernel_fault.KernelFault.TheVariants.{TargetSum, SetSum}
+use Rattle.adjust_kernel.specs.declared.kernel_fault.KernelFault.TheVariants.{NotConnected}
+use Rattle.adjust_kernel.specs.declared.kernel_fault.KernelFault.TheVariants.{Residual}
+use Rattle.adjust_kernel.proofs.VerdictLaws.{accepted_sheet, clear_where_accepted}
+use Rattle.adjust_kernel.proofs.VerdictLaws.{matches_where_accepted}
 use Rattle.adjust_kernel.proofs.laws.acceptance.Goals as goal
 
 pub returns : goal.returns

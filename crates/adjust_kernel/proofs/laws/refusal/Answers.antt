@@ -1,4 +1,5 @@
-use Rattle.adjust_kernel.specs.declared.kernel_fault.KernelFault.TheVariants.{TargetSum, SetSum, NotConnected}
+use Rattle.adjust_kernel.specs.declared.kernel_fault.KernelFault.TheVariants.{TargetSum, SetSum}
+use Rattle.adjust_kernel.specs.declared.kernel_fault.KernelFault.TheVariants.{NotConnected}
 use Rattle.adjust_kernel.proofs.VerdictLaws.{clear_where_refused, matches_where_refused}
 use Rattle.adjust_kernel.proofs.laws.refusal.Goals as goal
 

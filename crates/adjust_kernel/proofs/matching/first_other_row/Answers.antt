@@ -1,4 +1,5 @@
-use Rattle.std.proofs.Common.{◌≡◌, ◌≢◌, ◌<◌, ℕ, [], length, true, false, refl, arith, ap, sym, ◌∙◌, below_more}
+use Rattle.std.proofs.Common.{◌≡◌, ◌≢◌, ◌<◌, ℕ, [], length, true, false, refl, arith, ap, sym, ◌∙◌}
+use Rattle.std.proofs.Common.{below_more}
 use Rattle.std.specs.List.{slice_get}
 use Rattle.std.proofs.lemmas.List.{length-map}
 use Rattle.adjust_kernel.specs.Matching.{Key, keys_of, observed, key_of_row, key_of_obs}

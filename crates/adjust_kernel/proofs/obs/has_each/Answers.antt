@@ -2,7 +2,8 @@ use Rattle.std.proofs.Common.{◌≡◌, ◌<◌, ◌+◌, ℕ, Bool, true, fals
 use Rattle.std.specs.Prelude.{◌↔◌, IsTrue}
 use Rattle.std.specs.Bool.{OnTrue, OnFalse}
 use Rattle.adjust_kernel.specs.Marks.{mark}
-use Rattle.adjust_kernel.proofs.MarkLaws.{AreSeen, none_seen, seen_more, each_observed, some_unobserved, on_true, on_false}
+use Rattle.adjust_kernel.proofs.MarkLaws.{AreSeen, none_seen, seen_more, each_observed}
+use Rattle.adjust_kernel.proofs.MarkLaws.{some_unobserved, on_true, on_false}
 use Rattle.adjust_kernel.proofs.obs.has_each.Goals as goal
 
 decided : {P : Type 0} (b : Bool) → OnTrue b P → OnFalse b (P → ⊥) → IsTrue b ↔ P

@@ -5,4 +5,5 @@ use Rattle.direction_table.proofs.table.push_rows.Given as goal
 
 abbrev pub invariant-loop-row : goal.invariant-loop-row
 invariant-loop-row g l = (text : List ℕ) → HasWritten g.W.Write.contents l.fn.writer text
-    → HasWritten g.W.Write.contents l.writer (text ++ table_text l.decimals (take l.row-index l.stated))
+    → HasWritten g.W.Write.contents l.writer (text ++ table_text l.decimals
+    (take l.row-index l.stated))

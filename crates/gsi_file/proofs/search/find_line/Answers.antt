@@ -1,7 +1,8 @@
 use Rattle.std.proofs.Common.{ap, not, false, Some, sym, subst, ◌∙◌, arith}
 use Rattle.gsi_file.specs.declared.search.FoundLine.{FoundLine}
 use Rattle.gsi_file.specs.Finding.{HasFound}
-use Rattle.gsi_file.proofs.Finding.{Searching, breaks_off, fails, file_too_long, line_too_long, found_ended, found_at_end, passes, ends_by, none_plain}
+use Rattle.gsi_file.proofs.Finding.{Searching, breaks_off, fails, file_too_long, line_too_long}
+use Rattle.gsi_file.proofs.Finding.{found_ended, found_at_end, passes, ends_by, none_plain}
 use Rattle.gsi_file.proofs.search.find_line.Goals as goal
 
 pub returns-then-not-is_blank-clause-finds : goal.returns-then-not-is_blank-clause-finds

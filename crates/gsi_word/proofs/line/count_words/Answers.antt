@@ -1,8 +1,10 @@
 use Rattle.std.proofs.Common.{◌+◌, ◌≤◌, length, sym, ap, subst, ◌∙◌, inl, inr, List, ℕ, arith}
 use Rattle.std.proofs.lemmas.List.{length-drop}
-use Rattle.gsi_word.proofs.RunLaws.{Runs, runs_more, run_are_words, run_has_fault, run_places, run_room}
+use Rattle.gsi_word.proofs.RunLaws.{Runs, runs_more, run_are_words, run_has_fault, run_places}
+use Rattle.gsi_word.proofs.RunLaws.{run_room}
 use Rattle.gsi_word.proofs.line.count_words.Goals as goal
-use Rattle.gsi_word.proofs.line.count_words.Goals.{else-count-gt0-via-then-count-gt0+else-is_blank, else-count-gt0-via-else-count-gt0}
+use Rattle.gsi_word.proofs.line.count_words.Goals.{else-count-gt0-via-then-count-gt0+else-is_blank}
+use Rattle.gsi_word.proofs.line.count_words.Goals.{else-count-gt0-via-else-count-gt0}
 
 pub words-preserved : goal.words-preserved
 words-preserved c =

@@ -2,7 +2,8 @@ use Rattle.std.proofs.Common.{ℕ, cond}
 use Rattle.std.specs.Prelude.{nat_lt}
 use Rattle.std.proofs.lemmas.Simd.{length-chunk, zip2_splat, zip2_splat_left, zip2_of_maps}
 use lib.Lanes.{chunk}
-use Rattle.gsi_word.proofs.Unprintable.{printable_where_unset, unprintable_where_set, run_is_short, run_is_printable, run_ends_at_an_unprintable}
+use Rattle.gsi_word.proofs.Unprintable.{printable_where_unset, unprintable_where_set, run_is_short}
+use Rattle.gsi_word.proofs.Unprintable.{run_is_printable, run_ends_at_an_unprintable}
 use Rattle.gsi_word.proofs.printable.printable_run.Goals as goal
 
 pub returns : goal.returns

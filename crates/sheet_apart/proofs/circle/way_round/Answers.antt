@@ -20,11 +20,16 @@ returns c =
     let to_fits : FitsSigned w128 to = omega (arith, ints) in
     let apart_fits : FitsSigned w128 (to -ℤ from) = omega (arith, ints) in
     let circle_is : to_z w128 c.args.circle ≡ pos c.args.circle = omega (arith, ints) in
-    let apart_is : to_z w128 (of_z w128 (to_z w128 (of_z w128 to) -ℤ to_z w128 (of_z w128 from))) ≡ to -ℤ from =
-    rw (to_z-of_z w128 to to_fits, to_z-of_z w128 from from_fits) (to_z-of_z w128 (to -ℤ from) apart_fits) in
-    let result_fits : FitsSigned w128 c.rem_euclid.result = record { sfits = c.rem_euclid.type_inv } in
-    let is : to_z w128 (of_z w128 c.rem_euclid.result) ≡ int_rem_euclid (to -ℤ from) (pos c.args.circle) =
+    let apart_is : to_z w128 (of_z w128 (to_z w128 (of_z w128 to) -ℤ to_z w128 (of_z w128 from)))
+    ≡ to -ℤ from =
+    rw (to_z-of_z w128 to to_fits, to_z-of_z w128 from from_fits)
+    (to_z-of_z w128 (to -ℤ from) apart_fits) in
+    let result_fits : FitsSigned w128 c.rem_euclid.result =
+    record { sfits = c.rem_euclid.type_inv } in
+    let is : to_z w128 (of_z w128 c.rem_euclid.result)
+    ≡ int_rem_euclid (to -ℤ from) (pos c.args.circle) =
     to_z-of_z w128 c.rem_euclid.result result_fits ∙ c.rem_euclid.ensures.value
     ∙ ap (λ z. int_rem_euclid z (to_z w128 c.args.circle)) apart_is
     ∙ ap (λ z. int_rem_euclid (to -ℤ from) z) circle_is in
-    subst (λ z. IsWayRound c.args.circle from to (unsigned_abs z)) (sym is) (way_round_is c.args.circle from to c.requires.some)
+    subst (λ z. IsWayRound c.args.circle from to (unsigned_abs z)) (sym is)
+    (way_round_is c.args.circle from to c.requires.some)

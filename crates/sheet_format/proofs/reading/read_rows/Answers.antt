@@ -1,4 +1,5 @@
-use Rattle.std.proofs.Common.{◌∙◌, ◌+◌, ◌∷◌, Bor, List, ℕ, Some, refl, subst, inl, inr, arith, length}
+use Rattle.std.proofs.Common.{◌∙◌, ◌+◌, ◌∷◌, Bor, List, ℕ, Some, refl, subst, inl, inr, arith}
+use Rattle.std.proofs.Common.{length}
 use Rattle.csv.specs.Reading.{default_config, records_from, strip_bom}
 use Rattle.csv.specs.Records.{fields_of}
 use Rattle.csv.proofs.ReadFacts.{rows-end}
@@ -6,7 +7,8 @@ use Rattle.sheet_format.specs.Rows.{records_of}
 use Rattle.std.proofs.Common.{ap, [], length-append}
 use Rattle.sheet_format.specs.Drafts.{rows_of_draft}
 use Rattle.sheet_format.proofs.DraftRows.{row-taken}
-use Rattle.sheet_format.proofs.FirstFaults.{HasRead, read-begin, read-end, read-fault, read-more, read-whole}
+use Rattle.sheet_format.proofs.FirstFaults.{HasRead, read-begin, read-end, read-fault, read-more}
+use Rattle.sheet_format.proofs.FirstFaults.{read-whole}
 use Rattle.sheet_format.proofs.RecordFacts.{records-end, records-step, row-read}
 use Rattle.sheet_format.proofs.reading.read_rows.Goals as goal
 

@@ -1,4 +1,5 @@
-use Rattle.std.proofs.Common.{◌≡◌, ◌+◌, ◌<◌, ℕ, List, length, pos, FitsSigned, to_z, arith, ap, sym, subst, ◌∙◌}
+use Rattle.std.proofs.Common.{◌≡◌, ◌+◌, ◌<◌, ℕ, List, length, pos, FitsSigned, to_z, arith, ap, sym}
+use Rattle.std.proofs.Common.{subst, ◌∙◌}
 use Rattle.std.specs.Int.{w64}
 use Rattle.std.proofs.lemmas.Int.{ints, to_z-of_z}
 use Rattle.std.proofs.Math.IntN.{◌*ℤ◌, ◌-ℤ◌}
@@ -16,22 +17,29 @@ use Rattle.sheet_means.proofs.SumLoops.{sum_more}
 use Rattle.sheet_means.proofs.adjusted.directions_of.Goals as goal
 
 -- the difference of this target's total and the first's
-difference_is : (c : goal.In_ok-push) → c.subtract-difference.result ≡ target_total (readings_of c.args.station.now.obs c.args.rows.now) c.loop-target.target -ℤ target_total (readings_of c.args.station.now.obs c.args.rows.now) 0
+difference_is : (c : goal.In_ok-push) → c.subtract-difference.result
+    ≡ target_total (readings_of c.args.station.now.obs c.args.rows.now) c.loop-target.target
+    -ℤ target_total (readings_of c.args.station.now.obs c.args.rows.now) 0
 difference_is c =
     let total : FitsSigned w64 c.target_total.result = record { sfits = c.target_total.type_inv } in
-    let first : FitsSigned w64 c.target_total-first.result = record { sfits = c.target_total-first.type_inv } in
+    let first : FitsSigned w64 c.target_total-first.result =
+    record { sfits = c.target_total-first.type_inv } in
     c.subtract-difference.ensures.value
-    ∙ (λ i. (to_z-of_z w64 c.target_total.result total ∙ c.target_total.ensures.value) i -ℤ (to_z-of_z w64 c.target_total-first.result first ∙ c.target_total-first.ensures.value) i)
+    ∙ (λ i. (to_z-of_z w64 c.target_total.result total
+    ∙ c.target_total.ensures.value) i -ℤ (to_z-of_z w64 c.target_total-first.result first
+    ∙ c.target_total-first.ensures.value) i)
 
 pub overflow_add-rest : goal.overflow_add-rest
 overflow_add-rest c =
     let few = c.targets-targets.ensures.valid.targets.few in
-    let below : c.loop-target.target < length c.args.station.now.targets = let all = ap length c.targets-targets.ensures.value in omega (arith, all, c.loop-target-test.true) in
+    let below : c.loop-target.target < length c.args.station.now.targets = let all =
+    ap length c.targets-targets.ensures.value in omega (arith, all, c.loop-target-test.true) in
     let low = c.loop-target.invariant.sum.bound.low in
     let high = c.loop-target.invariant.sum.bound.high in
     let next_low = c.subtract-difference.ensures.bound.low in
     let next_high = c.subtract-difference.ensures.bound.high in
-    let fits : FitsSigned w64 c.subtract-difference.result = record { sfits = c.subtract-difference.type_inv } in
+    let fits : FitsSigned w64 c.subtract-difference.result =
+    record { sfits = c.subtract-difference.type_inv } in
     let same = to_z-of_z w64 c.subtract-difference.result fits in
     omega (arith, ints, few, below, low, high, next_low, next_high, same)
 
@@ -44,19 +52,24 @@ loop-target-preserved c =
     let most = LARGEST_READING *ℤ pos 2 *ℤ pos MOST_SETS in
     let t = c.loop-target.target in
     let few = c.targets-targets.ensures.valid.targets.few in
-    let below : t < length station.targets = let all = ap length c.targets-targets.ensures.value in omega (arith, all, c.loop-target-test.true) in
-    let fits : FitsSigned w64 c.subtract-difference.result = record { sfits = c.subtract-difference.type_inv } in
+    let below : t < length station.targets = let all = ap length c.targets-targets.ensures.value in
+    omega (arith, all, c.loop-target-test.true) in
+    let fits : FitsSigned w64 c.subtract-difference.result =
+    record { sfits = c.subtract-difference.type_inv } in
     let same = to_z-of_z w64 c.subtract-difference.result fits in
     let difference = difference_is c in
-    let more = sum_more f most t (to_z w64 c.loop-target.rest-bits) c.loop-target.invariant.sum (subst (IsWithin most) difference c.subtract-difference.ensures.bound) in
+    let more = sum_more f most t (to_z w64 c.loop-target.rest-bits) c.loop-target.invariant.sum
+    (subst (IsWithin most) difference c.subtract-difference.ensures.bound) in
     let direction : P t c.direction_of.result = record {
       name = c.direction_of.ensures.name;
-      value = c.direction_of.ensures.value ∙ (λ i. pos (length station.targets) *ℤ (same ∙ difference) i);
+      value = c.direction_of.ensures.value ∙ (λ i. pos (length station.targets) *ℤ (same
+          ∙ difference) i);
       bound = c.direction_of.ensures.bound;
     } in
     record {
       each = subst (AreEach P (t + 1)) (sym {A = List Direction} c.in_ok-push.ensures.items)
-          (each_more P t c.loop-target.directions.items c.direction_of.result c.loop-target.invariant.each direction);
+          (each_more P t c.loop-target.directions.items c.direction_of.result
+          c.loop-target.invariant.each direction);
       sum = record {
         total_is = omega (arith, ints, few, below, same, difference, more.total_is);
         bound = omega (arith, ints, few, below, same, difference, more.bound);
@@ -72,7 +85,9 @@ returns-clause-rest c =
     let n : c.loop-target.target ≡ length station.targets = omega (arith, all) in
     c.loop-target.invariant.sum.total_is
     ∙ ap (λ (k : ℕ). sum_below k (λ t. target_total readings t -ℤ first)) n
-    ∙ whole_less (length station.sets) (length station.targets) readings (grid station c.targets-targets.ensures.valid c.requires.complete c.args.rows.now c.requires.rows) first
+    ∙ whole_less (length station.sets) (length station.targets) readings
+    (grid station c.targets-targets.ensures.valid c.requires.complete c.args.rows.now
+    c.requires.rows) first
 
 pub returns-clause-bound : goal.returns-clause-bound
 returns-clause-bound c =
@@ -80,4 +95,7 @@ returns-clause-bound c =
     let few = c.targets-targets.ensures.valid.targets.few in
     let low = c.loop-target.invariant.sum.bound.low in
     let high = c.loop-target.invariant.sum.bound.high in
-    record { low = omega (arith, ints, all, few, low, high); high = omega (arith, ints, all, few, low, high) }
+    record {
+      low = omega (arith, ints, all, few, low, high);
+      high = omega (arith, ints, all, few, low, high);
+    }

@@ -14,5 +14,6 @@ invariant-loop-target l =
     let readings = readings_of l.station.obs l.rows in
     record {
       each : AreEach (IsMeansDirection l.station readings) l.target l.directions.items;
-      sum : IsSumTo (λ t. target_total readings t -ℤ target_total readings 0) (LARGEST_READING *ℤ pos 2 *ℤ pos MOST_SETS) l.target l.rest;
+      sum : IsSumTo (λ t. target_total readings t -ℤ target_total readings 0)
+          (LARGEST_READING *ℤ pos 2 *ℤ pos MOST_SETS) l.target l.rest;
     }

@@ -1,4 +1,5 @@
-use Rattle.std.proofs.Common.{◌≡◌, ℕ, List, length, get_or, pos, FitsSigned, to_z, of_z, arith, ap, ◌∙◌}
+use Rattle.std.proofs.Common.{◌≡◌, ℕ, List, length, get_or, pos, FitsSigned, to_z, of_z, arith, ap}
+use Rattle.std.proofs.Common.{◌∙◌}
 use Rattle.std.specs.Int.{w64, w128}
 use Rattle.std.proofs.lemmas.Int.{ints, to_z-of_z}
 use Rattle.std.proofs.Math.IntN.{◌*ℤ◌, ◌-ℤ◌}
@@ -18,9 +19,11 @@ returns c =
     let total = to_z-of_z w64 c.set_total.result total_fits in
     let w = c.times_sets-share.ensures.bound in
     let b = c.requires.bound in
-    let value : to_z w128 (of_z w128 c.from.result) ≡ c.args.rest -ℤ share = omega (arith, ints, c.from.ensures, shared, w.low, w.high, b.low, b.high) in
+    let value : to_z w128 (of_z w128 c.from.result) ≡ c.args.rest -ℤ share =
+    omega (arith, ints, c.from.ensures, shared, w.low, w.high, b.low, b.high) in
     let share_is : share ≡ pos (length station.sets) *ℤ set_total readings c.args.set =
-    c.times_sets-share.ensures.value ∙ (λ i. pos (length (sets i)) *ℤ (total ∙ c.set_total.ensures.value) i) in
+    c.times_sets-share.ensures.value ∙ (λ i. pos (length (sets i)) *ℤ (total
+    ∙ c.set_total.ensures.value) i) in
     let rest_is = c.requires.rest in
     record {
       set = ap (λ (l : List ℕ). get_or l c.args.set 0) sets;

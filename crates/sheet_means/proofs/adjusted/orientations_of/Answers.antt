@@ -7,6 +7,8 @@ use Rattle.sheet_means.proofs.adjusted.orientations_of.Goals as goal
 
 pub loop-set-preserved : goal.loop-set-preserved
 loop-set-preserved c =
-    let P = IsMeansOrientation c.args.station.now (readings_of c.args.station.now.obs c.args.rows.now) in
+    let P = IsMeansOrientation c.args.station.now
+    (readings_of c.args.station.now.obs c.args.rows.now) in
     subst (AreEach P (c.loop-set.set + 1)) (sym {A = List Orientation} c.in_ok-push.ensures.items)
-    (each_more P c.loop-set.set c.loop-set.orientations.items c.orientation_of.result c.loop-set.invariant c.orientation_of.ensures)
+    (each_more P c.loop-set.set c.loop-set.orientations.items c.orientation_of.result
+    c.loop-set.invariant c.orientation_of.ensures)

@@ -16,7 +16,11 @@ returns c =
     let obs = ap length c.obs.ensures.value in
     let sets = ap length c.sets.ensures.value in
     let targets = ap length c.targets.ensures.value in
-    let both : length c.sets.result.now * length c.targets.result.now ≡ length station.sets * length station.targets = λ i. sets i * targets i in (
-      λ h. complete_where_full station valid (sym obs ∙ counted (length c.obs.result.now) (length c.sets.result.now) (length c.targets.result.now) h ∙ both),
-      λ h. counts (length c.obs.result.now) (length c.sets.result.now) (length c.targets.result.now) (obs ∙ full_where_complete station valid h ∙ sym both),
+    let both : length c.sets.result.now * length c.targets.result.now
+    ≡ length station.sets * length station.targets = λ i. sets i * targets i in (
+      λ h. complete_where_full station valid (sym obs
+          ∙ counted (length c.obs.result.now) (length c.sets.result.now)
+          (length c.targets.result.now) h ∙ both),
+      λ h. counts (length c.obs.result.now) (length c.sets.result.now)
+          (length c.targets.result.now) (obs ∙ full_where_complete station valid h ∙ sym both),
     )

@@ -8,7 +8,10 @@ use Rattle.sheet_means.specs.declared.turn.TheConstants.{MOST_TURNS}
 use Rattle.sheet_means.proofs.rows.row_of.Goals as goal
 
 few_turns : (z : ℤ) → IsWithin MOST_TURNS z → IsWithin LARGEST_TURN z
-few_turns z w = let l = w.low in let h = w.high in record { low = omega (arith, ints); high = omega (arith, ints) }
+few_turns z w = let l = w.low in let h = w.high in record {
+  low = omega (arith, ints);
+  high = omega (arith, ints);
+}
 
 pub returns-clause-row : goal.returns-clause-row
 returns-clause-row c =
@@ -16,11 +19,16 @@ returns-clause-row c =
     let obs = c.args.obs.now in
     let target = c.index-targets-target.result in
     let fits : FitsSigned w8 c.turn_of.result = record { sfits = c.turn_of.type_inv } in
-    let turn = subst (IsWithin MOST_TURNS) (sym (to_z-of_z w8 c.turn_of.result fits)) c.turn_of.ensures.bound in
+    let turn =
+    subst (IsWithin MOST_TURNS) (sym (to_z-of_z w8 c.turn_of.result fits))
+    c.turn_of.ensures.bound in
     record {
       row = record {
-        set = subst (λ (sets : List ℕ). IsSetNumber (get_or sets obs.set 0)) (sym c.sets.ensures.value) (valid.sets.numbers obs.set 0 c.requires.obs.set);
-        target = subst IsName (sym (c.index-targets-target.is ∙ ap (λ (names : List (List ℕ)). get_or names obs.target target) c.targets.ensures.value)) (valid.targets.names obs.target target c.requires.obs.target);
+        set = subst (λ (sets : List ℕ). IsSetNumber (get_or sets obs.set 0))
+            (sym c.sets.ensures.value) (valid.sets.numbers obs.set 0 c.requires.obs.set);
+        target = subst IsName (sym (c.index-targets-target.is
+            ∙ ap (λ (names : List (List ℕ)). get_or names obs.target target)
+            c.targets.ensures.value)) (valid.targets.names obs.target target c.requires.obs.target);
         value = c.requires.obs.value;
         turn = few_turns _ turn;
       };

@@ -14,9 +14,12 @@ loop-obs-preserved c =
     let n = c.loop-obs.obs-index in
     let row = c.row_of.result in
     let obs = c.obs-obs-items.ensures.value in
-    subst (λ (items : List Row). AreRowsTo station items (n + 1)) (sym {A = List Row} c.in_ok-push.ensures.items)
+    subst (λ (items : List Row). AreRowsTo station items (n + 1)) (sym {A =
+    List Row} c.in_ok-push.ensures.items)
     (rows_more station c.loop-obs.rows.items n c.loop-obs.invariant any_obs row
     (subst (λ (l : List Obs). n < length l) obs c.loop-obs-test.true)
-    (subst (λ (l : List Obs). key_of_row row ≡ key_of_obs station.sets station.targets (get_or l n any_obs)) obs c.row_of.ensures.key)
-    (subst (λ (l : List Obs). IsTurned station.obs (reading_of (get_or l n any_obs) row.turn)) obs c.row_of.ensures.turned)
+    (subst (λ (l : List Obs). key_of_row row ≡ key_of_obs station.sets station.targets
+    (get_or l n any_obs)) obs c.row_of.ensures.key)
+    (subst (λ (l : List Obs). IsTurned station.obs
+    (reading_of (get_or l n any_obs) row.turn)) obs c.row_of.ensures.turned)
     c.row_of.ensures.row)

@@ -8,4 +8,5 @@ use Rattle.sheet_means.proofs.totals.set_total.Given as goal
 
 -- the readings of the first targets added
 abbrev pub invariant-loop-target : goal.invariant-loop-target
-invariant-loop-target l = IsSumTo (λ t. unrolled (reading_at (readings_of l.station.obs l.rows) (length l.station.targets) l.set t)) LARGEST_READING l.target l.total
+invariant-loop-target l = IsSumTo (λ t. unrolled (reading_at (readings_of l.station.obs l.rows)
+    (length l.station.targets) l.set t)) LARGEST_READING l.target l.total

@@ -15,34 +15,47 @@ pub overflow_add-total : goal.overflow_add-total
 overflow_add-total c =
     let end = c.sets-set-end.ensures in
     let few = end.valid.sets.few in
-    let below : c.loop-set.set < length c.args.station.now.sets = let all = ap length end.value in omega (arith, all, c.loop-set-test.true) in
+    let below : c.loop-set.set < length c.args.station.now.sets = let all = ap length end.value in
+    omega (arith, all, c.loop-set-test.true) in
     let so_far = c.loop-set.invariant.bound in
     let low = so_far.low in
     let high = so_far.high in
     let next = c.reading_at-total.ensures.bound in
     let next_low = next.low in
     let next_high = next.high in
-    let fits : FitsSigned w64 c.reading_at-total.result = record { sfits = c.reading_at-total.type_inv } in
+    let fits : FitsSigned w64 c.reading_at-total.result =
+    record { sfits = c.reading_at-total.type_inv } in
     let same = to_z-of_z w64 c.reading_at-total.result fits in
     omega (arith, ints, few, below, low, high, next_low, next_high, same)
 
 pub loop-set-preserved : goal.loop-set-preserved
 loop-set-preserved c =
-    let f = λ (k : ℕ). unrolled (reading_at (readings_of c.args.station.now.obs c.args.rows.now) (length c.args.station.now.targets) k c.args.target) in
+    let f = λ (k : ℕ). unrolled (reading_at (readings_of c.args.station.now.obs c.args.rows.now)
+    (length c.args.station.now.targets) k c.args.target) in
     let next = c.reading_at-total.ensures in
-    let more = sum_more f LARGEST_READING c.loop-set.set (to_z w64 c.loop-set.total-bits) c.loop-set.invariant (subst (IsWithin LARGEST_READING) next.value next.bound) in
+    let more = sum_more f LARGEST_READING c.loop-set.set
+    (to_z w64 c.loop-set.total-bits) c.loop-set.invariant
+    (subst (IsWithin LARGEST_READING) next.value next.bound) in
     let end = c.sets-set-end.ensures in
     let few = end.valid.sets.few in
-    let below : c.loop-set.set < length c.args.station.now.sets = let all = ap length end.value in omega (arith, all, c.loop-set-test.true) in
-    record { total_is = omega (arith, ints, few, below, more.total_is); bound = omega (arith, ints, few, below, more.bound) }
+    let below : c.loop-set.set < length c.args.station.now.sets = let all = ap length end.value in
+    omega (arith, all, c.loop-set-test.true) in
+    record {
+      total_is = omega (arith, ints, few, below, more.total_is);
+      bound = omega (arith, ints, few, below, more.bound);
+    }
 
 pub returns-clause-value : goal.returns-clause-value
 returns-clause-value c =
     let station = c.args.station.now in
     let end = c.sets-set-end.ensures in
     let all = ap length end.value in
-    let f = λ (k : ℕ). unrolled (reading_at (readings_of c.args.station.now.obs c.args.rows.now) (length c.args.station.now.targets) k c.args.target) in
+    let f = λ (k : ℕ). unrolled (reading_at (readings_of c.args.station.now.obs c.args.rows.now)
+    (length c.args.station.now.targets) k c.args.target) in
     let n : c.loop-set.set ≡ length station.sets = omega (arith, all) in
     c.loop-set.invariant.total_is
     ∙ ap (λ (k : ℕ). sum_below k f) n
-    ∙ sym (sum_of_target (length station.sets) (length station.targets) (readings_of station.obs c.args.rows.now) (grid station end.valid c.requires.complete c.args.rows.now c.requires.rows) unrolled c.args.target c.requires.target)
+    ∙ sym (sum_of_target (length station.sets) (length station.targets)
+    (readings_of station.obs c.args.rows.now)
+    (grid station end.valid c.requires.complete c.args.rows.now c.requires.rows) unrolled
+    c.args.target c.requires.target)

@@ -8,4 +8,5 @@ use Rattle.sheet_means.proofs.totals.target_total.Given as goal
 
 -- the readings of the first sets added
 abbrev pub invariant-loop-set : goal.invariant-loop-set
-invariant-loop-set l = IsSumTo (λ s. unrolled (reading_at (readings_of l.station.obs l.rows) (length l.station.targets) s l.target)) LARGEST_READING l.set l.total
+invariant-loop-set l = IsSumTo (λ s. unrolled (reading_at (readings_of l.station.obs l.rows)
+    (length l.station.targets) s l.target)) LARGEST_READING l.set l.total

@@ -6,6 +6,7 @@ use Rattle.sheet_near.proofs.parts.rows_of.Given as goal
 -- the rows of the observations so far
 abbrev pub invariant-loop-obs : goal.invariant-loop-obs
 invariant-loop-obs l = record {
-  keys : map key_of_row l.rows.items ≡ take l.obs-index (map (key_of_obs l.station.sets l.station.targets) l.station.obs);
+  keys : map key_of_row l.rows.items ≡ take l.obs-index
+      (map (key_of_obs l.station.sets l.station.targets) l.station.obs);
   each : All IsRow l.rows.items;
 }

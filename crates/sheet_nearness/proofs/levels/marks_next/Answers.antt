@@ -14,10 +14,13 @@ loop-each-preserved c =
     let o = get_or c.args.obs.now i none in
     let placed = c.requires.obs i none c.loop-each-test.true in
     let long = c.loop-each.invariant.long in
-    let one = length-set next (sets + o.target) (mark next (sets + o.target) || mark c.args.marks.now o.set) in
+    let one = length-set next (sets + o.target)
+    (mark next (sets + o.target) || mark c.args.marks.now o.set) in
     let set_in : o.set < length next = omega (arith, placed.set, c.requires.sets) in
-    let target_in : sets + o.target < length next = omega (arith, placed.target, c.requires.sets, c.requires.targets) in
+    let target_in : sets + o.target < length next =
+    omega (arith, placed.target, c.requires.sets, c.requires.targets) in
     record {
       long = length-set _ o.set _ ∙ one ∙ long;
-      next = λ n h. marked_next-more c.args.marks.now next sets i c.args.obs.now none n c.loop-each-test.true set_in target_in (c.loop-each.invariant.next n h);
+      next = λ n h. marked_next-more c.args.marks.now next sets i c.args.obs.now none n
+          c.loop-each-test.true set_in target_in (c.loop-each.invariant.next n h);
     }

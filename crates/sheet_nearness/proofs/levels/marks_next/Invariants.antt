@@ -6,5 +6,6 @@ use Rattle.sheet_nearness.proofs.levels.marks_next.Given as goal
 abbrev pub invariant-loop-each : goal.invariant-loop-each
 invariant-loop-each l = record {
   long : length l.next ≡ 140;
-  next : (n : ℕ) → n < l.sets + l.targets → mark l.next n ≡ is_marked_next l.marks l.sets (take l.each-index l.obs) n;
+  next : (n : ℕ) → n < l.sets + l.targets → mark l.next n
+      ≡ is_marked_next l.marks l.sets (take l.each-index l.obs) n;
 }

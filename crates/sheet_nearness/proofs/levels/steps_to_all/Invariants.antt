@@ -7,7 +7,9 @@ use Rattle.sheet_nearness.proofs.levels.steps_to_all.Given as goal
 
 abbrev pub invariant-loop-steps : goal.invariant-loop-steps
 invariant-loop-steps l = record {
-  level : (rows : List Row) → length rows ≡ length l.obs → IsLevel l.sets l.targets l.obs rows l.marks l.steps;
-  fewest : (rows : List Row) → length rows ≡ length l.obs → (fewer : ℕ) → fewer < l.steps → AreWithin l.sets l.targets (readings_of l.obs rows) fewer → ⊥;
+  level : (rows : List Row) → length rows ≡ length l.obs
+      → IsLevel l.sets l.targets l.obs rows l.marks l.steps;
+  fewest : (rows : List Row) → length rows ≡ length l.obs → (fewer : ℕ) → fewer < l.steps
+      → AreWithin l.sets l.targets (readings_of l.obs rows) fewer → ⊥;
   most : l.most ≡ l.sets + l.targets - 1;
 }

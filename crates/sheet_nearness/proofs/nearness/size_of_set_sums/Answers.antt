@@ -18,12 +18,16 @@ loop-set-preserved g c =
     let place = c.loop-set.set in
     let stated = choice_stated_by sheet in
     let rs = readings station sheet in
-    let is_sum = c.set_sum.ensures (all_added stated rs) c.requires.added ∙ added_for_set-all stated rs place in
+    let is_sum = c.set_sum.ensures (all_added stated rs) c.requires.added
+    ∙ added_for_set-all stated rs place in
     let fits : FitsSigned w128 c.set_sum.result = record { sfits = c.set_sum.type_inv } in
     let size : c.unsigned_abs-size.result ≡ unsigned_abs (set_sum stated rs place) =
-    c.unsigned_abs-size.ensures.value ∙ ap unsigned_abs (to_z-of_z w128 c.set_sum.result fits ∙ is_sum) in
-    let small = sum_at_most station sheet c.requires.valid c.requires.limited (λ r. r.set == place) in
+    c.unsigned_abs-size.ensures.value ∙ ap unsigned_abs (to_z-of_z w128 c.set_sum.result fits
+    ∙ is_sum) in
+    let small = sum_at_most station sheet c.requires.valid c.requires.limited
+    (λ r. r.set == place) in
     record {
-      value = (λ i. c.loop-set.invariant.value i + size i) ∙ ap (sizes_below (set_sum stated rs)) (sym (add-one place));
+      value = (λ i. c.loop-set.invariant.value i + size i)
+          ∙ ap (sizes_below (set_sum stated rs)) (sym (add-one place));
       bound = omega (arith, size, small, c.loop-set.invariant.bound);
     }

@@ -7,6 +7,7 @@ use Rattle.sheet_nearness.proofs.nearness.size_of_set_sums.Given as goal
 
 abbrev pub invariant-loop-set : goal.invariant-loop-set
 invariant-loop-set g l = record {
-  value : l.size ≡ sizes_below (set_sum (choice_stated_by l.sheet) (readings l.station l.sheet)) l.set;
+  value : l.size ≡ sizes_below (set_sum (choice_stated_by l.sheet)
+      (readings l.station l.sheet)) l.set;
   bound : l.size ≤ 8_000_000_000_000_000_000 * l.set;
 }

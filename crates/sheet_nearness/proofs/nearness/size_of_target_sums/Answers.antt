@@ -18,12 +18,16 @@ loop-target-preserved g c =
     let place = c.loop-target.target in
     let stated = choice_stated_by sheet in
     let rs = readings station sheet in
-    let is_sum = c.target_sum.ensures (all_added stated rs) c.requires.added ∙ added_for_target-all stated rs place in
+    let is_sum = c.target_sum.ensures (all_added stated rs) c.requires.added
+    ∙ added_for_target-all stated rs place in
     let fits : FitsSigned w128 c.target_sum.result = record { sfits = c.target_sum.type_inv } in
     let size : c.unsigned_abs-size.result ≡ unsigned_abs (target_sum stated rs place) =
-    c.unsigned_abs-size.ensures.value ∙ ap unsigned_abs (to_z-of_z w128 c.target_sum.result fits ∙ is_sum) in
-    let small = sum_at_most station sheet c.requires.valid c.requires.limited (λ r. r.target == place) in
+    c.unsigned_abs-size.ensures.value ∙ ap unsigned_abs (to_z-of_z w128 c.target_sum.result fits
+    ∙ is_sum) in
+    let small = sum_at_most station sheet c.requires.valid c.requires.limited
+    (λ r. r.target == place) in
     record {
-      value = (λ i. c.loop-target.invariant.value i + size i) ∙ ap (sizes_below (target_sum stated rs)) (sym (add-one place));
+      value = (λ i. c.loop-target.invariant.value i + size i)
+          ∙ ap (sizes_below (target_sum stated rs)) (sym (add-one place));
       bound = omega (arith, size, small, c.loop-target.invariant.bound);
     }

@@ -7,6 +7,7 @@ use Rattle.sheet_nearness.proofs.nearness.size_of_target_sums.Given as goal
 
 abbrev pub invariant-loop-target : goal.invariant-loop-target
 invariant-loop-target g l = record {
-  value : l.size ≡ sizes_below (target_sum (choice_stated_by l.sheet) (readings l.station l.sheet)) l.target;
+  value : l.size ≡ sizes_below (target_sum (choice_stated_by l.sheet)
+      (readings l.station l.sheet)) l.target;
   bound : l.size ≤ 8_000_000_000_000_000_000 * l.target;
 }

@@ -17,11 +17,14 @@ returns c =
       nearness = nearness;
       measured = c.in_ok-sheet.ensures.sheet;
       clear = c.in-Some.ensures.clear;
-      is_apart = subst (λ n. IsApart n (choice_stated_by sheet) stated nearness.most apart) c.requires c.in-Some.ensures.apart;
+      is_apart = subst (λ n. IsApart n (choice_stated_by sheet) stated nearness.most apart)
+          c.requires c.in-Some.ensures.apart;
     } in
     record {
-      within = λ other turns l. least_within station c.args.residual apart stated told other turns l;
-      no_nearer = λ two other turns l b. least_no_nearer station c.args.residual apart stated told other turns l two b;
+      within = λ other turns l. least_within station c.args.residual apart stated told other turns
+          l;
+      no_nearer = λ two other turns l b. least_no_nearer station c.args.residual apart stated told
+          other turns l two b;
       told = told;
       fault = tt;
     }

@@ -15,14 +15,19 @@ returns c =
     let sheet = c.in_ok-sheet.sheet in
     let nearness = c.in_ok-sheet.nearness in
     let measured = c.in_ok-sheet.ensures.sheet in
-    let clear : IsClear (choice_stated_by sheet) nearness.most = c.is_clear.ensures.0 c.if-not-is_clear.false in
-    let count : length directions ≡ length station.targets = c.in_ok-rounded_to_steps.ensures.count ∙ a_direction_each station sheet measured.matches in
-    let told : AreTold station limit step directions = told_by station limit step directions sheet nearness measured clear count c.in_ok-rounded_to_steps.ensures.each in
+    let clear : IsClear (choice_stated_by sheet) nearness.most =
+    c.is_clear.ensures.0 c.if-not-is_clear.false in
+    let count : length directions ≡ length station.targets = c.in_ok-rounded_to_steps.ensures.count
+    ∙ a_direction_each station sheet measured.matches in
+    let told : AreTold station limit step directions =
+    told_by station limit step directions sheet nearness measured clear count
+    c.in_ok-rounded_to_steps.ensures.each in
     record {
       count = count;
       first = first_is_0 station limit step directions told c.requires.some c.requires.circle count;
       whole = each_whole station limit step directions told count;
-      near = λ other turns l. least_brought station limit step directions told 250 other turns (omega (arith, clear)) l;
+      near = λ other turns l. least_brought station limit step directions told 250 other turns
+          (omega (arith, clear)) l;
       told = told;
       fault = tt;
     }

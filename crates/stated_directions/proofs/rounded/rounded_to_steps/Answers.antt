@@ -11,9 +11,14 @@ loop-target-preserved c =
     let step = c.args.step in
     let made = c.loop-target.directions.items in
     let items = c.in_ok-push.ensures.items in
-    let last : IsRounded sheet (length made) step c.rounded.result = subst (λ n. IsRounded sheet n step c.rounded.result) (sym c.loop-target.invariant.count) c.rounded.ensures in
+    let last : IsRounded sheet (length made) step c.rounded.result =
+    subst (λ n. IsRounded sheet n step c.rounded.result)
+    (sym c.loop-target.invariant.count) c.rounded.ensures in
     record {
-      count = ap length items ∙ length_push made c.rounded.result ∙ ap (λ n. n + 1) c.loop-target.invariant.count;
-      each = subst (λ (ds : List ℕ). (t : ℕ) → t < length ds → IsRounded sheet t step (get_or ds t 0)) (sym items)
-          (one_more (λ t d. IsRounded sheet t step d) made c.rounded.result c.loop-target.invariant.each last);
+      count = ap length items ∙ length_push made c.rounded.result
+          ∙ ap (λ n. n + 1) c.loop-target.invariant.count;
+      each = subst (λ (ds : List ℕ). (t : ℕ) → t < length ds
+          → IsRounded sheet t step (get_or ds t 0)) (sym items)
+          (one_more (λ t d. IsRounded sheet t step d) made c.rounded.result
+          c.loop-target.invariant.each last);
     }

@@ -7,5 +7,6 @@ use Rattle.stated_directions.proofs.rounded.rounded_to_steps.Given as goal
 abbrev pub invariant-loop-target : goal.invariant-loop-target
 invariant-loop-target l = record {
   count : length l.directions.items ≡ l.target;
-  each : (t : ℕ) → t < length l.directions.items → IsRounded (choice_stated_by l.sheet) t l.step (get_or l.directions.items t 0);
+  each : (t : ℕ) → t < length l.directions.items
+      → IsRounded (choice_stated_by l.sheet) t l.step (get_or l.directions.items t 0);
 }

@@ -1,4 +1,5 @@
-use Rattle.std.proofs.Common.{arith, subst, sym, List, ℤ, pos, ◌+ℤ◌, All, ◌*◌, ◌+◌, ◌<◌, length, set, get_or, ◌++◌, ◌∷◌, [], ap, ◌∙◌}
+use Rattle.std.proofs.Common.{arith, subst, sym, List, ℤ, pos, ◌+ℤ◌, All, ◌*◌, ◌+◌, ◌<◌, length}
+use Rattle.std.proofs.Common.{set, get_or, ◌++◌, ◌∷◌, [], ap, ◌∙◌}
 use Rattle.std.proofs.lemmas.Int.{to_z-of_z}
 use Rattle.adjust_kernel.specs.declared.tally.Added.{Added}
 use Rattle.adjust_kernel.specs.Within.{IsWithin}

@@ -11,7 +11,8 @@ writing-preserved g c =
     let bs = c.args.bytes.now in
     record {
       bound = omega (arith, c.in_ok-written.ensures.takes.0, take_rest bs k, length-drop k bs);
-      held = appends_then _ _ _ _ _ _ so_far.held c.in_ok-written.ensures.holds (take_piece k c.in_ok-written.field-0 bs);
+      held = appends_then _ _ _ _ _ _ so_far.held c.in_ok-written.ensures.holds
+          (take_piece k c.in_ok-written.field-0 bs);
       failed = c.in_ok-written.ensures.failed ∙ so_far.failed;
       handed_on = c.in_ok-written.ensures.handed_on
           ∙ ap (λ (before : Bool). handed_on_after before c.in_ok-written.field-0) so_far.handed_on

@@ -8,7 +8,8 @@ invariant-writing g l = record {
   bound : l.written ≤ length l.bytes;
   held : Appends (g.Self.Sink.holds l.fn.self) (g.Self.Sink.holds l.self) (take l.written l.bytes);
   failed : g.Self.Sink.failed l.self ≡ g.Self.Sink.failed l.fn.self;
-  handed_on : g.Self.Sink.handed_on l.self ≡ handed_on_after (g.Self.Sink.handed_on l.fn.self) l.written;
+  handed_on : g.Self.Sink.handed_on l.self ≡ handed_on_after
+      (g.Self.Sink.handed_on l.fn.self) l.written;
 }
 
 abbrev pub decreases-writing : goal.decreases-writing
