@@ -11,6 +11,7 @@ use crate::reading::LONGEST_SHEET;
 use adjust_kernel::{LONGEST_NAME, MOST_ROWS, MOST_SETS, MOST_TARGETS};
 use byte_ends::Failed;
 use csv::IntoInnerError;
+use std::alloc::AllocError;
 use thiserror::Error;
 
 /// What is wrong with a row of a sheet, in the order in which it is looked for.
@@ -123,16 +124,15 @@ pub enum WriteFault {
     Write,
 }
 
-/// An error of `csv` is out of memory: the text of a sheet is made there.
-impl From<csv::Error> for WriteFault {
+impl From<AllocError> for WriteFault {
     ghost from_gives = { λ _ fault. fault ≡ write_fault.Memory };
 
-    fn from(_: csv::Error) -> WriteFault {
+    fn from(_: AllocError) -> WriteFault {
         WriteFault::Memory
     }
 }
 
-/// So is one that comes where the text is taken out of `csv`'s writer.
+/// Where the text is taken out of `csv`'s writer, an error is out of memory too.
 impl<W: Drop> From<IntoInnerError<W>> for WriteFault {
     ghost from_gives = { λ _ fault. fault ≡ write_fault.Memory };
 

@@ -12,9 +12,9 @@ ghost use Rattle.sheet_format.specs.declared.fault.WriteFault.TheVariants.{Memor
 use crate::fault::WriteFault;
 use crate::version::Version;
 use adjust_kernel::{Direction, Name, Orientation, Row, Sheet};
-use csv::{Error, Writer, WriterBuilder};
+use csv::{Writer, WriterBuilder};
 use itoa::Buffer;
-use std::alloc::Global;
+use std::alloc::{AllocError, Global};
 use std::io::Write;
 
 /// The text of a sheet.
@@ -29,7 +29,7 @@ pub(crate) fn sheet_text(alloc: Global, sheet: &Sheet) -> Result<Vec<u8>, WriteF
 }
 
 /// Writes the rows of a sheet.
-fn push_sheet<W: Write + Drop>(writer: &mut Writer<W>, sheet: &Sheet) -> Result<(), Error>
+fn push_sheet<W: Write + Drop>(writer: &mut Writer<W>, sheet: &Sheet) -> Result<(), AllocError>
     ensures ok { OnOk result (spec.Writes W.contents writer.old writer.new
         (spec.sheet_text sheet.now)) }
     ensures valid { IsSheet sheet.now }
@@ -45,12 +45,13 @@ fn push_sheet<W: Write + Drop>(writer: &mut Writer<W>, sheet: &Sheet) -> Result<
     push_obs(writer, sheet.rows())
 }
 
-/// Writes one row after those that were written.
-fn push_row<W: Write + Drop>(writer: &mut Writer<W>, fields: &[&[u8]]) -> Result<(), Error>
+/// Writes one row after those that were written. An error of `csv` is out of memory: the text is made
+/// there.
+fn push_row<W: Write + Drop>(writer: &mut Writer<W>, fields: &[&[u8]]) -> Result<(), AllocError>
     ensures { OnOk result (spec.Writes W.contents writer.old writer.new
         (row_text default_writer (map (λ f. f.now) fields.now))) }
 {
-    writer.write_fields(fields)
+    writer.write_fields(fields).map_err(|_| AllocError)
 }
 
 /// Writes the first row.
@@ -59,7 +60,7 @@ fn push_header<W: Write + Drop>(
     version: Version,
     name: Name,
     denominator: u64,
-) -> Result<(), Error>
+) -> Result<(), AllocError>
     ensures { OnOk result (spec.Writes W.contents writer.old writer.new
         (row_text default_writer (sheet_fields version name denominator))) }
 {
@@ -77,7 +78,10 @@ fn push_header<W: Write + Drop>(
 }
 
 /// Writes the row of a target.
-fn push_target<W: Write + Drop>(writer: &mut Writer<W>, direction: &Direction) -> Result<(), Error>
+fn push_target<W: Write + Drop>(
+    writer: &mut Writer<W>,
+    direction: &Direction,
+) -> Result<(), AllocError>
     ensures { OnOk result (spec.Writes W.contents writer.old writer.new
         (row_text default_writer (target_fields direction.now))) }
 {
@@ -95,7 +99,10 @@ fn push_target<W: Write + Drop>(writer: &mut Writer<W>, direction: &Direction) -
 }
 
 /// Writes the row of a set.
-fn push_set<W: Write + Drop>(writer: &mut Writer<W>, orientation: &Orientation) -> Result<(), Error>
+fn push_set<W: Write + Drop>(
+    writer: &mut Writer<W>,
+    orientation: &Orientation,
+) -> Result<(), AllocError>
     ensures { OnOk result (spec.Writes W.contents writer.old writer.new
         (row_text default_writer (set_fields orientation.now))) }
 {
@@ -117,7 +124,7 @@ fn push_set<W: Write + Drop>(writer: &mut Writer<W>, orientation: &Orientation) 
 fn push_targets<W: Write + Drop>(
     writer: &mut Writer<W>,
     directions: &[Direction],
-) -> Result<(), Error>
+) -> Result<(), AllocError>
     ensures { OnOk result (spec.Writes W.contents writer.old writer.new
         (spec.rows_text (map target_fields directions.now))) }
 {
@@ -131,7 +138,7 @@ fn push_targets<W: Write + Drop>(
 fn push_sets<W: Write + Drop>(
     writer: &mut Writer<W>,
     orientations: &[Orientation],
-) -> Result<(), Error>
+) -> Result<(), AllocError>
     ensures { OnOk result (spec.Writes W.contents writer.old writer.new
         (spec.rows_text (map set_fields orientations.now))) }
 {
@@ -143,7 +150,7 @@ fn push_sets<W: Write + Drop>(
 
 /// Writes the rows of the observations. The numbers of all rows are made into text in the same
 /// place.
-fn push_obs<W: Write + Drop>(writer: &mut Writer<W>, rows: &[Row]) -> Result<(), Error>
+fn push_obs<W: Write + Drop>(writer: &mut Writer<W>, rows: &[Row]) -> Result<(), AllocError>
     ensures { OnOk result (spec.Writes W.contents writer.old writer.new
         (spec.rows_text (map obs_fields rows.now))) }
 {
