@@ -8,8 +8,8 @@ pub mod Rows
 pub mod Faults
 pub mod FaultNames
 pub mod Texts
+-- The inside: which errors of `csv` may come, how the code keeps a number, and a sheet whose rows
+-- are still being read. Lemmas join it to the definitions above.
 pub mod Errors
--- The inside: how the code keeps a number, and a sheet whose rows are still being read. Lemmas join
--- it to the definitions above.
 pub mod Numerals
 pub mod Drafts

@@ -1,10 +1,7 @@
 //! Why bytes are no sheet, and why a sheet was not written.
 
 ghost use Rattle.std.specs.Prelude.{◌≡◌, ◌≤◌, length};
-ghost use Rattle.csv.specs.Reading.{error_kind};
-ghost use Rattle.sheet_format.specs.Errors.{IsMemoryOrInput};
 ghost use Rattle.sheet_format.specs.FaultNames.{row_kind_name, sheet_fault_name};
-ghost use Rattle.sheet_format.specs.declared.fault.SheetFault.TheVariants as sheet_fault;
 ghost use Rattle.sheet_format.specs.declared.fault.WriteFault.TheVariants as write_fault;
 
 use crate::reading::LONGEST_SHEET;
@@ -97,18 +94,6 @@ impl SheetFault {
             SheetFault::Row(_, kind) => kind.name(),
             SheetFault::Memory => "out of memory",
         }
-    }
-}
-
-/// An error of `csv` is out of memory: where rows are read as bytes and may be of any length, no
-/// other comes, but for one of the input. Bytes in memory have none, and `csv` leaves it open over
-/// any reader.
-impl From<csv::Error> for SheetFault {
-    ghost from_gives = { λ error fault.
-        IsMemoryOrInput (error_kind error) → fault ≡ sheet_fault.Memory };
-
-    fn from(_: csv::Error) -> SheetFault {
-        SheetFault::Memory
     }
 }
 

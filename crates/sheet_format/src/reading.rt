@@ -5,6 +5,8 @@
 
 ghost use Rattle.std.specs.Prelude.{◌≡◌, ◌≤◌, ◌⊎◌, length, Err, IfErr, IfOk, Ok};
 ghost use Rattle.adjust_kernel.specs.Sheets.{SheetValue};
+ghost use Rattle.csv.specs.Reading.{error_kind};
+ghost use Rattle.sheet_format.specs.Errors.{IsMemoryOrInput};
 ghost use Rattle.sheet_format.specs.Faults.{IsFaultOrMemory, IsSheetFault};
 ghost use Rattle.sheet_format.specs.Rows.{IsSheetText};
 ghost use Rattle.sheet_format.specs.declared.fault.SheetFault.TheVariants.{Memory};
@@ -50,7 +52,10 @@ fn read_rows(alloc: Global, bytes: &[u8]) -> Result<Sheet, SheetFault>
     let mut draft = Draft::new(alloc);
     let mut row = ByteRecord::new(alloc);
     'rows: loop {
-        let found = reader.read_byte_record(&mut row)?;
+        let found = match reader.read_byte_record(&mut row) {
+            Ok(found) => found,
+            Err(error) => return Err(out_of_memory(&error)),
+        };
         let number = draft.taken() + 1;
         if !found {
             match draft.finish() {
@@ -64,4 +69,14 @@ fn read_rows(alloc: Global, bytes: &[u8]) -> Result<Sheet, SheetFault>
             Err(Refusal::Memory) => return Err(SheetFault::Memory),
         }
     }
+}
+
+/// What an error of `csv` comes to where rows are read as bytes and may be of any length: out of
+/// memory. No other comes there but one of the input. Bytes in memory have none, and `csv` leaves it
+/// open over any reader.
+fn out_of_memory(_error: &csv::Error) -> SheetFault
+    requires { IsMemoryOrInput (error_kind _error.now) }
+    ensures { result ≡ Memory }
+{
+    SheetFault::Memory
 }

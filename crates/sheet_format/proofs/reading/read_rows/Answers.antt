@@ -33,7 +33,7 @@ rows-init c =
 pub rows-preserved : goal.rows-preserved
 rows-preserved c =
     let (trim, ready, config, well, y, source, n, room, read, flexible) = c.rows.invariant in
-    let got = rw c.if-not-found.false at (c.in_ok-found.ensures.reads trim ready) in
+    let got = rw c.if-not-found.false at (c.in-Ok.ensures.reads trim ready) in
     let row = fields_of c.read_byte_record.new.row in
     let (z, at_z, next) = row-read (λ (b : Bor (List ℕ)). Some b.now) c.rows.reader
     c.read_byte_record.new.self row y config source got in
@@ -43,24 +43,23 @@ rows-preserved c =
     let here = subst (HasRead (records_of c.args.bytes.now) c.rows.draft) {y = row ∷ rest} more
     read in
     let after = read-more (records_of c.args.bytes.now) c.rows.draft c.take_row.new.self row rest
-    here c.in-Ok.ensures.faultless c.in-Ok.ensures.taken in (
+    here c.in-Ok-take_row.ensures.faultless c.in-Ok-take_row.ensures.taken in (
       got.3 ∙ trim,
-      inl (c.in_ok-found.ensures.ready trim),
-      got.2
-          ∙ config,
+      inl (c.in-Ok.ensures.ready trim),
+      got.2 ∙ config,
       well2,
       z,
       at_z,
       m,
       room2,
       after,
-      c.in_ok-found.ensures.flexible ∙ flexible,
+      c.in-Ok.ensures.flexible ∙ flexible,
     )
 
 pub returns-in-Err-Fault-clause-fault : goal.returns-in-Err-Fault-clause-fault
 returns-in-Err-Fault-clause-fault c =
     let (trim, ready, config, well, y, source, n, room, read, flexible) = c.rows.invariant in
-    let got = rw c.if-not-found.false at (c.in_ok-found.ensures.reads trim ready) in
+    let got = rw c.if-not-found.false at (c.in-Ok.ensures.reads trim ready) in
     let row = fields_of c.read_byte_record.new.row in
     let (z, at_z, next) = row-read (λ (b : Bor (List ℕ)). Some b.now) c.rows.reader
     c.read_byte_record.new.self row y config source got in
@@ -77,7 +76,7 @@ returns-in-Err-Fault-clause-fault c =
 pub returns-in-None-clause-fault : goal.returns-in-None-clause-fault
 returns-in-None-clause-fault c =
     let (trim, ready, config, well, y, source, n, room, read, flexible) = c.rows.invariant in
-    let got = rw c.if-not-found.true at (c.in_ok-found.ensures.reads trim ready) in
+    let got = rw c.if-not-found.true at (c.in-Ok.ensures.reads trim ready) in
     let end = rows-end (λ (b : Bor (List ℕ)). Some b.now) c.rows.reader c.read_byte_record.new.self
     (fields_of c.read_byte_record.new.row) default_config y config source got in
     let here = subst (HasRead (records_of c.args.bytes.now) c.rows.draft)
@@ -88,7 +87,7 @@ returns-in-None-clause-fault c =
 pub returns-in-Some-clause-sheet : goal.returns-in-Some-clause-sheet
 returns-in-Some-clause-sheet c =
     let (trim, ready, config, well, y, source, n, room, read, flexible) = c.rows.invariant in
-    let got = rw c.if-not-found.true at (c.in_ok-found.ensures.reads trim ready) in
+    let got = rw c.if-not-found.true at (c.in-Ok.ensures.reads trim ready) in
     let end = rows-end (λ (b : Bor (List ℕ)). Some b.now) c.rows.reader c.read_byte_record.new.self
     (fields_of c.read_byte_record.new.row) default_config y config source got in
     let here = subst (HasRead (records_of c.args.bytes.now) c.rows.draft)
@@ -99,7 +98,7 @@ returns-in-Some-clause-sheet c =
 pub rows-smaller : goal.rows-smaller
 rows-smaller c =
     let (trim, ready, config, well, y, source, n, room, read, flexible) = c.rows.invariant in
-    let got = rw c.if-not-found.false at (c.in_ok-found.ensures.reads trim ready) in
+    let got = rw c.if-not-found.false at (c.in-Ok.ensures.reads trim ready) in
     let row = fields_of c.read_byte_record.new.row in
     let (z, at_z, next) = row-read (λ (b : Bor (List ℕ)). Some b.now) c.rows.reader
     c.read_byte_record.new.self row y config source got in
@@ -108,8 +107,8 @@ rows-smaller c =
     let rest = records_from default_config m c.read_byte_record.new.self.state z in
     let here = subst (HasRead (records_of c.args.bytes.now) c.rows.draft) {y = row ∷ rest} more
     read in
-    let taken = row-taken c.rows.draft row here.draft c.in-Ok.ensures.faultless in
-    rw (c.in-Ok.ensures.taken, taken.rows) (omega (
+    let taken = row-taken c.rows.draft row here.draft c.in-Ok-take_row.ensures.faultless in
+    rw (c.in-Ok-take_row.ensures.taken, taken.rows) (omega (
       arith,
       ap (λ (all : List (List (List ℕ))). length all) here.rows,
       length-append (rows_of_draft c.rows.draft) (row ∷ rest),
