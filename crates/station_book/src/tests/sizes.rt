@@ -104,6 +104,7 @@ fn names_of_each_length_are_taken(rt: HostRuntime) {
             expect_taken(&rt, &mut book, WIDE_SET);
             expect_taken(&rt, &mut book, &named(WIDE_FACE_1, WIDE_FIRST, target));
             expect_taken(&rt, &mut book, &named(WIDE_FACE_2, WIDE_FIRST, target));
+            take_set(&rt, &mut book, 2, 1);
             let stations = expect_stations(&rt, book, 1);
             let found = stations.at(0).expect(&rt, "a station").station();
             assert_eq!(rt; found.name().bytes().len(), station);
