@@ -2,15 +2,15 @@
 use Rattle.std.proofs.Common.{◌≡◌, ℕ, ◌<◌, ◌≤◌, cond, eqb, List, [], ◌∷◌, ℤ, pos, ◌+ℤ◌, arith, refl}
 use Rattle.std.specs.List.{AllByRecursion}
 use Rattle.std.proofs.lemmas.Bool.{ne_eqb}
-use Rattle.adjust_kernel.specs.Readings.{Reading}
+use Rattle.adjust_kernel.specs.TurnedObservations.{TurnedObservation}
 use Rattle.adjust_kernel.specs.Residuals.{Choice, target_sum, set_sum}
 use Rattle.adjust_kernel.specs.Sums.{int_sum_where}
 use native.Mathlib.Decide.{dec_lt}
 
 -- the residuals of each target and of each set add to 0: the normal equations
-pub record IsBalanced (c : Choice) (readings : List Reading) : Type 0 where
-  pub targets : (t : ℕ) → target_sum c readings t ≡ pos 0
-  pub sets : (s : ℕ) → set_sum c readings s ≡ pos 0
+pub record IsBalanced (c : Choice) (observations : List TurnedObservation) : Type 0 where
+  pub targets : (t : ℕ) → target_sum c observations t ≡ pos 0
+  pub sets : (s : ℕ) → set_sum c observations s ≡ pos 0
 
 none_pass : {X : Type 0} (key : X → ℕ) (f : X → ℤ) (n : ℕ) (xs : List X)
     → AllByRecursion (λ x. key x < n) xs → (k : ℕ) → n ≤ k

@@ -4,7 +4,7 @@ use Rattle.std.proofs.Common.{◌≡◌, ◌≢◌, ℕ, suc, zero, ◌+◌, ◌
 use Rattle.std.proofs.Common.{List, [], ◌∷◌, ℤ, pos, negsuc, ◌+ℤ◌, ◌<ℤ◌, arith, ap, refl, sym, ◌∙◌}
 use Rattle.std.proofs.Math.IntN.{◌*ℤ◌, ◌-ℤ◌}
 use Rattle.std.proofs.lemmas.Int.{ints}
-use Rattle.adjust_kernel.specs.Readings.{Reading}
+use Rattle.adjust_kernel.specs.TurnedObservations.{TurnedObservation}
 use Rattle.adjust_kernel.specs.Sums.{int_sum_where, squared}
 use Rattle.adjust_kernel.specs.Residuals.{Choice, residual, sum_of_squares, unrolled, target_sum}
 use Rattle.adjust_kernel.specs.Residuals.{set_sum}
@@ -90,48 +90,50 @@ product_positive d m h k = (positive d m h k, positive (d * d) m (positive d d h
     positive : (m n : ℕ) → 1 ≤ m → 1 ≤ n → 1 ≤ m * n
     positive m n h k = grind arith
 
-module _ (c other : Choice) (p : Reading → Bool) (readings : List Reading) where
+module _ (c other : Choice) (p : TurnedObservation → Bool)
+    (observations : List TurnedObservation) where
   abbrev S : ℤ
-  S = int_sum_where p (residual c) readings
+  S = int_sum_where p (residual c) observations
 
   abbrev m : ℕ
-  m = passing p readings
+  m = passing p observations
 
-  module _ (over : other.denominator ≡ c.denominator * m) (at_row : (r : Reading)
+  module _ (over : other.denominator ≡ c.denominator * m) (at_row : (r : TurnedObservation)
       → residual other r ≡ pos m *ℤ residual c r -ℤ cond (p r) S (pos 0)) where
-    moved_squares : sum_of_squares other readings ≡ pos (m * m) *ℤ sum_of_squares c readings
+    moved_squares : sum_of_squares other observations ≡ pos (m * m) *ℤ sum_of_squares c observations
         -ℤ pos m *ℤ squared S
     moved_squares =
         int_sum_by-same (λ r. squared (residual other r))
         (λ r. pos (m * m) *ℤ squared (residual c r)
         -ℤ (pos (2 * m) *ℤ S) *ℤ cond (p r) (residual c r) (pos 0)
         +ℤ cond (p r) (squared S) (pos 0))
-        (λ r. ap squared (at_row r) ∙ squared_move m (p r) (residual c r) S) readings
+        (λ r. ap squared (at_row r) ∙ squared_move m (p r) (residual c r) S) observations
         ∙ int_sum_by-add (λ r. pos (m * m) *ℤ squared (residual c r)
         -ℤ (pos (2 * m) *ℤ S) *ℤ cond (p r) (residual c r) (pos 0))
-        (λ r. cond (p r) (squared S) (pos 0)) readings
+        (λ r. cond (p r) (squared S) (pos 0)) observations
         ∙ (λ i. int_sum_by-sub (λ r. pos (m * m) *ℤ squared (residual c r))
-        (λ r. (pos (2 * m) *ℤ S) *ℤ cond (p r) (residual c r) (pos 0)) readings i
-        +ℤ sum_of_equal p (squared S) readings i)
-        ∙ (λ i. int_sum_by-scale (pos (m * m)) (λ r. squared (residual c r)) readings i
-        -ℤ int_sum_by-scale (pos (2 * m) *ℤ S) (λ r. cond (p r) (residual c r) (pos 0)) readings i
+        (λ r. (pos (2 * m) *ℤ S) *ℤ cond (p r) (residual c r) (pos 0)) observations i
+        +ℤ sum_of_equal p (squared S) observations i)
+        ∙ (λ i. int_sum_by-scale (pos (m * m)) (λ r. squared (residual c r)) observations i
+        -ℤ int_sum_by-scale (pos (2 * m) *ℤ S)
+        (λ r. cond (p r) (residual c r) (pos 0)) observations i
         +ℤ pos m *ℤ squared S)
-        ∙ left_over m (sum_of_squares c readings) S
+        ∙ left_over m (sum_of_squares c observations) S
 
-    pub moved_is_better : 1 ≤ c.denominator → S ≢ pos 0 → HasBetter c readings
+    pub moved_is_better : 1 ≤ c.denominator → S ≢ pos 0 → HasBetter c observations
     moved_is_better h k =
         let some : 1 ≤ m = some_pass m refl in
         let more = product_positive c.denominator m h some in
         let e = ap (λ z. pos (c.denominator * c.denominator) *ℤ z) moved_squares in
-        let f = over_both c.denominator m (sum_of_squares c readings) (squared S) in
+        let f = over_both c.denominator m (sum_of_squares c observations) (squared S) in
         let g = squared-positive S k (c.denominator * c.denominator * m) more.1 in
-        let i : pos (other.denominator * other.denominator) *ℤ sum_of_squares c readings
-        ≡ pos (c.denominator * m * (c.denominator * m)) *ℤ sum_of_squares c readings =
-        ap (λ n. pos (n * n) *ℤ sum_of_squares c readings) over in
+        let i : pos (other.denominator * other.denominator) *ℤ sum_of_squares c observations
+        ≡ pos (c.denominator * m * (c.denominator * m)) *ℤ sum_of_squares c observations =
+        ap (λ n. pos (n * n) *ℤ sum_of_squares c observations) over in
         record { other = other; denominator = omega (arith, more.0); smaller = omega (arith, ints) }
       where
         some_pass : (n : ℕ) → n ≡ m → 1 ≤ n
-        some_pass zero e = absurd (k (sum_of_none p (residual c) readings (sym e)))
+        some_pass zero e = absurd (k (sum_of_none p (residual c) observations (sym e)))
         some_pass (suc n) e = omega arith
 
 at_target : (m d : ℕ) (b : Bool) (a o y s : ℤ)
@@ -149,32 +151,34 @@ at_set m d b a o y s =
     same_value (num (pos m) ⊗ num a ⊖ (num (pos m) ⊗ num o ⊕ x) ⊖ num (pos (d * m)) ⊗ num y)
     (num (pos m) ⊗ (num a ⊖ num o ⊖ num (pos d) ⊗ num y) ⊖ x) (omega arith)
 
-pub target_sum_has_better : (c : Choice) (readings : List Reading) (t : ℕ) → 1 ≤ c.denominator
-    → target_sum c readings t ≢ pos 0 → HasBetter c readings
-target_sum_has_better c readings t h k =
-    let p : Reading → Bool = λ r. eqb r.target t in
-    let n : ℕ = passing p readings in
-    let s : ℤ = target_sum c readings t in
+pub target_sum_has_better : (c : Choice) (observations : List TurnedObservation) (t : ℕ)
+    → 1 ≤ c.denominator
+    → target_sum c observations t ≢ pos 0 → HasBetter c observations
+target_sum_has_better c observations t h k =
+    let p : TurnedObservation → Bool = λ r. eqb r.target t in
+    let n : ℕ = passing p observations in
+    let s : ℤ = target_sum c observations t in
     let other : Choice = record {
       denominator = c.denominator * n;
       direction = λ u. pos n *ℤ c.direction u -ℤ cond (eqb u t) s (pos 0);
       orientation = λ u. pos n *ℤ c.orientation u;
     } in
-    moved_is_better c other p readings refl (λ r.
+    moved_is_better c other p observations refl (λ r.
     at_target n c.denominator (p r) (c.direction r.target) (c.orientation r.set) (unrolled r) s)
     h k
 
-pub set_sum_has_better : (c : Choice) (readings : List Reading) (t : ℕ) → 1 ≤ c.denominator
-    → set_sum c readings t ≢ pos 0 → HasBetter c readings
-set_sum_has_better c readings t h k =
-    let p : Reading → Bool = λ r. eqb r.set t in
-    let n : ℕ = passing p readings in
-    let s : ℤ = set_sum c readings t in
+pub set_sum_has_better : (c : Choice) (observations : List TurnedObservation) (t : ℕ)
+    → 1 ≤ c.denominator
+    → set_sum c observations t ≢ pos 0 → HasBetter c observations
+set_sum_has_better c observations t h k =
+    let p : TurnedObservation → Bool = λ r. eqb r.set t in
+    let n : ℕ = passing p observations in
+    let s : ℤ = set_sum c observations t in
     let other : Choice = record {
       denominator = c.denominator * n;
       direction = λ u. pos n *ℤ c.direction u;
       orientation = λ u. pos n *ℤ c.orientation u +ℤ cond (eqb u t) s (pos 0);
     } in
-    moved_is_better c other p readings refl (λ r.
+    moved_is_better c other p observations refl (λ r.
     at_set n c.denominator (p r) (c.direction r.target) (c.orientation r.set) (unrolled r) s) h
     k

@@ -1,5 +1,5 @@
--- Whether readings hold all sets and targets together can be told of any list: each set and each
--- target gets a label, and each reading makes the labels of its set and its target one.
+-- Whether observations hold all sets and targets together can be told of any list: each set and
+-- each target gets a label, and each observation makes the labels of its set and its target one.
 use Rattle.std.proofs.Common.{◌≡◌, ◌≢◌, ◌⊎◌, inl, inr, ℕ, suc, zero, ◌+◌, ◌<◌, Bool, true, false}
 use Rattle.std.proofs.Common.{cond, eqb, List, [], ◌∷◌, arith, ap, refl, sym, ◌∙◌}
 use Rattle.std.specs.List.{AllByRecursion}
@@ -9,7 +9,7 @@ use Rattle.std.proofs.lemmas.List.Elements.{All-from_recursion, recursion_from_A
 use native.Mathlib.Decide.{ℕ_discrete}
 use Rattle.adjust_kernel.specs.Connected.{IsConnected, IsDivided, HasMember}
 use Rattle.adjust_kernel.specs.Firsts.{IsFirstWhere}
-use Rattle.adjust_kernel.specs.Readings.{Reading}
+use Rattle.adjust_kernel.specs.TurnedObservations.{TurnedObservation}
 use Rattle.adjust_kernel.proofs.FirstLaws.{none_or_first, by_not_not, dec_not}
 use Rattle.adjust_kernel.proofs.ReachLaws.{AllWithin}
 use Rattle.adjust_kernel.proofs.SumLaws.{AllByRecursion-map}
@@ -28,10 +28,11 @@ own_label (inr t) = suc (t + t)
 abbrev merged : ℕ → ℕ → ℕ → ℕ
 merged a b n = cond (eqb n a) b n
 
-abbrev label : List Reading → ℕ ⊎ ℕ → ℕ
+abbrev label : List TurnedObservation → ℕ ⊎ ℕ → ℕ
 label [] x = own_label x
-label (r ∷ readings) x = merged (label readings (inl r.set)) (label readings (inr r.target))
-    (label readings x)
+label (r ∷ observations) x = merged (label observations (inl r.set))
+    (label observations (inr r.target))
+    (label observations x)
 
 merged_is : (a b n : ℕ) → n ≡ a → merged a b n ≡ b
 merged_is a b n e = grind (arith, nat_tests)
@@ -45,18 +46,18 @@ merged_both a b = merged_is a b a refl ∙ sym (by (ℕ_discrete b a)) where
   by (yes e) = merged_is a b b e
   by (no f) = merged_other a b b f
 
--- the set and the target of a reading have one label
-joined : (readings : List Reading) → AllByRecursion
-    (λ r. label readings (inl r.set) ≡ label readings (inr r.target)) readings
+-- the set and the target of an observation have one label
+joined : (observations : List TurnedObservation) → AllByRecursion
+    (λ r. label observations (inl r.set) ≡ label observations (inr r.target)) observations
 joined [] = tt
-joined (r ∷ readings) =
-    let a = label readings (inl r.set) in
-    let b = label readings (inr r.target) in (
+joined (r ∷ observations) =
+    let a = label observations (inl r.set) in
+    let b = label observations (inr r.target) in (
       merged_both a b,
-      AllByRecursion-map (λ (x : Reading). label readings (inl x.set)
-          ≡ label readings (inr x.target)) (λ x. label (r ∷ readings) (inl x.set)
-          ≡ label (r ∷ readings) (inr x.target)) (λ x e. ap (merged a b) e) readings
-          (joined readings),
+      AllByRecursion-map (λ (x : TurnedObservation). label observations (inl x.set)
+          ≡ label observations (inr x.target)) (λ x. label (r ∷ observations) (inl x.set)
+          ≡ label (r ∷ observations) (inr x.target)) (λ x e. ap (merged a b) e) observations
+          (joined observations),
     )
 
 module _ (p q : ℕ → Bool) where
@@ -66,40 +67,42 @@ module _ (p q : ℕ → Bool) where
   own_part (inr t) (inl s) e = absurd (omega (arith, e))
   own_part (inr t) (inr t') e = ap q (omega (arith, e))
 
-  -- something in the same part that had this label before this reading was taken
-  abbrev HadLabel : Reading → List Reading → ℕ ⊎ ℕ → Type 0
-  HadLabel r readings x = (y : ℕ ⊎ ℕ) × (label readings y ≡ label (r ∷ readings) x)
+  -- something in the same part that had this label before this observation was taken
+  abbrev HadLabel : TurnedObservation → List TurnedObservation → ℕ ⊎ ℕ → Type 0
+  HadLabel r observations x = (y : ℕ ⊎ ℕ) × (label observations y ≡ label (r ∷ observations) x)
       × (part p q y ≡ part p q x)
 
-  -- what has one label lies in one part, where no reading stands between the parts
-  one_part : (readings : List Reading) → AllWithin p q readings → (x y : ℕ ⊎ ℕ)
-      → label readings x ≡ label readings y → part p q x ≡ part p q y
+  -- what has one label lies in one part, where no observation stands between the parts
+  one_part : (observations : List TurnedObservation) → AllWithin p q observations → (x y : ℕ ⊎ ℕ)
+      → label observations x ≡ label observations y → part p q x ≡ part p q y
   one_part [] w x y e = own_part x y e
-  one_part (r ∷ readings) w x y e = by (one_part readings w.1) w.0 where
-    before : ((x y : ℕ ⊎ ℕ) → label readings x ≡ label readings y → part p q x ≡ part p q y)
-        → p r.set ≡ q r.target → (x : ℕ ⊎ ℕ) → Dec (label readings x ≡ label readings (inl r.set))
-        → HadLabel r readings x
+  one_part (r ∷ observations) w x y e = by (one_part observations w.1) w.0 where
+    before : ((x y : ℕ ⊎ ℕ) → label observations x ≡ label observations y → part p q x ≡ part p q y)
+        → p r.set ≡ q r.target → (x : ℕ ⊎ ℕ)
+        → Dec (label observations x ≡ label observations (inl r.set))
+        → HadLabel r observations x
     before same k x (yes e) = (
       inr r.target,
       sym
-          (merged_is (label readings (inl r.set)) (label readings (inr r.target)) (label readings x)
+          (merged_is (label observations (inl r.set)) (label observations (inr r.target))
+          (label observations x)
           e),
       sym k ∙ same (inl r.set) x (sym e),
     )
     before same k x (no f) = (
       x,
-      sym (merged_other (label readings (inl r.set))
-          (label readings (inr r.target)) (label readings x) f),
+      sym (merged_other (label observations (inl r.set))
+          (label observations (inr r.target)) (label observations x) f),
       refl,
     )
 
-    by : ((x y : ℕ ⊎ ℕ) → label readings x ≡ label readings y → part p q x ≡ part p q y)
+    by : ((x y : ℕ ⊎ ℕ) → label observations x ≡ label observations y → part p q x ≡ part p q y)
         → p r.set ≡ q r.target → part p q x ≡ part p q y
     by same k =
-        let (u, l, m) = before same k x (ℕ_discrete (label readings x)
-        (label readings (inl r.set))) in
-        let (v, l', m') = before same k y (ℕ_discrete (label readings y)
-        (label readings (inl r.set))) in
+        let (u, l, m) = before same k x (ℕ_discrete (label observations x)
+        (label observations (inl r.set))) in
+        let (v, l', m') = before same k y (ℕ_discrete (label observations y)
+        (label observations (inl r.set))) in
         sym m ∙ same u v (l ∙ e ∙ sym l') ∙ m'
 
 module _ (sets targets : ℕ) where
@@ -112,28 +115,29 @@ module _ (sets targets : ℕ) where
   member p q side (inl s) h e = inl (s, h, e)
   member p q side (inr t) h e = inr (t, h, e)
 
-  module _ (readings : List Reading) (first : ℕ ⊎ ℕ) (inside : IsMember first) where
+  module _ (observations : List TurnedObservation) (first : ℕ ⊎ ℕ) (inside : IsMember first) where
     abbrev first_label : ℕ
-    first_label = label readings first
+    first_label = label observations first
 
     -- those that have the label of the first, and the others
     abbrev alike : ℕ ⊎ ℕ → Bool
-    alike x = eqb (label readings x) first_label
+    alike x = eqb (label observations x) first_label
 
-    split : (x : ℕ ⊎ ℕ) → IsMember x → label readings x ≢ first_label
-        → IsDivided sets targets readings
+    split : (x : ℕ ⊎ ℕ) → IsMember x → label observations x ≢ first_label
+        → IsDivided sets targets observations
     split x h f =
         let p : ℕ → Bool = λ s. alike (inl s) in
         let q : ℕ → Bool = λ t. alike (inr t) in
         record {
           part_of_set = p;
           part_of_target = q;
-          none_between = All-from_recursion (λ (r : Reading). p r.set ≡ q r.target) readings
-              (AllByRecursion-map (λ (r : Reading). label readings (inl r.set)
-              ≡ label readings (inr r.target)) (λ r. p r.set ≡ q r.target)
-              (λ r e. ap (λ n. eqb n first_label) e) readings (joined readings));
+          none_between = All-from_recursion (λ (r : TurnedObservation).
+              p r.set ≡ q r.target) observations
+              (AllByRecursion-map (λ (r : TurnedObservation). label observations (inl r.set)
+              ≡ label observations (inr r.target)) (λ r. p r.set ≡ q r.target)
+              (λ r e. ap (λ n. eqb n first_label) e) observations (joined observations));
           first_part = member p q true first inside (side first ∙ itself first_label);
-          second_part = member p q false x h (side x ∙ ne_eqb (label readings x) first_label f);
+          second_part = member p q false x h (side x ∙ ne_eqb (label observations x) first_label f);
         }
       where
         itself : (n : ℕ) → eqb n n ≡ true
@@ -143,50 +147,54 @@ module _ (sets targets : ℕ) where
         side (inl s) = refl
         side (inr t) = refl
 
-    whole : ((s : ℕ) → s < sets → label readings (inl s) ≡ first_label)
-        → ((t : ℕ) → t < targets → label readings (inr t) ≡ first_label)
-        → IsConnected sets targets readings
+    whole : ((s : ℕ) → s < sets → label observations (inl s) ≡ first_label)
+        → ((t : ℕ) → t < targets → label observations (inr t) ≡ first_label)
+        → IsConnected sets targets observations
     whole of_sets of_targets d = let e : true ≡ false = at true d.first_part
         ∙ sym (at false d.second_part) in cc where
-          within : AllWithin d.part_of_set d.part_of_target readings
-          within = recursion_from_All (λ (r : Reading). d.part_of_set r.set
+          within : AllWithin d.part_of_set d.part_of_target observations
+          within = recursion_from_All (λ (r : TurnedObservation). d.part_of_set r.set
               ≡ d.part_of_target r.target)
-              readings d.none_between
+              observations d.none_between
 
           at : (side : Bool) → HasMember sets targets d.part_of_set d.part_of_target side
               → side ≡ part d.part_of_set d.part_of_target first
-          at side (inl (s, h, e)) = sym e ∙ one_part d.part_of_set d.part_of_target readings within
+          at side (inl (s, h, e)) = sym e
+              ∙ one_part d.part_of_set d.part_of_target observations within
               (inl s) first (of_sets s h)
-          at side (inr (t, h, e)) = sym e ∙ one_part d.part_of_set d.part_of_target readings within
+          at side (inr (t, h, e)) = sym e
+              ∙ one_part d.part_of_set d.part_of_target observations within
               (inr t) first (of_targets t h)
 
     -- the label of a set or of a target is another
     abbrev Other : (ℕ → ℕ ⊎ ℕ) → ℕ → Type 0
-    Other node n = label readings (node n) ≢ first_label
+    Other node n = label observations (node n) ≢ first_label
 
     other : (node : ℕ → ℕ ⊎ ℕ) (n : ℕ) → Dec (Other node n)
-    other node n = dec_not (ℕ_discrete (label readings (node n)) first_label)
+    other node n = dec_not (ℕ_discrete (label observations (node n)) first_label)
 
-    told : IsConnected sets targets readings ⊎ IsDivided sets targets readings
+    told : IsConnected sets targets observations ⊎ IsDivided sets targets observations
     told = by (none_or_first (Other inl) (other inl) sets)
         (none_or_first (Other inr) (other inr) targets) where
           by : ((s : ℕ) → s < sets → Other inl s → ⊥) ⊎ ((s : ℕ) × IsFirstWhere (Other inl) sets s)
               → ((t : ℕ) → t < targets → Other inr t → ⊥)
-              ⊎ ((t : ℕ) × IsFirstWhere (Other inr) targets t) → IsConnected sets targets readings
-              ⊎ IsDivided sets targets readings
+              ⊎ ((t : ℕ) × IsFirstWhere (Other inr) targets t)
+              → IsConnected sets targets observations
+              ⊎ IsDivided sets targets observations
           by (inl f) (inl g) = inl (whole
-              (λ s h. by_not_not (ℕ_discrete (label readings (inl s)) first_label) (f s h))
-              (λ t h. by_not_not (ℕ_discrete (label readings (inr t)) first_label) (g t h)))
+              (λ s h. by_not_not (ℕ_discrete (label observations (inl s)) first_label) (f s h))
+              (λ t h. by_not_not (ℕ_discrete (label observations (inr t)) first_label) (g t h)))
           by (inr (s, f)) g = inr (split (inl s) f.inside f.here)
           by (inl f) (inr (t, g)) = inr (split (inr t) g.inside g.here)
 
--- the readings hold all together, or leave two parts
-pub connected_or_divided : (sets targets : ℕ) (readings : List Reading)
-    → IsConnected sets targets readings ⊎ IsDivided sets targets readings
-connected_or_divided zero zero readings = inl (λ d. none d.first_part) where
+-- the observations hold all together, or leave two parts
+pub connected_or_divided : (sets targets : ℕ) (observations : List TurnedObservation)
+    → IsConnected sets targets observations ⊎ IsDivided sets targets observations
+connected_or_divided zero zero observations = inl (λ d. none d.first_part) where
   none : {p q : ℕ → Bool} → HasMember 0 0 p q true → ⊥
   none (inl (s, h, e)) = omega arith
   none (inr (t, h, e)) = omega arith
-connected_or_divided sets (suc targets) readings =
-    told sets (suc targets) readings (inr 0) (omega arith)
-connected_or_divided (suc sets) zero readings = told (suc sets) 0 readings (inl 0) (omega arith)
+connected_or_divided sets (suc targets) observations =
+    told sets (suc targets) observations (inr 0) (omega arith)
+connected_or_divided (suc sets) zero observations = told (suc sets) 0 observations (inl 0)
+    (omega arith)

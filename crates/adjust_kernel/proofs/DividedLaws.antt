@@ -4,7 +4,7 @@ use Rattle.std.proofs.Common.{◌+ℤ◌, arith, ap, refl, ◌∙◌}
 use Rattle.std.proofs.Math.IntN.{◌*ℤ◌, ◌-ℤ◌}
 use Rattle.std.proofs.lemmas.Int.{ints}
 use Rattle.std.proofs.lemmas.List.Elements.{recursion_from_All}
-use Rattle.adjust_kernel.specs.Readings.{Reading}
+use Rattle.adjust_kernel.specs.TurnedObservations.{TurnedObservation}
 use Rattle.adjust_kernel.specs.Sums.{squared}
 use Rattle.adjust_kernel.specs.Residuals.{Choice, residual, unrolled}
 use Rattle.adjust_kernel.specs.Least.{HasAnother}
@@ -26,8 +26,9 @@ unlike : (z : ℤ) (b side : Bool) → side ≡ b → (b0 : Bool) → lift b0 b 
     → z +ℤ lift b0 side ≢ z
 unlike z b side e b0 k h = let m : lift b0 side ≡ pos 1 = ap (lift b0) e ∙ k in omega (arith, ints)
 
-module _ (sets targets : ℕ) (c : Choice) (readings : List Reading) (datum : c.direction 0 ≡ pos 0)
-    (d : IsDivided sets targets readings) where
+module _ (sets targets : ℕ) (c : Choice) (observations : List TurnedObservation)
+    (datum : c.direction 0 ≡ pos 0)
+    (d : IsDivided sets targets observations) where
   abbrev b0 : Bool
   b0 = d.part_of_target 0
 
@@ -38,7 +39,7 @@ module _ (sets targets : ℕ) (c : Choice) (readings : List Reading) (datum : c.
     orientation = λ s. c.orientation s +ℤ lift b0 (d.part_of_set s);
   }
 
-  at_row : (r : Reading) → d.part_of_set r.set ≡ d.part_of_target r.target
+  at_row : (r : TurnedObservation) → d.part_of_set r.set ≡ d.part_of_target r.target
       → squared (residual turned r) ≡ squared (residual c r)
   at_row r e = let k : lift b0 (d.part_of_set r.set) ≡ lift b0 (d.part_of_target r.target) =
       ap (lift b0) e in
@@ -72,14 +73,14 @@ module _ (sets targets : ℕ) (c : Choice) (readings : List Reading) (datum : c.
   different true e = moves false (ap (λ b. lift b false) e) d.second_part
   different false e = moves true (ap (λ b. lift b true) e) d.first_part
 
-  pub divided_has_another : HasAnother sets targets c readings
+  pub divided_has_another : HasAnother sets targets c observations
   divided_has_another = record {
     other = turned;
     denominator = refl;
     first = let e = lift_same b0 in omega (arith, ints, datum);
     different = different b0 refl;
     same_sum = int_sum_by-same_at (λ r. squared (residual turned r)) (λ r. squared (residual c r))
-        readings (AllByRecursion-map _ _ at_row readings
-        (recursion_from_All (λ r. d.part_of_set r.set ≡ d.part_of_target r.target) readings
+        observations (AllByRecursion-map _ _ at_row observations
+        (recursion_from_All (λ r. d.part_of_set r.set ≡ d.part_of_target r.target) observations
         d.none_between));
   }

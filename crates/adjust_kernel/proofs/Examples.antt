@@ -3,16 +3,16 @@ use Rattle.std.proofs.Common.{◌≡◌, inl, ℕ, zero, suc, Bool, true, false,
 use Rattle.std.proofs.Common.{neg_ℤ, arith, refl}
 use Rattle.std.specs.Prelude.{map}
 use Rattle.std.proofs.lemmas.List.Elements.{All-from_recursion}
-use Rattle.adjust_kernel.specs.Readings.{Reading}
+use Rattle.adjust_kernel.specs.TurnedObservations.{TurnedObservation}
 use Rattle.adjust_kernel.specs.Residuals.{Choice, choice_of, residual, sum_of_squares, target_sum}
 use Rattle.adjust_kernel.specs.Residuals.{set_sum}
 use Rattle.adjust_kernel.specs.Connected.{IsDivided}
 
-abbrev row : ℕ → ℕ → ℕ → ℤ → Reading
+abbrev row : ℕ → ℕ → ℕ → ℤ → TurnedObservation
 row s t p k = record { set = s; target = t; value = p; turn = k }
 
 -- two sets of two targets
-abbrev pair : List Reading
+abbrev pair : List TurnedObservation
 pair = row 0 0 6 (pos 0) ∷ row 0 1 10_000_010 (pos 0) ∷ row 1 0 20_000_004 (pos 0)
     ∷ row 1 1 30_000_012 (pos 0) ∷ []
 
@@ -56,7 +56,7 @@ moved_orientations_sums : map (set_sum moved_orientations pair) (0 ∷ 1 ∷ [])
 moved_orientations_sums = refl
 
 -- three sets that each miss one of three targets
-abbrev triangle : List Reading
+abbrev triangle : List TurnedObservation
 triangle = row 0 0 0 (pos 0) ∷ row 0 1 100 (pos 0) ∷ row 1 1 0 (pos 0) ∷ row 1 2 100 (pos 0)
     ∷ row 2 0 79_999_806 (neg_ℤ (pos 1)) ∷ row 2 2 0 (pos 0) ∷ []
 
@@ -72,14 +72,15 @@ triangle_sums : map (target_sum triangle_sheet triangle) (0 ∷ 1 ∷ 2 ∷ []) 
 triangle_sums = refl
 
 -- two sets with two targets each and none in common
-abbrev two_pairs : List Reading
+abbrev two_pairs : List TurnedObservation
 two_pairs = row 0 0 0 (pos 0) ∷ row 0 1 100 (pos 0) ∷ row 1 2 0 (pos 0) ∷ row 1 3 100 (pos 0) ∷ []
 
 two_pairs_divided : IsDivided 2 4 two_pairs
 two_pairs_divided = record {
   part_of_set = first_set;
   part_of_target = first_targets;
-  none_between = All-from_recursion (λ (r : Reading). first_set r.set ≡ first_targets r.target)
+  none_between = All-from_recursion (λ (r : TurnedObservation). first_set r.set
+      ≡ first_targets r.target)
       two_pairs (refl, (refl, (refl, (refl, tt))));
   first_part = inl (0, (omega arith), refl);
   second_part = inl (1, (omega arith), refl);

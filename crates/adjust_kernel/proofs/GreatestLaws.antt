@@ -6,7 +6,7 @@ use Rattle.std.specs.Int.RustNames.{unsigned_abs}
 use Rattle.std.proofs.lemmas.Int.{ints}
 use Rattle.std.proofs.lemmas.List.Elements.{All-cons, All-nil}
 use native.Mathlib.Decide.{dec_le}
-use Rattle.adjust_kernel.specs.Readings.{Reading}
+use Rattle.adjust_kernel.specs.TurnedObservations.{TurnedObservation}
 use Rattle.adjust_kernel.specs.Residuals.{Choice, residual}
 use Rattle.adjust_kernel.specs.Within.{IsWithin}
 use Rattle.adjust_kernel.specs.Greatest.{IsGreatest}
@@ -23,84 +23,91 @@ within_size m (pos n) h = let le : n ≤ m = omega (arith, h) in
 within_size m (negsuc n) h = let le : suc n ≤ m = omega (arith, h) in
     record { low = omega (arith, ints); high = omega (arith, ints) }
 
--- the greatest size of a residual, reading by reading
-abbrev pub greatest_from : Choice → ℕ → List Reading → ℕ
-greatest_from c known readings = fold (λ g r. max g (unsigned_abs (residual c r))) known readings
+-- the greatest size of a residual, observation by observation
+abbrev pub greatest_from : Choice → ℕ → List TurnedObservation → ℕ
+greatest_from c known observations =
+    fold (λ g r. max g (unsigned_abs (residual c r))) known observations
 
-abbrev pub greatest_size : Choice → List Reading → ℕ
-greatest_size c readings = greatest_from c 0 readings
+abbrev pub greatest_size : Choice → List TurnedObservation → ℕ
+greatest_size c observations = greatest_from c 0 observations
 
 module _ (c : Choice) where
-  grows : (known : ℕ) (readings : List Reading) → known ≤ greatest_from c known readings
+  grows : (known : ℕ) (observations : List TurnedObservation)
+      → known ≤ greatest_from c known observations
   grows known [] = omega arith
-  grows known (r ∷ readings) = let e = grows (max known (unsigned_abs (residual c r))) readings in
+  grows known (r ∷ observations) = let e =
+      grows (max known (unsigned_abs (residual c r))) observations in
       omega arith
 
-  bounds : (known : ℕ) (readings : List Reading)
-      → All (λ r. IsWithin (pos (greatest_from c known readings)) (residual c r)) readings
-  bounds known [] = All-nil (λ (r : Reading). IsWithin (pos known) (residual c r))
-  bounds known (r ∷ readings) =
+  bounds : (known : ℕ) (observations : List TurnedObservation)
+      → All (λ r. IsWithin (pos (greatest_from c known observations)) (residual c r)) observations
+  bounds known [] = All-nil (λ (r : TurnedObservation). IsWithin (pos known) (residual c r))
+  bounds known (r ∷ observations) =
       let next = max known (unsigned_abs (residual c r)) in
-      let e = grows next readings in
-      All-cons (λ (r : Reading). IsWithin (pos (greatest_from c next readings)) (residual c r)) r
-      readings
-      (within_size (greatest_from c next readings) (residual c r) (λ above. absurd (omega arith)))
-      (bounds next readings)
+      let e = grows next observations in
+      All-cons (λ (r : TurnedObservation). IsWithin (pos (greatest_from c next observations))
+      (residual c r)) r
+      observations
+      (within_size (greatest_from c next observations) (residual c r)
+      (λ above. absurd (omega arith)))
+      (bounds next observations)
 
-  -- some reading has this size
-  abbrev IsReached : ℕ → List Reading → Type 0
-  IsReached size readings = Any (λ r. pos (unsigned_abs (residual c r)) ≡ pos size) readings
+  -- some observation has this size
+  abbrev IsReached : ℕ → List TurnedObservation → Type 0
+  IsReached size observations = Any (λ r. pos (unsigned_abs (residual c r)) ≡ pos size) observations
 
   -- the greatest is what was known before, or is reached
-  reaches : (known : ℕ) (readings : List Reading) → (greatest_from c known readings ≡ known)
-      ⊎ IsReached (greatest_from c known readings) readings
+  reaches : (known : ℕ) (observations : List TurnedObservation)
+      → (greatest_from c known observations ≡ known)
+      ⊎ IsReached (greatest_from c known observations) observations
   reaches known [] = inl refl
-  reaches known (r ∷ readings) = by (greatest_from c (max known (unsigned_abs (residual c r)))
-      readings) (reaches (max known (unsigned_abs (residual c r))) readings)
+  reaches known (r ∷ observations) = by (greatest_from c (max known (unsigned_abs (residual c r)))
+      observations) (reaches (max known (unsigned_abs (residual c r))) observations)
       (dec_le (unsigned_abs (residual c r)) known) where
-        by : (size : ℕ) → (size ≡ max known (unsigned_abs (residual c r))) ⊎ IsReached size readings
+        by : (size : ℕ) → (size ≡ max known (unsigned_abs (residual c r)))
+            ⊎ IsReached size observations
             → Dec (unsigned_abs (residual c r) ≤ known) → (size ≡ known)
-            ⊎ IsReached size (r ∷ readings)
+            ⊎ IsReached size (r ∷ observations)
         by size (inr (k, x, inside, at, e)) d = inr (suc k, x, omega (arith, inside), at, e)
         by size (inl e) (yes le) = inl (omega (arith, e, le))
         by size (inl e) (no f) = inr (0, r, omega arith, refl, ap pos (omega (arith, e, f)))
 
-  -- of some readings, this is the greatest
-  pub greatest_is : (readings : List Reading) → 1 ≤ length readings
-      → IsGreatest c readings (pos (greatest_size c readings))
+  -- of some observations, this is the greatest
+  pub greatest_is : (observations : List TurnedObservation) → 1 ≤ length observations
+      → IsGreatest c observations (pos (greatest_size c observations))
   greatest_is [] h = absurd (omega arith)
-  greatest_is (r ∷ readings) h = record {
-    bound = bounds 0 (r ∷ readings);
-    reached = by (reaches 0 (r ∷ readings));
+  greatest_is (r ∷ observations) h = record {
+    bound = bounds 0 (r ∷ observations);
+    reached = by (reaches 0 (r ∷ observations));
   } where
-    by : (greatest_size c (r ∷ readings) ≡ 0)
-        ⊎ IsReached (greatest_size c (r ∷ readings)) (r ∷ readings)
-        → IsReached (greatest_size c (r ∷ readings)) (r ∷ readings)
+    by : (greatest_size c (r ∷ observations) ≡ 0)
+        ⊎ IsReached (greatest_size c (r ∷ observations)) (r ∷ observations)
+        → IsReached (greatest_size c (r ∷ observations)) (r ∷ observations)
     by (inr a) = a
     by (inl e) =
-        let g = grows (max 0 (unsigned_abs (residual c r))) readings in
+        let g = grows (max 0 (unsigned_abs (residual c r))) observations in
         (0, r, omega arith, refl, ap pos (omega (arith, e, g)))
 
   -- a greatest size is no larger than another
-  no_larger : (readings : List Reading) (a b : ℤ) → IsGreatest c readings a
-      → IsGreatest c readings b → (n : ℕ) → a ≡ pos n → pos n ≤ℤ b
-  no_larger readings a b f g n e =
+  no_larger : (observations : List TurnedObservation) (a b : ℤ) → IsGreatest c observations a
+      → IsGreatest c observations b → (n : ℕ) → a ≡ pos n → pos n ≤ℤ b
+  no_larger observations a b f g n e =
       let (k, r, inside, at, size) = f.reached in
       let w = g.bound k r inside in
       at_most (residual c r) n b (size ∙ e) (subst
-      (λ (r : Reading). IsWithin b (residual c r)) at w)
+      (λ (r : TurnedObservation). IsWithin b (residual c r)) at w)
     where
       at_most : (z : ℤ) (n : ℕ) (b : ℤ) → pos (unsigned_abs z) ≡ pos n → IsWithin b z → pos n ≤ℤ b
       at_most (pos m) n b e w = let h = w.high in omega (arith, ints, e)
       at_most (negsuc m) n b e w = let l = w.low in omega (arith, ints, e)
 
   -- there is one greatest size
-  pub one_greatest : (readings : List Reading) (a b : ℤ) → IsGreatest c readings a
-      → IsGreatest c readings b → a ≡ b
-  one_greatest readings a b f g =
-      let m = no_larger readings a b f g (unsigned_abs (residual c f.reached.1))
+  pub one_greatest : (observations : List TurnedObservation) (a b : ℤ) → IsGreatest c observations a
+      → IsGreatest c observations b → a ≡ b
+  one_greatest observations a b f g =
+      let m = no_larger observations a b f g (unsigned_abs (residual c f.reached.1))
       (sym f.reached.4) in
-      let n = no_larger readings b a g f (unsigned_abs (residual c g.reached.1))
+      let n = no_larger observations b a g f (unsigned_abs (residual c g.reached.1))
       (sym g.reached.4) in
       let p = f.reached.4 in
       let q = g.reached.4 in

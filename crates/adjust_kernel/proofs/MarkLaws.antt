@@ -14,8 +14,8 @@ use Rattle.adjust_kernel.specs.declared.obs.Obs.{Obs}
 use Rattle.adjust_kernel.specs.declared.row.Row.{Row}
 use Rattle.adjust_kernel.specs.Connected.{IsDivided, HasMember}
 use Rattle.adjust_kernel.specs.Marks.{AreAlike, IsOpenEnd, IsSpread, mark, part_of}
-use Rattle.adjust_kernel.specs.Pairs.{readings_of}
-use Rattle.adjust_kernel.specs.Readings.{Reading}
+use Rattle.adjust_kernel.specs.Pairs.{turned_by_rows}
+use Rattle.adjust_kernel.specs.TurnedObservations.{TurnedObservation}
 use Rattle.adjust_kernel.specs.Stations.{IsObs, EachSetObserved, EachTargetObserved}
 use Rattle.adjust_kernel.proofs.ReachLaws.{AllWithin}
 
@@ -35,16 +35,16 @@ AllObsWithin part_of_set part_of_target obs =
 
 -- full turns make no difference to the parts
 obs_within : (p q : ℕ → Bool) (obs : List Obs) (rows : List Row) → length rows ≡ length obs
-    → AllWithin p q (readings_of obs rows) → AllObsWithin p q obs
+    → AllWithin p q (turned_by_rows obs rows) → AllObsWithin p q obs
 obs_within p q [] rows e w = tt
 obs_within p q (o ∷ obs) [] e w = cc
 obs_within p q (o ∷ obs) (r ∷ rows) e w = (w.0, obs_within p q obs rows (omega (arith, e)) w.1)
 
-readings_within : (p q : ℕ → Bool) (obs : List Obs) (rows : List Row) → AllObsWithin p q obs
-    → AllWithin p q (readings_of obs rows)
-readings_within p q [] rows w = tt
-readings_within p q (o ∷ obs) [] w = tt
-readings_within p q (o ∷ obs) (r ∷ rows) w = (w.0, readings_within p q obs rows w.1)
+observations_within : (p q : ℕ → Bool) (obs : List Obs) (rows : List Row) → AllObsWithin p q obs
+    → AllWithin p q (turned_by_rows obs rows)
+observations_within p q [] rows w = tt
+observations_within p q (o ∷ obs) [] w = tt
+observations_within p q (o ∷ obs) (r ∷ rows) w = (w.0, observations_within p q obs rows w.1)
 
 set_node : (sets s : ℕ) (p q : ℕ → Bool) → s < sets → part_of sets p q s ≡ p s
 set_node sets s p q h = grind (arith, nat_tests)
@@ -296,13 +296,14 @@ spread_start sets targets obs h = record {
 -- where all are marked, no division is left
 pub marked_is_whole : (sets targets : ℕ) (obs : List Obs) (marks : List Bool)
     → IsSpread sets targets obs marks → ((n : ℕ) → n < sets + targets → mark marks n ≡ true)
-    → (rows : List Row) → length rows ≡ length obs → IsDivided sets targets (readings_of obs rows)
+    → (rows : List Row) → length rows ≡ length obs
+    → IsDivided sets targets (turned_by_rows obs rows)
     → ⊥
 marked_is_whole sets targets obs marks s all rows same_length d =
     let u = All-from_recursion (λ (o : Obs). d.part_of_set o.set ≡ d.part_of_target o.target) obs
     (obs_within d.part_of_set d.part_of_target obs rows same_length
-    (recursion_from_All (λ (r : Reading). d.part_of_set r.set ≡ d.part_of_target r.target)
-    (readings_of obs rows) d.none_between)) in
+    (recursion_from_All (λ (r : TurnedObservation). d.part_of_set r.set ≡ d.part_of_target r.target)
+    (turned_by_rows obs rows) d.none_between)) in
     let at : (b : Bool) → HasMember sets targets d.part_of_set d.part_of_target b
     → b ≡ d.part_of_target 0 = λ b n. ⊎_elim
     (λ m. sym m.2 ∙ sym (set_node sets m.0 d.part_of_set d.part_of_target m.1)
@@ -319,13 +320,13 @@ marked_is_whole sets targets obs marks s all rows same_length d =
 pub marks_divide : (sets targets : ℕ) (obs : List Obs) (marks : List Bool) → 0 < targets
     → IsSpread sets targets obs marks → All (AreAlike marks sets) obs
     → (n : ℕ) → n < sets + targets → mark marks n ≡ false → (rows : List Row)
-    → IsDivided sets targets (readings_of obs rows)
+    → IsDivided sets targets (turned_by_rows obs rows)
 marks_divide sets targets obs marks some s alike n h e rows = record {
   part_of_set = mark marks;
   part_of_target = λ t. mark marks (sets + t);
-  none_between = All-from_recursion (λ (r : Reading). mark marks r.set
-      ≡ mark marks (sets + r.target)) (readings_of obs rows)
-      (readings_within (mark marks) (λ t. mark marks (sets + t)) obs rows
+  none_between = All-from_recursion (λ (r : TurnedObservation). mark marks r.set
+      ≡ mark marks (sets + r.target)) (turned_by_rows obs rows)
+      (observations_within (mark marks) (λ t. mark marks (sets + t)) obs rows
       (recursion_from_All (AreAlike marks sets) obs alike));
   first_part = inr (0, some, ap (mark marks) (add-zero sets) ∙ s.first);
   second_part = by (dec_lt n sets);

@@ -15,10 +15,10 @@ use Rattle.adjust_kernel.specs.Tallies.{AreSumsOf, added_for_target, added_for_s
 use Rattle.adjust_kernel.specs.Tallies.{all_added}
 use Rattle.adjust_kernel.specs.declared.obs.Obs.{Obs}
 use Rattle.adjust_kernel.specs.declared.row.Row.{Row}
-use Rattle.adjust_kernel.specs.Readings.{Reading}
+use Rattle.adjust_kernel.specs.TurnedObservations.{TurnedObservation}
 use Rattle.adjust_kernel.specs.Residuals.{Choice, residual, target_sum, set_sum}
-use Rattle.adjust_kernel.specs.Pairs.{reading_of, readings_of}
-use Rattle.adjust_kernel.proofs.ReadingLaws.{length-readings_of, get_or-readings_of}
+use Rattle.adjust_kernel.specs.Pairs.{turned_by, turned_by_rows}
+use Rattle.adjust_kernel.proofs.ObservationLaws.{length-turned_by_rows, get_or-turned_by_rows}
 use Rattle.adjust_kernel.proofs.SumLaws.{int_sum_by-push}
 use native.Mathlib.Decide.{ℕ_discrete}
 
@@ -91,34 +91,35 @@ zeros_are_sums = record {
 -- what one more row adds
 pub all_added-more : (c : Choice) (obs : List Obs) (rows : List Row) (n : ℕ) (o : Obs) (r : Row)
     (z : ℤ) → length obs ≡ length rows → n < length obs
-    → ((d : Reading) → z ≡ residual c (get_or (readings_of obs rows) n d))
-    → all_added c (take n (readings_of obs rows))
+    → ((d : TurnedObservation) → z ≡ residual c (get_or (turned_by_rows obs rows) n d))
+    → all_added c (take n (turned_by_rows obs rows))
     ++ record { target = (get_or obs n o).target; set = (get_or obs n o).set; residual = z } ∷ []
-    ≡ all_added c (take (n + 1) (readings_of obs rows))
+    ≡ all_added c (take (n + 1) (turned_by_rows obs rows))
 all_added-more c obs rows n o r z same below value =
-    let readings = readings_of obs rows in
-    let d : Reading = record { set = 0; target = 0; value = 0; turn = pos 0 } in
-    let e : get_or readings n d ≡ reading_of (get_or obs n o) (get_or rows n r).turn =
-    get_or-readings_of obs rows n o r d same below in
-    let inside : n < length readings = let k = length-readings_of obs rows same in omega arith in
-    let f : z ≡ residual c (reading_of (get_or obs n o) (get_or rows n r).turn) = value d
+    let observations = turned_by_rows obs rows in
+    let d : TurnedObservation = record { set = 0; target = 0; value = 0; turn = pos 0 } in
+    let e : get_or observations n d ≡ turned_by (get_or obs n o) (get_or rows n r).turn =
+    get_or-turned_by_rows obs rows n o r d same below in
+    let inside : n < length observations = let k = length-turned_by_rows obs rows same in
+    omega arith in
+    let f : z ≡ residual c (turned_by (get_or obs n o) (get_or rows n r).turn) = value d
     ∙ ap (residual c) e in
-    ap (λ (v : ℤ). all_added c (take n readings)
+    ap (λ (v : ℤ). all_added c (take n observations)
     ++ record { target = (get_or obs n o).target; set = (get_or obs n o).set; residual = v }
     ∷ []) f
-    ∙ ap (λ (x : Reading). all_added c (take n readings) ++ added_of c x ∷ []) (sym e)
-    ∙ sym (map-append (added_of c) (take n readings) (get_or readings n d ∷ []))
-    ∙ ap (all_added c) (sym (take_more readings n d inside))
+    ∙ ap (λ (x : TurnedObservation). all_added c (take n observations) ++ added_of c x ∷ []) (sym e)
+    ∙ sym (map-append (added_of c) (take n observations) (get_or observations n d ∷ []))
+    ∙ ap (all_added c) (sym (take_more observations n d inside))
 
 -- what was added for a target adds up to the target's sum
-pub added_for_target-all : (c : Choice) (rs : List Reading) (t : ℕ)
+pub added_for_target-all : (c : Choice) (rs : List TurnedObservation) (t : ℕ)
     → added_for_target (all_added c rs) t ≡ target_sum c rs t
 added_for_target-all c [] t = refl
 added_for_target-all c (r ∷ rs) t = ap (λ z. cond (eqb r.target t) (residual c r) (pos 0) +ℤ z)
     (added_for_target-all c rs t)
 
 -- what was added for a set adds up to the set's sum
-pub added_for_set-all : (c : Choice) (rs : List Reading) (s : ℕ)
+pub added_for_set-all : (c : Choice) (rs : List TurnedObservation) (s : ℕ)
     → added_for_set (all_added c rs) s ≡ set_sum c rs s
 added_for_set-all c [] s = refl
 added_for_set-all c (r ∷ rs) s = ap (λ z. cond (eqb r.set s) (residual c r) (pos 0) +ℤ z)

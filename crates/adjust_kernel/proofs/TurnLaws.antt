@@ -1,7 +1,7 @@
 -- Where no residual is above the limit, no other full turns give a smaller sum of squares, and the
 -- same sum only those that turn targets and sets as a whole. The bound: with at most 140 sets and
--- targets together, a reading's turns differ from those of its ends by at most 279 changes of a
--- residual, which is below one turn, and so by none.
+-- targets together, an observation's turns differ from those of its ends by at most 279 changes of
+-- a residual, which is below one turn, and so by none.
 use Rattle.std.proofs.Common.{◌≡◌, ℕ, suc, zero, ◌+◌, ◌-◌, ◌*◌, ◌≤◌, ◌<◌, List, [], ◌∷◌, length}
 use Rattle.std.proofs.Common.{All, ℤ, pos, negsuc, ◌+ℤ◌, ◌≤ℤ◌, arith, ap, refl, sym, ◌∙◌, subst}
 use Rattle.std.specs.Prelude.{map}
@@ -14,14 +14,14 @@ use Rattle.adjust_kernel.specs.declared.bounds.TheConstants.{TURN, MOST_TARGETS,
 use Rattle.adjust_kernel.specs.declared.bounds.TheConstants.{MOST_ROWS, LARGEST_RESIDUAL_LIMIT}
 use Rattle.adjust_kernel.specs.Sums.{int_sum_by, squared}
 use Rattle.adjust_kernel.specs.Within.{IsWithin}
-use Rattle.adjust_kernel.specs.Readings.{Reading}
+use Rattle.adjust_kernel.specs.TurnedObservations.{TurnedObservation}
 use Rattle.adjust_kernel.specs.Residuals.{Choice, residual, sum_of_squares}
 use Rattle.adjust_kernel.specs.Connected.{IsConnected}
 use Rattle.adjust_kernel.specs.Least.{IsNoLargerSum, sum_beside}
 use Rattle.adjust_kernel.specs.Turns.{IsLimited, with_turns, IsLeastOverTurns, AreTurnedWhole}
 use Rattle.adjust_kernel.specs.Turns.{OnlyTurnedWhole}
 use Rattle.adjust_kernel.proofs.BalanceLaws.{IsBalanced}
-use Rattle.adjust_kernel.proofs.ReadingLaws.{IsPlaced}
+use Rattle.adjust_kernel.proofs.ObservationLaws.{IsPlaced}
 use Rattle.adjust_kernel.proofs.Ring.{num, ◌⊕◌, ◌⊖◌, ◌⊗◌, same_value}
 use Rattle.adjust_kernel.proofs.SumLaws.{AllByRecursion-map, AllByRecursion-both}
 use Rattle.adjust_kernel.proofs.LeastLaws.{moved_direction, moved_orientation, balanced_is_least}
@@ -33,23 +33,25 @@ use Rattle.adjust_kernel.proofs.NearLaws.{IsNear, EndsAreNear, AllAreNear, all_n
 use native.Mathlib.Decide.{dec_lt}
 
 -- what stands where a sheet's sets and targets are held together and its residuals keep a limit
-pub record IsHeldUnder (limit sets targets : ℕ) (c : Choice) (readings : List Reading) :
+pub record IsHeldUnder (limit sets targets : ℕ) (c : Choice)
+    (observations : List TurnedObservation) :
     Type 0 where
   pub denominator : 1 ≤ c.denominator
   pub some : 0 < targets
   pub sets_in : sets ≤ MOST_SETS
   pub targets_in : targets ≤ MOST_TARGETS
   pub limit_in : limit ≤ LARGEST_RESIDUAL_LIMIT
-  pub readings_in : length readings ≤ MOST_ROWS
-  pub placed : All (IsPlaced sets targets) readings
-  pub connected : IsConnected sets targets readings
-  pub limited : IsLimited limit c readings
+  pub observations_in : length observations ≤ MOST_ROWS
+  pub placed : All (IsPlaced sets targets) observations
+  pub connected : IsConnected sets targets observations
+  pub limited : IsLimited limit c observations
 
 -- what stands where a sheet is accepted under a residual limit
-pub record IsAcceptedUnder (limit sets targets : ℕ) (c : Choice) (readings : List Reading) :
+pub record IsAcceptedUnder (limit sets targets : ℕ) (c : Choice)
+    (observations : List TurnedObservation) :
     Type 0 where
-  pub held : IsHeldUnder limit sets targets c readings
-  pub balanced : IsBalanced c readings
+  pub held : IsHeldUnder limit sets targets c observations
+  pub balanced : IsBalanced c observations
 
 change_is : (d e v : ℕ) (a a' o o' k k' : ℤ)
     → pos d *ℤ (a' -ℤ o' -ℤ pos e *ℤ (pos v +ℤ pos TURN *ℤ k'))
@@ -93,19 +95,20 @@ within_three j u x y z a b c =
     c.high in
     record { low = omega (arith, ints); high = omega (arith, ints) }
 
-module _ (limit sets targets : ℕ) (c : Choice) (readings : List Reading)
-    (a : IsHeldUnder limit sets targets c readings)
-    (other : Choice) (turns : List ℤ) (long : length turns ≡ length readings)
+module _ (limit sets targets : ℕ) (c : Choice) (observations : List TurnedObservation)
+    (a : IsHeldUnder limit sets targets c observations)
+    (other : Choice) (turns : List ℤ) (long : length turns ≡ length observations)
     (fraction : 1 ≤ other.denominator)
-    (not_greater : IsNoLargerSum other (with_turns readings turns) c readings) where
+    (not_greater : IsNoLargerSum other (with_turns observations turns) c observations) where
   abbrev unit : ℕ
   unit = c.denominator * other.denominator
 
   abbrev pairs : List Pair
-  pairs = paired readings turns
+  pairs = paired observations turns
 
-  -- the change of a reading's residual, with what its turns change taken off, is that of its ends
-  abbrev EndsNear : Reading → Type 0
+  -- the change of an observation's residual, with what its turns change taken off, is that of its
+  -- ends
+  abbrev EndsNear : TurnedObservation → Type 0
   EndsNear = EndsAreNear sets targets (unit * TURN) (MOST_CHANGE * unit) (moved_direction c other)
       (moved_orientation c other)
 
@@ -119,12 +122,12 @@ module _ (limit sets targets : ℕ) (c : Choice) (readings : List Reading)
       x.1) w)
       pairs (changes_in c.denominator other.denominator limit (λ (x : Pair). residual c x.0)
       (λ (x : Pair). residual other (retuned x)) pairs few a.limit_in
-      (paired-all (λ r. IsWithin (pos (limit * c.denominator)) (residual c r)) readings turns
-      (recursion_from_All (λ r. IsWithin (pos (limit * c.denominator)) (residual c r)) readings
+      (paired-all (λ r. IsWithin (pos (limit * c.denominator)) (residual c r)) observations turns
+      (recursion_from_All (λ r. IsWithin (pos (limit * c.denominator)) (residual c r)) observations
       a.limited)) sums)
     where
       few : length pairs ≤ MOST_ROWS
-      few = let e = length-paired readings turns in let h = a.readings_in in omega arith
+      few = let e = length-paired observations turns in let h = a.observations_in in omega arith
 
       sums : (pos (c.denominator * c.denominator) *ℤ int_sum_by
           (λ (x : Pair). squared (residual other (retuned x))) pairs)
@@ -132,14 +135,14 @@ module _ (limit sets targets : ℕ) (c : Choice) (readings : List Reading)
           (λ (x : Pair). squared (residual c x.0)) pairs)
       sums =
           let e = ap (λ z. pos (other.denominator * other.denominator) *ℤ z)
-          (own_squares c readings turns long) in
+          (own_squares c observations turns long) in
           let f = ap (λ z. pos (c.denominator * c.denominator) *ℤ z)
-          (other_squares other readings turns) in
+          (other_squares other observations turns) in
           omega (arith, ints, not_greater)
 
   placed_pairs : AllByRecursion (λ (x : Pair). IsPlaced sets targets x.0) pairs
-  placed_pairs = paired-all (IsPlaced sets targets) readings turns
-      (recursion_from_All (IsPlaced sets targets) readings a.placed)
+  placed_pairs = paired-all (IsPlaced sets targets) observations turns
+      (recursion_from_All (IsPlaced sets targets) observations a.placed)
 
   near : AllAreNear sets targets (unit * TURN) (MOST_CHANGE * unit) (moved_direction c other)
       (moved_orientation c other) (sets + targets - 1)
@@ -151,7 +154,7 @@ module _ (limit sets targets : ℕ) (c : Choice) (readings : List Reading)
       (λ (x : Pair) h. (record { set_in = h.0.set_in; target_in = h.0.target_in }, h.1)) pairs
       (AllByRecursion-both (λ (x : Pair). IsPlaced sets targets x.0)
       (λ (x : Pair). EndsNear (difference x)) pairs placed_pairs ends_near)))
-      (λ d. a.connected (differences-divided sets targets readings turns long d))
+      (λ d. a.connected (differences-divided sets targets observations turns long d))
 
   abbrev turns_where : {P : Type 0} → (P → ℤ) → Dec P → ℤ
   turns_where f (yes h) = f h
@@ -210,11 +213,11 @@ module _ (limit sets targets : ℕ) (c : Choice) (readings : List Reading)
       (omega arith) y in
       omega (arith, ints)
 
-  pub turned : AreTurnedWhole readings turns
+  pub turned : AreTurnedWhole observations turns
   turned = record {
     of_target = of_target;
     of_set = of_set;
-    turns_are = turns_by (λ r. r.turn +ℤ of_target r.target -ℤ of_set r.set) readings turns long
+    turns_are = turns_by (λ r. r.turn +ℤ of_target r.target -ℤ of_set r.set) observations turns long
         (AllByRecursion-map (λ (x : Pair). EndsNear (difference x) × IsPlaced sets targets x.0)
         (λ (x : Pair). x.1 ≡ x.0.turn +ℤ of_target x.0.target -ℤ of_set x.0.set)
         (λ (x : Pair) h. turned_pair x h.0 h.1) pairs
@@ -241,30 +244,33 @@ module _ (other : Choice) (of_target of_set : ℕ → ℤ) where
     orientation = λ s. other.orientation s -ℤ pos (other.denominator * TURN) *ℤ of_set s;
   }
 
-  pub taken_squares : (readings : List Reading)
-      → sum_of_squares taken readings ≡ sum_of_squares other
-      (with_turns readings (map (λ r. r.turn +ℤ of_target r.target -ℤ of_set r.set) readings))
+  pub taken_squares : (observations : List TurnedObservation)
+      → sum_of_squares taken observations ≡ sum_of_squares other
+      (with_turns observations
+      (map (λ r. r.turn +ℤ of_target r.target -ℤ of_set r.set) observations))
   taken_squares [] = refl
-  taken_squares (r ∷ readings) = λ i. squared
+  taken_squares (r ∷ observations) = λ i. squared
       (taken_up other.denominator r.value (other.direction r.target) (other.orientation r.set)
-      r.turn (of_target r.target) (of_set r.set) i) +ℤ taken_squares readings i
+      r.turn (of_target r.target) (of_set r.set) i) +ℤ taken_squares observations i
 
-pub limited_is_least_over_turns : (limit sets targets : ℕ) (c : Choice) (readings : List Reading)
-    → IsAcceptedUnder limit sets targets c readings → IsLeastOverTurns c readings
-limited_is_least_over_turns limit sets targets c readings a other turns long h =
-    by_lt_z (sum_beside c other (with_turns readings turns)) (sum_beside other c readings)
-    (λ lt. let t = turned limit sets targets c readings a.held other turns long h
+pub limited_is_least_over_turns : (limit sets targets : ℕ) (c : Choice)
+    (observations : List TurnedObservation)
+    → IsAcceptedUnder limit sets targets c observations → IsLeastOverTurns c observations
+limited_is_least_over_turns limit sets targets c observations a other turns long h =
+    by_lt_z (sum_beside c other (with_turns observations turns)) (sum_beside other c observations)
+    (λ lt. let t = turned limit sets targets c observations a.held other turns long h
     (omega (arith, ints)) in
-    let e : sum_beside c (taken other t.of_target t.of_set) readings
-    ≡ sum_beside c other (with_turns readings turns) =
+    let e : sum_beside c (taken other t.of_target t.of_set) observations
+    ≡ sum_beside c other (with_turns observations turns) =
     ap (λ z. pos (c.denominator * c.denominator) *ℤ z)
-    (taken_squares other t.of_target t.of_set readings
-    ∙ ap (λ (ks : List ℤ). sum_of_squares other (with_turns readings ks)) (sym t.turns_are)) in
-    let k = balanced_is_least c readings a.balanced (taken other t.of_target t.of_set) h in
+    (taken_squares other t.of_target t.of_set observations
+    ∙ ap (λ (ks : List ℤ). sum_of_squares other (with_turns observations ks)) (sym t.turns_are)) in
+    let k = balanced_is_least c observations a.balanced (taken other t.of_target t.of_set) h in
     omega (arith, ints))
     (λ le. le)
 
-pub limited_equal_only_turned : (limit sets targets : ℕ) (c : Choice) (readings : List Reading)
-    → IsAcceptedUnder limit sets targets c readings → OnlyTurnedWhole c readings
-limited_equal_only_turned limit sets targets c readings a other turns long h e =
-    turned limit sets targets c readings a.held other turns long h (omega (arith, ints))
+pub limited_equal_only_turned : (limit sets targets : ℕ) (c : Choice)
+    (observations : List TurnedObservation)
+    → IsAcceptedUnder limit sets targets c observations → OnlyTurnedWhole c observations
+limited_equal_only_turned limit sets targets c observations a other turns long h e =
+    turned limit sets targets c observations a.held other turns long h (omega (arith, ints))

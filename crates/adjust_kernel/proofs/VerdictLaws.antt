@@ -22,7 +22,7 @@ use Rattle.adjust_kernel.specs.Firsts.{IsFirstDifference, IsFirstWhere}
 use Rattle.adjust_kernel.specs.Matching.{Key, Matches, key_of_row, key_of_obs, names_of, numbers_of}
 use Rattle.adjust_kernel.specs.Matching.{keys_of, observed}
 use Rattle.adjust_kernel.specs.Pairs.{choice_stated_by}
-use Rattle.adjust_kernel.specs.Readings.{Reading}
+use Rattle.adjust_kernel.specs.TurnedObservations.{TurnedObservation}
 use Rattle.adjust_kernel.specs.Residuals.{residual, target_sum, set_sum}
 use Rattle.adjust_kernel.specs.Sheets.{SheetValue}
 use Rattle.adjust_kernel.specs.Stations.{StationValue}
@@ -30,13 +30,13 @@ use Rattle.adjust_kernel.specs.Turns.{IsAbove}
 use Rattle.adjust_kernel.specs.Within.{IsWithin}
 use Rattle.adjust_kernel.specs.Verdict.{AtNth, Stands, IsAcceptance, IsAcceptedSheet, IsFault}
 use Rattle.adjust_kernel.specs.Verdict.{IsVerdict, TargetsAddUp, SetsAddUp, HoldsTogether}
-use Rattle.adjust_kernel.specs.Verdict.{KeepsLimit, order_of, readings}
+use Rattle.adjust_kernel.specs.Verdict.{KeepsLimit, order_of, observations}
 use Rattle.adjust_kernel.proofs.ConnectionLaws.{connected_or_divided}
 use Rattle.adjust_kernel.proofs.FirstLaws.{one_difference, no_difference, one_first, same_or_first}
 use Rattle.adjust_kernel.proofs.FirstLaws.{none_or_first, dec_by, dec_not, by_not_not}
 use Rattle.adjust_kernel.proofs.GreatestLaws.{size_within, within_size, greatest_size, greatest_is}
 use Rattle.adjust_kernel.proofs.GreatestLaws.{one_greatest}
-use Rattle.adjust_kernel.proofs.ReadingLaws.{length-readings_of}
+use Rattle.adjust_kernel.proofs.ObservationLaws.{length-turned_by_rows}
 
 -- No fault of this kind stands, whatever its number: what holds in its place.
 abbrev pub IsClearOf : StationValue → SheetValue → Option ℕ → KernelFault → Type 0
@@ -67,30 +67,30 @@ same_key a b = by (ℕ_discrete a.set b.set) (same_bytes a.target b.target)
       by (yes e) (no n) g = no (λ h. n (ap (λ (k : Key). k.target) h))
       by (yes e) (yes f) (no n) = no (λ h. n (ap (λ (k : Key). k.value) h))
 
-any_reading : Reading
-any_reading = record { set = 0; target = 0; value = 0; turn = pos 0 }
+any_observation : TurnedObservation
+any_observation = record { set = 0; target = 0; value = 0; turn = pos 0 }
 
 module _ (station : StationValue) (sheet : SheetValue) where
   -- no residual is above the limit, and that of no row is
-  keeps_limit : (most : ℕ) → ((n : ℕ) → n < length (readings station sheet)
-      → IsAbove most (choice_stated_by sheet) (readings station sheet) n → ⊥)
+  keeps_limit : (most : ℕ) → ((n : ℕ) → n < length (observations station sheet)
+      → IsAbove most (choice_stated_by sheet) (observations station sheet) n → ⊥)
       → KeepsLimit station sheet most
   keeps_limit most none k d inside =
       let v = residual (choice_stated_by sheet) in
-      let rs = readings station sheet in
+      let rs = observations station sheet in
       subst (IsWithin (pos (most * sheet.denominator))) (get_or-map v rs k d (pos 0) inside)
       (within_size (most * sheet.denominator) (slice_index_or (map v rs) k (pos 0)) (none k inside))
 
   none_above : (most : ℕ) → KeepsLimit station sheet most → (n : ℕ)
-      → n < length (readings station sheet) → IsAbove most (choice_stated_by sheet)
-      (readings station sheet) n → ⊥
+      → n < length (observations station sheet) → IsAbove most (choice_stated_by sheet)
+      (observations station sheet) n → ⊥
   none_above most keeps n inside above =
       let v = residual (choice_stated_by sheet) in
-      let rs = readings station sheet in
-      let small = size_within (most * sheet.denominator) (v (get_or rs n any_reading))
-      (keeps n any_reading inside) in
+      let rs = observations station sheet in
+      let small = size_within (most * sheet.denominator) (v (get_or rs n any_observation))
+      (keeps n any_observation inside) in
       let large = subst (λ z. most * sheet.denominator < unsigned_abs z)
-      (get_or-map v rs n any_reading (pos 0) inside) above in
+      (get_or-map v rs n any_observation (pos 0) inside) above in
       omega arith
 
   -- a fault does not stand where what it denies holds
@@ -132,7 +132,8 @@ module _ (station : StationValue) (sheet : SheetValue) where
     sets = (f.sets ∙ sym g.sets) i;
     targets = (f.targets ∙ sym g.targets) i;
     directions = (f.directions ∙ sym g.directions) i;
-    greatest = one_greatest (choice_stated_by sheet) (readings station sheet) a.greatest b.greatest
+    greatest = one_greatest (choice_stated_by sheet)
+        (observations station sheet) a.greatest b.greatest
         f.greatest g.greatest i;
     denominator = (f.denominator ∙ sym g.denominator) i;
   }
@@ -186,7 +187,7 @@ module _ (station : StationValue) (sheet : SheetValue) where
   clear_or_standing limit Datum = by_test limit Datum
       (ℤ_discrete ((choice_stated_by sheet).direction 0) (pos 0)) (λ e. e) (λ f. f)
   clear_or_standing limit (TargetSum n) =
-      let sum = target_sum (choice_stated_by sheet) (readings station sheet) in
+      let sum = target_sum (choice_stated_by sheet) (observations station sheet) in
       by_first limit TargetSum n (IsFirstWhere (λ t. sum t ≢ pos 0) (length station.targets))
       (λ k. refl) (λ k s. s)
       (λ (f : (t : ℕ) → t < length station.targets → sum t ≢ pos 0 → ⊥) t h.
@@ -194,7 +195,7 @@ module _ (station : StationValue) (sheet : SheetValue) where
       (none_or_first (λ t. sum t ≢ pos 0) (λ t. dec_not (ℤ_discrete (sum t) (pos 0)))
       (length station.targets))
   clear_or_standing limit (SetSum n) =
-      let sum = set_sum (choice_stated_by sheet) (readings station sheet) in
+      let sum = set_sum (choice_stated_by sheet) (observations station sheet) in
       by_first limit SetSum n (IsFirstWhere (λ s. sum s ≢ pos 0) (length station.sets)) (λ k. refl)
       (λ k s. s)
       (λ (f : (s : ℕ) → s < length station.sets → sum s ≢ pos 0 → ⊥) s h.
@@ -202,14 +203,14 @@ module _ (station : StationValue) (sheet : SheetValue) where
       (none_or_first (λ s. sum s ≢ pos 0) (λ s. dec_not (ℤ_discrete (sum s) (pos 0)))
       (length station.sets))
   clear_or_standing limit NotConnected = by (connected_or_divided (length station.sets)
-      (length station.targets) (readings station sheet)) where
+      (length station.targets) (observations station sheet)) where
         by : HoldsTogether station sheet ⊎ IsDivided (length station.sets) (length station.targets)
-            (readings station sheet) → IsClearOrStanding limit NotConnected
+            (observations station sheet) → IsClearOrStanding limit NotConnected
         by (inl whole) = inl whole
         by (inr divided) = inr (NotConnected, refl, divided)
   clear_or_standing None (Residual n) = inl tt
   clear_or_standing (Some most) (Residual n) =
-      let rs = readings station sheet in
+      let rs = observations station sheet in
       by_first (Some most) Residual n (IsFirstWhere (IsAbove most (choice_stated_by sheet) rs)
       (length rs)) (λ k. refl) (λ k s. s) (keeps_limit most)
       (none_or_first (IsAbove most (choice_stated_by sheet) rs)
@@ -290,18 +291,18 @@ module _ (station : StationValue) (sheet : SheetValue) where
         clear (ObsRow n) = matches.rows
         clear Datum = matches.datum
 
-  -- such a sheet with some readings is accepted
+  -- such a sheet with some observations is accepted
   pub accepted_sheet : (limit : Option ℕ) → Matches station sheet → TargetsAddUp station sheet
       → SetsAddUp station sheet → HoldsTogether station sheet
       → IfSome limit (KeepsLimit station sheet)
-      → 1 ≤ length (readings station sheet) → IsAcceptedSheet station sheet limit
+      → 1 ≤ length (observations station sheet) → IsAcceptedSheet station sheet limit
   accepted_sheet limit matches targets sets connected within some =
       let said : Accepted = record {
         name = station.name;
         sets = length station.sets;
         targets = length station.targets;
         directions = length station.obs;
-        greatest = pos (greatest_size (choice_stated_by sheet) (readings station sheet));
+        greatest = pos (greatest_size (choice_stated_by sheet) (observations station sheet));
         denominator = sheet.denominator;
       } in (
         said,
@@ -311,7 +312,7 @@ module _ (station : StationValue) (sheet : SheetValue) where
           targets = refl;
           directions = refl;
           denominator = refl;
-          greatest = greatest_is (choice_stated_by sheet) (readings station sheet) some;
+          greatest = greatest_is (choice_stated_by sheet) (observations station sheet) some;
         }),
       )
 
@@ -380,20 +381,21 @@ module _ (station : StationValue) (sheet : SheetValue) where
           let matches = matches_where_clear limit (λ fault h. clear fault (omega (arith, h))) in
           let same_length = sym (length-map station.obs (key_of_obs station.sets station.targets))
           ∙ ap length (sym matches.rows) ∙ length-map sheet.rows key_of_row in
-          let long = length-readings_of station.obs sheet.rows same_length in
+          let long = length-turned_by_rows station.obs sheet.rows same_length in
           let (accepted, verdict) = accepted_sheet limit matches (clear (TargetSum 0) (omega arith))
           (clear (SetSum 0) (omega arith)) (clear NotConnected (omega arith))
           (clear (Residual 0) (omega arith)) (omega (arith, long, some)) in
           (Ok accepted, verdict)
 
   pub target_sum_fault : (n : ℕ) → Matches station sheet
-      → IsFirstWhere (λ t. target_sum (choice_stated_by sheet) (readings station sheet) t ≢ pos 0)
+      → IsFirstWhere
+      (λ t. target_sum (choice_stated_by sheet) (observations station sheet) t ≢ pos 0)
       (length station.targets) n → IsFault station sheet (TargetSum (n + 1))
   target_sum_fault n matches first limit = refused limit (TargetSum (n + 1)) (n, refl, first)
       (kept matches limit)
 
   pub set_sum_fault : (n : ℕ) → Matches station sheet → TargetsAddUp station sheet
-      → IsFirstWhere (λ s. set_sum (choice_stated_by sheet) (readings station sheet) s ≢ pos 0)
+      → IsFirstWhere (λ s. set_sum (choice_stated_by sheet) (observations station sheet) s ≢ pos 0)
       (length station.sets) n → IsFault station sheet (SetSum (n + 1))
   set_sum_fault n matches targets first limit =
       refused limit (SetSum (n + 1)) (n, refl, first) clear where
@@ -403,7 +405,7 @@ module _ (station : StationValue) (sheet : SheetValue) where
 
   pub connection_fault : Matches station sheet → TargetsAddUp station sheet
       → SetsAddUp station sheet → IsDivided (length station.sets) (length station.targets)
-      (readings station sheet) → IsFault station sheet NotConnected
+      (observations station sheet) → IsFault station sheet NotConnected
   connection_fault matches targets sets divided limit =
       refused limit NotConnected divided clear where
         clear : (other : KernelFault) → order_of other < 8 → IsClearOf station sheet limit other
@@ -413,8 +415,8 @@ module _ (station : StationValue) (sheet : SheetValue) where
 
   pub residual_fault : (most n : ℕ) → Matches station sheet → TargetsAddUp station sheet
       → SetsAddUp station sheet → HoldsTogether station sheet
-      → IsFirstWhere (IsAbove most (choice_stated_by sheet) (readings station sheet))
-      (length (readings station sheet)) n → IsVerdict station sheet (Some most)
+      → IsFirstWhere (IsAbove most (choice_stated_by sheet) (observations station sheet))
+      (length (observations station sheet)) n → IsVerdict station sheet (Some most)
       (Err (Residual (n + 1)))
   residual_fault most n matches targets sets connected first =
       refused (Some most) (Residual (n + 1)) (n, refl, first) clear where

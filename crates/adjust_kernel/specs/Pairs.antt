@@ -2,7 +2,7 @@
 use Rattle.std.specs.Prelude.{◌≡◌, List, [], ◌∷◌, ℤ, All, length, map}
 use Rattle.adjust_kernel.specs.declared.obs.Obs.{Obs}
 use Rattle.adjust_kernel.specs.declared.row.Row.{Row}
-use Rattle.adjust_kernel.specs.Readings.{Reading}
+use Rattle.adjust_kernel.specs.TurnedObservations.{TurnedObservation}
 use Rattle.adjust_kernel.specs.Residuals.{Choice, choice_of}
 use Rattle.adjust_kernel.specs.Sheets.{SheetValue}
 use Rattle.adjust_kernel.specs.Stations.{IsObs}
@@ -14,14 +14,14 @@ choice_stated_by sheet =
     (map (λ o. o.value) sheet.orientations)
 
 -- an observation, with the full turns that the sheet's row adds to it
-abbrev pub reading_of : Obs → ℤ → Reading
-reading_of o turn = record { set = o.set; target = o.target; value = o.value; turn = turn }
+abbrev pub turned_by : Obs → ℤ → TurnedObservation
+turned_by o turn = record { set = o.set; target = o.target; value = o.value; turn = turn }
 
 -- the observations of a station, each with the full turns of the sheet's row at the same place
-abbrev pub readings_of : List Obs → List Row → List Reading
-readings_of [] rows = []
-readings_of (o ∷ obs) [] = []
-readings_of (o ∷ obs) (r ∷ rows) = reading_of o r.turn ∷ readings_of obs rows
+abbrev pub turned_by_rows : List Obs → List Row → List TurnedObservation
+turned_by_rows [] rows = []
+turned_by_rows (o ∷ obs) [] = []
+turned_by_rows (o ∷ obs) (r ∷ rows) = turned_by o r.turn ∷ turned_by_rows obs rows
 
 -- each observation is of one of the sheet's sets and one of its targets, and there are as many rows
 -- as observations

@@ -3,7 +3,7 @@
 use Rattle.std.specs.Prelude.{◌≡◌, ℕ, List, ℤ, pos, ◌<◌, ◌==◌, length, map, slice_index_or}
 use Rattle.adjust_kernel.specs.declared.bounds.TheConstants.{MOST_TARGETS, MOST_SETS}
 use Rattle.adjust_kernel.specs.declared.tally.Added.{Added}
-use Rattle.adjust_kernel.specs.Readings.{Reading}
+use Rattle.adjust_kernel.specs.TurnedObservations.{TurnedObservation}
 use Rattle.adjust_kernel.specs.Residuals.{Choice, residual}
 use Rattle.adjust_kernel.specs.Sums.{int_sum_where}
 
@@ -23,10 +23,10 @@ pub record AreSumsOf (l : List Added) (targets sets : List ℤ) (taken : ℕ) : 
   pub of_sets : (s : ℕ) → s < MOST_SETS
       → slice_index_or sets s (pos 0) ≡ added_for_set l s
 
--- a reading's residual, with the places of its target and set
-abbrev pub added_of : Choice → Reading → Added
+-- an observation's residual, with the places of its target and set
+abbrev pub added_of : Choice → TurnedObservation → Added
 added_of c r = record { target = r.target; set = r.set; residual = residual c r }
 
--- the residuals of all readings, as one pass over them adds them
-abbrev pub all_added : Choice → List Reading → List Added
-all_added c readings = map (added_of c) readings
+-- the residuals of all observations, as one pass over them adds them
+abbrev pub all_added : Choice → List TurnedObservation → List Added
+all_added c observations = map (added_of c) observations

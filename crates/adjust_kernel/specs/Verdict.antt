@@ -13,37 +13,37 @@ use Rattle.adjust_kernel.specs.Connected.{IsConnected, IsDivided}
 use Rattle.adjust_kernel.specs.Firsts.{IsFirstDifference, IsFirstWhere}
 use Rattle.adjust_kernel.specs.Greatest.{IsGreatest}
 use Rattle.adjust_kernel.specs.Matching.{names_of, numbers_of, keys_of, observed}
-use Rattle.adjust_kernel.specs.Pairs.{choice_stated_by, readings_of}
-use Rattle.adjust_kernel.specs.Readings.{Reading}
+use Rattle.adjust_kernel.specs.Pairs.{choice_stated_by, turned_by_rows}
+use Rattle.adjust_kernel.specs.TurnedObservations.{TurnedObservation}
 use Rattle.adjust_kernel.specs.Residuals.{target_sum, set_sum}
 use Rattle.adjust_kernel.specs.Sheets.{SheetValue}
 use Rattle.adjust_kernel.specs.Stations.{StationValue}
 use Rattle.adjust_kernel.specs.Turns.{IsAbove, IsLimited}
 
 -- the observations of the station with the full turns of the sheet
-abbrev pub readings : StationValue → SheetValue → List Reading
-readings station sheet = readings_of station.obs sheet.rows
+abbrev pub observations : StationValue → SheetValue → List TurnedObservation
+observations station sheet = turned_by_rows station.obs sheet.rows
 
 -- the residuals of each target add to 0
 abbrev pub TargetsAddUp : StationValue → SheetValue → Type 0
 TargetsAddUp station sheet =
     (t : ℕ) → t < length station.targets
-    → target_sum (choice_stated_by sheet) (readings station sheet) t ≡ pos 0
+    → target_sum (choice_stated_by sheet) (observations station sheet) t ≡ pos 0
 
 -- the residuals of each set add to 0
 abbrev pub SetsAddUp : StationValue → SheetValue → Type 0
 SetsAddUp station sheet =
     (s : ℕ) → s < length station.sets
-    → set_sum (choice_stated_by sheet) (readings station sheet) s ≡ pos 0
+    → set_sum (choice_stated_by sheet) (observations station sheet) s ≡ pos 0
 
 -- the observations hold all sets and targets together
 abbrev pub HoldsTogether : StationValue → SheetValue → Type 0
 HoldsTogether station sheet =
-    IsConnected (length station.sets) (length station.targets) (readings station sheet)
+    IsConnected (length station.sets) (length station.targets) (observations station sheet)
 
 -- no residual is above this limit
 abbrev pub KeepsLimit : StationValue → SheetValue → ℕ → Type 0
-KeepsLimit station sheet most = IsLimited most (choice_stated_by sheet) (readings station sheet)
+KeepsLimit station sheet most = IsLimited most (choice_stated_by sheet) (observations station sheet)
 
 -- P holds of the place that is the n-th, counted from 1
 abbrev pub AtNth : (ℕ → Type 0) → ℕ → Type 0
@@ -63,18 +63,18 @@ Stands station sheet limit (ObsRow n) =
 Stands station sheet limit Datum = (choice_stated_by sheet).direction 0 ≢ pos 0
 Stands station sheet limit (TargetSum n) =
     AtNth
-    (IsFirstWhere (λ t. target_sum (choice_stated_by sheet) (readings station sheet) t ≢ pos 0)
+    (IsFirstWhere (λ t. target_sum (choice_stated_by sheet) (observations station sheet) t ≢ pos 0)
     (length station.targets)) n
 Stands station sheet limit (SetSum n) =
     AtNth
-    (IsFirstWhere (λ s. set_sum (choice_stated_by sheet) (readings station sheet) s ≢ pos 0)
+    (IsFirstWhere (λ s. set_sum (choice_stated_by sheet) (observations station sheet) s ≢ pos 0)
     (length station.sets)) n
 Stands station sheet limit NotConnected =
-    IsDivided (length station.sets) (length station.targets) (readings station sheet)
+    IsDivided (length station.sets) (length station.targets) (observations station sheet)
 Stands station sheet limit (Residual n) =
     IsSomeAnd limit (λ most.
-    AtNth (IsFirstWhere (IsAbove most (choice_stated_by sheet) (readings station sheet))
-    (length (readings station sheet))) n)
+    AtNth (IsFirstWhere (IsAbove most (choice_stated_by sheet) (observations station sheet))
+    (length (observations station sheet))) n)
 
 -- the order in which the faults are looked for
 abbrev pub order_of : KernelFault → ℕ
@@ -96,7 +96,7 @@ pub record IsAcceptance (station : StationValue) (sheet : SheetValue) (accepted 
   pub targets : accepted.targets ≡ length station.targets
   pub directions : accepted.directions ≡ length station.obs
   pub greatest :
-      IsGreatest (choice_stated_by sheet) (readings station sheet) accepted.greatest
+      IsGreatest (choice_stated_by sheet) (observations station sheet) accepted.greatest
   pub denominator : accepted.denominator ≡ sheet.denominator
 
 -- The verdict: a fault that stands, where none stands that is looked for before it; or the

@@ -29,7 +29,7 @@ pub const LARGEST_ANGLE: i128 = 1_000_000_000_000_000_000_000;
 pub const LARGEST_TURN: i8 = 9;
 
 /// The largest size of a scaled residual, in half units times D: of a direction less an orientation
-/// less a reading of below one circle with all its full turns.
+/// less an observation of below one circle with all its full turns.
 pub const LARGEST_RESIDUAL: i128 = 2 * LARGEST_ANGLE
     + LARGEST_DENOMINATOR as i128 * (LARGEST_TURN as i128 + 1) * TURN as i128;
 

@@ -3,13 +3,14 @@
 //! A mark spreads from the first target: an observation carries it from its set to its target, or
 //! from its target to its set. The observations are swept until all sets and targets have a mark,
 //! or no sweep sets another: what has no mark then is joined by no observation to what has one.
-ghost use Rattle.std.specs.Prelude.{◌≡◌, ℕ, ◌≤◌, ◌<◌, ◌+◌, true, not, List, length, All, IfNone, IfSome, slice_set};
+ghost use Rattle.std.specs.Prelude.{◌≡◌, ℕ, ◌≤◌, ◌<◌, ◌+◌, true, not, List, length, All, IfNone};
+ghost use Rattle.std.specs.Prelude.{IfSome, slice_set};
 ghost use Rattle.std.specs.Bool.{OnTrue, OnFalse};
 ghost use Rattle.std.specs.List.{count_by};
 ghost use Rattle.adjust_kernel.specs.declared.row.Row.{Row};
 ghost use Rattle.adjust_kernel.specs.Connected.{IsConnected, IsDivided};
 ghost use Rattle.adjust_kernel.specs.Marks.{AreAlike, IsOpenEnd, IsSpread};
-ghost use Rattle.adjust_kernel.specs.Pairs.{readings_of};
+ghost use Rattle.adjust_kernel.specs.Pairs.{turned_by_rows};
 ghost use Rattle.adjust_kernel.specs.Stations.{IsObs};
 
 use crate::bounds::{MOST_SETS, MOST_TARGETS};
@@ -79,9 +80,9 @@ pub fn is_connected(sets: usize, targets: usize, obs: &[Obs]) -> bool
     requires obs { All (IsObs sets targets) obs.now }
     ensures connected { OnTrue result
         ((rows : List Row) → length rows ≡ length obs.now
-        → IsConnected sets targets (readings_of obs.now rows)) }
+        → IsConnected sets targets (turned_by_rows obs.now rows)) }
     ensures divided { OnFalse result
-        ((rows : List Row) → IsDivided sets targets (readings_of obs.now rows)) }
+        ((rows : List Row) → IsDivided sets targets (turned_by_rows obs.now rows)) }
 {
     let mut marks = [false; MOST_NODES];
     marks[sets] = true;

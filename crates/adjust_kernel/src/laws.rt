@@ -3,12 +3,20 @@
 ghost use Rattle.std.specs.Prelude.{◌≡◌, ◌≤◌, ◌<◌, ℕ, pos, length, Option, Result, Err, IfSome};
 ghost use Rattle.adjust_kernel.specs.declared.accepted.Accepted.{Accepted};
 ghost use Rattle.adjust_kernel.specs.declared.kernel_fault.KernelFault.{KernelFault};
-ghost use Rattle.adjust_kernel.specs.declared.bounds.TheConstants.{TURN, MOST_TARGETS, MOST_SETS, MOST_ROWS, LARGEST_SET_NUMBER, LONGEST_NAME, LARGEST_DENOMINATOR, LARGEST_ANGLE, LARGEST_TURN, LARGEST_RESIDUAL, LARGEST_RESIDUAL_LIMIT};
+ghost use Rattle.adjust_kernel.specs.declared.bounds.TheConstants.{TURN, MOST_TARGETS, MOST_SETS};
+ghost use Rattle.adjust_kernel.specs.declared.bounds.TheConstants.{MOST_ROWS, LARGEST_SET_NUMBER};
+ghost use Rattle.adjust_kernel.specs.declared.bounds.TheConstants.{LONGEST_NAME};
+ghost use Rattle.adjust_kernel.specs.declared.bounds.TheConstants.{LARGEST_DENOMINATOR};
+ghost use Rattle.adjust_kernel.specs.declared.bounds.TheConstants.{LARGEST_ANGLE, LARGEST_TURN};
+ghost use Rattle.adjust_kernel.specs.declared.bounds.TheConstants.{LARGEST_RESIDUAL};
+ghost use Rattle.adjust_kernel.specs.declared.bounds.TheConstants.{LARGEST_RESIDUAL_LIMIT};
 ghost use Rattle.adjust_kernel.specs.declared.name.TheConstants.{FIRST_PRINTABLE, LAST_PRINTABLE};
 ghost use Rattle.adjust_kernel.specs.Matching.{Matches};
 ghost use Rattle.adjust_kernel.specs.Sheets.{SheetValue};
 ghost use Rattle.adjust_kernel.specs.Stations.{StationValue};
-ghost use Rattle.adjust_kernel.specs.Verdict.{HoldsTogether, IsAcceptedSheet, IsVerdict, KeepsLimit, SetsAddUp, TargetsAddUp, order_of, readings};
+ghost use Rattle.adjust_kernel.specs.Verdict.{HoldsTogether, IsAcceptedSheet, IsVerdict};
+ghost use Rattle.adjust_kernel.specs.Verdict.{KeepsLimit, SetsAddUp, TargetsAddUp, order_of};
+ghost use Rattle.adjust_kernel.specs.Verdict.{observations};
 
 /// A station, a sheet and a residual limit have one verdict at most.
 pub fn one_verdict()
@@ -41,7 +49,7 @@ pub fn acceptance()
     ensures accepted { (station : StationValue) (sheet : SheetValue) (limit : Option ℕ)
         → Matches station sheet → TargetsAddUp station sheet → SetsAddUp station sheet
         → HoldsTogether station sheet → IfSome limit (KeepsLimit station sheet)
-        → 1 ≤ length (readings station sheet) → IsAcceptedSheet station sheet limit }
+        → 1 ≤ length (observations station sheet) → IsAcceptedSheet station sheet limit }
 {}
 
 /// What is looked for before a refusal is as it has to be.

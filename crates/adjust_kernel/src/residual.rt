@@ -1,15 +1,15 @@
-//! Scaled residuals: what is left of a direction, less the orientation, against the reading.
+//! Scaled residuals: what is left of a direction, less the orientation, against the observation.
 //!
 //! Everything is in half units times the sheet's denominator, so that all numbers are whole. Each
 //! step has its own bound, and no step is near the end of 128 bits.
 ghost use Rattle.std.specs.Prelude.{◌≡◌, ◌≤◌, ◌<◌, pos, ◌*ℤ◌, length, slice_index_or};
 ghost use Rattle.adjust_kernel.specs.Matching.{Matches};
-ghost use Rattle.adjust_kernel.specs.Readings.{Reading};
+ghost use Rattle.adjust_kernel.specs.TurnedObservations.{TurnedObservation};
 ghost use Rattle.adjust_kernel.specs.Within.{IsWithin};
 ghost use Rattle.adjust_kernel.specs.Stations.{IsObs};
-ghost use Rattle.adjust_kernel.specs.Pairs.{ArePaired, reading_of, readings_of, choice_stated_by};
+ghost use Rattle.adjust_kernel.specs.Pairs.{ArePaired, turned_by, turned_by_rows, choice_stated_by};
 ghost use Rattle.adjust_kernel.specs.Residuals.{residual};
-ghost use Rattle.adjust_kernel.specs.Verdict.{readings};
+ghost use Rattle.adjust_kernel.specs.Verdict.{observations};
 
 use crate::bounds::{LARGEST_ANGLE, LARGEST_DENOMINATOR, LARGEST_RESIDUAL, LARGEST_TURN, TURN};
 use crate::obs::Obs;
@@ -17,18 +17,18 @@ use crate::row::{Row, unrolled};
 use crate::sheet::Sheet;
 use crate::station::Station;
 
-/// No reading with its full turns is larger than this, in half units.
-const LARGEST_READING: i64 = (LARGEST_TURN as i64 + 1) * TURN as i64;
+/// No observation with its full turns is larger than this, in half units.
+const LARGEST_UNROLLED: i64 = (LARGEST_TURN as i64 + 1) * TURN as i64;
 
-/// A reading with its full turns, times the denominator: both fit into 64 bits with a sign, and
-/// the machine multiplies two such numbers at once.
-fn scaled(denominator: u64, reading: i64) -> i128
+/// An observation with its full turns, times the denominator: both fit into 64 bits with a sign,
+/// and the machine multiplies two such numbers at once.
+fn scaled(denominator: u64, observation: i64) -> i128
     requires denominator { denominator ≤ LARGEST_DENOMINATOR }
-    requires reading { IsWithin LARGEST_READING reading }
-    ensures value { result ≡ (pos denominator *ℤ reading) }
-    ensures bound { IsWithin (pos LARGEST_DENOMINATOR *ℤ LARGEST_READING) result }
+    requires observation { IsWithin LARGEST_UNROLLED observation }
+    ensures value { result ≡ (pos denominator *ℤ observation) }
+    ensures bound { IsWithin (pos LARGEST_DENOMINATOR *ℤ LARGEST_UNROLLED) result }
 {
-    i128::from(denominator as i64) * i128::from(reading)
+    i128::from(denominator as i64) * i128::from(observation)
 }
 
 /// The direction of a target.
@@ -54,13 +54,13 @@ fn residual_at(sheet: &Sheet, obs: &Obs, row: &Row) -> i128
     requires obs { IsObs (length sheet.now.orientations) (length sheet.now.directions) obs.now }
     requires turn { IsWithin LARGEST_TURN row.now.turn }
     ensures value { result
-        ≡ residual (choice_stated_by sheet.now) (reading_of obs.now row.now.turn) }
+        ≡ residual (choice_stated_by sheet.now) (turned_by obs.now row.now.turn) }
     ensures bound { IsWithin LARGEST_RESIDUAL result }
 {
     let direction = direction_of(sheet, obs.target);
     let orientation = orientation_of(sheet, obs.set);
-    let reading = scaled(sheet.denominator(), unrolled(obs.value, row.turn));
-    direction - orientation - reading
+    let observation = scaled(sheet.denominator(), unrolled(obs.value, row.turn));
+    direction - orientation - observation
 }
 
 /// The scaled residual of a row, by its place from 0, in half units (0.005 mgon each) times the
@@ -68,9 +68,9 @@ fn residual_at(sheet: &Sheet, obs: &Obs, row: &Row) -> i128
 pub fn residual_of(station: &Station, sheet: &Sheet, row: usize) -> i128
     requires matches { Matches station.now sheet.now }
     requires row { row < length station.now.obs }
-    ensures value { (d : Reading)
+    ensures value { (d : TurnedObservation)
         → result ≡ residual (choice_stated_by sheet.now)
-        (slice_index_or (readings station.now sheet.now) row d) }
+        (slice_index_or (observations station.now sheet.now) row d) }
     ensures bound { IsWithin LARGEST_RESIDUAL result }
 {
     row_residual(sheet, station.obs(), row)
@@ -80,9 +80,9 @@ pub fn residual_of(station: &Station, sheet: &Sheet, row: usize) -> i128
 pub(crate) fn row_residual(sheet: &Sheet, obs: &[Obs], row: usize) -> i128
     requires paired { ArePaired sheet.now obs.now }
     requires row { row < length obs.now }
-    ensures value { (d : Reading)
+    ensures value { (d : TurnedObservation)
         → result ≡ residual (choice_stated_by sheet.now)
-        (slice_index_or (readings_of obs.now sheet.now.rows) row d) }
+        (slice_index_or (turned_by_rows obs.now sheet.now.rows) row d) }
     ensures bound { IsWithin LARGEST_RESIDUAL result }
 {
     residual_at(sheet, &obs[row], &sheet.rows()[row])

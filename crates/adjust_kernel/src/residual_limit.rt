@@ -1,9 +1,10 @@
 //! The residual limit that an office may state, and the first row whose residual is above it.
 
-ghost use Rattle.std.specs.Prelude.{◌≡◌, ◌↔◌, ◌≤◌, ◌<◌, ◌*◌, pos, length, map, slice_index_or, IsTrue, IfNone, IfSome};
+ghost use Rattle.std.specs.Prelude.{◌≡◌, ◌↔◌, ◌≤◌, ◌<◌, ◌*◌, pos, length, map, slice_index_or};
+ghost use Rattle.std.specs.Prelude.{IsTrue, IfNone, IfSome};
 ghost use Rattle.std.specs.Int.RustNames.{unsigned_abs};
 ghost use Rattle.adjust_kernel.specs.Firsts.{IsFirstWhere};
-ghost use Rattle.adjust_kernel.specs.Pairs.{ArePaired, choice_stated_by, readings_of};
+ghost use Rattle.adjust_kernel.specs.Pairs.{ArePaired, choice_stated_by, turned_by_rows};
 ghost use Rattle.adjust_kernel.specs.Residuals.{residual};
 ghost use Rattle.adjust_kernel.specs.Turns.{IsAbove, IsLimited};
 
@@ -69,7 +70,7 @@ fn is_row_above(sheet: &Sheet, obs: &[Obs], limit: u32, row: usize) -> bool
     requires paired { ArePaired sheet.now obs.now }
     requires row { row < length obs.now }
     ensures { IsTrue result
-        ↔ IsAbove limit (choice_stated_by sheet.now) (readings_of obs.now sheet.now.rows) row }
+        ↔ IsAbove limit (choice_stated_by sheet.now) (turned_by_rows obs.now sheet.now.rows) row }
 {
     is_above(row_residual(sheet, obs, row), limit, sheet.denominator())
 }
@@ -79,11 +80,11 @@ fn is_row_above(sheet: &Sheet, obs: &[Obs], limit: u32, row: usize) -> bool
 pub fn first_above_limit(sheet: &Sheet, obs: &[Obs], limit: u32) -> Option<usize>
     requires { ArePaired sheet.now obs.now }
     ensures none { IfNone result
-        (IsLimited limit (choice_stated_by sheet.now) (readings_of obs.now sheet.now.rows)) }
+        (IsLimited limit (choice_stated_by sheet.now) (turned_by_rows obs.now sheet.now.rows)) }
     ensures some { IfSome result (λ n.
         IsFirstWhere
-        (IsAbove limit (choice_stated_by sheet.now) (readings_of obs.now sheet.now.rows))
-        (length (readings_of obs.now sheet.now.rows)) n) }
+        (IsAbove limit (choice_stated_by sheet.now) (turned_by_rows obs.now sheet.now.rows))
+        (length (turned_by_rows obs.now sheet.now.rows)) n) }
     ensures bound { IfSome result (λ n. n < length obs.now) }
 {
     for row in 0..obs.len() {

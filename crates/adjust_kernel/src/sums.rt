@@ -4,8 +4,8 @@ ghost use Rattle.std.specs.Prelude.{◌≡◌, ◌≢◌, ◌≤◌, ◌<◌, �
 ghost use Rattle.std.specs.Int.RustNames.{unsigned_abs};
 ghost use Rattle.adjust_kernel.specs.Firsts.{IsFirstWhere};
 ghost use Rattle.adjust_kernel.specs.Greatest.{IsGreatest};
-ghost use Rattle.adjust_kernel.specs.Pairs.{ArePaired, choice_stated_by, readings_of};
-ghost use Rattle.adjust_kernel.specs.Readings.{Reading};
+ghost use Rattle.adjust_kernel.specs.Pairs.{ArePaired, choice_stated_by, turned_by_rows};
+ghost use Rattle.adjust_kernel.specs.TurnedObservations.{TurnedObservation};
 ghost use Rattle.adjust_kernel.specs.Residuals.{Choice, target_sum, set_sum};
 ghost use Rattle.adjust_kernel.specs.Tallies.{all_added};
 ghost use Rattle.adjust_kernel.specs.Within.{IsWithin};
@@ -25,9 +25,9 @@ pub fn add_residuals<T: Tally>(mut tally: T, sheet: &Sheet, obs: &[Obs]) -> (T, 
     requires nothing { T.StandsFor tally [] }
     requires room { T.room tally ≡ MOST_ROWS }
     ensures sums { T.StandsFor result.0
-        (all_added (choice_stated_by sheet.now) (readings_of obs.now sheet.now.rows)) }
+        (all_added (choice_stated_by sheet.now) (turned_by_rows obs.now sheet.now.rows)) }
     ensures greatest { IsGreatest (choice_stated_by sheet.now)
-        (readings_of obs.now sheet.now.rows) result.1 }
+        (turned_by_rows obs.now sheet.now.rows) result.1 }
 {
     let mut greatest = 0;
     for row in 0..sheet.rows().len() {
@@ -50,10 +50,10 @@ fn larger_size(size: i128, residual: i128) -> i128
 pub fn first_uneven_target<T: Tally>(tally: &T, targets: u32) -> Option<u32>
     requires { targets ≤ MOST_TARGETS }
     ensures none { IfNone result
-        ((c : Choice) (rs : List Reading) → T.StandsFor tally.now (all_added c rs)
+        ((c : Choice) (rs : List TurnedObservation) → T.StandsFor tally.now (all_added c rs)
         → (t : ℕ) → t < targets → target_sum c rs t ≡ pos 0) }
     ensures some { IfSome result (λ n.
-        (c : Choice) (rs : List Reading) → T.StandsFor tally.now (all_added c rs)
+        (c : Choice) (rs : List TurnedObservation) → T.StandsFor tally.now (all_added c rs)
         → IsFirstWhere (λ t. target_sum c rs t ≢ pos 0) targets n) }
 {
     for target in 0..targets {
@@ -68,10 +68,10 @@ pub fn first_uneven_target<T: Tally>(tally: &T, targets: u32) -> Option<u32>
 pub fn first_uneven_set<T: Tally>(tally: &T, sets: u32) -> Option<u32>
     requires { sets ≤ MOST_SETS }
     ensures none { IfNone result
-        ((c : Choice) (rs : List Reading) → T.StandsFor tally.now (all_added c rs)
+        ((c : Choice) (rs : List TurnedObservation) → T.StandsFor tally.now (all_added c rs)
         → (s : ℕ) → s < sets → set_sum c rs s ≡ pos 0) }
     ensures some { IfSome result (λ n.
-        (c : Choice) (rs : List Reading) → T.StandsFor tally.now (all_added c rs)
+        (c : Choice) (rs : List TurnedObservation) → T.StandsFor tally.now (all_added c rs)
         → IsFirstWhere (λ s. set_sum c rs s ≢ pos 0) sets n) }
 {
     for set in 0..sets {

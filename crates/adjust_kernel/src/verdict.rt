@@ -1,10 +1,11 @@
 //! The verdict on a sheet of a station.
 //!
-//! The sheet is the least-squares adjustment of its readings where the residuals of each target and
-//! of each set add to 0: so nothing is searched for, and no other choice is looked at. The
+//! The sheet is the least-squares adjustment of its observations where the residuals of each target
+//! and of each set add to 0: so nothing is searched for, and no other choice is looked at. The
 //! residuals are gone through once, for their sums and for the greatest of them.
 
-ghost use Rattle.std.specs.Prelude.{◌≡◌, ◌≤◌, ◌<◌, ℕ, pos, [], length, Option, Result, OnOk, IfOk, IfErr, IfNone, IfSome, Err};
+ghost use Rattle.std.specs.Prelude.{◌≡◌, ◌≤◌, ◌<◌, ℕ, pos, [], length, Option, Result, OnOk, IfOk};
+ghost use Rattle.std.specs.Prelude.{IfErr, IfNone, IfSome, Err};
 ghost use Rattle.adjust_kernel.specs.declared.accepted.Accepted.{Accepted};
 ghost use Rattle.adjust_kernel.specs.declared.kernel_fault.KernelFault.{KernelFault};
 ghost use Rattle.adjust_kernel.specs.Greatest.{IsGreatest};
@@ -14,7 +15,9 @@ ghost use Rattle.adjust_kernel.specs.Promises.{IsAnswer};
 ghost use Rattle.adjust_kernel.specs.Sheets.{IsSheet};
 ghost use Rattle.adjust_kernel.specs.Stations.{IsStation};
 ghost use Rattle.adjust_kernel.specs.Tallies.{all_added};
-ghost use Rattle.adjust_kernel.specs.Verdict.{IsVerdict, IsFault, TargetsAddUp, SetsAddUp, HoldsTogether, KeepsLimit, IsAcceptance, readings};
+ghost use Rattle.adjust_kernel.specs.Verdict.{IsVerdict, IsFault, TargetsAddUp, SetsAddUp};
+ghost use Rattle.adjust_kernel.specs.Verdict.{HoldsTogether, KeepsLimit, IsAcceptance};
+ghost use Rattle.adjust_kernel.specs.Verdict.{observations};
 
 use crate::accepted::Accepted;
 use crate::bounds::{LARGEST_RESIDUAL_LIMIT, MOST_ROWS};
@@ -92,7 +95,7 @@ fn check_sums<T: Tally>(tally: T, station: &Station, sheet: &Sheet) -> Result<i1
     ensures targets { OnOk result (TargetsAddUp station.now sheet.now) }
     ensures sets { OnOk result (SetsAddUp station.now sheet.now) }
     ensures greatest_residual { IfOk result
-        (IsGreatest (choice_stated_by sheet.now) (readings station.now sheet.now)) }
+        (IsGreatest (choice_stated_by sheet.now) (observations station.now sheet.now)) }
     ensures err { IfErr result (IsFault station.now sheet.now) }
 {
     let (tally, greatest_residual) = add_residuals(tally, sheet, station.obs());
@@ -144,7 +147,7 @@ fn check_limit(
 /// What is said of an accepted sheet.
 fn acceptance(station: &Station, sheet: &Sheet, greatest_residual: i128) -> Accepted
     requires greatest { IsGreatest (choice_stated_by sheet.now)
-        (readings station.now sheet.now) greatest_residual }
+        (observations station.now sheet.now) greatest_residual }
     ensures { IsAcceptance station.now sheet.now result }
 {
     Accepted {

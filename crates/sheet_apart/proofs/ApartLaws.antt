@@ -5,7 +5,7 @@ use Rattle.std.proofs.Math.IntN.{◌*ℤ◌, ◌-ℤ◌}
 use Rattle.std.proofs.Math.Nat.{le_of_mul-le-mul_left, mul-le-mul, mul-le-mul_left}
 use Rattle.std.proofs.lemmas.Int.{ints}
 use native.Mathlib.Decide.{dec_le}
-use Rattle.adjust_kernel.specs.Readings.{Reading}
+use Rattle.adjust_kernel.specs.TurnedObservations.{TurnedObservation}
 use Rattle.adjust_kernel.specs.Residuals.{Choice}
 use Rattle.adjust_kernel.specs.Within.{IsWithin}
 use Rattle.adjust_kernel.proofs.Ring.{num, ◌⊕◌, ◌⊖◌, ◌⊗◌, same_value}
@@ -95,10 +95,11 @@ twice_within w e q z h =
     let same : 2 * (w * (1_000 * e * q)) ≡ 2_000 * w * (e * q) = omega arith in
     subst (λ n. IsWithin (pos n) (pos 2 *ℤ z)) same (times_within 2 (w * (1_000 * e * q)) z h)
 
-module _ (sets targets : ℕ) (c other : Choice) (readings : List Reading) (near apart : ℕ)
+module _ (sets targets : ℕ) (c other : Choice) (observations : List TurnedObservation)
+    (near apart : ℕ)
     (stated : ℕ → ℤ) (turns : List ℤ)
     (is : IsApart targets c stated near apart)
-    (n : IsNear sets targets c readings near other turns) where
+    (n : IsNear sets targets c observations near other turns) where
   abbrev arc : IsArc (circle_of c) (difference c stated) targets 1 is.spread
   arc = is.is_spread.held
 
@@ -180,10 +181,11 @@ little_more d near v spread w short least clear = by (dec_le (v + 2_500) (2_000 
         absurd (omega (arith, short, least, clear, e))
     by (no h) = omega (arith, h)
 
-module _ (sets targets : ℕ) (c other : Choice) (readings : List Reading) (near apart v : ℕ)
+module _ (sets targets : ℕ) (c other : Choice) (observations : List TurnedObservation)
+    (near apart v : ℕ)
     (stated : ℕ → ℤ) (turns : List ℤ)
     (is : IsApart targets c stated near apart) (clear : IsClear c near) (some : 1
-    ≤ other.denominator) (n : IsNear sets targets c readings near other turns)
+    ≤ other.denominator) (n : IsNear sets targets c observations near other turns)
     (b : AreBroughtNear targets other stated v) where
   abbrev nearer : ℕ
   nearer = c.denominator * (v * (other.denominator * b.parts))

@@ -6,7 +6,7 @@ use Rattle.std.proofs.Math.Nat.{le_of_mul-le-mul_left, mul-le-mul, mul-le-mul_le
 use Rattle.std.proofs.Math.Nat.{mul-le-mul_right, mul-mod_left}
 use Rattle.std.proofs.lemmas.Int.{ints}
 use native.Mathlib.Decide.{dec_le}
-use Rattle.adjust_kernel.specs.Readings.{Reading}
+use Rattle.adjust_kernel.specs.TurnedObservations.{TurnedObservation}
 use Rattle.adjust_kernel.specs.Residuals.{Choice}
 use Rattle.adjust_kernel.specs.Within.{IsWithin}
 use Rattle.adjust_kernel.proofs.Ring.{num, ◌⊕◌, ◌⊖◌, ◌⊗◌, same_value}
@@ -224,9 +224,10 @@ module _ (targets step : ℕ) (c : Choice) (stated : ℕ → ℕ) (each : (t : �
     high = high_of;
   }
 
-  module _ (sets near left : ℕ) (other : Choice) (readings : List Reading) (turns : List ℤ)
+  module _ (sets near left : ℕ) (other : Choice) (observations : List TurnedObservation)
+      (turns : List ℤ)
       (positive : 1 ≤ c.denominator) (few : 10_000 * near ≤ left * c.denominator)
-      (n : IsNear sets targets c readings near other turns) where
+      (n : IsNear sets targets c observations near other turns) where
     near_each : (t : ℕ) → t < targets → (d : Dec (suc t ≤ targets))
         → IsWithin (pos ((step + left) * (other.denominator * c.denominator)))
         (pos 2 *ℤ (pos c.denominator *ℤ (difference other (λ t. pos (stated t)) t

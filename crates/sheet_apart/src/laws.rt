@@ -1,11 +1,12 @@
 //! Laws of the definitions that contracts cite. The functions do nothing.
 
 ghost use Rattle.std.specs.Prelude.{◌≡◌, ◌≤◌, ◌<◌, ◌+◌, ◌-◌, ◌*◌, ◌%◌, ℕ, List, ℤ, pos};
-ghost use Rattle.adjust_kernel.specs.Readings.{Reading};
+ghost use Rattle.adjust_kernel.specs.TurnedObservations.{TurnedObservation};
 ghost use Rattle.adjust_kernel.specs.Residuals.{Choice};
 ghost use Rattle.sheet_apart.specs.Apart.{AreBroughtNear, AreBroughtWithin, IsApart, IsClear};
 ghost use Rattle.sheet_apart.specs.Rounding.{IsRounded};
-ghost use Rattle.sheet_apart.specs.declared.units.TheConstants.{CIRCLE, CLEAR_BELOW, HALF_UNIT, UNIT};
+ghost use Rattle.sheet_apart.specs.declared.units.TheConstants.{CIRCLE, CLEAR_BELOW, HALF_UNIT};
+ghost use Rattle.sheet_apart.specs.declared.units.TheConstants.{UNIT};
 ghost use Rattle.sheet_nearness.specs.Nearness.{IsNear};
 
 /// How far stated directions are apart from a sheet and what is near it, says of every choice as
@@ -14,23 +15,23 @@ ghost use Rattle.sheet_nearness.specs.Nearness.{IsNear};
 /// is brought within some bound of such a choice's is apart by less than the bound, 1 unit and a
 /// quarter.
 pub fn apart()
-    ensures within { (sets targets : ℕ) (c : Choice) (readings : List Reading) (near apart : ℕ)
+    ensures within { (sets targets : ℕ) (c : Choice) (observations : List TurnedObservation) (near apart : ℕ)
         (stated : ℕ → ℤ) (other : Choice) (turns : List ℤ)
         → IsApart targets c stated near apart
-        → IsNear sets targets c readings near other turns
+        → IsNear sets targets c observations near other turns
         → AreBroughtWithin targets other stated apart }
-    ensures at_most { (sets targets : ℕ) (c : Choice) (readings : List Reading)
+    ensures at_most { (sets targets : ℕ) (c : Choice) (observations : List TurnedObservation)
         (near apart most : ℕ) (stated : ℕ → ℤ) (other : Choice) (turns : List ℤ)
         → IsApart targets c stated near apart → IsClear c near
         → 1 ≤ other.denominator
-        → IsNear sets targets c readings near other turns
+        → IsNear sets targets c observations near other turns
         → AreBroughtNear targets other stated most
         → 2 * UNIT * apart < most + 2 * UNIT + 4 * CLEAR_BELOW }
-    ensures no_nearer { (sets targets : ℕ) (c : Choice) (readings : List Reading) (near apart : ℕ)
+    ensures no_nearer { (sets targets : ℕ) (c : Choice) (observations : List TurnedObservation) (near apart : ℕ)
         (stated : ℕ → ℤ) (other : Choice) (turns : List ℤ)
         → IsApart targets c stated near apart → IsClear c near → 2 ≤ apart
         → 1 ≤ other.denominator
-        → IsNear sets targets c readings near other turns
+        → IsNear sets targets c observations near other turns
         → ¬ AreBroughtWithin targets other stated (apart - 2) }
 {}
 
@@ -59,17 +60,17 @@ pub fn rounded()
 /// clear, within half a step and an eighth of 0.000001 gon. Bounds are in halves of 0.000000001
 /// gon.
 pub fn near_rounded()
-    ensures left { (sets targets step near left : ℕ) (c : Choice) (readings : List Reading)
+    ensures left { (sets targets step near left : ℕ) (c : Choice) (observations : List TurnedObservation)
         (stated : ℕ → ℕ) (other : Choice) (turns : List ℤ)
         → 1 ≤ c.denominator → 2 * HALF_UNIT * near ≤ left * c.denominator
         → ((t : ℕ) → t < targets → IsRounded c t step (stated t))
-        → IsNear sets targets c readings near other turns
+        → IsNear sets targets c observations near other turns
         → AreBroughtNear targets other (λ t. pos (stated t)) (step + left) }
-    ensures clear { (sets targets step near : ℕ) (c : Choice) (readings : List Reading)
+    ensures clear { (sets targets step near : ℕ) (c : Choice) (observations : List TurnedObservation)
         (stated : ℕ → ℕ) (other : Choice) (turns : List ℤ)
         → IsClear c near
         → ((t : ℕ) → t < targets → IsRounded c t step (stated t))
-        → IsNear sets targets c readings near other turns
+        → IsNear sets targets c observations near other turns
         → AreBroughtNear targets other (λ t. pos (stated t)) (step + 2 * CLEAR_BELOW) }
 {}
 

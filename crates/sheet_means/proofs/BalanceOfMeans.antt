@@ -1,7 +1,7 @@
 -- The residuals of the means of a complete station add to 0, for each target and for each set.
 use Rattle.std.proofs.Common.{◌≡◌, ℕ, ◌*◌, ◌<◌, List, ℤ, pos, arith, ap, sym, ◌∙◌}
 use Rattle.std.proofs.Math.IntN.{◌*ℤ◌, ◌-ℤ◌, *ℤ-zero, +ℤ_invr}
-use Rattle.adjust_kernel.specs.Readings.{Reading}
+use Rattle.adjust_kernel.specs.TurnedObservations.{TurnedObservation}
 use Rattle.adjust_kernel.specs.Residuals.{Choice, residual, unrolled, target_sum, set_sum}
 use Rattle.std.proofs.lemmas.Int.{ints}
 use Rattle.sheet_means.proofs.Products.{over_difference, three_factors}
@@ -29,45 +29,47 @@ set_left s t y f g =
     let e = three_factors t s y in
     omega (arith, ints)
 
-module _ (sets targets : ℕ) (readings : List Reading) (grid : AreGrid sets targets readings)
-    (c : Choice) (means : AreMeans sets targets readings c) (some : 0 < targets) where
+module _ (sets targets : ℕ) (observations : List TurnedObservation)
+    (grid : AreGrid sets targets observations)
+    (c : Choice) (means : AreMeans sets targets observations c) (some : 0 < targets) where
   abbrev x : ℕ → ℕ → ℤ
-  x s t = unrolled (at sets targets readings grid s t)
+  x s t = unrolled (at sets targets observations grid s t)
 
   abbrev G : ℤ
-  G = whole_total readings
+  G = whole_total observations
 
   abbrev F : ℤ
-  F = target_total readings 0
+  F = target_total observations 0
 
   orientations_sum : sum_below sets c.orientation
       ≡ pos sets *ℤ G -ℤ pos sets *ℤ G -ℤ pos sets *ℤ (pos targets *ℤ F)
   orientations_sum =
-      sum_below-same sets c.orientation (λ s. G -ℤ pos sets *ℤ set_total readings s
+      sum_below-same sets c.orientation (λ s. G -ℤ pos sets *ℤ set_total observations s
       -ℤ pos targets *ℤ F) means.orientations
-      ∙ sum_below-sub sets (λ s. G -ℤ pos sets *ℤ set_total readings s) (λ s. pos targets *ℤ F)
-      ∙ (λ i. sum_below-sub sets (λ s. G) (λ s. pos sets *ℤ set_total readings s) i
+      ∙ sum_below-sub sets (λ s. G -ℤ pos sets *ℤ set_total observations s) (λ s. pos targets *ℤ F)
+      ∙ (λ i. sum_below-sub sets (λ s. G) (λ s. pos sets *ℤ set_total observations s) i
       -ℤ sum_below-const sets (pos targets *ℤ F) i)
       ∙ (λ i. sum_below-const sets G i -ℤ (sum_below-scale sets (pos sets)
-      (λ s. set_total readings s) ∙ ap (λ z. pos sets *ℤ z)
-      (sym (whole_by_sets sets targets readings grid))) i -ℤ pos sets *ℤ (pos targets *ℤ F))
+      (λ s. set_total observations s) ∙ ap (λ z. pos sets *ℤ z)
+      (sym (whole_by_sets sets targets observations grid))) i -ℤ pos sets *ℤ (pos targets *ℤ F))
 
   directions_sum : sum_below targets c.direction ≡ pos targets *ℤ (G -ℤ pos targets *ℤ F)
   directions_sum =
-      sum_below-same targets c.direction (λ t. pos targets *ℤ (target_total readings t
+      sum_below-same targets c.direction (λ t. pos targets *ℤ (target_total observations t
       -ℤ F)) means.directions
-      ∙ sum_below-scale targets (pos targets) (λ t. target_total readings t -ℤ F)
-      ∙ ap (λ z. pos targets *ℤ z) (whole_less sets targets readings grid F)
+      ∙ sum_below-scale targets (pos targets) (λ t. target_total observations t -ℤ F)
+      ∙ ap (λ z. pos targets *ℤ z) (whole_less sets targets observations grid F)
 
-  residual_at : (s t : ℕ) → s < sets → t < targets → residual c (at sets targets readings grid s t)
+  residual_at : (s t : ℕ) → s < sets → t < targets
+      → residual c (at sets targets observations grid s t)
       ≡ c.direction t -ℤ c.orientation s -ℤ pos (sets * targets) *ℤ x s t
   residual_at s t h k = let p = grid.at_place s t h k in
       λ i. c.direction (p.1 i) -ℤ c.orientation (p.0 i) -ℤ pos (means.denominator i) *ℤ x s t
 
-  pub target_sums_vanish : (t : ℕ) → t < targets → target_sum c readings t ≡ pos 0
+  pub target_sums_vanish : (t : ℕ) → t < targets → target_sum c observations t ≡ pos 0
   target_sums_vanish t h =
-      sum_of_target sets targets readings grid (residual c) t h
-      ∙ sum_below-same sets (λ s. residual c (at sets targets readings grid s t))
+      sum_of_target sets targets observations grid (residual c) t h
+      ∙ sum_below-same sets (λ s. residual c (at sets targets observations grid s t))
       (λ s. c.direction t -ℤ c.orientation s -ℤ pos (sets * targets) *ℤ x s t)
       (λ s k. residual_at s t k h)
       ∙ sum_below-sub sets (λ s. c.direction t -ℤ c.orientation s)
@@ -76,16 +78,16 @@ module _ (sets targets : ℕ) (readings : List Reading) (grid : AreGrid sets tar
       ∙ (λ j. sum_below-const sets (c.direction t) j -ℤ orientations_sum j)) i
       -ℤ (sum_below-scale sets (pos (sets * targets)) (λ s. x s t)
       ∙ ap (λ z. pos (sets * targets) *ℤ z)
-      (sym (sum_of_target sets targets readings grid unrolled t h))) i)
+      (sym (sum_of_target sets targets observations grid unrolled t h))) i)
       ∙ ap (λ z. pos sets *ℤ z -ℤ (pos sets *ℤ G -ℤ pos sets *ℤ G
-      -ℤ pos sets *ℤ (pos targets *ℤ F)) -ℤ pos (sets * targets) *ℤ target_total readings t)
+      -ℤ pos sets *ℤ (pos targets *ℤ F)) -ℤ pos (sets * targets) *ℤ target_total observations t)
       (means.directions t h)
-      ∙ target_left sets targets (target_total readings t) F G
+      ∙ target_left sets targets (target_total observations t) F G
 
-  pub set_sums_vanish : (s : ℕ) → s < sets → set_sum c readings s ≡ pos 0
+  pub set_sums_vanish : (s : ℕ) → s < sets → set_sum c observations s ≡ pos 0
   set_sums_vanish s h =
-      sum_of_set sets targets readings grid (residual c) s h
-      ∙ sum_below-same targets (λ t. residual c (at sets targets readings grid s t))
+      sum_of_set sets targets observations grid (residual c) s h
+      ∙ sum_below-same targets (λ t. residual c (at sets targets observations grid s t))
       (λ t. c.direction t -ℤ c.orientation s -ℤ pos (sets * targets) *ℤ x s t)
       (λ t k. residual_at s t h k)
       ∙ sum_below-sub targets (λ t. c.direction t -ℤ c.orientation s)
@@ -94,10 +96,10 @@ module _ (sets targets : ℕ) (readings : List Reading) (grid : AreGrid sets tar
       ∙ (λ j. directions_sum j -ℤ sum_below-const targets (c.orientation s) j)) i
       -ℤ (sum_below-scale targets (pos (sets * targets)) (λ t. x s t)
       ∙ ap (λ z. pos (sets * targets) *ℤ z)
-      (sym (sum_of_set sets targets readings grid unrolled s h))) i)
+      (sym (sum_of_set sets targets observations grid unrolled s h))) i)
       ∙ ap (λ z. pos targets *ℤ (G -ℤ pos targets *ℤ F) -ℤ pos targets *ℤ z
-      -ℤ pos (sets * targets) *ℤ set_total readings s) (means.orientations s h)
-      ∙ set_left sets targets (set_total readings s) F G
+      -ℤ pos (sets * targets) *ℤ set_total observations s) (means.orientations s h)
+      ∙ set_left sets targets (set_total observations s) F G
 
   pub first_direction : c.direction 0 ≡ pos 0
   first_direction = means.directions 0 some ∙ ap (λ z. pos targets *ℤ z) (+ℤ_invr F)

@@ -1,4 +1,5 @@
--- Sums over the readings of a complete station: over its sets, and within a set over its targets.
+-- Sums over the observations of a complete station: over its sets, and within a set over its
+-- targets.
 use Rattle.std.proofs.Common.{◌≡◌, ℕ, suc, zero, ◌+◌, ◌*◌, ◌≤◌, ◌<◌, Bool, true, false, cond, eqb}
 use Rattle.std.proofs.Common.{List, length, take, get_or, ℤ, pos, ◌+ℤ◌, arith, ap, refl, sym, ◌∙◌}
 use Rattle.std.proofs.Math.IntN.{◌*ℤ◌, ◌-ℤ◌, *ℤ-zero, suc_ℤ-*ℤ}
@@ -8,9 +9,9 @@ use Rattle.std.proofs.lemmas.Bool.{ne_eqb}
 use Rattle.std.proofs.lemmas.Bool.Decides.{nat_tests}
 use Rattle.std.proofs.lemmas.List.{take_all}
 use Rattle.adjust_kernel.specs.Sums.{int_sum_by, int_sum_where}
-use Rattle.adjust_kernel.specs.Readings.{Reading}
+use Rattle.adjust_kernel.specs.TurnedObservations.{TurnedObservation}
 use Rattle.adjust_kernel.specs.Residuals.{unrolled}
-use Rattle.sheet_means.specs.Totals.{reading_at, target_total, set_total, whole_total}
+use Rattle.sheet_means.specs.Totals.{observation_at, target_total, set_total, whole_total}
 use Rattle.sheet_means.proofs.Products.{over_sum}
 use Rattle.sheet_means.proofs.PlaceLaws.{int_sum_by_more}
 use native.Mathlib.Decide.{ℕ_discrete}
@@ -85,63 +86,65 @@ sum_below-where : (b : Bool) (n : ℕ) (f : ℕ → ℤ) → sum_below n (λ k. 
 sum_below-where true n f = refl
 sum_below-where false n f = sum_below-const n (pos 0) ∙ *ℤ-zero (pos n)
 
-abbrev pub any_reading : Reading
-any_reading = record { set = 0; target = 0; value = 0; turn = pos 0 }
+abbrev pub any_observation : TurnedObservation
+any_observation = record { set = 0; target = 0; value = 0; turn = pos 0 }
 
--- the readings of a complete station: one of each set and target, set by set
-pub record AreGrid (sets targets : ℕ) (readings : List Reading) : Type 0 where
-  pub long : length readings ≡ sets * targets
+-- the observations of a complete station: one of each set and target, set by set
+pub record AreGrid (sets targets : ℕ) (observations : List TurnedObservation) : Type 0 where
+  pub long : length observations ≡ sets * targets
   pub at_place : (s t : ℕ) → s < sets → t < targets
-      → ((get_or readings (s * targets + t) any_reading).set ≡ s)
-      × ((get_or readings (s * targets + t) any_reading).target ≡ t)
+      → ((get_or observations (s * targets + t) any_observation).set ≡ s)
+      × ((get_or observations (s * targets + t) any_observation).target ≡ t)
 
-module _ (sets targets : ℕ) (readings : List Reading) (grid : AreGrid sets targets readings) where
-  abbrev pub at : ℕ → ℕ → Reading
-  at s t = reading_at readings targets s t
+module _ (sets targets : ℕ) (observations : List TurnedObservation)
+    (grid : AreGrid sets targets observations) where
+  abbrev pub at : ℕ → ℕ → TurnedObservation
+  at s t = observation_at observations targets s t
 
-  pub inside : (s t : ℕ) → s < sets → t < targets → s * targets + t < length readings
+  pub inside : (s t : ℕ) → s < sets → t < targets → s * targets + t < length observations
   inside s t h k = let e : suc s * targets ≤ sets * targets = mul-le-mul h (omega arith) in
       let f = grid.long in omega arith
 
-  module _ (f : Reading → ℤ) where
-    set_more : (s t : ℕ) → s < sets → t ≤ targets → int_sum_by f (take (s * targets + t) readings)
-        ≡ int_sum_by f (take (s * targets) readings) +ℤ sum_below t (λ k. f (at s k))
+  module _ (f : TurnedObservation → ℤ) where
+    set_more : (s t : ℕ) → s < sets → t ≤ targets
+        → int_sum_by f (take (s * targets + t) observations)
+        ≡ int_sum_by f (take (s * targets) observations) +ℤ sum_below t (λ k. f (at s k))
     set_more s zero h k = let e : s * targets + 0 ≡ s * targets = omega arith in
-        let g : int_sum_by f (take (s * targets + 0) readings)
-        ≡ int_sum_by f (take (s * targets) readings) =
-        ap (λ n. int_sum_by f (take n readings)) e in omega (arith, ints)
+        let g : int_sum_by f (take (s * targets + 0) observations)
+        ≡ int_sum_by f (take (s * targets) observations) =
+        ap (λ n. int_sum_by f (take n observations)) e in omega (arith, ints)
     set_more s (suc t) h k =
         let e : s * targets + suc t ≡ s * targets + t + 1 = omega arith in
-        let g : int_sum_by f (take (s * targets + suc t) readings)
-        ≡ int_sum_by f (take (s * targets + t + 1) readings) =
-        ap (λ n. int_sum_by f (take n readings)) e in
-        let m = int_sum_by_more f readings (s * targets + t) any_reading
+        let g : int_sum_by f (take (s * targets + suc t) observations)
+        ≡ int_sum_by f (take (s * targets + t + 1) observations) =
+        ap (λ n. int_sum_by f (take n observations)) e in
+        let m = int_sum_by_more f observations (s * targets + t) any_observation
         (inside s t h (omega arith)) in
         let r = set_more s t h (omega arith) in
         omega (arith, ints)
 
-    sets_to : (s : ℕ) → s ≤ sets → int_sum_by f (take (s * targets) readings)
+    sets_to : (s : ℕ) → s ≤ sets → int_sum_by f (take (s * targets) observations)
         ≡ sum_below s (λ j. sum_below targets (λ k. f (at j k)))
     sets_to zero h = let e : 0 * targets ≡ 0 = omega arith in
-        ap (λ n. int_sum_by f (take n readings)) e
+        ap (λ n. int_sum_by f (take n observations)) e
     sets_to (suc s) h =
         let e : suc s * targets ≡ s * targets + targets = omega arith in
-        let g : int_sum_by f (take (suc s * targets) readings)
-        ≡ int_sum_by f (take (s * targets + targets) readings) =
-        ap (λ n. int_sum_by f (take n readings)) e in
+        let g : int_sum_by f (take (suc s * targets) observations)
+        ≡ int_sum_by f (take (s * targets + targets) observations) =
+        ap (λ n. int_sum_by f (take n observations)) e in
         let m = set_more s targets (omega arith) (omega arith) in
         let r = sets_to s (omega arith) in
         omega (arith, ints)
 
-    -- a sum over all readings
-    pub sum_of_all : int_sum_by f readings ≡ sum_below sets
+    -- a sum over all observations
+    pub sum_of_all : int_sum_by f observations ≡ sum_below sets
         (λ s. sum_below targets (λ t. f (at s t)))
-    sum_of_all = ap (int_sum_by f) (sym (take_all (sets * targets) readings
+    sum_of_all = ap (int_sum_by f) (sym (take_all (sets * targets) observations
         (omega (arith, grid.long)))) ∙ sets_to sets (omega arith)
 
-  -- a sum over the readings of a target
-  pub sum_of_target : (f : Reading → ℤ) (t : ℕ) → t < targets
-      → int_sum_where (λ r. eqb r.target t) f readings ≡ sum_below sets (λ s. f (at s t))
+  -- a sum over the observations of a target
+  pub sum_of_target : (f : TurnedObservation → ℤ) (t : ℕ) → t < targets
+      → int_sum_where (λ r. eqb r.target t) f observations ≡ sum_below sets (λ s. f (at s t))
   sum_of_target f t h =
       sum_of_all (λ r. cond (eqb r.target t) (f r) (pos 0))
       ∙ sum_below-same sets (λ s. sum_below targets (λ k. cond (eqb (at s k).target t) (f (at s k))
@@ -151,9 +154,9 @@ module _ (sets targets : ℕ) (readings : List Reading) (grid : AreGrid sets tar
       (λ k m. ap (λ n. cond (eqb n t) (f (at s k)) (pos 0)) (grid.at_place s k l m).1)
       ∙ sum_below-only targets t (λ k. f (at s k)) h)
 
-  -- a sum over the readings of a set
-  pub sum_of_set : (f : Reading → ℤ) (s : ℕ) → s < sets
-      → int_sum_where (λ r. eqb r.set s) f readings ≡ sum_below targets (λ t. f (at s t))
+  -- a sum over the observations of a set
+  pub sum_of_set : (f : TurnedObservation → ℤ) (s : ℕ) → s < sets
+      → int_sum_where (λ r. eqb r.set s) f observations ≡ sum_below targets (λ t. f (at s t))
   sum_of_set f s h =
       sum_of_all (λ r. cond (eqb r.set s) (f r) (pos 0))
       ∙ sum_below-same sets (λ j. sum_below targets (λ k. cond (eqb (at j k).set s) (f (at j k))
@@ -164,22 +167,23 @@ module _ (sets targets : ℕ) (readings : List Reading) (grid : AreGrid sets tar
       ∙ sum_below-where (eqb j s) targets (λ k. f (at j k)))
       ∙ sum_below-only sets s (λ j. sum_below targets (λ k. f (at j k))) h
 
-  -- all readings are those of the targets together
-  pub whole_by_targets : whole_total readings ≡ sum_below targets (target_total readings)
+  -- all observations are those of the targets together
+  pub whole_by_targets : whole_total observations ≡ sum_below targets (target_total observations)
   whole_by_targets =
       sum_of_all unrolled
       ∙ sum_below-swap sets targets (λ s t. unrolled (at s t))
       ∙ sum_below-same targets (λ t. sum_below sets (λ s. unrolled (at s t)))
-      (target_total readings) (λ t h. sym (sum_of_target unrolled t h))
+      (target_total observations) (λ t h. sym (sum_of_target unrolled t h))
 
-  -- all readings, less those of one target as often as there are targets
-  pub whole_less : (z : ℤ) → sum_below targets (λ t. target_total readings t -ℤ z)
-      ≡ whole_total readings -ℤ pos targets *ℤ z
-  whole_less z = sum_below-sub targets (target_total readings) (λ t. z)
+  -- all observations, less those of one target as often as there are targets
+  pub whole_less : (z : ℤ) → sum_below targets (λ t. target_total observations t -ℤ z)
+      ≡ whole_total observations -ℤ pos targets *ℤ z
+  whole_less z = sum_below-sub targets (target_total observations) (λ t. z)
       ∙ (λ i. sym whole_by_targets i -ℤ sum_below-const targets z i)
 
-  -- all readings are those of the sets together
-  pub whole_by_sets : whole_total readings ≡ sum_below sets (set_total readings)
+  -- all observations are those of the sets together
+  pub whole_by_sets : whole_total observations ≡ sum_below sets (set_total observations)
   whole_by_sets = sum_of_all unrolled
-      ∙ sum_below-same sets (λ s. sum_below targets (λ t. unrolled (at s t))) (set_total readings)
+      ∙ sum_below-same sets (λ s. sum_below targets (λ t. unrolled (at s t)))
+      (set_total observations)
       (λ s h. sym (sum_of_set unrolled s h))

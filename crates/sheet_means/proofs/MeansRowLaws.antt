@@ -1,4 +1,4 @@
--- The readings of a complete station with the rows of its sheet of means: one of each set and
+-- The observations of a complete station with the rows of its sheet of means: one of each set and
 -- target, in order.
 use Rattle.std.proofs.Common.{◌≡◌, ℕ, ◌+◌, ◌*◌, ◌<◌, List, [], length, get_or, ℤ, pos, ◌+ℤ◌, arith}
 use Rattle.std.proofs.Common.{ap, sym, ◌∙◌}
@@ -7,16 +7,16 @@ use Rattle.std.proofs.lemmas.List.{length-map, get_or-map}
 use Rattle.adjust_kernel.specs.declared.bounds.TheConstants.{TURN}
 use Rattle.adjust_kernel.specs.declared.row.Row.{Row}
 use Rattle.adjust_kernel.specs.Matching.{Key, key_of_row, key_of_obs}
-use Rattle.adjust_kernel.specs.Pairs.{reading_of, readings_of}
-use Rattle.adjust_kernel.specs.Readings.{Reading}
+use Rattle.adjust_kernel.specs.Pairs.{turned_by, turned_by_rows}
+use Rattle.adjust_kernel.specs.TurnedObservations.{TurnedObservation}
 use Rattle.adjust_kernel.specs.Residuals.{unrolled}
 use Rattle.adjust_kernel.specs.Stations.{StationValue, IsStation}
-use Rattle.sheet_means.proofs.PlaceLaws.{length-readings_of, get_or-readings_of}
+use Rattle.sheet_means.proofs.PlaceLaws.{length-turned_by_rows, get_or-turned_by_rows}
 use Rattle.sheet_means.specs.Complete.{IsComplete}
 use Rattle.sheet_means.specs.Parts.{AreMeansRows}
 use Rattle.sheet_means.proofs.CompleteLaws.{any_obs, at_place, full_where_complete}
 use Rattle.sheet_means.proofs.ValueLaws.{place_inside}
-use Rattle.sheet_means.proofs.GridLaws.{AreGrid, any_reading}
+use Rattle.sheet_means.proofs.GridLaws.{AreGrid, any_observation}
 
 abbrev pub any_row : Row
 any_row = record { set = 0; target = []; value = 0; turn = pos 0 }
@@ -38,20 +38,24 @@ module _ (station : StationValue) (valid : IsStation station) (complete : IsComp
   row_inside s t h k = let e = place_inside station valid complete s t h k in
       let f = same_length in omega arith
 
-  reading_at : (i : ℕ) → i < length station.obs
-      → get_or (readings_of station.obs rows) i any_reading
-      ≡ reading_of (get_or station.obs i any_obs) (get_or rows i any_row).turn
-  reading_at i h = get_or-readings_of station.obs rows i any_obs any_row any_reading same_length h
+  observation_at : (i : ℕ) → i < length station.obs
+      → get_or (turned_by_rows station.obs rows) i any_observation
+      ≡ turned_by (get_or station.obs i any_obs) (get_or rows i any_row).turn
+  observation_at i h =
+      get_or-turned_by_rows station.obs rows i any_obs any_row any_observation same_length h
 
-  pub grid : AreGrid (length station.sets) T (readings_of station.obs rows)
+  pub grid : AreGrid (length station.sets) T (turned_by_rows station.obs rows)
   grid = record {
-    long = length-readings_of station.obs rows same_length
+    long = length-turned_by_rows station.obs rows same_length
         ∙ full_where_complete station valid complete;
     at_place = λ s t h k.
         let p = at_place (length station.sets) T station.obs valid.obs.within valid.obs.ordered
         (full_where_complete station valid complete) s t h k in
-        let e = reading_at (s * T + t) (place_inside station valid complete s t h k) in
-        (ap (λ (r : Reading). r.set) e ∙ p.0, ap (λ (r : Reading). r.target) e ∙ p.1);
+        let e = observation_at (s * T + t) (place_inside station valid complete s t h k) in (
+          ap (λ (r : TurnedObservation). r.set) e ∙ p.0,
+          ap (λ (r : TurnedObservation). r.target) e
+              ∙ p.1,
+        );
   }
 
   same_value_at : (i : ℕ) → i < length station.obs
@@ -63,7 +67,7 @@ module _ (station : StationValue) (valid : IsStation station) (complete : IsComp
       ∙ get_or-map (key_of_obs station.sets station.targets) station.obs i any_obs k h)
 
   pub unrolled_at : (i : ℕ) → i < length station.obs
-      → unrolled (get_or (readings_of station.obs rows) i any_reading)
+      → unrolled (get_or (turned_by_rows station.obs rows) i any_observation)
       ≡ unrolled_row (get_or rows i any_row)
-  unrolled_at i h = ap unrolled (reading_at i h)
+  unrolled_at i h = ap unrolled (observation_at i h)
       ∙ ap (λ n. pos n +ℤ pos TURN *ℤ (get_or rows i any_row).turn) (sym (same_value_at i h))

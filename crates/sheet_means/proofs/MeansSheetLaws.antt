@@ -1,5 +1,5 @@
 -- The sheet of means: within the limits of a sheet, as defined, unturned in its first row and first
--- column of readings, and accepted.
+-- column of observations, and accepted.
 use Rattle.std.proofs.Common.{◌≡◌, ◌⊎◌, inl, inr, ℕ, suc, zero, ◌*◌, ◌<◌, ◌≤◌, List, [], length}
 use Rattle.std.proofs.Common.{map, get_or, ℤ, pos, negsuc, ◌+ℤ◌, arith, ap, refl, sym, ◌∙◌, subst}
 use Rattle.std.proofs.Math.IntN.{◌*ℤ◌, ◌-ℤ◌}
@@ -11,8 +11,8 @@ use Rattle.adjust_kernel.specs.declared.row.Direction.{Direction}
 use Rattle.adjust_kernel.specs.declared.row.Orientation.{Orientation}
 use Rattle.adjust_kernel.specs.declared.row.Row.{Row}
 use Rattle.adjust_kernel.specs.Names.{IsName}
-use Rattle.adjust_kernel.specs.Pairs.{choice_stated_by, readings_of}
-use Rattle.adjust_kernel.specs.Readings.{Reading}
+use Rattle.adjust_kernel.specs.Pairs.{choice_stated_by, turned_by_rows}
+use Rattle.adjust_kernel.specs.TurnedObservations.{TurnedObservation}
 use Rattle.adjust_kernel.specs.Sheets.{SheetValue, IsSheet, IsSetNumber}
 use Rattle.adjust_kernel.specs.Stations.{StationValue, IsStation}
 use Rattle.adjust_kernel.specs.Verdict.{TargetsAddUp, SetsAddUp, HoldsTogether}
@@ -48,17 +48,17 @@ within_larger z w = let l = w.low in let h = w.high in record {
 module _ (station : StationValue) (valid : IsStation station) (complete : IsComplete station)
     (rows : List Row) (means_rows : AreMeansRows station rows)
     (directions : List Direction) (each_direction : AreEach (IsMeansDirection station
-    (readings_of station.obs rows)) (length station.targets) directions)
+    (turned_by_rows station.obs rows)) (length station.targets) directions)
     (orientations : List Orientation) (each_orientation : AreEach (IsMeansOrientation station
-    (readings_of station.obs rows)) (length station.sets) orientations) where
+    (turned_by_rows station.obs rows)) (length station.sets) orientations) where
   abbrev S : ℕ
   S = length station.sets
 
   abbrev T : ℕ
   T = length station.targets
 
-  abbrev readings : List Reading
-  readings = readings_of station.obs rows
+  abbrev observations : List TurnedObservation
+  observations = turned_by_rows station.obs rows
 
   abbrev pub means_sheet : SheetValue
   means_sheet = record {
@@ -91,7 +91,7 @@ module _ (station : StationValue) (valid : IsStation station) (complete : IsComp
       get_or-map (λ (o : Orientation). o.set) orientations i any_orientation 0 k
       ∙ (each_orientation.at i any_orientation (omega (arith, each_orientation.long))).set)
 
-  means : AreMeans S T readings (choice_stated_by means_sheet)
+  means : AreMeans S T observations (choice_stated_by means_sheet)
   means = record {
     denominator = refl;
     directions = λ t h. get_or-map (λ (d : Direction). d.value) directions t any_direction (pos 0)
@@ -108,14 +108,14 @@ module _ (station : StationValue) (valid : IsStation station) (complete : IsComp
       targets = names;
       sets = numbers;
       rows = means_rows.keys;
-      datum = first_direction S T readings (grid station valid complete rows means_rows)
+      datum = first_direction S T observations (grid station valid complete rows means_rows)
           (choice_stated_by means_sheet) means valid.targets.some;
     };
     turned = means_rows.turned;
     means = means;
   }
 
-  unturned_at : (r : Reading) → IsTurned station.obs r → (r.set ≡ 0) ⊎ (r.target ≡ 0)
+  unturned_at : (r : TurnedObservation) → IsTurned station.obs r → (r.set ≡ 0) ⊎ (r.target ≡ 0)
       → r.turn ≡ pos 0
   unturned_at r h (inl e) =
       let v = value_of station.obs in
@@ -129,7 +129,7 @@ module _ (station : StationValue) (valid : IsStation station) (complete : IsComp
       ∙ first_difference (v r.set 0) (v 0 0)) h)
 
   pub is_unturned : IsUnturnedAtFirst station means_sheet
-  is_unturned k d h = unturned_at (get_or readings k d) (means_rows.turned k d h)
+  is_unturned k d h = unturned_at (get_or observations k d) (means_rows.turned k d h)
 
   few : S * T ≤ MOST_ROWS
   few = let a : S * T ≤ 40 * 100 = mul-le-mul valid.sets.few valid.targets.few in omega arith
@@ -173,16 +173,17 @@ module _ (station : StationValue) (valid : IsStation station) (complete : IsComp
   }
 
   pub targets_add_up : TargetsAddUp station means_sheet
-  targets_add_up = target_sums_vanish S T readings (grid station valid complete rows means_rows)
+  targets_add_up = target_sums_vanish S T observations (grid station valid complete rows means_rows)
       (choice_stated_by means_sheet) means valid.targets.some
 
   pub sets_add_up : SetsAddUp station means_sheet
-  sets_add_up = set_sums_vanish S T readings (grid station valid complete rows means_rows)
+  sets_add_up = set_sums_vanish S T observations (grid station valid complete rows means_rows)
       (choice_stated_by means_sheet) means valid.targets.some
 
   pub holds_together : HoldsTogether station means_sheet
-  holds_together = complete_is_connected S T readings
+  holds_together = complete_is_connected S T observations
       (grid station valid complete rows means_rows) valid.sets.some valid.targets.some
 
-  pub some_readings : 1 ≤ length readings
-  some_readings = let g = (grid station valid complete rows means_rows).long in omega (arith, some)
+  pub some_observations : 1 ≤ length observations
+  some_observations = let g = (grid station valid complete rows means_rows).long in
+      omega (arith, some)

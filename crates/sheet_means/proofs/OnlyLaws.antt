@@ -10,15 +10,15 @@ use Rattle.adjust_kernel.specs.declared.row.Direction.{Direction}
 use Rattle.adjust_kernel.specs.declared.row.Orientation.{Orientation}
 use Rattle.adjust_kernel.specs.declared.row.Row.{Row}
 use Rattle.adjust_kernel.specs.Matching.{Key, key_of_row, key_of_obs}
-use Rattle.adjust_kernel.specs.Pairs.{readings_of}
+use Rattle.adjust_kernel.specs.Pairs.{turned_by_rows}
 use Rattle.adjust_kernel.specs.Sheets.{SheetValue}
 use Rattle.adjust_kernel.specs.Stations.{StationValue}
-use Rattle.sheet_means.proofs.PlaceLaws.{length-readings_of, get_or-readings_of}
+use Rattle.sheet_means.proofs.PlaceLaws.{length-turned_by_rows, get_or-turned_by_rows}
 use Rattle.sheet_means.specs.Means.{IsMeansSheet}
 use Rattle.sheet_means.specs.Totals.{target_total, set_total, whole_total}
 use Rattle.sheet_means.specs.Turning.{IsInHalfCircle, IsTurned, angle_difference}
 use Rattle.sheet_means.proofs.CompleteLaws.{any_obs}
-use Rattle.sheet_means.proofs.GridLaws.{any_reading}
+use Rattle.sheet_means.proofs.GridLaws.{any_observation}
 use Rattle.sheet_means.proofs.MeansRowLaws.{any_row}
 
 -- one number of turns alone brings a difference into the half circle
@@ -62,10 +62,10 @@ module _ (station : StationValue) (sheet : SheetValue) (means : IsMeansSheet sta
       → IsInHalfCircle (angle_difference station.obs (obs_at i).set (obs_at i).target
       +ℤ pos TURN *ℤ (row_at i).turn)
   turn_at i h =
-      subst (IsTurned station.obs) (get_or-readings_of station.obs sheet.rows i any_obs any_row
-      any_reading as_many_rows h)
-      (means.turned i any_reading
-      (omega (arith, h, length-readings_of station.obs sheet.rows as_many_rows)))
+      subst (IsTurned station.obs) (get_or-turned_by_rows station.obs sheet.rows i any_obs any_row
+      any_observation as_many_rows h)
+      (means.turned i any_observation
+      (omega (arith, h, length-turned_by_rows station.obs sheet.rows as_many_rows)))
 
 module _ (station : StationValue) (one other : SheetValue) (a : IsMeansSheet station one)
     (b : IsMeansSheet station other) where
@@ -95,15 +95,15 @@ module _ (station : StationValue) (one other : SheetValue) (a : IsMeansSheet sta
   abbrev any_orientation : Orientation
   any_orientation = record { set = 0; value = pos 0 }
 
-  -- the direction and the orientation that the readings with these rows have
+  -- the direction and the orientation that the observations with these rows have
   abbrev direction_by : List Row → ℕ → ℤ
-  direction_by rows t = let readings = readings_of station.obs rows in
-      pos (length station.targets) *ℤ (target_total readings t -ℤ target_total readings 0)
+  direction_by rows t = let observations = turned_by_rows station.obs rows in
+      pos (length station.targets) *ℤ (target_total observations t -ℤ target_total observations 0)
 
   abbrev orientation_by : List Row → ℕ → ℤ
-  orientation_by rows s = let readings = readings_of station.obs rows in
-      whole_total readings -ℤ pos (length station.sets) *ℤ set_total readings s
-      -ℤ pos (length station.targets) *ℤ target_total readings 0
+  orientation_by rows s = let observations = turned_by_rows station.obs rows in
+      whole_total observations -ℤ pos (length station.sets) *ℤ set_total observations s
+      -ℤ pos (length station.targets) *ℤ target_total observations 0
 
   same_directions : one.directions ≡ other.directions
   same_directions = ext_get_or any_direction one.directions other.directions

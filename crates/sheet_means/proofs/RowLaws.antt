@@ -6,8 +6,8 @@ use Rattle.std.proofs.lemmas.List.Elements.{All-push}
 use Rattle.adjust_kernel.specs.declared.obs.Obs.{Obs}
 use Rattle.adjust_kernel.specs.declared.row.Row.{Row}
 use Rattle.adjust_kernel.specs.Matching.{key_of_row, key_of_obs}
-use Rattle.adjust_kernel.specs.Pairs.{reading_of, readings_of}
-use Rattle.adjust_kernel.specs.Readings.{Reading}
+use Rattle.adjust_kernel.specs.Pairs.{turned_by, turned_by_rows}
+use Rattle.adjust_kernel.specs.TurnedObservations.{TurnedObservation}
 use Rattle.adjust_kernel.specs.Stations.{StationValue}
 use Rattle.sheet_means.specs.Turning.{IsTurned}
 use Rattle.sheet_means.specs.Parts.{IsMeansRow}
@@ -15,17 +15,17 @@ use Rattle.sheet_means.specs.Parts.{IsMeansRow}
 pub record AreRowsTo (station : StationValue) (rows : List Row) (n : ℕ) : Type 0 where
   pub keys : map key_of_row rows ≡ map (key_of_obs station.sets station.targets)
       (take n station.obs)
-  pub turned : All (IsTurned station.obs) (readings_of (take n station.obs) rows)
+  pub turned : All (IsTurned station.obs) (turned_by_rows (take n station.obs) rows)
   pub rows_in : All IsMeansRow rows
 
-readings_of-push : (obs : List Obs) (rows : List Row) (o : Obs) (r : Row)
-    → length obs ≡ length rows → readings_of (obs ++ o ∷ []) (rows ++ r ∷ [])
-    ≡ readings_of obs rows ++ reading_of o r.turn ∷ []
-readings_of-push [] [] o r e = refl
-readings_of-push [] (r' ∷ rows) o r e = absurd (omega arith)
-readings_of-push (o' ∷ obs) [] o r e = absurd (omega arith)
-readings_of-push (o' ∷ obs) (r' ∷ rows) o r e =
-    ap (λ (l : List Reading). reading_of o' r'.turn ∷ l) (readings_of-push obs rows o r
+turned_by_rows-push : (obs : List Obs) (rows : List Row) (o : Obs) (r : Row)
+    → length obs ≡ length rows → turned_by_rows (obs ++ o ∷ []) (rows ++ r ∷ [])
+    ≡ turned_by_rows obs rows ++ turned_by o r.turn ∷ []
+turned_by_rows-push [] [] o r e = refl
+turned_by_rows-push [] (r' ∷ rows) o r e = absurd (omega arith)
+turned_by_rows-push (o' ∷ obs) [] o r e = absurd (omega arith)
+turned_by_rows-push (o' ∷ obs) (r' ∷ rows) o r e =
+    ap (λ (l : List TurnedObservation). turned_by o' r'.turn ∷ l) (turned_by_rows-push obs rows o r
     (omega arith))
 
 module _ (station : StationValue) (rows : List Row) (n : ℕ) (known : AreRowsTo station rows n) where
@@ -36,7 +36,7 @@ module _ (station : StationValue) (rows : List Row) (n : ℕ) (known : AreRowsTo
   -- one more row
   pub rows_more : (d : Obs) (r : Row) → n < length station.obs
       → key_of_row r ≡ key_of_obs station.sets station.targets (get_or station.obs n d)
-      → IsTurned station.obs (reading_of (get_or station.obs n d) r.turn) → IsMeansRow r
+      → IsTurned station.obs (turned_by (get_or station.obs n d) r.turn) → IsMeansRow r
       → AreRowsTo station (rows ++ r ∷ []) (n + 1)
   rows_more d r inside key turned row =
       let o = get_or station.obs n d in
@@ -49,10 +49,10 @@ module _ (station : StationValue) (rows : List Row) (n : ℕ) (known : AreRowsTo
             ∙ sym (map-append f (take n station.obs) (o ∷ []))
             ∙ ap (map f) (sym next);
         turned = subst (All (IsTurned station.obs))
-            (sym (ap (λ (l : List Obs). readings_of l (rows ++ r ∷ [])) next
-            ∙ readings_of-push (take n station.obs) rows o r as_long))
-            (All-push (IsTurned station.obs) (readings_of (take n station.obs) rows)
-            (reading_of o r.turn) known.turned turned);
+            (sym (ap (λ (l : List Obs). turned_by_rows l (rows ++ r ∷ [])) next
+            ∙ turned_by_rows-push (take n station.obs) rows o r as_long))
+            (All-push (IsTurned station.obs) (turned_by_rows (take n station.obs) rows)
+            (turned_by o r.turn) known.turned turned);
         rows_in = All-push IsMeansRow rows r known.rows_in row;
       }
 

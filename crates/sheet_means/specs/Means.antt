@@ -1,11 +1,11 @@
 -- The sheet of means of a complete station (textbook): each direction is the mean over the sets of
--- the target's readings, less that of the first target, and each orientation the mean over the
--- targets of direction less reading; all times sets times targets.
+-- the target's observations, less that of the first target, and each orientation the mean over the
+-- targets of direction less observation; all times sets times targets.
 use Rattle.std.specs.Prelude.{◌≡◌, ◌⊎◌, ℕ, ◌*◌, ◌<◌, ◌≤◌, List, All, length, ℤ, pos, ◌*ℤ◌, ◌-ℤ◌}
 use Rattle.adjust_kernel.specs.declared.bounds.TheConstants.{MOST_ROWS}
 use Rattle.adjust_kernel.specs.Matching.{Matches}
-use Rattle.adjust_kernel.specs.Pairs.{choice_stated_by, readings_of}
-use Rattle.adjust_kernel.specs.Readings.{Reading}
+use Rattle.adjust_kernel.specs.Pairs.{choice_stated_by, turned_by_rows}
+use Rattle.adjust_kernel.specs.TurnedObservations.{TurnedObservation}
 use Rattle.adjust_kernel.specs.Residuals.{Choice}
 use Rattle.adjust_kernel.specs.Sheets.{SheetValue}
 use Rattle.adjust_kernel.specs.Stations.{StationValue}
@@ -15,43 +15,44 @@ use Rattle.sheet_means.specs.declared.turn.TheConstants.{MOST_TURNS}
 use Rattle.sheet_means.specs.Totals.{target_total, set_total, whole_total}
 use Rattle.sheet_means.specs.Turning.{IsTurned}
 
--- the direction of a target, times sets times targets: the mean of its readings over the sets, less
--- that of the first target
-abbrev pub mean_direction : ℕ → List Reading → ℕ → ℤ
-mean_direction targets readings t =
-    pos targets *ℤ (target_total readings t -ℤ target_total readings 0)
+-- the direction of a target, times sets times targets: the mean of its observations over the sets,
+-- less that of the first target
+abbrev pub mean_direction : ℕ → List TurnedObservation → ℕ → ℤ
+mean_direction targets observations t =
+    pos targets *ℤ (target_total observations t -ℤ target_total observations 0)
 
 -- the orientation of a set, times sets times targets: the mean over the targets of direction less
--- reading
-abbrev pub mean_orientation : ℕ → ℕ → List Reading → ℕ → ℤ
-mean_orientation sets targets readings s =
-    whole_total readings -ℤ pos sets *ℤ set_total readings s
-    -ℤ pos targets *ℤ target_total readings 0
+-- observation
+abbrev pub mean_orientation : ℕ → ℕ → List TurnedObservation → ℕ → ℤ
+mean_orientation sets targets observations s =
+    whole_total observations -ℤ pos sets *ℤ set_total observations s
+    -ℤ pos targets *ℤ target_total observations 0
 
--- the directions and orientations are the means of these readings, over sets times targets
-pub record AreMeans (sets targets : ℕ) (readings : List Reading) (c : Choice) : Type 0 where
+-- the directions and orientations are the means of these observations, over sets times targets
+pub record AreMeans (sets targets : ℕ) (observations : List TurnedObservation)
+    (c : Choice) : Type 0 where
   pub denominator : c.denominator ≡ sets * targets
-  pub directions : (t : ℕ) → t < targets → c.direction t ≡ mean_direction targets readings t
+  pub directions : (t : ℕ) → t < targets → c.direction t ≡ mean_direction targets observations t
   pub orientations : (s : ℕ) → s < sets
-      → c.orientation s ≡ mean_orientation sets targets readings s
+      → c.orientation s ≡ mean_orientation sets targets observations s
 
 -- The sheet of means: of this station, with its targets, sets and observations in their order, the
--- full turns of each reading, and the means.
+-- full turns of each observation, and the means.
 pub record IsMeansSheet (station : StationValue) (sheet : SheetValue) : Type 0 where
   pub matches : Matches station sheet
-  pub turned : All (IsTurned station.obs) (readings_of station.obs sheet.rows)
+  pub turned : All (IsTurned station.obs) (turned_by_rows station.obs sheet.rows)
   pub means : AreMeans (length station.sets) (length station.targets)
-      (readings_of station.obs sheet.rows) (choice_stated_by sheet)
+      (turned_by_rows station.obs sheet.rows) (choice_stated_by sheet)
 
 -- The numbers of the sheet are small: they are well within the ranges of the first version of
--- sheets, and no reading has more than two full turns.
+-- sheets, and no observation has more than two full turns.
 pub record HasSmallNumbers (sheet : SheetValue) : Type 0 where
   pub denominator : sheet.denominator ≤ MOST_ROWS
   pub directions : All (λ d. IsWithin LARGEST_MEAN d.value) sheet.directions
   pub orientations : All (λ o. IsWithin LARGEST_MEAN o.value) sheet.orientations
   pub turns : All (λ r. IsWithin MOST_TURNS r.turn) sheet.rows
 
--- no reading of the first set or of the first target has full turns
+-- no observation of the first set or of the first target has full turns
 abbrev pub IsUnturnedAtFirst : StationValue → SheetValue → Type 0
 IsUnturnedAtFirst station sheet =
-    All (λ r. (r.set ≡ 0) ⊎ (r.target ≡ 0) → r.turn ≡ pos 0) (readings_of station.obs sheet.rows)
+    All (λ r. (r.set ≡ 0) ⊎ (r.target ≡ 0) → r.turn ≡ pos 0) (turned_by_rows station.obs sheet.rows)

@@ -1,7 +1,7 @@
 //! The rows of the sheet of means: the observations with their full turns.
 ghost use Rattle.std.specs.Prelude.{◌≡◌, length, IfOk};
 ghost use Rattle.adjust_kernel.specs.Matching.{key_of_row, key_of_obs};
-ghost use Rattle.adjust_kernel.specs.Pairs.{reading_of};
+ghost use Rattle.adjust_kernel.specs.Pairs.{turned_by};
 ghost use Rattle.adjust_kernel.specs.Stations.{IsObs};
 ghost use Rattle.sheet_means.specs.Complete.{IsComplete};
 ghost use Rattle.sheet_means.specs.Turning.{IsTurned};
@@ -17,7 +17,7 @@ fn row_of(station: &Station, obs: &Obs) -> Row
     requires complete { IsComplete station.now }
     requires obs { IsObs (length station.now.sets) (length station.now.targets) obs.now }
     ensures key { key_of_row result ≡ key_of_obs station.now.sets station.now.targets obs.now }
-    ensures turned { IsTurned station.now.obs (reading_of obs.now result.turn) }
+    ensures turned { IsTurned station.now.obs (turned_by obs.now result.turn) }
     ensures row { IsMeansRow result }
 {
     let set = obs.set as usize;

@@ -1,11 +1,12 @@
 //! The sheet of means.
 ghost use Rattle.std.specs.Prelude.{◌≡◌, ◌↔◌, length, Err, None, IfOk, OnOk};
-ghost use Rattle.adjust_kernel.specs.Pairs.{readings_of};
+ghost use Rattle.adjust_kernel.specs.Pairs.{turned_by_rows};
 ghost use Rattle.adjust_kernel.specs.Sheets.{SheetValue};
 ghost use Rattle.adjust_kernel.specs.Verdict.{IsAcceptedSheet};
 ghost use Rattle.sheet_means.specs.Complete.{IsComplete};
 ghost use Rattle.sheet_means.specs.Means.{IsMeansSheet, HasSmallNumbers, IsUnturnedAtFirst};
-ghost use Rattle.sheet_means.specs.Parts.{AreEach, AreMeansRows, IsMeansDirection, IsMeansOrientation};
+ghost use Rattle.sheet_means.specs.Parts.{AreEach, AreMeansRows, IsMeansDirection};
+ghost use Rattle.sheet_means.specs.Parts.{IsMeansOrientation};
 
 use crate::adjusted::{directions_of, orientations_of};
 use crate::complete::is_complete;
@@ -23,10 +24,10 @@ fn sheet_of(
 ) -> Sheet
     requires complete { IsComplete station.now }
     requires directions { AreEach
-        (IsMeansDirection station.now (readings_of station.now.obs rows.items))
+        (IsMeansDirection station.now (turned_by_rows station.now.obs rows.items))
         (length station.now.targets) directions.items }
     requires orientations { AreEach
-        (IsMeansOrientation station.now (readings_of station.now.obs rows.items))
+        (IsMeansOrientation station.now (turned_by_rows station.now.obs rows.items))
         (length station.now.sets) orientations.items }
     requires rows { AreMeansRows station.now rows.items }
     ensures sheet { IsMeansSheet station.now result }
@@ -40,8 +41,8 @@ fn sheet_of(
 
 /// The sheet of means of a station: the least-squares adjustment of complete sets.
 ///
-/// The full turns of each reading bring its angle to the first target to within half a circle of
-/// the same angle in the first set. Directions and orientations are then means, over sets times
+/// The full turns of each observation bring its angle to the first target to within half a circle
+/// of the same angle in the first set. Directions and orientations are then means, over sets times
 /// targets, so that all numbers are whole. Memory and time are linear in the observations.
 ///
 /// # Errors

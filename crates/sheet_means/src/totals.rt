@@ -1,7 +1,7 @@
-//! Sums of readings with their full turns. All of them fit into 64 bits.
+//! Sums of observations with their full turns. All of them fit into 64 bits.
 ghost use Rattle.std.specs.Prelude.{◌≡◌, ◌<◌, pos, ◌*ℤ◌, length};
 ghost use Rattle.adjust_kernel.specs.Within.{IsWithin};
-ghost use Rattle.adjust_kernel.specs.Pairs.{readings_of};
+ghost use Rattle.adjust_kernel.specs.Pairs.{turned_by_rows};
 ghost use Rattle.sheet_means.specs.Complete.{IsComplete};
 ghost use Rattle.sheet_means.specs.Parts.{AreMeansRows};
 ghost use Rattle.sheet_means.specs.Totals as Totals;
@@ -10,50 +10,50 @@ ghost use Rattle.adjust_kernel.specs.Residuals as Residuals;
 use crate::turn::MOST_TURNS;
 use adjust_kernel::{MOST_SETS, MOST_TARGETS, Row, Station, TURN};
 
-/// No reading with its full turns is larger than this in a sheet of means, in half units (0.005
+/// No observation with its full turns is larger than this in a sheet of means, in half units (0.005
 /// mgon each).
-pub const LARGEST_READING: i64 = (MOST_TURNS as i64 + 1) * TURN as i64;
+pub const LARGEST_UNROLLED: i64 = (MOST_TURNS as i64 + 1) * TURN as i64;
 
-/// The reading of a set and a target with its full turns, by their places.
-fn reading_at(station: &Station, rows: &[Row], set: usize, target: usize) -> i64
+/// The observation of a set and a target with its full turns, by their places.
+fn observation_at(station: &Station, rows: &[Row], set: usize, target: usize) -> i64
     requires complete { IsComplete station.now }
     requires rows { AreMeansRows station.now rows.now }
     requires set { set < length station.now.sets }
     requires target { target < length station.now.targets }
     ensures value { result ≡ Residuals.unrolled
-        (Totals.reading_at (readings_of station.now.obs rows.now)
+        (Totals.observation_at (turned_by_rows station.now.obs rows.now)
         (length station.now.targets) set target) }
-    ensures bound { IsWithin LARGEST_READING result }
+    ensures bound { IsWithin LARGEST_UNROLLED result }
 {
     rows[set * station.targets().len() + target].unrolled()
 }
 
-/// The readings of a target, added over all sets.
+/// The observations of a target, added over all sets.
 pub fn target_total(station: &Station, rows: &[Row], target: usize) -> i64
     requires complete { IsComplete station.now }
     requires rows { AreMeansRows station.now rows.now }
     requires target { target < length station.now.targets }
-    ensures value { result ≡ Totals.target_total (readings_of station.now.obs rows.now) target }
-    ensures bound { IsWithin (LARGEST_READING *ℤ pos MOST_SETS) result }
+    ensures value { result ≡ Totals.target_total (turned_by_rows station.now.obs rows.now) target }
+    ensures bound { IsWithin (LARGEST_UNROLLED *ℤ pos MOST_SETS) result }
 {
     let mut total = 0;
     for set in 0..station.sets().len() {
-        total += reading_at(station, rows, set, target);
+        total += observation_at(station, rows, set, target);
     }
     total
 }
 
-/// The readings of a set, added over all targets.
+/// The observations of a set, added over all targets.
 pub fn set_total(station: &Station, rows: &[Row], set: usize) -> i64
     requires complete { IsComplete station.now }
     requires rows { AreMeansRows station.now rows.now }
     requires set { set < length station.now.sets }
-    ensures value { result ≡ Totals.set_total (readings_of station.now.obs rows.now) set }
-    ensures bound { IsWithin (LARGEST_READING *ℤ pos MOST_TARGETS) result }
+    ensures value { result ≡ Totals.set_total (turned_by_rows station.now.obs rows.now) set }
+    ensures bound { IsWithin (LARGEST_UNROLLED *ℤ pos MOST_TARGETS) result }
 {
     let mut total = 0;
     for target in 0..station.targets().len() {
-        total += reading_at(station, rows, set, target);
+        total += observation_at(station, rows, set, target);
     }
     total
 }

@@ -1,4 +1,4 @@
-//! The full turns of a reading.
+//! The full turns of an observation.
 ghost use Rattle.std.specs.Prelude.{◌≡◌, pos, ◌+ℤ◌, ◌*ℤ◌};
 ghost use Rattle.adjust_kernel.specs.Within.{IsWithin};
 ghost use Rattle.sheet_means.specs.Turning.{IsInHalfCircle};
@@ -8,7 +8,7 @@ use adjust_kernel::TURN;
 /// Half units (0.005 mgon each) in half a circle.
 pub const HALF_TURN: i64 = TURN as i64 / 2;
 
-/// The largest number of full turns of a reading in a sheet of means.
+/// The largest number of full turns of an observation in a sheet of means.
 pub const MOST_TURNS: i8 = 2;
 
 /// The full turns that bring a difference of two angles into the half circle: most often none,

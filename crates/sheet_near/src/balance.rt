@@ -6,7 +6,7 @@
 ghost use Rattle.std.specs.Prelude.{◌≡◌, ◌≤◌, All, length};
 ghost use Rattle.adjust_kernel.specs.Stations.{IsObs};
 
-use crate::circle::reading;
+use crate::circle::observation;
 use adjust_kernel::{MOST_NODES, MOST_SETS, MOST_TARGETS, Obs, Row};
 
 /// The most rounds: more than any station is known to take.
@@ -55,7 +55,7 @@ fn move_all(
     for place in 0..obs.len() {
         let set = obs[place].set as usize;
         let target = sets + obs[place].target as usize;
-        let observed = reading(rows[place].value, rows[place].turn);
+        let observed = observation(rows[place].value, rows[place].turn);
         let residual = angles[target]
             .saturating_sub(angles[set])
             .saturating_sub(observed);

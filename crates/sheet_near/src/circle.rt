@@ -11,8 +11,8 @@ pub const DENOMINATOR: u64 = LARGEST_DENOMINATOR;
 /// A full circle.
 const CIRCLE: i128 = TURN as i128 * DENOMINATOR as i128;
 
-/// A reading, in half units, with its full turns, as an angle over the denominator.
-pub(crate) fn reading(value: u32, turns: i8) -> i128 {
+/// An observation, in half units, with its full turns, as an angle over the denominator.
+pub(crate) fn observation(value: u32, turns: i8) -> i128 {
     (i128::from(value) + i128::from(TURN) * i128::from(turns)) * i128::from(DENOMINATOR)
 }
 

@@ -1,10 +1,11 @@
 //! The parts of a near sheet: its rows, directions and orientations, by angles of all nodes.
-ghost use Rattle.std.specs.Prelude.{◌≡◌, ◌<◌, ◌≤◌, ◌+◌, pos, map, All, length, slice_index_or, [], IfOk};
+ghost use Rattle.std.specs.Prelude.{◌≡◌, ◌<◌, ◌≤◌, ◌+◌, pos, map, All, length, slice_index_or, []};
+ghost use Rattle.std.specs.Prelude.{IfOk};
 ghost use Rattle.adjust_kernel.specs.Matching.{key_of_row, key_of_obs, observed};
 ghost use Rattle.adjust_kernel.specs.Sheets.{IsDirection, IsOrientation, IsRow};
 ghost use Rattle.adjust_kernel.specs.Stations.{IsObs};
 
-use crate::circle::{limited, reading, turns_of};
+use crate::circle::{limited, observation, turns_of};
 use adjust_kernel::{Direction, MOST_NODES, Obs, Orientation, Row, Station};
 use std::alloc::{AllocError, Global};
 
@@ -19,7 +20,7 @@ fn row_of(station: &Station, angles: &[i128; MOST_NODES], obs: &Obs) -> Row
     let node = station.sets().len() + target;
     let angle = angles[node]
         .saturating_sub(angles[set])
-        .saturating_sub(reading(obs.value, 0));
+        .saturating_sub(observation(obs.value, 0));
     Row {
         set: station.sets()[set],
         target: station.targets()[target],

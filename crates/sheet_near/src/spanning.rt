@@ -6,7 +6,7 @@
 ghost use Rattle.std.specs.Prelude.{◌≤◌, All};
 ghost use Rattle.adjust_kernel.specs.Stations.{IsObs};
 
-use crate::circle::{on_circle, reading};
+use crate::circle::{observation, on_circle};
 use adjust_kernel::{MOST_NODES, MOST_SETS, MOST_TARGETS, Obs, are_marked};
 
 /// Carries angles along all observations, once each.
@@ -24,7 +24,7 @@ fn carry(
     for each in obs {
         let set = each.set as usize;
         let target = sets + each.target as usize;
-        let value = reading(each.value, 0);
+        let value = observation(each.value, 0);
         if reached[set] && !reached[target] {
             angles[target] = on_circle(angles[set].saturating_add(value));
             reached[target] = true;

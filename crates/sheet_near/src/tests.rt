@@ -98,7 +98,7 @@ fn stations_worked_by_hand_come_out_exact(rt: HostRuntime) -> Result<(), Fail> {
             ],
             directions: &[0, 10_000_006],
         },
-        // The same with readings of A on both sides of zero.
+        // The same with observations of A on both sides of zero.
         Worked {
             sets: 2,
             targets: 2,
@@ -111,7 +111,8 @@ fn stations_worked_by_hand_come_out_exact(rt: HostRuntime) -> Result<(), Fail> {
             directions: &[0, 10_000_006],
         },
         // C was observed in the second set alone, so only A and B tie the sets: B is the same mean,
-        // and C lies 2 half units above B's reading of that set, which is 1 above its adjusted one.
+        // and C lies 2 half units above B's observation of that set, which is 1 above its adjusted
+        // one.
         Worked {
             sets: 2,
             targets: 3,

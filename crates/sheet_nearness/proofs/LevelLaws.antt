@@ -1,6 +1,6 @@
--- Where all readings together move little, and few readings lead from the first target to any other
--- and to any set, all move little: what one step more adds to the square of a move is not yet among
--- the readings with both ends reached.
+-- Where all observations together move little, and few observations lead from the first target to
+-- any other and to any set, all move little: what one step more adds to the square of a move is not
+-- yet among the observations with both ends reached.
 use Rattle.std.proofs.Common.{◌≡◌, ◌⊎◌, inl, inr, ⊎_elim, ℕ, suc, zero, ◌<◌, Bool, true, false}
 use Rattle.std.proofs.Common.{◌&&◌, ◌||◌, cond, eqb, List, [], ◌∷◌, length, get_or, ℤ, pos, negsuc}
 use Rattle.std.proofs.Common.{◌+ℤ◌, ◌≤ℤ◌, arith, ap, refl, sym, ◌∙◌, subst}
@@ -10,7 +10,7 @@ use Rattle.std.proofs.lemmas.Bool.Decides.{nat_tests}
 use Rattle.std.proofs.lemmas.Int.{ints}
 use Rattle.std.proofs.lemmas.List.Folds.{Any-from_list_any}
 use Rattle.sheet_nearness.specs.Levels.{is_target_within, is_set_within}
-use Rattle.adjust_kernel.specs.Readings.{Reading}
+use Rattle.adjust_kernel.specs.TurnedObservations.{TurnedObservation}
 use Rattle.adjust_kernel.specs.Sums.{int_sum_by, squared}
 use Rattle.adjust_kernel.proofs.LeastLaws.{squared-not_negative}
 use Rattle.adjust_kernel.proofs.Ring.{num, ◌⊕◌, ◌⊖◌, ◌⊗◌, same_value}
@@ -109,58 +109,68 @@ weight-grows true false q h k = let e : false ≡ true = k refl in absurd cc
 weight-grows false true q h k = omega (arith, ints)
 weight-grows false false q h k = omega (arith, ints)
 
-pub set_within-more : (readings : List Reading) (h s : ℕ) → is_set_within readings h s ≡ true
-    → is_set_within readings (suc h) s ≡ true
-set_within-more readings h s e = or_left (is_set_within readings h s)
-    (list_any (λ (r : Reading). eqb r.set s && is_target_within readings h r.target) readings) e
+pub set_within-more : (observations : List TurnedObservation) (h s : ℕ)
+    → is_set_within observations h s ≡ true
+    → is_set_within observations (suc h) s ≡ true
+set_within-more observations h s e = or_left (is_set_within observations h s)
+    (list_any
+    (λ (r : TurnedObservation). eqb r.set s
+    && is_target_within observations h r.target) observations) e
 
-pub target_within-more : (readings : List Reading) (h t : ℕ) → is_target_within readings h t ≡ true
-    → is_target_within readings (suc h) t ≡ true
-target_within-more readings h t e = or_left (is_target_within readings h t)
-    (list_any (λ (r : Reading). eqb r.target t && is_set_within readings h r.set) readings) e
+pub target_within-more : (observations : List TurnedObservation) (h t : ℕ)
+    → is_target_within observations h t ≡ true
+    → is_target_within observations (suc h) t ≡ true
+target_within-more observations h t e = or_left (is_target_within observations h t)
+    (list_any
+    (λ (r : TurnedObservation). eqb r.target t && is_set_within observations h r.set) observations)
+    e
 
-module _ (of_target of_set : ℕ → ℤ) (readings : List Reading) where
-  abbrev pub move : Reading → ℤ
+module _ (of_target of_set : ℕ → ℤ) (observations : List TurnedObservation) where
+  abbrev pub move : TurnedObservation → ℤ
   move r = of_target r.target -ℤ of_set r.set
 
-  -- both ends of the reading are reached
-  abbrev is_reached : ℕ → Reading → Bool
-  is_reached h r = is_set_within readings h r.set && is_target_within readings h r.target
+  -- both ends of the observation are reached
+  abbrev is_reached : ℕ → TurnedObservation → Bool
+  is_reached h r = is_set_within observations h r.set && is_target_within observations h r.target
 
-  abbrev weight : ℕ → Reading → ℤ
+  abbrev weight : ℕ → TurnedObservation → ℤ
   weight h r = cond (is_reached h r) (squared (move r)) (pos 0)
 
   abbrev weights : ℕ → ℤ
-  weights h = int_sum_by (weight h) readings
+  weights h = int_sum_by (weight h) observations
 
-  reached_more : (h : ℕ) (r : Reading) → is_reached h r ≡ true → is_reached (suc h) r ≡ true
+  reached_more : (h : ℕ) (r : TurnedObservation) → is_reached h r ≡ true → is_reached (suc h) r
+      ≡ true
   reached_more h r e =
-      let both = and_is (is_set_within readings h r.set) (is_target_within readings h r.target) e in
-      and_both _ _ (set_within-more readings h r.set both.0)
-      (target_within-more readings h r.target both.1)
+      let both = and_is (is_set_within observations h r.set)
+      (is_target_within observations h r.target) e in
+      and_both _ _ (set_within-more observations h r.set both.0)
+      (target_within-more observations h r.target both.1)
 
-  grows : (h : ℕ) (r : Reading) → pos 0 ≤ℤ (weight (suc h) r -ℤ weight h r)
+  grows : (h : ℕ) (r : TurnedObservation) → pos 0 ≤ℤ (weight (suc h) r -ℤ weight h r)
   grows h r = weight-grows (is_reached h r) (is_reached (suc h) r) (squared (move r))
       (squared-not_negative (move r)) (reached_more h r)
 
   weights-not_negative : (h : ℕ) → pos 0 ≤ℤ weights h
   weights-not_negative h = int_sum_by-not_negative (weight h) (λ r. weight-not_negative
-      (is_reached h r) (squared (move r)) (squared-not_negative (move r))) readings
+      (is_reached h r) (squared (move r)) (squared-not_negative (move r))) observations
 
   weights-grow : (h : ℕ) → weights h ≤ℤ weights (suc h)
   weights-grow h =
-      let e = int_sum_by-not_negative (λ r. weight (suc h) r -ℤ weight h r) (grows h) readings in
-      let f = int_sum_by-sub (weight (suc h)) (weight h) readings in
+      let e = int_sum_by-not_negative (λ r. weight (suc h) r -ℤ weight h r)
+      (grows h) observations in
+      let f = int_sum_by-sub (weight (suc h)) (weight h) observations in
       omega (arith, ints)
 
-  -- a reading whose second end is reached by this step
-  weights-gain : (h k : ℕ) (d : Reading) → k < length readings → is_reached h (get_or readings k d)
-      ≡ false → is_reached (suc h) (get_or readings k d) ≡ true
-      → (weights h +ℤ squared (move (get_or readings k d))) ≤ℤ weights (suc h)
+  -- an observation whose second end is reached by this step
+  weights-gain : (h k : ℕ) (d : TurnedObservation) → k < length observations
+      → is_reached h (get_or observations k d)
+      ≡ false → is_reached (suc h) (get_or observations k d) ≡ true
+      → (weights h +ℤ squared (move (get_or observations k d))) ≤ℤ weights (suc h)
   weights-gain h k d inside before after =
-      let r = get_or readings k d in
-      let e = one_at_most (λ r. weight (suc h) r -ℤ weight h r) (grows h) readings k d inside in
-      let f = int_sum_by-sub (weight (suc h)) (weight h) readings in
+      let r = get_or observations k d in
+      let e = one_at_most (λ r. weight (suc h) r -ℤ weight h r) (grows h) observations k d inside in
+      let f = int_sum_by-sub (weight (suc h)) (weight h) observations in
       let g : weight (suc h) r ≡ squared (move r) =
       ap (λ b. cond b (squared (move r)) (pos 0)) after in
       let i : weight h r ≡ pos 0 = ap (λ b. cond b (squared (move r)) (pos 0)) before in
@@ -197,8 +207,8 @@ module _ (of_target of_set : ℕ → ℤ) (readings : List Reading) where
       ⊖ num s)) (omega arith)
 
   abbrev AllClose : ℕ → Type 0
-  AllClose h = ((t : ℕ) → is_target_within readings h t ≡ true → IsTargetClose h t) × ((s : ℕ)
-      → is_set_within readings h s ≡ true → IsSetClose h s)
+  AllClose h = ((t : ℕ) → is_target_within observations h t ≡ true → IsTargetClose h t) × ((s : ℕ)
+      → is_set_within observations h s ≡ true → IsSetClose h s)
 
   target_again : (h t : ℕ) → IsTargetClose h t → IsTargetClose (suc h) t
   target_again h t c = no_step_more h (squared (of_target t -ℤ of_target 0)) (weights h)
@@ -208,33 +218,33 @@ module _ (of_target of_set : ℕ → ℤ) (readings : List Reading) where
   set_again h s c = no_step_more h (squared (of_set s -ℤ of_target 0)) (weights h)
       (weights (suc h)) c (weights-not_negative h) (weights-grow h)
 
-  -- along a reading to its target
-  target_next : (h k : ℕ) (d : Reading) → k < length readings
-      → is_set_within readings h (get_or readings k d).set ≡ true
-      → is_target_within readings h (get_or readings k d).target ≡ false
-      → is_target_within readings (suc h) (get_or readings k d).target ≡ true
-      → IsSetClose h (get_or readings k d).set
-      → IsTargetClose (suc h) (get_or readings k d).target
+  -- along an observation to its target
+  target_next : (h k : ℕ) (d : TurnedObservation) → k < length observations
+      → is_set_within observations h (get_or observations k d).set ≡ true
+      → is_target_within observations h (get_or observations k d).target ≡ false
+      → is_target_within observations (suc h) (get_or observations k d).target ≡ true
+      → IsSetClose h (get_or observations k d).set
+      → IsTargetClose (suc h) (get_or observations k d).target
   target_next h k d inside here before after c =
-      let r = get_or readings k d in
+      let r = get_or observations k d in
       let gain = weights-gain h k d inside (not_both_left _ _ before)
-      (and_both _ _ (set_within-more readings h r.set here) after) in
+      (and_both _ _ (set_within-more observations h r.set here) after) in
       subst (λ z. z ≤ℤ (pos (suc h) *ℤ weights (suc h)))
       (sym (to_target (of_target r.target) (of_set r.set) (of_target 0)))
       (step_more h (of_set r.set -ℤ of_target 0) (move r) (weights h) (weights (suc h)) c
       (weights-not_negative h) gain)
 
-  -- along a reading to its set
-  set_next : (h k : ℕ) (d : Reading) → k < length readings
-      → is_target_within readings h (get_or readings k d).target ≡ true
-      → is_set_within readings h (get_or readings k d).set ≡ false
-      → is_set_within readings (suc h) (get_or readings k d).set ≡ true
-      → IsTargetClose h (get_or readings k d).target
-      → IsSetClose (suc h) (get_or readings k d).set
+  -- along an observation to its set
+  set_next : (h k : ℕ) (d : TurnedObservation) → k < length observations
+      → is_target_within observations h (get_or observations k d).target ≡ true
+      → is_set_within observations h (get_or observations k d).set ≡ false
+      → is_set_within observations (suc h) (get_or observations k d).set ≡ true
+      → IsTargetClose h (get_or observations k d).target
+      → IsSetClose (suc h) (get_or observations k d).set
   set_next h k d inside here before after c =
-      let r = get_or readings k d in
+      let r = get_or observations k d in
       let gain = weights-gain h k d inside (not_both_right _ _ before)
-      (and_both _ _ after (target_within-more readings h r.target here)) in
+      (and_both _ _ after (target_within-more observations h r.target here)) in
       subst (λ z. z ≤ℤ (pos (suc h) *ℤ weights (suc h)))
       (sym (to_set (of_target r.target) (of_set r.set) (of_target 0)))
       (step_more h (of_target r.target -ℤ of_target 0) (of_set r.set -ℤ of_target r.target)
@@ -245,46 +255,47 @@ module _ (of_target of_set : ℕ → ℤ) (readings : List Reading) where
   same_key : (a b : ℕ) → eqb a b ≡ true → a ≡ b
   same_key a b e = grind (arith, nat_tests)
 
-  target_more : (h : ℕ) → AllClose h → (t : ℕ) → is_target_within readings (suc h) t ≡ true
+  target_more : (h : ℕ) → AllClose h → (t : ℕ) → is_target_within observations (suc h) t ≡ true
       → IsTargetClose (suc h) t
-  target_more h close t e = by (is_target_within readings h t) refl
+  target_more h close t e = by (is_target_within observations h t) refl
     where
-      by : (b : Bool) → is_target_within readings h t ≡ b → IsTargetClose (suc h) t
+      by : (b : Bool) → is_target_within observations h t ≡ b → IsTargetClose (suc h) t
       by true f = target_again h t (close.0 t f)
       by false f = ⊎_elim
           (λ g. let l : true ≡ false = sym g ∙ f in absurd cc)
           (λ g. let (k, d, inside, at, passes) =
-          Any-from_list_any (λ (r : Reading). eqb r.target t
-          && is_set_within readings h r.set) readings g in
-          let r = get_or readings k d in
-          let both = and_is (eqb r.target t) (is_set_within readings h r.set)
-          (subst (λ (r : Reading). (eqb r.target t && is_set_within readings h r.set)
+          Any-from_list_any (λ (r : TurnedObservation). eqb r.target t
+          && is_set_within observations h r.set) observations g in
+          let r = get_or observations k d in
+          let both = and_is (eqb r.target t) (is_set_within observations h r.set)
+          (subst (λ (r : TurnedObservation). (eqb r.target t && is_set_within observations h r.set)
           ≡ true) (sym at) passes) in
           let there : r.target ≡ t = same_key r.target t both.0 in
           subst (IsTargetClose (suc h)) there
-          (target_next h k d inside both.1 (ap (is_target_within readings h) there
-          ∙ f) (ap (is_target_within readings (suc h)) there ∙ e) (close.1 r.set both.1)))
+          (target_next h k d inside both.1 (ap (is_target_within observations h) there
+          ∙ f) (ap (is_target_within observations (suc h)) there ∙ e) (close.1 r.set both.1)))
           (or_is _ _ e)
 
-  set_more : (h : ℕ) → AllClose h → (s : ℕ) → is_set_within readings (suc h) s ≡ true
+  set_more : (h : ℕ) → AllClose h → (s : ℕ) → is_set_within observations (suc h) s ≡ true
       → IsSetClose (suc h) s
-  set_more h close s e = by (is_set_within readings h s) refl
+  set_more h close s e = by (is_set_within observations h s) refl
     where
-      by : (b : Bool) → is_set_within readings h s ≡ b → IsSetClose (suc h) s
+      by : (b : Bool) → is_set_within observations h s ≡ b → IsSetClose (suc h) s
       by true f = set_again h s (close.1 s f)
       by false f = ⊎_elim
           (λ g. let l : true ≡ false = sym g ∙ f in absurd cc)
           (λ g. let (k, d, inside, at, passes) =
-          Any-from_list_any (λ (r : Reading). eqb r.set s
-          && is_target_within readings h r.target) readings g in
-          let r = get_or readings k d in
-          let both = and_is (eqb r.set s) (is_target_within readings h r.target)
-          (subst (λ (r : Reading). (eqb r.set s && is_target_within readings h r.target)
+          Any-from_list_any (λ (r : TurnedObservation). eqb r.set s
+          && is_target_within observations h r.target) observations g in
+          let r = get_or observations k d in
+          let both = and_is (eqb r.set s) (is_target_within observations h r.target)
+          (subst (λ (r : TurnedObservation).
+          (eqb r.set s && is_target_within observations h r.target)
           ≡ true) (sym at) passes) in
           let there : r.set ≡ s = same_key r.set s both.0 in
           subst (IsSetClose (suc h)) there
-          (set_next h k d inside both.1 (ap (is_set_within readings h) there
-          ∙ f) (ap (is_set_within readings (suc h)) there ∙ e) (close.0 r.target both.1)))
+          (set_next h k d inside both.1 (ap (is_set_within observations h) there
+          ∙ f) (ap (is_set_within observations (suc h)) there ∙ e) (close.0 r.target both.1)))
           (or_is _ _ e)
 
   close_at : (h : ℕ) → AllClose h
@@ -296,25 +307,25 @@ module _ (of_target of_set : ℕ → ℤ) (readings : List Reading) where
   close_at (suc h) = let c = close_at h in (target_more h c, set_more h c)
 
   abbrev squares : ℤ
-  squares = int_sum_by (λ r. squared (move r)) readings
+  squares = int_sum_by (λ r. squared (move r)) observations
 
   at_most_all : (h : ℕ) (q : ℤ) → q ≤ℤ (pos h *ℤ weights h) → q ≤ℤ (pos h *ℤ squares)
   at_most_all h q c =
       let e = int_sum_by-below (weight h) (λ r. squared (move r))
       (λ r. weight-at_most (is_reached h r) (squared (move r))
-      (squared-not_negative (move r))) readings in
+      (squared-not_negative (move r))) observations in
       let f = times_not_below h (squares -ℤ weights h) (omega (arith, ints)) in
       let g : pos h *ℤ (squares -ℤ weights h) ≡ pos h *ℤ squares -ℤ pos h *ℤ weights h =
       same_value (num (pos h) ⊗ (num squares ⊖ num (weights h))) (num (pos h) ⊗ num squares
       ⊖ num (pos h) ⊗ num (weights h)) (omega arith) in
       omega (arith, ints)
 
-  -- the square of a move is at most so many times the squares of all readings' moves
-  pub target_within-close : (h t : ℕ) → is_target_within readings h t ≡ true
+  -- the square of a move is at most so many times the squares of all observations' moves
+  pub target_within-close : (h t : ℕ) → is_target_within observations h t ≡ true
       → squared (of_target t -ℤ of_target 0) ≤ℤ (pos h *ℤ squares)
   target_within-close h t e = at_most_all h (squared (of_target t -ℤ of_target 0))
       ((close_at h).0 t e)
 
-  pub set_within-close : (h s : ℕ) → is_set_within readings h s ≡ true
+  pub set_within-close : (h s : ℕ) → is_set_within observations h s ≡ true
       → squared (of_set s -ℤ of_target 0) ≤ℤ (pos h *ℤ squares)
   set_within-close h s e = at_most_all h (squared (of_set s -ℤ of_target 0)) ((close_at h).1 s e)

@@ -13,8 +13,8 @@ use Rattle.adjust_kernel.specs.declared.obs.Obs.{Obs}
 use Rattle.adjust_kernel.specs.declared.row.Row.{Row}
 use Rattle.sheet_nearness.specs.Levels.{AreWithin, is_marked_next, is_set_within, is_target_within}
 use Rattle.adjust_kernel.specs.Marks.{mark}
-use Rattle.adjust_kernel.specs.Pairs.{reading_of, readings_of}
-use Rattle.adjust_kernel.specs.Readings.{Reading}
+use Rattle.adjust_kernel.specs.Pairs.{turned_by, turned_by_rows}
+use Rattle.adjust_kernel.specs.TurnedObservations.{TurnedObservation}
 use Rattle.adjust_kernel.specs.Stations.{IsObs}
 use Rattle.adjust_kernel.proofs.SumLaws.{AllByRecursion-map}
 use native.Mathlib.Decide.{ℕ_discrete, dec_lt}
@@ -71,13 +71,13 @@ marked_next-more marks next sets i obs d n inside set_in target_in e =
     && w)
     ∙ ap (λ b. mark marks n || b) (sym (list_any_more p obs i d inside))
 
--- a test of observations as a test of readings
-any_reading : (q : Obs → Bool) (p : Reading → Bool) (obs : List Obs) (rows : List Row)
-    → length rows ≡ length obs → AllByRecursion (λ o. (k : ℤ) → q o ≡ p (reading_of o k)) obs
-    → list_any q obs ≡ list_any p (readings_of obs rows)
-any_reading q p [] rows e h = refl
-any_reading q p (o ∷ obs) [] e h = absurd (omega arith)
-any_reading q p (o ∷ obs) (r ∷ rows) e h = λ i. h.0 r.turn i || any_reading q p obs rows
+-- a test of observations, whatever turns they are given
+any_observation : (q : Obs → Bool) (p : TurnedObservation → Bool) (obs : List Obs) (rows : List Row)
+    → length rows ≡ length obs → AllByRecursion (λ o. (k : ℤ) → q o ≡ p (turned_by o k)) obs
+    → list_any q obs ≡ list_any p (turned_by_rows obs rows)
+any_observation q p [] rows e h = refl
+any_observation q p (o ∷ obs) [] e h = absurd (omega arith)
+any_observation q p (o ∷ obs) (r ∷ rows) e h = λ i. h.0 r.turn i || any_observation q p obs rows
     (omega arith) h.1 i
 
 same_test : (a b : ℕ) → eqb a b ≡ eqb b a
@@ -89,9 +89,9 @@ shifted_test s a b = grind (arith, nat_tests)
 -- the marks are those of what is reached by so many steps
 pub record IsLevel (sets targets : ℕ) (obs : List Obs) (rows : List Row) (marks : List Bool)
     (steps : ℕ) : Type 0 where
-  pub sets_are : (s : ℕ) → s < sets → mark marks s ≡ is_set_within (readings_of obs rows) steps s
+  pub sets_are : (s : ℕ) → s < sets → mark marks s ≡ is_set_within (turned_by_rows obs rows) steps s
   pub targets_are : (t : ℕ) → t < targets → mark marks (sets + t)
-      ≡ is_target_within (readings_of obs rows) steps t
+      ≡ is_target_within (turned_by_rows obs rows) steps t
 
 pub level_start : (sets targets : ℕ) (obs : List Obs) (rows : List Row) → sets + targets ≤ 140
     → 0 < targets → IsLevel sets targets obs rows (set (replicate 140 false) sets true) 0
@@ -122,8 +122,8 @@ level_start sets targets obs rows few some = record {
 
 module _ (sets targets : ℕ) (obs : List Obs) (placed : All (IsObs sets targets) obs)
     (rows : List Row) (same_length : length rows ≡ length obs) where
-  abbrev rs : List Reading
-  rs = readings_of obs rows
+  abbrev rs : List TurnedObservation
+  rs = turned_by_rows obs rows
 
   -- one step on
   pub level_more : (marks next : List Bool) (steps : ℕ) → IsLevel sets targets obs rows marks steps
@@ -137,9 +137,10 @@ module _ (sets targets : ℕ) (obs : List Obs) (placed : All (IsObs sets targets
     where
       set_next : (s : ℕ) → s < sets → list_any (λ (o : Obs). (eqb s (sets + o.target)
           && mark marks o.set) || (eqb s o.set && mark marks (sets + o.target))) obs
-          ≡ list_any (λ (r : Reading). eqb r.set s && is_target_within rs steps r.target) rs
-      set_next s h = any_reading (λ (o : Obs). (eqb s (sets + o.target) && mark marks o.set) ||
-          (eqb s o.set && mark marks (sets + o.target))) (λ (r : Reading). eqb r.set s
+          ≡ list_any
+          (λ (r : TurnedObservation). eqb r.set s && is_target_within rs steps r.target) rs
+      set_next s h = any_observation (λ (o : Obs). (eqb s (sets + o.target) && mark marks o.set) ||
+          (eqb s o.set && mark marks (sets + o.target))) (λ (r : TurnedObservation). eqb r.set s
           && is_target_within rs steps r.target) obs rows same_length
           (AllByRecursion-map (IsObs sets targets) _
           (λ o p k. λ i. (ne_eqb s (sets + o.target) (apart o.target) i && mark marks o.set) ||
@@ -152,10 +153,11 @@ module _ (sets targets : ℕ) (obs : List Obs) (placed : All (IsObs sets targets
       target_next : (t : ℕ) → t < targets
           → list_any (λ (o : Obs). (eqb (sets + t) (sets + o.target) && mark marks o.set) ||
           (eqb (sets + t) o.set && mark marks (sets + o.target))) obs
-          ≡ list_any (λ (r : Reading). eqb r.target t && is_set_within rs steps r.set) rs
-      target_next t h = any_reading (λ (o : Obs). (eqb (sets + t) (sets + o.target)
+          ≡ list_any (λ (r : TurnedObservation). eqb r.target t && is_set_within rs steps r.set) rs
+      target_next t h = any_observation (λ (o : Obs). (eqb (sets + t) (sets + o.target)
           && mark marks o.set) || (eqb (sets + t) o.set && mark marks (sets + o.target)))
-          (λ (r : Reading). eqb r.target t && is_set_within rs steps r.set) obs rows same_length
+          (λ (r : TurnedObservation). eqb r.target t
+          && is_set_within rs steps r.set) obs rows same_length
           (AllByRecursion-map (IsObs sets targets) _
           (λ o p k. (λ i. (shifted_test sets t o.target i && level.sets_are o.set p.set i) ||
           (ne_eqb (sets + t) o.set (apart o.set p.set) i && mark marks (sets + o.target)))

@@ -1,7 +1,8 @@
 -- Where the sums of residuals aren't 0, another choice with no larger sum of squares still lies
--- near: the squares of the moves of all readings are at most the moved residuals twice, these are
--- at most the largest move from the first target times the size of the sums, and the square of that
--- move is at most the squares of the moves of all readings, as many times as readings lead to it.
+-- near: the squares of the moves of all observations are at most the moved residuals twice, these
+-- are at most the largest move from the first target times the size of the sums, and the square of
+-- that move is at most the squares of the moves of all observations, as many times as observations
+-- lead to it.
 use Rattle.std.proofs.Common.{◌≡◌, ℕ, suc, zero, ◌+◌, ◌*◌, ◌≤◌, ◌<◌, ◌≢◌, cond, eqb, List, [], ◌∷◌}
 use Rattle.std.proofs.Common.{map, length, ◌+ℤ◌, ℤ, pos, negsuc, neg_ℤ, ◌≤ℤ◌, arith, ap, refl, sym}
 use Rattle.std.proofs.Common.{◌∙◌, subst}
@@ -15,7 +16,7 @@ use Rattle.adjust_kernel.specs.Least.{HasBetter, IsLeast, IsNoLargerSum}
 use Rattle.sheet_nearness.specs.Levels.{AreWithin}
 use Rattle.sheet_nearness.specs.Nearness.{AllLeastAreNear, AllNoLargerAreNear, IsNear, least_apart}
 use Rattle.sheet_nearness.specs.Nearness.{most_apart, size_of_sums, sizes_below}
-use Rattle.adjust_kernel.specs.Readings.{Reading}
+use Rattle.adjust_kernel.specs.TurnedObservations.{TurnedObservation}
 use Rattle.adjust_kernel.specs.Residuals.{Choice, residual, sum_of_squares, target_sum, set_sum}
 use Rattle.adjust_kernel.specs.Sums.{int_sum_by, squared}
 use Rattle.adjust_kernel.specs.Turns.{AreTurnedWhole, with_turns}
@@ -26,7 +27,7 @@ use Rattle.adjust_kernel.proofs.LeastLaws.{moved_direction, moved_orientation, m
 use Rattle.adjust_kernel.proofs.LeastLaws.{moved_residuals, squares-changed, squares-moved}
 use Rattle.adjust_kernel.proofs.LeastLaws.{squared-not_negative}
 use Rattle.sheet_nearness.proofs.LevelLaws.{target_within-close, set_within-close, times_not_below}
-use Rattle.adjust_kernel.proofs.ReadingLaws.{IsPlaced}
+use Rattle.adjust_kernel.proofs.ObservationLaws.{IsPlaced}
 use Rattle.adjust_kernel.proofs.Ring.{num, ◌⊕◌, ◌⊖◌, ◌⊗◌, same_value}
 use Rattle.sheet_nearness.proofs.SumBounds.{int_sum_by-within}
 use Rattle.adjust_kernel.proofs.SumLaws.{AllByRecursion-map, int_sum_by-same, int_sum_by-sub}
@@ -121,79 +122,80 @@ twice k z = same_value (num (pos (2 * k)) ⊗ num z) (num (pos k) ⊗ num z ⊕ 
     (omega arith)
 
 -- with the same full turns
-module _ (steps sets targets : ℕ) (c other : Choice) (readings : List Reading)
-    (placed : AllByRecursion (IsPlaced sets targets) readings)
-    (within : AreWithin sets targets readings steps) where
+module _ (steps sets targets : ℕ) (c other : Choice) (observations : List TurnedObservation)
+    (placed : AllByRecursion (IsPlaced sets targets) observations)
+    (within : AreWithin sets targets observations steps) where
   abbrev sums : ℕ
-  sums = size_of_sums sets targets c readings
+  sums = size_of_sums sets targets c observations
 
   abbrev first : ℤ
   first = moved_direction c other 0
 
   abbrev squares : ℤ
-  squares = int_sum_by (λ r. squared (moved c other r)) readings
+  squares = int_sum_by (λ r. squared (moved c other r)) observations
 
   target_square : (t : ℕ) → t < targets → squared (moved_direction c other t -ℤ first) ≤ℤ
       (pos steps *ℤ squares)
   target_square t h = target_within-close (moved_direction c other)
-      (moved_orientation c other) readings steps t (within.targets_within t h)
+      (moved_orientation c other) observations steps t (within.targets_within t h)
 
   set_square : (s : ℕ) → s < sets → squared (moved_orientation c other s -ℤ first) ≤ℤ
       (pos steps *ℤ squares)
   set_square s h = set_within-close (moved_direction c other)
-      (moved_orientation c other) readings steps s (within.sets_within s h)
+      (moved_orientation c other) observations steps s (within.sets_within s h)
 
   -- a bound of all moves, so many times the denominator and the sums, is one of their squares
   abbrev AreSquaresWithin : ℕ → Type 0
   AreSquaresWithin factor = (size : ℕ) → IsWithin (pos (size * sums))
-      (moved_residuals c other readings)
+      (moved_residuals c other observations)
       → squares ≤ℤ pos (factor * other.denominator * (size * sums))
 
   module _ (size : ℕ) (target_near : (t : ℕ) → t < targets
       → IsWithin (pos size) (moved_direction c other t -ℤ first)) (set_near : (s : ℕ) → s < sets
       → IsWithin (pos size) (moved_orientation c other s -ℤ first)) where
-    moved_residuals_within : IsWithin (pos (size * sums)) (moved_residuals c other readings)
+    moved_residuals_within : IsWithin (pos (size * sums)) (moved_residuals c other observations)
     moved_residuals_within =
-        let v : Reading → ℤ = residual c in
+        let v : TurnedObservation → ℤ = residual c in
         let d : ℕ → ℤ = λ t. moved_direction c other t -ℤ first in
         let o : ℕ → ℤ = λ s. moved_orientation c other s -ℤ first in
-        let same : moved_residuals c other readings ≡ int_sum_by (λ r. v r *ℤ d r.target) readings
-        -ℤ int_sum_by (λ r. v r *ℤ o r.set) readings =
+        let same : moved_residuals c other observations
+        ≡ int_sum_by (λ r. v r *ℤ d r.target) observations
+        -ℤ int_sum_by (λ r. v r *ℤ o r.set) observations =
         int_sum_by-same (λ r. v r *ℤ moved_direction c other r.target
         -ℤ v r *ℤ moved_orientation c other r.set) (λ r. v r *ℤ d r.target -ℤ v r *ℤ o r.set)
         (λ r. rotated (v r) (moved_direction c other r.target)
-        (moved_orientation c other r.set) first) readings
-        ∙ int_sum_by-sub (λ r. v r *ℤ d r.target) (λ r. v r *ℤ o r.set) readings in
+        (moved_orientation c other r.set) first) observations
+        ∙ int_sum_by-sub (λ r. v r *ℤ d r.target) (λ r. v r *ℤ o r.set) observations in
         subst (IsWithin (pos (size * sums))) (sym same)
-        (within_apart size (sizes_below (target_sum c readings) targets)
-        (sizes_below (set_sum c readings) sets) _ _
-        (int_sum_by-within (λ (r : Reading). r.target) v d size readings targets
-        (AllByRecursion-map (IsPlaced sets targets) (λ (r : Reading). r.target < targets)
-        (λ r p. p.target_in) readings placed) target_near)
-        (int_sum_by-within (λ (r : Reading). r.set) v o size readings sets
-        (AllByRecursion-map (IsPlaced sets targets) (λ (r : Reading). r.set < sets)
-        (λ r p. p.set_in) readings placed) set_near))
+        (within_apart size (sizes_below (target_sum c observations) targets)
+        (sizes_below (set_sum c observations) sets) _ _
+        (int_sum_by-within (λ (r : TurnedObservation). r.target) v d size observations targets
+        (AllByRecursion-map (IsPlaced sets targets) (λ (r : TurnedObservation). r.target < targets)
+        (λ r p. p.target_in) observations placed) target_near)
+        (int_sum_by-within (λ (r : TurnedObservation). r.set) v o size observations sets
+        (AllByRecursion-map (IsPlaced sets targets) (λ (r : TurnedObservation). r.set < sets)
+        (λ r p. p.set_in) observations placed) set_near))
 
-  -- all readings' moves together, where the sum of squares is no larger
-  pub no_larger_squares : IsNoLargerSum other readings c readings → AreSquaresWithin 2
+  -- all observations' moves together, where the sum of squares is no larger
+  pub no_larger_squares : IsNoLargerSum other observations c observations → AreSquaresWithin 2
   no_larger_squares not_greater size within_size =
-      let e = squares-changed c other readings in
+      let e = squares-changed c other observations in
       let f = times_low (2 * other.denominator) (size * sums)
-      (moved_residuals c other readings) within_size in
+      (moved_residuals c other observations) within_size in
       omega (arith, ints, not_greater)
 
   -- half of that, where the other choice's residuals add up
-  pub balanced_squares : IsBalanced other readings → AreSquaresWithin 1
+  pub balanced_squares : IsBalanced other observations → AreSquaresWithin 1
   balanced_squares balanced size within_size =
-      let e = squares-changed c other readings in
-      let f = squares-moved other c readings balanced in
-      let back : int_sum_by (λ r. squared (moved other c r)) readings ≡ squares =
+      let e = squares-changed c other observations in
+      let f = squares-moved other c observations balanced in
+      let back : int_sum_by (λ r. squared (moved other c r)) observations ≡ squares =
       int_sum_by-same (λ r. squared (moved other c r)) (λ r. squared (moved c other r))
       (λ r. moved_back c.denominator other.denominator (c.direction r.target)
-      (other.direction r.target) (c.orientation r.set) (other.orientation r.set)) readings in
-      let g = twice other.denominator (moved_residuals c other readings) in
+      (other.direction r.target) (c.orientation r.set) (other.orientation r.set)) observations in
+      let g = twice other.denominator (moved_residuals c other observations) in
       let h = times_low other.denominator (size * sums)
-      (moved_residuals c other readings) within_size in
+      (moved_residuals c other observations) within_size in
       omega (arith, ints)
 
   module _ (factor : ℕ) (squares_within : AreSquaresWithin factor) where
@@ -218,7 +220,7 @@ module _ (steps sets targets : ℕ) (c other : Choice) (readings : List Reading)
     move_alike =
         let x : ℕ = unsigned_abs (pos steps *ℤ squares) in
         let n = int_sum_by-not_negative (λ r. squared (moved c other r)) (λ r. squared-not_negative
-        (moved c other r)) readings in
+        (moved c other r)) observations in
         let is : pos x ≡ pos steps *ℤ squares =
         size_is (pos steps *ℤ squares) (times_not_below steps squares n) in
         by x is (root x)
@@ -249,70 +251,73 @@ module _ (steps sets targets : ℕ) (c other : Choice) (readings : List Reading)
 
 -- the residuals of a choice with turns taken off are those of the choice with these turns
 module _ (other : Choice) (of_target of_set : ℕ → ℤ) where
-  abbrev turns_taken : List Reading → List ℤ
-  turns_taken readings = map (λ r. r.turn +ℤ of_target r.target -ℤ of_set r.set) readings
+  abbrev turns_taken : List TurnedObservation → List ℤ
+  turns_taken observations = map (λ r. r.turn +ℤ of_target r.target -ℤ of_set r.set) observations
 
-  taken_target_sum : (t : ℕ) (readings : List Reading)
-      → target_sum (taken other of_target of_set) readings t
-      ≡ target_sum other (with_turns readings (turns_taken readings)) t
+  taken_target_sum : (t : ℕ) (observations : List TurnedObservation)
+      → target_sum (taken other of_target of_set) observations t
+      ≡ target_sum other (with_turns observations (turns_taken observations)) t
   taken_target_sum t [] = refl
-  taken_target_sum t (r ∷ readings) = λ i. cond (eqb r.target t)
+  taken_target_sum t (r ∷ observations) = λ i. cond (eqb r.target t)
       (taken_up other.denominator r.value (other.direction r.target)
       (other.orientation r.set) r.turn (of_target r.target) (of_set r.set) i) (pos 0)
-      +ℤ taken_target_sum t readings i
+      +ℤ taken_target_sum t observations i
 
-  taken_set_sum : (s : ℕ) (readings : List Reading)
-      → set_sum (taken other of_target of_set) readings s
-      ≡ set_sum other (with_turns readings (turns_taken readings)) s
+  taken_set_sum : (s : ℕ) (observations : List TurnedObservation)
+      → set_sum (taken other of_target of_set) observations s
+      ≡ set_sum other (with_turns observations (turns_taken observations)) s
   taken_set_sum s [] = refl
-  taken_set_sum s (r ∷ readings) = λ i. cond (eqb r.set s) (taken_up other.denominator r.value
+  taken_set_sum s (r ∷ observations) = λ i. cond (eqb r.set s) (taken_up other.denominator r.value
       (other.direction r.target) (other.orientation r.set) r.turn (of_target r.target)
-      (of_set r.set) i) (pos 0) +ℤ taken_set_sum s readings i
+      (of_set r.set) i) (pos 0) +ℤ taken_set_sum s observations i
 
 -- a least choice's residuals add up
-module _ (c : Choice) (readings : List Reading) (fraction : 1 ≤ c.denominator)
-    (least : IsLeast c readings) where
-  none_better : HasBetter c readings → ⊥
+module _ (c : Choice) (observations : List TurnedObservation) (fraction : 1 ≤ c.denominator)
+    (least : IsLeast c observations) where
+  none_better : HasBetter c observations → ⊥
   none_better better = let e = least better.other better.denominator in let f = better.smaller in
       absurd (omega (arith, ints))
 
-  zero_or_better : (z : ℤ) → (z ≢ pos 0 → HasBetter c readings) → z ≡ pos 0
+  zero_or_better : (z : ℤ) → (z ≢ pos 0 → HasBetter c observations) → z ≡ pos 0
   zero_or_better z h = by (ℤ_discrete z (pos 0))
     where
       by : Dec (z ≡ pos 0) → z ≡ pos 0
       by (yes e) = e
       by (no f) = absurd (none_better (h f))
 
-  pub least_is_balanced : IsBalanced c readings
+  pub least_is_balanced : IsBalanced c observations
   least_is_balanced = record {
-    targets = λ t. zero_or_better (target_sum c readings t)
-        (target_sum_has_better c readings t fraction);
-    sets = λ s. zero_or_better (set_sum c readings s) (set_sum_has_better c readings s fraction);
+    targets = λ t. zero_or_better (target_sum c observations t)
+        (target_sum_has_better c observations t fraction);
+    sets = λ s. zero_or_better (set_sum c observations s)
+        (set_sum_has_better c observations s fraction);
   }
 
 -- with any full turns, under a residual limit
-module _ (limit steps sets targets : ℕ) (c : Choice) (readings : List Reading)
-    (a : IsHeldUnder limit sets targets c readings) (within : AreWithin sets targets readings steps)
+module _ (limit steps sets targets : ℕ) (c : Choice) (observations : List TurnedObservation)
+    (a : IsHeldUnder limit sets targets c observations)
+    (within : AreWithin sets targets observations steps)
     (other : Choice) (turns : List ℤ) (long : length turns
-    ≡ length readings) (fraction : 1 ≤ other.denominator)
-    (no_larger : IsNoLargerSum other (with_turns readings turns) c readings) where
-  abbrev whole : AreTurnedWhole readings turns
-  whole = turned limit sets targets c readings a other turns long fraction no_larger
+    ≡ length observations) (fraction : 1 ≤ other.denominator)
+    (no_larger : IsNoLargerSum other (with_turns observations turns) c observations) where
+  abbrev whole : AreTurnedWhole observations turns
+  whole = turned limit sets targets c observations a other turns long fraction no_larger
 
   abbrev back : Choice
   back = taken other whole.of_target whole.of_set
 
-  placed : AllByRecursion (IsPlaced sets targets) readings
-  placed = recursion_from_All (IsPlaced sets targets) readings a.placed
+  placed : AllByRecursion (IsPlaced sets targets) observations
+  placed = recursion_from_All (IsPlaced sets targets) observations a.placed
 
-  back_no_larger : IsNoLargerSum back readings c readings
+  back_no_larger : IsNoLargerSum back observations c observations
   back_no_larger =
-      let same : sum_of_squares back readings ≡ sum_of_squares other (with_turns readings turns) =
-      taken_squares other whole.of_target whole.of_set readings
-      ∙ ap (λ (ks : List ℤ). sum_of_squares other (with_turns readings ks))
+      let same : sum_of_squares back observations
+      ≡ sum_of_squares other (with_turns observations turns) =
+      taken_squares other whole.of_target whole.of_set observations
+      ∙ ap (λ (ks : List ℤ). sum_of_squares other (with_turns observations ks))
       (sym whole.turns_are) in
       subst (λ z. (pos (c.denominator * c.denominator) *ℤ z) ≤ℤ
-      (pos (other.denominator * other.denominator) *ℤ sum_of_squares c readings))
+      (pos (other.denominator * other.denominator) *ℤ sum_of_squares c observations))
       (sym same) no_larger
 
   near_within : (most : ℕ) → ((t : ℕ) → t < targets
@@ -320,7 +325,7 @@ module _ (limit steps sets targets : ℕ) (c : Choice) (readings : List Reading)
       -ℤ moved_direction c back 0))
       × ((s : ℕ) → s < sets → IsWithin (pos (most * other.denominator)) (moved_orientation c back s
       -ℤ moved_direction c back 0))
-      → IsNear sets targets c readings most other turns
+      → IsNear sets targets c observations most other turns
   near_within most alike = record {
     turned = whole;
     rotation = moved_direction c back 0;
@@ -329,49 +334,51 @@ module _ (limit steps sets targets : ℕ) (c : Choice) (readings : List Reading)
     orientations = alike.1;
   }
 
-  pub no_larger_is_near : IsNear sets targets c readings
-      (most_apart steps sets targets c readings) other turns
+  pub no_larger_is_near : IsNear sets targets c observations
+      (most_apart steps sets targets c observations) other turns
   no_larger_is_near =
-      near_within (most_apart steps sets targets c readings)
-      (move_alike steps sets targets c back readings placed within 2
-      (no_larger_squares steps sets targets c back readings placed within back_no_larger))
+      near_within (most_apart steps sets targets c observations)
+      (move_alike steps sets targets c back observations placed within 2
+      (no_larger_squares steps sets targets c back observations placed within back_no_larger))
 
   -- a least one
-  module _ (least : IsLeast other (with_turns readings turns)) where
-    back_balanced : IsBalanced back readings
+  module _ (least : IsLeast other (with_turns observations turns)) where
+    back_balanced : IsBalanced back observations
     back_balanced =
-        let balanced = least_is_balanced other (with_turns readings turns) fraction least in
+        let balanced = least_is_balanced other (with_turns observations turns) fraction least in
         record {
-          targets = λ t. taken_target_sum other whole.of_target whole.of_set t readings
-              ∙ ap (λ (ks : List ℤ). target_sum other (with_turns readings ks) t)
+          targets = λ t. taken_target_sum other whole.of_target whole.of_set t observations
+              ∙ ap (λ (ks : List ℤ). target_sum other (with_turns observations ks) t)
               (sym whole.turns_are) ∙ balanced.targets t;
-          sets = λ s. taken_set_sum other whole.of_target whole.of_set s readings
-              ∙ ap (λ (ks : List ℤ). set_sum other (with_turns readings ks) s)
+          sets = λ s. taken_set_sum other whole.of_target whole.of_set s observations
+              ∙ ap (λ (ks : List ℤ). set_sum other (with_turns observations ks) s)
               (sym whole.turns_are) ∙ balanced.sets s;
         }
 
-    pub least_is_near : IsNear sets targets c readings
-        (least_apart steps sets targets c readings) other turns
+    pub least_is_near : IsNear sets targets c observations
+        (least_apart steps sets targets c observations) other turns
     least_is_near =
-        let alike = move_alike steps sets targets c back readings placed within 1
-        (balanced_squares steps sets targets c back readings placed within back_balanced) in
-        near_within (least_apart steps sets targets c readings) (
-          λ t h. within_more (1 * least_apart steps sets targets c readings * other.denominator)
-              (least_apart steps sets targets c readings * other.denominator) _ (omega arith)
+        let alike = move_alike steps sets targets c back observations placed within 1
+        (balanced_squares steps sets targets c back observations placed within back_balanced) in
+        near_within (least_apart steps sets targets c observations) (
+          λ t h. within_more (1 * least_apart steps sets targets c observations * other.denominator)
+              (least_apart steps sets targets c observations * other.denominator) _ (omega arith)
               (alike.0 t h),
-          λ s h. within_more (1 * least_apart steps sets targets c readings * other.denominator)
-              (least_apart steps sets targets c readings * other.denominator) _ (omega arith)
+          λ s h. within_more (1 * least_apart steps sets targets c observations * other.denominator)
+              (least_apart steps sets targets c observations * other.denominator) _ (omega arith)
               (alike.1 s h),
         )
 
-pub all_no_larger_are_near : (limit steps sets targets : ℕ) (c : Choice) (readings : List Reading)
-    → IsHeldUnder limit sets targets c readings → AreWithin sets targets readings steps
-    → AllNoLargerAreNear sets targets c readings (most_apart steps sets targets c readings)
-all_no_larger_are_near limit steps sets targets c readings a within other turns long h k =
-    no_larger_is_near limit steps sets targets c readings a within other turns long h k
+pub all_no_larger_are_near : (limit steps sets targets : ℕ) (c : Choice)
+    (observations : List TurnedObservation)
+    → IsHeldUnder limit sets targets c observations → AreWithin sets targets observations steps
+    → AllNoLargerAreNear sets targets c observations (most_apart steps sets targets c observations)
+all_no_larger_are_near limit steps sets targets c observations a within other turns long h k =
+    no_larger_is_near limit steps sets targets c observations a within other turns long h k
 
-pub all_least_are_near : (limit steps sets targets : ℕ) (c : Choice) (readings : List Reading)
-    → IsHeldUnder limit sets targets c readings → AreWithin sets targets readings steps
-    → AllLeastAreNear sets targets c readings (least_apart steps sets targets c readings)
-all_least_are_near limit steps sets targets c readings a within other turns long h k least =
-    least_is_near limit steps sets targets c readings a within other turns long h k least
+pub all_least_are_near : (limit steps sets targets : ℕ) (c : Choice)
+    (observations : List TurnedObservation)
+    → IsHeldUnder limit sets targets c observations → AreWithin sets targets observations steps
+    → AllLeastAreNear sets targets c observations (least_apart steps sets targets c observations)
+all_least_are_near limit steps sets targets c observations a within other turns long h k least =
+    least_is_near limit steps sets targets c observations a within other turns long h k least

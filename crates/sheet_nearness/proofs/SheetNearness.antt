@@ -17,27 +17,28 @@ use Rattle.adjust_kernel.specs.Pairs.{choice_stated_by}
 use Rattle.adjust_kernel.specs.Sheets.{SheetValue, IsSheet}
 use Rattle.adjust_kernel.specs.Stations.{StationValue, IsStation}
 use Rattle.adjust_kernel.specs.Verdict.{HoldsTogether, IsFault, KeepsLimit, Stands, order_of}
-use Rattle.adjust_kernel.specs.Verdict.{readings}
+use Rattle.adjust_kernel.specs.Verdict.{observations}
 use Rattle.sheet_nearness.proofs.NearnessLaws.{all_least_are_near, all_no_larger_are_near}
-use Rattle.adjust_kernel.proofs.ReadingLaws.{IsPlaced}
+use Rattle.adjust_kernel.proofs.ObservationLaws.{IsPlaced}
 use Rattle.sheet_nearness.proofs.StepLaws.{connected_within}
 use Rattle.adjust_kernel.proofs.TurnLaws.{IsHeldUnder}
 use Rattle.adjust_kernel.proofs.VerdictLaws.{IsClearOf, not_standing}
-use Rattle.adjust_kernel.proofs.VerdictSquares.{readings_placed, length-readings_of}
+use Rattle.adjust_kernel.proofs.VerdictSquares.{observations_placed, length-turned_by_rows}
 
 module _ (station : StationValue) (sheet : SheetValue) where
   held_under : (limit : ℕ) → IsStation station → IsSheet sheet → limit ≤ LARGEST_RESIDUAL_LIMIT
       → HoldsTogether station sheet → KeepsLimit station sheet limit
       → IsHeldUnder limit (length station.sets) (length station.targets) (choice_stated_by sheet)
-      (readings station sheet)
+      (observations station sheet)
   held_under limit is_station is_sheet limit_in connected limited = record {
     denominator = is_sheet.denominator.0;
     some = is_station.targets.some;
     sets_in = is_station.sets.few;
     targets_in = is_station.targets.few;
     limit_in = limit_in;
-    readings_in = omega (arith, length-readings_of station.obs sheet.rows, is_sheet.rows.few);
-    placed = readings_placed (length station.sets)
+    observations_in =
+        omega (arith, length-turned_by_rows station.obs sheet.rows, is_sheet.rows.few);
+    placed = observations_placed (length station.sets)
         (length station.targets) station.obs sheet.rows is_station.obs.within;
     connected = connected;
     limited = limited;
@@ -50,7 +51,7 @@ module _ (station : StationValue) (sheet : SheetValue) where
       (most_apart_of station sheet steps)
   sheet_is_near_all_no_larger limit steps is_station is_sheet limit_in connected limited within =
       all_no_larger_are_near limit steps (length station.sets) (length station.targets)
-      (choice_stated_by sheet) (readings station sheet)
+      (choice_stated_by sheet) (observations station sheet)
       (held_under limit is_station is_sheet limit_in connected limited) within
 
   pub sheet_is_near_all_least : (limit steps : ℕ) → IsStation station → IsSheet sheet
@@ -60,7 +61,7 @@ module _ (station : StationValue) (sheet : SheetValue) where
       (least_apart_of station sheet steps)
   sheet_is_near_all_least limit steps is_station is_sheet limit_in connected limited within =
       all_least_are_near limit steps (length station.sets) (length station.targets)
-      (choice_stated_by sheet) (readings station sheet)
+      (choice_stated_by sheet) (observations station sheet)
       (held_under limit is_station is_sheet limit_in connected limited) within
 
   pub tied_within : IsStation station → HoldsTogether station sheet
@@ -68,9 +69,9 @@ module _ (station : StationValue) (sheet : SheetValue) where
   tied_within is_station connected =
       let sets = length station.sets in
       let targets = length station.targets in
-      connected_within sets targets (readings station sheet) is_station.targets.some
-      (recursion_from_All (IsPlaced sets targets) (readings station sheet)
-      (readings_placed sets targets station.obs sheet.rows is_station.obs.within)) connected
+      connected_within sets targets (observations station sheet) is_station.targets.some
+      (recursion_from_All (IsPlaced sets targets) (observations station sheet)
+      (observations_placed sets targets station.obs sheet.rows is_station.obs.within)) connected
 
   -- the sheet's full turns are some of those that may be added
   pub tied_holds_together : Matches station sheet → AreTied station → HoldsTogether station sheet

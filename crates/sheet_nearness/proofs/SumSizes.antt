@@ -8,15 +8,15 @@ use Rattle.std.proofs.lemmas.Int.{ints}
 use Rattle.std.proofs.lemmas.List.Elements.{recursion_from_All}
 use Rattle.adjust_kernel.specs.declared.bounds.TheConstants.{LARGEST_RESIDUAL_LIMIT}
 use Rattle.adjust_kernel.specs.Pairs.{choice_stated_by}
-use Rattle.adjust_kernel.specs.Readings.{Reading}
+use Rattle.adjust_kernel.specs.TurnedObservations.{TurnedObservation}
 use Rattle.adjust_kernel.specs.Residuals.{residual}
 use Rattle.adjust_kernel.specs.Sheets.{SheetValue, IsSheet}
 use Rattle.adjust_kernel.specs.Stations.{StationValue}
 use Rattle.adjust_kernel.specs.Sums.{int_sum_where}
-use Rattle.adjust_kernel.specs.Verdict.{KeepsLimit, readings}
+use Rattle.adjust_kernel.specs.Verdict.{KeepsLimit, observations}
 use Rattle.adjust_kernel.specs.Within.{IsWithin}
 use Rattle.adjust_kernel.proofs.GreatestLaws.{size_within}
-use Rattle.adjust_kernel.proofs.VerdictSquares.{length-readings_of}
+use Rattle.adjust_kernel.proofs.VerdictSquares.{length-turned_by_rows}
 use Rattle.sheet_nearness.proofs.NearnessLaws.{within_more}
 
 -- one term more, which is counted or not
@@ -44,11 +44,12 @@ module _ (station : StationValue) (sheet : SheetValue) where
       (limited k d inside)
 
   pub sum_at_most : IsSheet sheet → KeepsLimit station sheet LARGEST_RESIDUAL_LIMIT
-      → (p : Reading → Bool)
-      → unsigned_abs (int_sum_where p (residual (choice_stated_by sheet)) (readings station sheet))
+      → (p : TurnedObservation → Bool)
+      → unsigned_abs
+      (int_sum_where p (residual (choice_stated_by sheet)) (observations station sheet))
       ≤ 8_000_000_000_000_000_000
   sum_at_most is_sheet limited p =
-      let rs : List Reading = readings station sheet in
+      let rs : List TurnedObservation = observations station sheet in
       let m : ℕ = LARGEST_RESIDUAL_LIMIT * sheet.denominator in
       let within = int_sum_where-within m p (residual (choice_stated_by sheet)) rs
       (recursion_from_All (λ r. IsWithin (pos m)
@@ -56,6 +57,6 @@ module _ (station : StationValue) (sheet : SheetValue) where
       let size = size_within (m * length rs) _ within in
       let factor : m ≤ 2_000_000_000_000_000 = omega (arith, is_sheet.denominator.1) in
       let many : length rs ≤ 4_000 =
-      omega (arith, length-readings_of station.obs sheet.rows, is_sheet.rows.few) in
+      omega (arith, length-turned_by_rows station.obs sheet.rows, is_sheet.rows.few) in
       let product : m * length rs ≤ 2_000_000_000_000_000 * 4_000 = mul-le-mul factor many in
       omega (arith, size, product)

@@ -1,7 +1,7 @@
 -- How near a choice is to those with no larger sum of squares, where its own sums aren't 0
--- (textbook). With S for the sizes of its sums, added up, and h for how many readings lead from the
--- first target to the target or set that is furthest from it, 2 in a complete station: what has no
--- larger sum of squares is within 2 h S of it, and what is least within h S, in half units times
+-- (textbook). With S for the sizes of its sums, added up, and h for how many observations lead from
+-- the first target to the target or set that is furthest from it, 2 in a complete station: what has
+-- no larger sum of squares is within 2 h S of it, and what is least within h S, in half units times
 -- its denominator. Of a list that is printed to 0.1 mgon this says little, some mgon for 4 sets of
 -- 10 targets; it is for numbers with two or three decimals more than are printed.
 use Rattle.std.specs.Prelude.{◌≡◌, ℕ, zero, suc, ◌+◌, ◌*◌, ◌≤◌, ◌<◌, List, length, ℤ, pos, ◌-ℤ◌}
@@ -15,13 +15,13 @@ use Rattle.adjust_kernel.specs.declared.row.Row.{Row}
 use Rattle.adjust_kernel.specs.Connected.{IsConnected}
 use Rattle.adjust_kernel.specs.Least.{IsLeast, IsNoLargerSum}
 use Rattle.sheet_nearness.specs.Levels.{AreWithin}
-use Rattle.adjust_kernel.specs.Pairs.{choice_stated_by, readings_of}
-use Rattle.adjust_kernel.specs.Readings.{Reading}
+use Rattle.adjust_kernel.specs.Pairs.{choice_stated_by, turned_by_rows}
+use Rattle.adjust_kernel.specs.TurnedObservations.{TurnedObservation}
 use Rattle.adjust_kernel.specs.Residuals.{Choice, target_sum, set_sum}
 use Rattle.adjust_kernel.specs.Sheets.{SheetValue}
 use Rattle.adjust_kernel.specs.Stations.{StationValue}
 use Rattle.adjust_kernel.specs.Turns.{AreTurnedWhole, with_turns}
-use Rattle.adjust_kernel.specs.Verdict.{Stands, order_of, readings}
+use Rattle.adjust_kernel.specs.Verdict.{Stands, order_of, observations}
 use Rattle.adjust_kernel.specs.Within.{IsWithin}
 
 -- |f 0| + .. + |f (count - 1)|
@@ -30,18 +30,18 @@ sizes_below f zero = 0
 sizes_below f (suc n) = sizes_below f n + unsigned_abs (f n)
 
 -- the sizes of the sums of all targets and of all sets, added up: 0 where all residuals add up
-abbrev pub size_of_sums : ℕ → ℕ → Choice → List Reading → ℕ
-size_of_sums sets targets c readings =
-    sizes_below (target_sum c readings) targets + sizes_below (set_sum c readings) sets
+abbrev pub size_of_sums : ℕ → ℕ → Choice → List TurnedObservation → ℕ
+size_of_sums sets targets c observations =
+    sizes_below (target_sum c observations) targets + sizes_below (set_sum c observations) sets
 
--- the size of the sums, times the readings that lead from the first target to any other and to any
--- set: so many half units, times the choice's denominator, can a least choice differ
-abbrev pub least_apart : ℕ → ℕ → ℕ → Choice → List Reading → ℕ
-least_apart steps sets targets c readings = steps * size_of_sums sets targets c readings
+-- the size of the sums, times the observations that lead from the first target to any other and to
+-- any set: so many half units, times the choice's denominator, can a least choice differ
+abbrev pub least_apart : ℕ → ℕ → ℕ → Choice → List TurnedObservation → ℕ
+least_apart steps sets targets c observations = steps * size_of_sums sets targets c observations
 
 -- twice as many: so far can a choice differ that has no larger sum of squares
-abbrev pub most_apart : ℕ → ℕ → ℕ → Choice → List Reading → ℕ
-most_apart steps sets targets c readings = 2 * least_apart steps sets targets c readings
+abbrev pub most_apart : ℕ → ℕ → ℕ → Choice → List TurnedObservation → ℕ
+most_apart steps sets targets c observations = 2 * least_apart steps sets targets c observations
 
 -- an angle of a choice with so many full turns taken off
 abbrev pub turned_back : Choice → ℤ → ℤ → ℤ
@@ -54,9 +54,9 @@ apart c other angle others = pos c.denominator *ℤ others -ℤ pos other.denomi
 -- Another choice, with other full turns, is near this one: but for whole turns of targets and of
 -- sets, and for one rotation, that of the first target, no direction and no orientation is further
 -- from this choice's than so many half units, times this choice's denominator.
-pub record IsNear (sets targets : ℕ) (c : Choice) (readings : List Reading) (most : ℕ)
+pub record IsNear (sets targets : ℕ) (c : Choice) (observations : List TurnedObservation) (most : ℕ)
     (other : Choice) (turns : List ℤ) : Type 0 where
-  pub turned : AreTurnedWhole readings turns
+  pub turned : AreTurnedWhole observations turns
   pub rotation : ℤ
   pub of_first : rotation
       ≡ apart c other (c.direction 0)
@@ -72,55 +72,55 @@ pub record IsNear (sets targets : ℕ) (c : Choice) (readings : List Reading) (m
 
 -- every choice, over any denominator and with any full turns, that has no larger sum of squares is
 -- so near
-abbrev pub AllNoLargerAreNear : ℕ → ℕ → Choice → List Reading → ℕ → Type 0
-AllNoLargerAreNear sets targets c readings most =
-    (other : Choice) (turns : List ℤ) → length turns ≡ length readings → 1 ≤ other.denominator
-    → IsNoLargerSum other (with_turns readings turns) c readings
-    → IsNear sets targets c readings most other turns
+abbrev pub AllNoLargerAreNear : ℕ → ℕ → Choice → List TurnedObservation → ℕ → Type 0
+AllNoLargerAreNear sets targets c observations most =
+    (other : Choice) (turns : List ℤ) → length turns ≡ length observations → 1 ≤ other.denominator
+    → IsNoLargerSum other (with_turns observations turns) c observations
+    → IsNear sets targets c observations most other turns
 
 -- every one of them that is least for its own full turns is so near
-abbrev pub AllLeastAreNear : ℕ → ℕ → Choice → List Reading → ℕ → Type 0
-AllLeastAreNear sets targets c readings most =
-    (other : Choice) (turns : List ℤ) → length turns ≡ length readings → 1 ≤ other.denominator
-    → IsNoLargerSum other (with_turns readings turns) c readings
-    → IsLeast other (with_turns readings turns)
-    → IsNear sets targets c readings most other turns
+abbrev pub AllLeastAreNear : ℕ → ℕ → Choice → List TurnedObservation → ℕ → Type 0
+AllLeastAreNear sets targets c observations most =
+    (other : Choice) (turns : List ℤ) → length turns ≡ length observations → 1 ≤ other.denominator
+    → IsNoLargerSum other (with_turns observations turns) c observations
+    → IsLeast other (with_turns observations turns)
+    → IsNear sets targets c observations most other turns
 
 -- the station's observations hold all sets and targets together, whatever full turns are added
 abbrev pub AreTied : StationValue → Type 0
 AreTied station =
     (rows : List Row) → length rows ≡ length station.obs
-    → IsConnected (length station.sets) (length station.targets) (readings_of station.obs rows)
+    → IsConnected (length station.sets) (length station.targets) (turned_by_rows station.obs rows)
 
--- at most so many readings lead from the first target to any other and to any set
+-- at most so many observations lead from the first target to any other and to any set
 abbrev pub IsTiedWithin : StationValue → SheetValue → ℕ → Type 0
 IsTiedWithin station sheet steps =
-    AreWithin (length station.sets) (length station.targets) (readings station sheet) steps
+    AreWithin (length station.sets) (length station.targets) (observations station sheet) steps
 
 -- the bounds for a sheet of a station, in half units times the sheet's denominator: for least
 -- choices
 abbrev pub least_apart_of : StationValue → SheetValue → ℕ → ℕ
 least_apart_of station sheet steps =
     least_apart steps (length station.sets) (length station.targets)
-    (choice_stated_by sheet) (readings station sheet)
+    (choice_stated_by sheet) (observations station sheet)
 
 -- and for all with no larger sum of squares
 abbrev pub most_apart_of : StationValue → SheetValue → ℕ → ℕ
 most_apart_of station sheet steps =
     most_apart steps (length station.sets) (length station.targets)
-    (choice_stated_by sheet) (readings station sheet)
+    (choice_stated_by sheet) (observations station sheet)
 
 -- every choice with no larger sum of squares than the sheet's is so near the sheet
 abbrev pub IsNearAllNoLarger : StationValue → SheetValue → ℕ → Type 0
 IsNearAllNoLarger station sheet most =
     AllNoLargerAreNear (length station.sets) (length station.targets)
-    (choice_stated_by sheet) (readings station sheet) most
+    (choice_stated_by sheet) (observations station sheet) most
 
 -- every least choice with no larger sum of squares than the sheet's is so near the sheet
 abbrev pub IsNearAllLeast : StationValue → SheetValue → ℕ → Type 0
 IsNearAllLeast station sheet most =
     AllLeastAreNear (length station.sets) (length station.targets)
-    (choice_stated_by sheet) (readings station sheet) most
+    (choice_stated_by sheet) (observations station sheet) most
 
 -- a fault other than those of the sums
 abbrev pub IsBesideSums : KernelFault → Type 0

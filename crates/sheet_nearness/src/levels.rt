@@ -7,7 +7,7 @@ ghost use Rattle.adjust_kernel.specs.declared.row.Row.{Row};
 ghost use Rattle.adjust_kernel.specs.Connected.{IsConnected};
 ghost use Rattle.sheet_nearness.specs.Levels.{AreWithin, is_marked_next};
 ghost use Rattle.adjust_kernel.specs.Marks.{mark};
-ghost use Rattle.adjust_kernel.specs.Pairs.{readings_of};
+ghost use Rattle.adjust_kernel.specs.Pairs.{turned_by_rows};
 ghost use Rattle.adjust_kernel.specs.Stations.{IsObs};
 
 use adjust_kernel::{MOST_NODES, MOST_SETS, MOST_TARGETS, Obs, are_marked};
@@ -38,19 +38,19 @@ fn marks_next(
     next
 }
 
-/// The most observations that lead from the first target to another or to a set, each by the fewest.
-/// Takes no memory.
+/// The most observations that lead from the first target to another or to a set, each by the
+/// fewest. Takes no memory.
 pub(crate) fn steps_to_all(sets: usize, targets: usize, obs: &[Obs]) -> usize
     requires sets { sets ≤ MOST_SETS }
     requires targets { (0 < targets) × (targets ≤ MOST_TARGETS) }
     requires obs { All (IsObs sets targets) obs.now }
     requires connected { (rows : List Row) → length rows ≡ length obs.now
-        → IsConnected sets targets (readings_of obs.now rows) }
+        → IsConnected sets targets (turned_by_rows obs.now rows) }
     ensures within { (rows : List Row) → length rows ≡ length obs.now
-        → AreWithin sets targets (readings_of obs.now rows) result }
+        → AreWithin sets targets (turned_by_rows obs.now rows) result }
     ensures fewest { (rows : List Row) → length rows ≡ length obs.now
         → (fewer : ℕ) → fewer < result
-        → ¬ AreWithin sets targets (readings_of obs.now rows) fewer }
+        → ¬ AreWithin sets targets (turned_by_rows obs.now rows) fewer }
     ensures bound { result ≤ sets + targets - 1 }
 {
     let most = sets + targets - 1;

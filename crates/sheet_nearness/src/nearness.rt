@@ -8,8 +8,11 @@ ghost use Rattle.adjust_kernel.specs.Pairs.{choice_stated_by};
 ghost use Rattle.adjust_kernel.specs.Residuals.{target_sum, set_sum};
 ghost use Rattle.adjust_kernel.specs.Sheets.{IsSheet};
 ghost use Rattle.adjust_kernel.specs.Tallies.{all_added};
-ghost use Rattle.adjust_kernel.specs.Verdict.{HoldsTogether, KeepsLimit, readings};
-ghost use Rattle.sheet_nearness.specs.Nearness.{AreTied, IsFirstBesideSums, IsNearAllLeast, IsNearAllNoLarger, IsTiedWithin, TellsNearness, least_apart_of, most_apart_of, size_of_sums, sizes_below};
+ghost use Rattle.adjust_kernel.specs.Verdict.{HoldsTogether, KeepsLimit, observations};
+ghost use Rattle.sheet_nearness.specs.Nearness.{AreTied, IsFirstBesideSums, IsNearAllLeast};
+ghost use Rattle.sheet_nearness.specs.Nearness.{IsNearAllNoLarger, IsTiedWithin, TellsNearness};
+ghost use Rattle.sheet_nearness.specs.Nearness.{least_apart_of, most_apart_of, size_of_sums};
+ghost use Rattle.sheet_nearness.specs.Nearness.{sizes_below};
 
 use crate::levels::steps_to_all;
 use adjust_kernel::{
@@ -122,7 +125,7 @@ fn size_left(station: &Station, sheet: &Sheet) -> u128
     requires valid { IsSheet sheet.now }
     requires limited { KeepsLimit station.now sheet.now LARGEST_RESIDUAL_LIMIT }
     ensures value { result ≡ size_of_sums (length station.now.sets) (length station.now.targets)
-        (choice_stated_by sheet.now) (readings station.now sheet.now) }
+        (choice_stated_by sheet.now) (observations station.now sheet.now) }
     ensures bound { result ≤ LARGEST_SUM * (MOST_TARGETS + MOST_SETS) }
 {
     let (tally, _) = add_residuals(Running::new(), sheet, station.obs());
@@ -132,11 +135,11 @@ fn size_left(station: &Station, sheet: &Sheet) -> u128
 /// The sizes of the sums of all targets, added up.
 fn size_of_target_sums<T: Tally>(tally: &T, station: &Station, sheet: &Sheet) -> u128
     requires added { T.StandsFor tally.now
-        (all_added (choice_stated_by sheet.now) (readings station.now sheet.now)) }
+        (all_added (choice_stated_by sheet.now) (observations station.now sheet.now)) }
     requires valid { IsSheet sheet.now }
     requires limited { KeepsLimit station.now sheet.now LARGEST_RESIDUAL_LIMIT }
     ensures value { result
-        ≡ sizes_below (target_sum (choice_stated_by sheet.now) (readings station.now sheet.now))
+        ≡ sizes_below (target_sum (choice_stated_by sheet.now) (observations station.now sheet.now))
         (length station.now.targets) }
     ensures bound { result ≤ LARGEST_SUM * MOST_TARGETS }
 {
@@ -150,11 +153,11 @@ fn size_of_target_sums<T: Tally>(tally: &T, station: &Station, sheet: &Sheet) ->
 /// The sizes of the sums of all sets, added up.
 fn size_of_set_sums<T: Tally>(tally: &T, station: &Station, sheet: &Sheet) -> u128
     requires added { T.StandsFor tally.now
-        (all_added (choice_stated_by sheet.now) (readings station.now sheet.now)) }
+        (all_added (choice_stated_by sheet.now) (observations station.now sheet.now)) }
     requires valid { IsSheet sheet.now }
     requires limited { KeepsLimit station.now sheet.now LARGEST_RESIDUAL_LIMIT }
     ensures value { result
-        ≡ sizes_below (set_sum (choice_stated_by sheet.now) (readings station.now sheet.now))
+        ≡ sizes_below (set_sum (choice_stated_by sheet.now) (observations station.now sheet.now))
         (length station.now.sets) }
     ensures bound { result ≤ LARGEST_SUM * MOST_SETS }
 {

@@ -4,13 +4,13 @@ use Rattle.std.proofs.Common.{◌∙◌, subst}
 use Rattle.std.proofs.lemmas.List.{length-map}
 use Rattle.adjust_kernel.specs.Least.{IsNoLargerSum}
 use Rattle.adjust_kernel.specs.Matching.{Matches, key_of_row, key_of_obs}
-use Rattle.adjust_kernel.specs.Pairs.{choice_stated_by, reading_of, readings_of}
-use Rattle.adjust_kernel.specs.Readings.{Reading}
+use Rattle.adjust_kernel.specs.Pairs.{choice_stated_by, turned_by, turned_by_rows}
+use Rattle.adjust_kernel.specs.TurnedObservations.{TurnedObservation}
 use Rattle.adjust_kernel.specs.Residuals.{Choice}
 use Rattle.adjust_kernel.specs.Sheets.{SheetValue}
 use Rattle.adjust_kernel.specs.Stations.{StationValue}
 use Rattle.adjust_kernel.specs.Turns.{with_turns}
-use Rattle.adjust_kernel.specs.Verdict.{readings}
+use Rattle.adjust_kernel.specs.Verdict.{observations}
 use Rattle.adjust_kernel.specs.declared.obs.Obs.{Obs}
 use Rattle.adjust_kernel.specs.declared.row.Direction.{Direction}
 use Rattle.adjust_kernel.specs.declared.row.Row.{Row}
@@ -18,28 +18,28 @@ use Rattle.sheet_nearness.specs.Nearness.{IsNear, IsNearAllNoLarger}
 use Rattle.stated_directions.specs.LeastOf.{IsLeastOf, observed_with}
 
 -- the observations with no full turns
-abbrev plain : List Obs → List Reading
-plain obs = map (λ o. reading_of o (pos 0)) obs
+abbrev plain : List Obs → List TurnedObservation
+plain obs = map (λ o. turned_by o (pos 0)) obs
 
 -- other turns take the place of those of the rows
 other_turns : (obs : List Obs) (rows : List Row) (turns : List ℤ) → length rows ≡ length obs
-    → with_turns (readings_of obs rows) turns ≡ with_turns (plain obs) turns
+    → with_turns (turned_by_rows obs rows) turns ≡ with_turns (plain obs) turns
 other_turns [] rows turns h = refl
 other_turns (o ∷ obs) [] turns h = absurd (omega (arith, h))
 other_turns (o ∷ obs) (r ∷ rows) [] h = refl
 other_turns (o ∷ obs) (r ∷ rows) (k ∷ turns) h =
-    ap (λ rs. reading_of o k ∷ rs) (other_turns obs rows turns (omega (arith, h)))
+    ap (λ rs. turned_by o k ∷ rs) (other_turns obs rows turns (omega (arith, h)))
 
 -- the turns of the rows are such turns
 own_turns : (obs : List Obs) (rows : List Row) → length rows ≡ length obs
-    → readings_of obs rows ≡ with_turns (plain obs) (map (λ r. r.turn) rows)
+    → turned_by_rows obs rows ≡ with_turns (plain obs) (map (λ r. r.turn) rows)
 own_turns [] rows h = refl
 own_turns (o ∷ obs) [] h = absurd (omega (arith, h))
-own_turns (o ∷ obs) (r ∷ rows) h = ap (λ rs. reading_of o r.turn ∷ rs)
+own_turns (o ∷ obs) (r ∷ rows) h = ap (λ rs. turned_by o r.turn ∷ rs)
     (own_turns obs rows (omega (arith, h)))
 
 as_many : (obs : List Obs) (rows : List Row) → length rows ≡ length obs
-    → length (readings_of obs rows) ≡ length obs
+    → length (turned_by_rows obs rows) ≡ length obs
 as_many [] rows h = refl
 as_many (o ∷ obs) [] h = absurd (omega (arith, h))
 as_many (o ∷ obs) (r ∷ rows) h = omega (arith, as_many obs rows (omega (arith, h)))
@@ -62,18 +62,19 @@ pub least_is_near : (station : StationValue) (sheet : SheetValue) (near : ℕ) (
     → Matches station sheet → 1 ≤ sheet.denominator → IsNearAllNoLarger station sheet near
     → IsLeastOf station c turns
     → IsNear (length station.sets) (length station.targets) (choice_stated_by sheet)
-    (readings station sheet) near c turns
+    (observations station sheet) near c turns
 least_is_near station sheet near c turns matches positive all l =
     let rows : length sheet.rows ≡ length station.obs = a_row_each station sheet matches in
-    let count : length (readings station sheet) ≡ length station.obs =
+    let count : length (observations station sheet) ≡ length station.obs =
     as_many station.obs sheet.rows rows in
     let no_larger : IsNoLargerSum c (observed_with station turns) (choice_stated_by sheet)
     (observed_with station (map (λ r. r.turn) sheet.rows)) =
     l.least (choice_stated_by sheet) (map (λ r. r.turn) sheet.rows)
     (length-map sheet.rows (λ (r : Row). r.turn) ∙ rows) positive in
-    let here : IsNoLargerSum c (with_turns (readings station sheet) turns) (choice_stated_by sheet)
-    (readings station sheet) =
-    subst (λ rs. IsNoLargerSum c rs (choice_stated_by sheet) (readings station sheet))
+    let here : IsNoLargerSum c (with_turns (observations station sheet) turns)
+    (choice_stated_by sheet)
+    (observations station sheet) =
+    subst (λ rs. IsNoLargerSum c rs (choice_stated_by sheet) (observations station sheet))
     (sym (other_turns station.obs sheet.rows turns rows))
     (subst (λ rs. IsNoLargerSum c (observed_with station turns) (choice_stated_by sheet) rs)
     (sym (own_turns station.obs sheet.rows rows)) no_larger) in
@@ -87,19 +88,20 @@ turns_of sheet = map (λ r. r.turn) sheet.rows
 pub sheet_is_near : (station : StationValue) (sheet other : SheetValue) (near : ℕ)
     → Matches station sheet → Matches station other → 1 ≤ other.denominator
     → IsNearAllNoLarger station sheet near
-    → IsNoLargerSum (choice_stated_by other) (readings station other) (choice_stated_by sheet)
-    (readings station sheet)
+    → IsNoLargerSum (choice_stated_by other) (observations station other) (choice_stated_by sheet)
+    (observations station sheet)
     → IsNear (length station.sets) (length station.targets) (choice_stated_by sheet)
-    (readings station sheet) near (choice_stated_by other) (turns_of other)
+    (observations station sheet) near (choice_stated_by other) (turns_of other)
 sheet_is_near station sheet other near matches others positive all no_larger =
     let rows = a_row_each station sheet matches in
     let other_rows = a_row_each station other others in
-    let count : length (turns_of other) ≡ length (readings station sheet) =
+    let count : length (turns_of other) ≡ length (observations station sheet) =
     length-map other.rows (λ (r : Row). r.turn) ∙ other_rows
     ∙ sym (as_many station.obs sheet.rows rows) in
-    let same : with_turns (readings station sheet) (turns_of other) ≡ readings station other =
+    let same : with_turns (observations station sheet) (turns_of other)
+    ≡ observations station other =
     other_turns station.obs sheet.rows (turns_of other) rows
     ∙ sym (own_turns station.obs other.rows other_rows) in
     all (choice_stated_by other) (turns_of other) count positive
     (subst (λ rs. IsNoLargerSum (choice_stated_by other) rs (choice_stated_by sheet)
-    (readings station sheet)) (sym same) no_larger)
+    (observations station sheet)) (sym same) no_larger)

@@ -7,11 +7,11 @@ use native.Mathlib.Decide.{dec_le}
 use Rattle.adjust_kernel.specs.Least.{IsNoLargerSum, sum_beside}
 use Rattle.adjust_kernel.specs.Matching.{Matches}
 use Rattle.adjust_kernel.specs.Pairs.{choice_stated_by}
-use Rattle.adjust_kernel.specs.Readings.{Reading}
+use Rattle.adjust_kernel.specs.TurnedObservations.{TurnedObservation}
 use Rattle.adjust_kernel.specs.Residuals.{Choice}
 use Rattle.adjust_kernel.specs.Sheets.{SheetValue}
 use Rattle.adjust_kernel.specs.Stations.{StationValue}
-use Rattle.adjust_kernel.specs.Verdict.{readings}
+use Rattle.adjust_kernel.specs.Verdict.{observations}
 use Rattle.sheet_apart.specs.Apart.{AreBroughtNear, AreBroughtWithin, IsClear}
 use Rattle.sheet_apart.specs.Rounding.{IsRounded}
 use Rattle.sheet_apart.specs.declared.units.TheConstants.{CIRCLE}
@@ -43,7 +43,7 @@ module _ (station : StationValue) (limit apart : ℕ) (stated : ℕ
     → ℤ) (told : IsTold station limit stated apart) (c : Choice) (turns : List ℤ)
     (l : IsLeastOf station c turns) where
   near_sheet : IsNear (length station.sets) (length station.targets) (choice_stated_by told.sheet)
-      (readings station told.sheet) told.nearness.most c turns
+      (observations station told.sheet) told.nearness.most c turns
   near_sheet =
       least_is_near station told.sheet told.nearness.most c turns told.measured.matches
       (some_parts (choice_stated_by told.sheet) told.nearness.most told.clear)
@@ -52,7 +52,7 @@ module _ (station : StationValue) (limit apart : ℕ) (stated : ℕ
   pub least_within : AreBroughtWithin (length station.targets) c stated apart
   least_within =
       all_brought (length station.sets) (length station.targets) (choice_stated_by told.sheet) c
-      (readings station told.sheet) told.nearness.most apart stated turns told.is_apart
+      (observations station told.sheet) told.nearness.most apart stated turns told.is_apart
       near_sheet
 
   pub least_no_nearer : 2 ≤ apart → AreBroughtWithin (length station.targets) c stated (apart - 2)
@@ -60,7 +60,7 @@ module _ (station : StationValue) (limit apart : ℕ) (stated : ℕ
   least_no_nearer two b =
       let less : 2_000 * apart < 2_000 * (apart - 2) + 2_500 =
       apart_at_most (length station.sets) (length station.targets) (choice_stated_by told.sheet) c
-      (readings station told.sheet) told.nearness.most apart
+      (observations station told.sheet) told.nearness.most apart
       (2_000 * (apart - 2)) stated turns told.is_apart told.clear l.positive near_sheet b in
       omega (arith, two, less)
 
@@ -80,7 +80,7 @@ told_by station limit step directions sheet nearness measured clear count each =
   each = λ t h. each t (omega (arith, h, count));
 }
 
-no_larger_itself : (c : Choice) (rs : List Reading) → IsNoLargerSum c rs c rs
+no_larger_itself : (c : Choice) (rs : List TurnedObservation) → IsNoLargerSum c rs c rs
 no_larger_itself c rs = omega (arith, ints)
 
 -- a choice, with full turns, that is near two sheets of a station
@@ -90,9 +90,9 @@ record IsNearBoth (station : StationValue) (first second : SheetValue)
   pub turns : List ℤ
   pub some : 1 ≤ choice.denominator
   pub to_first : IsNear (length station.sets) (length station.targets) (choice_stated_by first)
-      (readings station first) one choice turns
+      (observations station first) one choice turns
   pub to_second : IsNear (length station.sets) (length station.targets) (choice_stated_by second)
-      (readings station second) other choice turns
+      (observations station second) other choice turns
 
 -- the sheet with the smaller sum of squares is one
 near_both : (station : StationValue) (first second : SheetValue) (one other : ℕ)
@@ -102,20 +102,21 @@ near_both : (station : StationValue) (first second : SheetValue) (one other : �
     → IsNearBoth station first second one other
 near_both station first second one other some_first some_second matches others near far =
     by (one_is_first (sum_beside (choice_stated_by second) (choice_stated_by first)
-    (readings station first)) (sum_beside (choice_stated_by first) (choice_stated_by second)
-    (readings station second)))
+    (observations station first)) (sum_beside (choice_stated_by first) (choice_stated_by second)
+    (observations station second)))
   where
-    by : IsNoLargerSum (choice_stated_by first) (readings station first) (choice_stated_by second)
-        (readings station second)
-        ⊎ IsNoLargerSum (choice_stated_by second) (readings station second)
-        (choice_stated_by first) (readings station first)
+    by : IsNoLargerSum (choice_stated_by first) (observations station first)
+        (choice_stated_by second)
+        (observations station second)
+        ⊎ IsNoLargerSum (choice_stated_by second) (observations station second)
+        (choice_stated_by first) (observations station first)
         → IsNearBoth station first second one other
     by (inl smaller) = record {
       choice = choice_stated_by first;
       turns = turns_of first;
       some = some_first;
       to_first = sheet_is_near station first first one matches matches some_first near
-          (no_larger_itself (choice_stated_by first) (readings station first));
+          (no_larger_itself (choice_stated_by first) (observations station first));
       to_second = sheet_is_near station second first other others matches some_first far smaller;
     }
     by (inr smaller) = record {
@@ -124,7 +125,7 @@ near_both station first second one other some_first some_second matches others n
       some = some_second;
       to_first = sheet_is_near station first second one matches others some_second near smaller;
       to_second = sheet_is_near station second second other others others some_second far
-          (no_larger_itself (choice_stated_by second) (readings station second));
+          (no_larger_itself (choice_stated_by second) (observations station second));
     }
 
 module _ (station : StationValue) (limit step : ℕ) (directions : List ℕ)
@@ -136,14 +137,14 @@ module _ (station : StationValue) (limit step : ℕ) (directions : List ℕ)
   brought : (left : ℕ) (other : Choice) (turns : List ℤ)
       → 10_000 * rounded.nearness.most ≤ left * sheet.denominator
       → IsNear (length station.sets) (length station.targets) sheet
-      (readings station rounded.sheet) rounded.nearness.most other turns
+      (observations station rounded.sheet) rounded.nearness.most other turns
       → AreBroughtNear (length station.targets) other (as_stated directions) (step + left)
   brought left other turns few n =
       subst (λ stated. AreBroughtNear (length station.targets) other stated (step + left))
       (as_stated_is directions)
       (rounded_near (length station.targets) step sheet (λ t. get_or directions t 0) rounded.each
       (length station.sets) rounded.nearness.most left other
-      (readings station rounded.sheet) turns
+      (observations station rounded.sheet) turns
       (some_parts sheet rounded.nearness.most rounded.clear) few n)
 
   -- and beside a least-squares choice
@@ -186,7 +187,7 @@ module _ (station : StationValue) (limit step : ℕ) (directions : List ℕ)
       rounded.measured.matches told.measured.matches rounded.measured.near told.measured.near in
       let less = apart_at_most (length station.sets) (length station.targets)
       (choice_stated_by told.sheet) n.choice
-      (readings station told.sheet) told.nearness.most apart (step + 250)
+      (observations station told.sheet) told.nearness.most apart (step + 250)
       (as_stated directions) n.turns
       told.is_apart told.clear n.some n.to_second (brought 250 n.choice n.turns
       (omega (arith, clear)) n.to_first) in
@@ -204,10 +205,10 @@ little_more station limit other apart otherwise stated told others =
     let b : AreBroughtNear (length station.targets) n.choice stated (2_000 * otherwise) =
     all_brought (length station.sets) (length station.targets)
     (choice_stated_by others.sheet) n.choice
-    (readings station others.sheet) others.nearness.most otherwise stated n.turns
+    (observations station others.sheet) others.nearness.most otherwise stated n.turns
     others.is_apart n.to_first in
     let less = apart_at_most (length station.sets) (length station.targets)
     (choice_stated_by told.sheet) n.choice
-    (readings station told.sheet) told.nearness.most apart (2_000 * otherwise) stated n.turns
+    (observations station told.sheet) told.nearness.most apart (2_000 * otherwise) stated n.turns
     told.is_apart told.clear n.some n.to_second b in
     omega (arith, less)

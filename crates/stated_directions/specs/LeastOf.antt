@@ -1,15 +1,15 @@
 -- The least-squares directions of a station (textbook), least over full turns too.
 use Rattle.std.specs.Prelude.{◌≡◌, ◌≤◌, List, length, map, ℤ, pos}
 use Rattle.adjust_kernel.specs.Least.{IsNoLargerSum}
-use Rattle.adjust_kernel.specs.Pairs.{reading_of}
-use Rattle.adjust_kernel.specs.Readings.{Reading}
+use Rattle.adjust_kernel.specs.Pairs.{turned_by}
+use Rattle.adjust_kernel.specs.TurnedObservations.{TurnedObservation}
 use Rattle.adjust_kernel.specs.Residuals.{Choice}
 use Rattle.adjust_kernel.specs.Stations.{StationValue}
 use Rattle.adjust_kernel.specs.Turns.{with_turns}
 
 -- the observations of a station, each with full turns
-abbrev pub observed_with : StationValue → List ℤ → List Reading
-observed_with station turns = with_turns (map (λ o. reading_of o (pos 0)) station.obs) turns
+abbrev pub observed_with : StationValue → List ℤ → List TurnedObservation
+observed_with station turns = with_turns (map (λ o. turned_by o (pos 0)) station.obs) turns
 
 -- A choice of directions and orientations, and full turns of each observation: no other, over any
 -- denominator, has a smaller sum of squares.

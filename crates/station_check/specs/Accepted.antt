@@ -13,7 +13,7 @@ use Rattle.adjust_kernel.specs.Matching.{Key, Matches, keys_of}
 use Rattle.adjust_kernel.specs.Pairs.{choice_stated_by}
 use Rattle.adjust_kernel.specs.Promises.{IsAdjustedOverTurns}
 use Rattle.adjust_kernel.specs.Sheets.{SheetValue}
-use Rattle.adjust_kernel.specs.Verdict.{KeepsLimit, IsAcceptance, readings}
+use Rattle.adjust_kernel.specs.Verdict.{KeepsLimit, IsAcceptance, observations}
 use Rattle.adjust_kernel.specs.declared.accepted.Accepted.{Accepted}
 use Rattle.sheet_format.specs.Rows.{IsSheetText}
 use Rattle.sheet_format.specs.declared.reading.TheConstants.{LONGEST_SHEET}
@@ -60,12 +60,12 @@ pub record IsAccepted (limits : FaceLimits) (most : Option ℕ) (file : FileAnsw
   pub within : AllZip (IsRecordedWith limits blocks sheet.name) (keys_of sheet) its.faces
   -- With the sheet's full turns no other directions and orientations, over any denominator, have a
   -- smaller sum of squared residuals; and those that have the same differ by one rotation.
-  pub least : IsLeast (choice_stated_by sheet) (readings its.station sheet)
+  pub least : IsLeast (choice_stated_by sheet) (observations its.station sheet)
   pub unique : IsUnique (length its.station.sets) (length its.station.targets)
-      (choice_stated_by sheet) (readings its.station sheet)
+      (choice_stated_by sheet) (observations its.station sheet)
   -- Where a residual limit is stated, no residual is above it, and no other full turns do better.
   pub limited : IfSome most (KeepsLimit its.station sheet)
   pub over_turns : IfSome most (λ n.
-      IsAdjustedOverTurns (choice_stated_by sheet) (readings its.station sheet))
+      IsAdjustedOverTurns (choice_stated_by sheet) (observations its.station sheet))
   -- What is answered: its name and numbers, its greatest residual and its denominator.
   pub says : IsAcceptance its.station sheet a

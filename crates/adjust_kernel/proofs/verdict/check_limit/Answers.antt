@@ -2,7 +2,7 @@ use Rattle.std.proofs.Common.{length}
 use Rattle.adjust_kernel.specs.Firsts.{IsFirstWhere}
 use Rattle.adjust_kernel.specs.Pairs.{choice_stated_by}
 use Rattle.adjust_kernel.specs.Turns.{IsAbove}
-use Rattle.adjust_kernel.specs.Verdict.{readings}
+use Rattle.adjust_kernel.specs.Verdict.{observations}
 use Rattle.adjust_kernel.proofs.VerdictLaws.{residual_fault}
 use Rattle.adjust_kernel.proofs.verdict.check_limit.Goals as goal
 
@@ -12,7 +12,7 @@ returns-in-Some-first_above_limit-clause-err c =
     let sheet = c.args.sheet.now in
     let row = c.in-Some-first_above_limit.row in
     let first : IsFirstWhere (IsAbove c.in-Some.limit (choice_stated_by sheet)
-    (readings station sheet)) (length (readings station sheet)) row =
+    (observations station sheet)) (length (observations station sheet)) row =
     rw (← c.half_units.ensures.value, ← c.obs.ensures.value)
     c.in-Some-first_above_limit.ensures.some in
     rw c.in-Some.is (residual_fault station sheet c.in-Some.limit row c.requires.matches

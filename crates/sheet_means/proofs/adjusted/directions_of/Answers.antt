@@ -5,9 +5,9 @@ use Rattle.std.proofs.lemmas.Int.{ints, to_z-of_z}
 use Rattle.std.proofs.Math.IntN.{◌*ℤ◌, ◌-ℤ◌}
 use Rattle.adjust_kernel.specs.declared.bounds.TheConstants.{MOST_SETS}
 use Rattle.adjust_kernel.specs.declared.row.Direction.{Direction}
-use Rattle.adjust_kernel.specs.Pairs.{readings_of}
+use Rattle.adjust_kernel.specs.Pairs.{turned_by_rows}
 use Rattle.adjust_kernel.specs.Within.{IsWithin}
-use Rattle.sheet_means.specs.declared.totals.TheConstants.{LARGEST_READING}
+use Rattle.sheet_means.specs.declared.totals.TheConstants.{LARGEST_UNROLLED}
 use Rattle.sheet_means.specs.Parts.{AreEach, IsMeansDirection}
 use Rattle.sheet_means.specs.Totals.{target_total}
 use Rattle.sheet_means.proofs.EachLaws.{each_more}
@@ -18,8 +18,8 @@ use Rattle.sheet_means.proofs.adjusted.directions_of.Goals as goal
 
 -- the difference of this target's total and the first's
 difference_is : (c : goal.In_ok-push) → c.subtract-difference.result
-    ≡ target_total (readings_of c.args.station.now.obs c.args.rows.now) c.loop-target.target
-    -ℤ target_total (readings_of c.args.station.now.obs c.args.rows.now) 0
+    ≡ target_total (turned_by_rows c.args.station.now.obs c.args.rows.now) c.loop-target.target
+    -ℤ target_total (turned_by_rows c.args.station.now.obs c.args.rows.now) 0
 difference_is c =
     let total : FitsSigned w64 c.target_total.result = record { sfits = c.target_total.type_inv } in
     let first : FitsSigned w64 c.target_total-first.result =
@@ -46,10 +46,10 @@ overflow_add-rest c =
 pub loop-target-preserved : goal.loop-target-preserved
 loop-target-preserved c =
     let station = c.args.station.now in
-    let readings = readings_of station.obs c.args.rows.now in
-    let P = IsMeansDirection station readings in
-    let f = λ (t : ℕ). target_total readings t -ℤ target_total readings 0 in
-    let most = LARGEST_READING *ℤ pos 2 *ℤ pos MOST_SETS in
+    let observations = turned_by_rows station.obs c.args.rows.now in
+    let P = IsMeansDirection station observations in
+    let f = λ (t : ℕ). target_total observations t -ℤ target_total observations 0 in
+    let most = LARGEST_UNROLLED *ℤ pos 2 *ℤ pos MOST_SETS in
     let t = c.loop-target.target in
     let few = c.targets-targets.ensures.valid.targets.few in
     let below : t < length station.targets = let all = ap length c.targets-targets.ensures.value in
@@ -79,13 +79,13 @@ loop-target-preserved c =
 pub returns-clause-rest : goal.returns-clause-rest
 returns-clause-rest c =
     let station = c.args.station.now in
-    let readings = readings_of station.obs c.args.rows.now in
+    let observations = turned_by_rows station.obs c.args.rows.now in
     let all = ap length c.targets-targets.ensures.value in
-    let first = target_total readings 0 in
+    let first = target_total observations 0 in
     let n : c.loop-target.target ≡ length station.targets = omega (arith, all) in
     c.loop-target.invariant.sum.total_is
-    ∙ ap (λ (k : ℕ). sum_below k (λ t. target_total readings t -ℤ first)) n
-    ∙ whole_less (length station.sets) (length station.targets) readings
+    ∙ ap (λ (k : ℕ). sum_below k (λ t. target_total observations t -ℤ first)) n
+    ∙ whole_less (length station.sets) (length station.targets) observations
     (grid station c.targets-targets.ensures.valid c.requires.complete c.args.rows.now
     c.requires.rows) first
 

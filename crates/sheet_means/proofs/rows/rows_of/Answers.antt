@@ -2,7 +2,7 @@ use Rattle.std.proofs.Common.{◌≡◌, ◌+◌, ◌<◌, List, length, get_or,
 use Rattle.adjust_kernel.specs.declared.obs.Obs.{Obs}
 use Rattle.adjust_kernel.specs.declared.row.Row.{Row}
 use Rattle.adjust_kernel.specs.Matching.{key_of_row, key_of_obs}
-use Rattle.adjust_kernel.specs.Pairs.{reading_of}
+use Rattle.adjust_kernel.specs.Pairs.{turned_by}
 use Rattle.sheet_means.specs.Turning.{IsTurned}
 use Rattle.sheet_means.proofs.CompleteLaws.{any_obs}
 use Rattle.sheet_means.proofs.RowLaws.{AreRowsTo, rows_more}
@@ -21,5 +21,5 @@ loop-obs-preserved c =
     (subst (λ (l : List Obs). key_of_row row ≡ key_of_obs station.sets station.targets
     (get_or l n any_obs)) obs c.row_of.ensures.key)
     (subst (λ (l : List Obs). IsTurned station.obs
-    (reading_of (get_or l n any_obs) row.turn)) obs c.row_of.ensures.turned)
+    (turned_by (get_or l n any_obs) row.turn)) obs c.row_of.ensures.turned)
     c.row_of.ensures.row)

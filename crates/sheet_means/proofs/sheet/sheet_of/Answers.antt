@@ -4,7 +4,7 @@ use Rattle.adjust_kernel.specs.Verdict.{IsAcceptedSheet}
 use Rattle.adjust_kernel.proofs.LawLemmas.{accepted_sheet}
 use Rattle.sheet_means.specs.Means.{IsMeansSheet, IsUnturnedAtFirst}
 use Rattle.sheet_means.proofs.MeansSheetLaws.{is_sheet, is_means_sheet, is_unturned, targets_add_up}
-use Rattle.sheet_means.proofs.MeansSheetLaws.{sets_add_up, holds_together, some_readings}
+use Rattle.sheet_means.proofs.MeansSheetLaws.{sets_add_up, holds_together, some_observations}
 use Rattle.sheet_means.proofs.sheet.sheet_of.Goals as goal
 
 pub from_valid-requires : goal.from_valid-requires
@@ -70,7 +70,7 @@ returns-clause-accepted c =
     (holds_together station valid c.requires.complete rows c.requires.rows directions
     c.requires.directions orientations c.requires.orientations)
     tt
-    (some_readings station valid c.requires.complete rows c.requires.rows directions
+    (some_observations station valid c.requires.complete rows c.requires.rows directions
     c.requires.directions orientations c.requires.orientations))
 
 pub returns-clause-unturned : goal.returns-clause-unturned

@@ -1,11 +1,11 @@
 use Rattle.std.proofs.Common.{◌≡◌, ◌<◌, length, ℕ, to_z, FitsSigned, arith, ap, subst, sym, ◌∙◌}
 use Rattle.std.specs.Int.{w64}
 use Rattle.std.proofs.lemmas.Int.{ints, to_z-of_z}
-use Rattle.adjust_kernel.specs.Pairs.{readings_of}
+use Rattle.adjust_kernel.specs.Pairs.{turned_by_rows}
 use Rattle.adjust_kernel.specs.Residuals.{unrolled}
 use Rattle.adjust_kernel.specs.Within.{IsWithin}
-use Rattle.sheet_means.specs.declared.totals.TheConstants.{LARGEST_READING}
-use Rattle.sheet_means.specs.Totals.{reading_at}
+use Rattle.sheet_means.specs.declared.totals.TheConstants.{LARGEST_UNROLLED}
+use Rattle.sheet_means.specs.Totals.{observation_at}
 use Rattle.sheet_means.proofs.GridLaws.{sum_below, sum_of_target}
 use Rattle.sheet_means.proofs.MeansRowLaws.{grid}
 use Rattle.sheet_means.proofs.SumLoops.{sum_more}
@@ -20,22 +20,23 @@ overflow_add-total c =
     let so_far = c.loop-set.invariant.bound in
     let low = so_far.low in
     let high = so_far.high in
-    let next = c.reading_at-total.ensures.bound in
+    let next = c.observation_at-total.ensures.bound in
     let next_low = next.low in
     let next_high = next.high in
-    let fits : FitsSigned w64 c.reading_at-total.result =
-    record { sfits = c.reading_at-total.type_inv } in
-    let same = to_z-of_z w64 c.reading_at-total.result fits in
+    let fits : FitsSigned w64 c.observation_at-total.result =
+    record { sfits = c.observation_at-total.type_inv } in
+    let same = to_z-of_z w64 c.observation_at-total.result fits in
     omega (arith, ints, few, below, low, high, next_low, next_high, same)
 
 pub loop-set-preserved : goal.loop-set-preserved
 loop-set-preserved c =
-    let f = λ (k : ℕ). unrolled (reading_at (readings_of c.args.station.now.obs c.args.rows.now)
+    let f = λ (k : ℕ). unrolled
+    (observation_at (turned_by_rows c.args.station.now.obs c.args.rows.now)
     (length c.args.station.now.targets) k c.args.target) in
-    let next = c.reading_at-total.ensures in
-    let more = sum_more f LARGEST_READING c.loop-set.set
+    let next = c.observation_at-total.ensures in
+    let more = sum_more f LARGEST_UNROLLED c.loop-set.set
     (to_z w64 c.loop-set.total-bits) c.loop-set.invariant
-    (subst (IsWithin LARGEST_READING) next.value next.bound) in
+    (subst (IsWithin LARGEST_UNROLLED) next.value next.bound) in
     let end = c.sets-set-end.ensures in
     let few = end.valid.sets.few in
     let below : c.loop-set.set < length c.args.station.now.sets = let all = ap length end.value in
@@ -50,12 +51,13 @@ returns-clause-value c =
     let station = c.args.station.now in
     let end = c.sets-set-end.ensures in
     let all = ap length end.value in
-    let f = λ (k : ℕ). unrolled (reading_at (readings_of c.args.station.now.obs c.args.rows.now)
+    let f = λ (k : ℕ). unrolled
+    (observation_at (turned_by_rows c.args.station.now.obs c.args.rows.now)
     (length c.args.station.now.targets) k c.args.target) in
     let n : c.loop-set.set ≡ length station.sets = omega (arith, all) in
     c.loop-set.invariant.total_is
     ∙ ap (λ (k : ℕ). sum_below k f) n
     ∙ sym (sum_of_target (length station.sets) (length station.targets)
-    (readings_of station.obs c.args.rows.now)
+    (turned_by_rows station.obs c.args.rows.now)
     (grid station end.valid c.requires.complete c.args.rows.now c.requires.rows) unrolled
     c.args.target c.requires.target)

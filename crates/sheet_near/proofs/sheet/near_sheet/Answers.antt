@@ -3,7 +3,7 @@ use Rattle.std.proofs.lemmas.List.{length-map}
 use Rattle.adjust_kernel.specs.Connected.{IsDivided}
 use Rattle.adjust_kernel.specs.Matching.{key_of_row, key_of_obs}
 use Rattle.adjust_kernel.specs.Names.{IsName}
-use Rattle.adjust_kernel.specs.Pairs.{readings_of}
+use Rattle.adjust_kernel.specs.Pairs.{turned_by_rows}
 use Rattle.adjust_kernel.specs.declared.obs.Obs.{Obs}
 use Rattle.adjust_kernel.specs.declared.row.Direction.{Direction}
 use Rattle.adjust_kernel.specs.declared.row.Orientation.{Orientation}
@@ -20,7 +20,7 @@ pub returns-then-not-is_connected-clause-not_connected :
 returns-then-not-is_connected-clause-not_connected c =
     let station = c.args.station.now in
     let divided : (rows : List Row) → IsDivided (length station.sets) (length station.targets)
-    (readings_of station.obs rows) =
+    (turned_by_rows station.obs rows) =
     λ rows. rw (
       ← c.sets-sets.ensures.value,
       ← c.targets-targets.ensures.value,

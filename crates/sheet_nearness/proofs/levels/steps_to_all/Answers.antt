@@ -1,10 +1,10 @@
 use Rattle.std.proofs.Common.{refl, arith}
 use Rattle.std.proofs.lemmas.List.Elements.{recursion_from_All}
-use Rattle.adjust_kernel.specs.Pairs.{readings_of}
+use Rattle.adjust_kernel.specs.Pairs.{turned_by_rows}
 use Rattle.sheet_nearness.proofs.LevelMarks.{level_start, level_more, fewest_more}
-use Rattle.adjust_kernel.proofs.ReadingLaws.{IsPlaced}
+use Rattle.adjust_kernel.proofs.ObservationLaws.{IsPlaced}
 use Rattle.sheet_nearness.proofs.StepLaws.{connected_within}
-use Rattle.adjust_kernel.proofs.VerdictSquares.{readings_placed}
+use Rattle.adjust_kernel.proofs.VerdictSquares.{observations_placed}
 use Rattle.sheet_nearness.proofs.levels.steps_to_all.Goals as goal
 
 pub loop-steps-init : goal.loop-steps-init
@@ -33,8 +33,8 @@ pub returns-clause-within : goal.returns-clause-within
 returns-clause-within c = λ rows e.
     let sets = c.args.sets in
     let targets = c.args.targets in
-    let readings = readings_of c.args.obs.now rows in
-    connected_within sets targets readings c.requires.targets.0
-    (recursion_from_All (IsPlaced sets targets) readings
-    (readings_placed sets targets c.args.obs.now rows c.requires.obs))
+    let observations = turned_by_rows c.args.obs.now rows in
+    connected_within sets targets observations c.requires.targets.0
+    (recursion_from_All (IsPlaced sets targets) observations
+    (observations_placed sets targets c.args.obs.now rows c.requires.obs))
     (c.requires.connected rows e)

@@ -5,7 +5,7 @@ use Rattle.std.proofs.lemmas.Int.{to_z-of_z}
 use Rattle.adjust_kernel.specs.Pairs.{choice_stated_by}
 use Rattle.adjust_kernel.specs.Residuals.{set_sum}
 use Rattle.adjust_kernel.specs.Tallies.{all_added}
-use Rattle.adjust_kernel.specs.Verdict.{readings}
+use Rattle.adjust_kernel.specs.Verdict.{observations}
 use Rattle.adjust_kernel.proofs.TallyLaws.{added_for_set-all}
 use Rattle.sheet_nearness.specs.Nearness.{sizes_below}
 use Rattle.sheet_nearness.proofs.SumSizes.{sum_at_most}
@@ -17,7 +17,7 @@ loop-set-preserved g c =
     let sheet = c.args.sheet.now in
     let place = c.loop-set.set in
     let stated = choice_stated_by sheet in
-    let rs = readings station sheet in
+    let rs = observations station sheet in
     let is_sum = c.set_sum.ensures (all_added stated rs) c.requires.added
     ∙ added_for_set-all stated rs place in
     let fits : FitsSigned w128 c.set_sum.result = record { sfits = c.set_sum.type_inv } in

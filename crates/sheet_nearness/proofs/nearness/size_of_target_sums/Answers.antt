@@ -5,7 +5,7 @@ use Rattle.std.proofs.lemmas.Int.{to_z-of_z}
 use Rattle.adjust_kernel.specs.Pairs.{choice_stated_by}
 use Rattle.adjust_kernel.specs.Residuals.{target_sum}
 use Rattle.adjust_kernel.specs.Tallies.{all_added}
-use Rattle.adjust_kernel.specs.Verdict.{readings}
+use Rattle.adjust_kernel.specs.Verdict.{observations}
 use Rattle.adjust_kernel.proofs.TallyLaws.{added_for_target-all}
 use Rattle.sheet_nearness.specs.Nearness.{sizes_below}
 use Rattle.sheet_nearness.proofs.SumSizes.{sum_at_most}
@@ -17,7 +17,7 @@ loop-target-preserved g c =
     let sheet = c.args.sheet.now in
     let place = c.loop-target.target in
     let stated = choice_stated_by sheet in
-    let rs = readings station sheet in
+    let rs = observations station sheet in
     let is_sum = c.target_sum.ensures (all_added stated rs) c.requires.added
     ∙ added_for_target-all stated rs place in
     let fits : FitsSigned w128 c.target_sum.result = record { sfits = c.target_sum.type_inv } in

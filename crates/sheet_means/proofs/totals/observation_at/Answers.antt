@@ -5,11 +5,11 @@ use Rattle.std.proofs.lemmas.Int.{ints, to_z-of_z}
 use Rattle.std.proofs.lemmas.List.{get_or_default}
 use Rattle.adjust_kernel.specs.declared.row.Row.{Row}
 use Rattle.adjust_kernel.specs.Within.{IsWithin}
-use Rattle.sheet_means.specs.declared.totals.TheConstants.{LARGEST_READING}
+use Rattle.sheet_means.specs.declared.totals.TheConstants.{LARGEST_UNROLLED}
 use Rattle.sheet_means.specs.Parts.{IsMeansRow}
 use Rattle.sheet_means.proofs.MeansRowLaws.{row_inside, unrolled_at, unrolled_row, any_row}
 use Rattle.sheet_means.proofs.ValueLaws.{place_inside}
-use Rattle.sheet_means.proofs.totals.reading_at.Goals as goal
+use Rattle.sheet_means.proofs.totals.observation_at.Goals as goal
 
 pub bounds-rows-set : goal.bounds-rows-set
 bounds-rows-set c =
@@ -19,7 +19,7 @@ bounds-rows-set c =
     (sym c.targets.ensures.value) inside
 
 -- a row of the sheet of means with its full turns, two at most
-row_bound : (r : Row) → IsMeansRow r → IsWithin LARGEST_READING (unrolled_row r)
+row_bound : (r : Row) → IsMeansRow r → IsWithin LARGEST_UNROLLED (unrolled_row r)
 row_bound r m =
     let v = m.row.value in
     let l = m.turn.low in
@@ -37,7 +37,7 @@ returns-clause-bound c =
     (subst (λ (l : List (List ℕ)). c.args.set * length l + c.args.target < length c.args.rows.now)
     (sym c.targets.ensures.value) inside)) in
     let fits : FitsSigned w64 c.unrolled.result = record { sfits = c.unrolled.type_inv } in
-    subst (IsWithin LARGEST_READING) (sym (to_z-of_z w64 c.unrolled.result fits
+    subst (IsWithin LARGEST_UNROLLED) (sym (to_z-of_z w64 c.unrolled.result fits
     ∙ c.unrolled.ensures)) (row_bound row means_row)
 
 pub returns-clause-value : goal.returns-clause-value
