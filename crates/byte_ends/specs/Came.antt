@@ -1,5 +1,5 @@
 -- What came of a source that is read to its end or up to a limit, and how it is left then.
-use Rattle.std.specs.Prelude.{◌≡◌, ℕ, Bool, true, List, Option, Some, Result, Ok, Err}
+use Rattle.std.specs.Prelude.{◌≡◌, ℕ, Bool, true, List, Option, Some, Result, Ok, Err, ⊤}
 use Rattle.byte_ends.specs.Source.{Told, MayGive, ended, broken_off}
 use Rattle.byte_ends.specs.Input.{Input, BrokeOff, RanPast}
 use Rattle.byte_ends.specs.declared.input.InputFault.{InputFault}
@@ -18,7 +18,7 @@ pub record SomeBytesCame (told : Option Told) (So : Told → Type 0) : Type 0 wh
 abbrev pub ExplainsInput : Input → InputFault → Type 0
 ExplainsInput input Read = (bytes : List ℕ) × (input ≡ BrokeOff bytes)
 ExplainsInput input TooLong = input ≡ RanPast
-ExplainsInput input Memory = Unit {0}
+ExplainsInput input Memory = ⊤
 
 -- The source has given all its bytes and has ended, and no read of it failed.
 abbrev pub IsReadOut : Option Told → Bool → Bool → Type 0

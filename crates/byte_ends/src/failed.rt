@@ -5,5 +5,5 @@ use thiserror::Error;
 /// A call of a reader or a writer failed, for whatever cause: see whether it is open, whole and has
 /// room.
 #[derive(Clone, Copy, Debug, PartialEq, Eq, Error)]
-#[error("a read or a write failed: see whether the file is open, whole and has room")]
+#[error("a read or a write failed")]
 pub struct Failed;

@@ -15,15 +15,15 @@ const PIECE: usize = 4_096;
 #[derive(Clone, Copy, Debug, PartialEq, Eq, Error)]
 pub enum InputFault {
     /// A read failed: see whether the input can be read to its end.
-    #[error("a read failed: see whether the input can be read to its end")]
+    #[error("a read failed")]
     Read,
 
     /// There are more bytes than the limit: see whether this is the input that was meant.
-    #[error("the input is too long: see whether this is the input that was meant")]
+    #[error("the input is too long")]
     TooLong,
 
     /// There was no memory: run it again with more.
-    #[error("out of memory: run it again with more")]
+    #[error("out of memory")]
     Memory,
 }
 

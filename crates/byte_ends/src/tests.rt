@@ -294,8 +294,8 @@ fn a_held_sink_takes_what_it_has_room_for(rt: HostRuntime) -> Result<(), Fail> {
 
 #[test]
 fn faults_are_told_in_words(rt: HostRuntime) -> Result<(), Fail> {
-    let failed = "a read or a write failed: see whether the file is open, whole and has room";
-    let memory = "out of memory: run it again with more";
+    let failed = "a read or a write failed";
+    let memory = "out of memory";
     assert_eq!(rt; format!(in rt.alloc(); "{Failed}")?.as_str(), failed);
     assert_eq!(rt; format!(in rt.alloc(); "{OutOfMemory}")?.as_str(), memory);
     Ok(())

@@ -8,7 +8,7 @@ use Rattle.std.proofs.lemmas.Bool.{cases_lt}
 use Rattle.std.proofs.lemmas.List.{append-nil, get_or-map, length-map, map-append}
 use Rattle.std.proofs.lemmas.Option.{none-some}
 use Rattle.sheet_format.specs.Rows.{records_of}
-use Rattle.direction_table.specs.Faults.{HasNoFault, IsFirstFault, NoFaultBefore, fault_at}
+use Rattle.direction_table.specs.Faults.{HasNoFault, IsFirstFaultOfTable, NoFaultBefore, fault_at}
 use Rattle.direction_table.specs.Faults.{row_fault}
 use Rattle.direction_table.specs.Tables.{IsFaultOrMemory, IsFirstMissing, IsMissingOrMemory}
 use Rattle.direction_table.specs.Tables.{IsNoneAt, IsTableFault, IsTableText, stated_by}
@@ -77,14 +77,14 @@ abbrev HasFaultAt : List (List ℕ) → List (List (List ℕ)) → ℕ → Type 
 HasFaultAt targets rows place = (k : RowKind) × (fault_at targets rows place ≡ Some k)
 
 same-place : (targets : List (List ℕ)) (rows : List (List (List ℕ))) (p q : ℕ) (j k : RowKind)
-    → IsFirstFault targets rows p j → IsFirstFault targets rows q k → p ≡ q
+    → IsFirstFaultOfTable targets rows p j → IsFirstFaultOfTable targets rows q k → p ≡ q
 same-place targets rows p q j k one two =
     one-place (HasFaultAt targets rows) p q (j, one.here) (k, two.here)
     (λ m below found. none-some found.0 (sym (one.before m below) ∙ found.1))
     (λ m below found. none-some found.0 (sym (two.before m below) ∙ found.1))
 
 same-kind : (targets : List (List ℕ)) (rows : List (List (List ℕ))) (p q : ℕ) (j k : RowKind)
-    → IsFirstFault targets rows p j → IsFirstFault targets rows q k → p ≡ q → j ≡ k
+    → IsFirstFaultOfTable targets rows p j → IsFirstFaultOfTable targets rows q k → p ≡ q → j ≡ k
 same-kind targets rows p q j k one two same =
     let both : Some j ≡ Some k = sym one.here ∙ ap (fault_at targets rows) same ∙ two.here in
     cc both

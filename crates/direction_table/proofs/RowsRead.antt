@@ -9,7 +9,7 @@ use Rattle.std.proofs.Math.Seq.{drop-append_seam, take-append_seam}
 use Rattle.std.proofs.lemmas.Bool.{cases_Bool, cases_lt, eqb-false, eqb-true}
 use Rattle.std.proofs.lemmas.List.{append-nil, drop_all, take_all}
 use Rattle.csv.specs.Reading.{is_bom, strip_bom}
-use Rattle.direction_table.specs.Faults.{HasNoFault, IsFirstFault, NoFaultBefore, fault_at}
+use Rattle.direction_table.specs.Faults.{HasNoFault, IsFirstFaultOfTable, NoFaultBefore, fault_at}
 use Rattle.direction_table.specs.Faults.{fault_between, row_fault}
 use Rattle.direction_table.specs.Tables.{stated_by}
 use Rattle.direction_table.specs.declared.fault.RowKind.{RowKind}
@@ -75,7 +75,7 @@ read-more targets all stated next number row rest read none more = record {
 pub first-here : (targets : List (List ℕ)) (all before rest : List (List (List ℕ)))
     (row : List (List ℕ)) (k : RowKind) → all ≡ before ++ (row ∷ rest)
     → NoFaultBefore targets all (length before) → row_fault targets before row ≡ Some k
-    → IsFirstFault targets all (length before) k
+    → IsFirstFaultOfTable targets all (length before) k
 unfolding fault_between
 first-here targets all before rest row k whole clean found = record {
   here = ap (λ (rows : List (List (List ℕ))). fault_at targets rows (length before)) whole
@@ -88,9 +88,9 @@ pub read-fault : (targets : List (List ℕ)) (all : List (List (List ℕ))) (sta
     → HasRead targets all stated number (row ∷ rest)
     → ((before : List (List (List ℕ))) → stated ≡ stated_by before targets
     → row_fault targets before row ≡ Some k)
-    → IsFirstFault targets all number k
+    → IsFirstFaultOfTable targets all number k
 read-fault targets all stated number row rest k read found =
-    subst (λ (n : ℕ). IsFirstFault targets all n k) (sym read.count)
+    subst (λ (n : ℕ). IsFirstFaultOfTable targets all n k) (sym read.count)
     (first-here targets all read.before rest row k read.whole read.clean
     (found read.before read.each))
 

@@ -63,7 +63,7 @@ abbrev pub HasNoFault : List (List ℕ) → List (List (List ℕ)) → Type 0
 HasNoFault targets rows = (place : ℕ) → fault_at targets rows place ≡ None
 
 -- a place has this fault, and none before it has one
-pub record IsFirstFault (targets : List (List ℕ)) (rows : List (List (List ℕ))) (place : ℕ)
+pub record IsFirstFaultOfTable (targets : List (List ℕ)) (rows : List (List (List ℕ))) (place : ℕ)
     (kind : RowKind) : Type 0 where
   pub here : fault_at targets rows place ≡ Some kind
   pub before : NoFaultBefore targets rows place

@@ -4,7 +4,7 @@ use Rattle.std.specs.Prelude.{◌≡◌, ◌⊎◌, ℕ, ◌≤◌, ◌<◌, ◌
 use Rattle.std.specs.Prelude.{Option, Some, None}
 use Rattle.adjust_kernel.specs.Firsts.{IsFirstWhere}
 use Rattle.sheet_format.specs.Rows.{records_of}
-use Rattle.direction_table.specs.Faults.{HasNoFault, IsFirstFault}
+use Rattle.direction_table.specs.Faults.{HasNoFault, IsFirstFaultOfTable}
 use Rattle.direction_table.specs.Rows.{direction_in}
 use Rattle.direction_table.specs.declared.fault.TableFault.{TableFault}
 use Rattle.direction_table.specs.declared.fault.TableFault.TheVariants.{TooLong, Row, Missing}
@@ -38,7 +38,7 @@ abbrev pub IsTableFault : List (List ℕ) → List ℕ → TableFault → Type 0
 IsTableFault targets bytes TooLong = LONGEST_TABLE < length bytes
 IsTableFault targets bytes (Row number kind) =
     (length bytes ≤ LONGEST_TABLE) × (place : ℕ) × (number ≡ place + 1)
-    × IsFirstFault targets (records_of bytes) place kind
+    × IsFirstFaultOfTable targets (records_of bytes) place kind
 IsTableFault targets bytes (Missing number) =
     (length bytes ≤ LONGEST_TABLE) × HasNoFault targets (records_of bytes)
     × IsFirstMissing (stated_by (records_of bytes) targets) number

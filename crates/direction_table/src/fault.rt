@@ -13,24 +13,23 @@ use thiserror::Error;
 #[derive(Clone, Copy, Debug, PartialEq, Eq, Drop, Error)]
 pub enum RowKind {
     /// The row has not two columns: write the name and the direction, with a comma between them.
-    #[error("not two columns: write the name and the direction, with a comma between them")]
+    #[error("not two columns")]
     Fields,
     /// Its name is not 1 to 16 bytes from the blank to the tilde: write the name of the field file.
-    #[error("the name is not 1 to {most} bytes from the blank to the tilde: \
-        write the field file's name", most = LONGEST_NAME)]
+    #[error("the name is not 1 to {most} bytes from the blank to the tilde", most = LONGEST_NAME)]
     Name,
     /// Its direction is no number of gon in the form of a table: write 1 to 3 digits, a point and at
     /// most 9 decimals.
-    #[error("the direction is no number: write 1 to 3 digits, and a point with at most 9 decimals")]
+    #[error("the direction is no number")]
     Number,
     /// Its direction is a full circle or more: write one below 400 gon.
-    #[error("the direction is a full circle or more: write one below 400 gon")]
+    #[error("the direction is a full circle or more")]
     Range,
     /// The station has no target of this name: leave the row out, or write the target's name.
-    #[error("the station has no target of this name: leave the row out, or mend the name")]
+    #[error("the station has no target of this name")]
     Unknown,
     /// A row before has this name: leave out one of the two.
-    #[error("a row before has this name: leave out one of the two")]
+    #[error("a row before has this name")]
     Twice,
 }
 
@@ -55,16 +54,16 @@ impl RowKind {
 #[derive(Clone, Copy, Debug, PartialEq, Eq, Drop, Error)]
 pub enum TableFault {
     /// There are more bytes than a table may have: see whether they are a table.
-    #[error("longer than {most} bytes: see whether it is a table", most = LONGEST_TABLE)]
+    #[error("longer than {most} bytes", most = LONGEST_TABLE)]
     TooLong,
     /// The first row with a fault, from 1, and its fault: mend that row.
     #[error("row {0}: {1}")]
     Row(u32, RowKind),
     /// The first target of the station, from 1, of which there is no row: add one.
-    #[error("target {0} has no row: add one")]
+    #[error("target {0} has no row")]
     Missing(u32),
     /// Memory ran out. This is no fault of the table: with more memory it may be read.
-    #[error("out of memory: read the table again with more")]
+    #[error("out of memory")]
     Memory,
 }
 

@@ -100,15 +100,15 @@ fn a_row_has_its_first_fault(rt: HostRuntime) -> Result<(), Fail> {
 }
 
 const FAULTS: &str = "\
-row 7: not two columns: write the name and the direction, with a comma between them
-row 7: the name is not 1 to 16 bytes from the blank to the tilde: write the field file's name
-row 7: the direction is no number: write 1 to 3 digits, and a point with at most 9 decimals
-row 7: the direction is a full circle or more: write one below 400 gon
-row 7: the station has no target of this name: leave the row out, or mend the name
-row 7: a row before has this name: leave out one of the two
-longer than 1048576 bytes: see whether it is a table
-target 7 has no row: add one
-out of memory: read the table again with more
+row 7: not two columns
+row 7: the name is not 1 to 16 bytes from the blank to the tilde
+row 7: the direction is no number
+row 7: the direction is a full circle or more
+row 7: the station has no target of this name
+row 7: a row before has this name
+longer than 1048576 bytes
+target 7 has no row
+out of memory
 ";
 
 #[test]

@@ -13,13 +13,13 @@ use thiserror::Error;
 pub enum FileKind {
     /// A read failed. The lines that the bytes before it had ended were given first. See whether
     /// the file can be read to its end.
-    #[error("a read of the field file failed: see whether it can be read to its end")]
+    #[error("a read of the field file failed")]
     Read,
     /// The file has more than 16,777,216 bytes: cut it in two where a station begins.
-    #[error("the file has more than {LONGEST_FILE} bytes: cut it in two where a station begins")]
+    #[error("the file has more than {LONGEST_FILE} bytes")]
     FileTooLong,
     /// The line has more than 1,024 bytes, blank or not: see whether the file is a GSI file.
-    #[error("the line has more than {LONGEST_LINE} bytes: see whether the file is a GSI file")]
+    #[error("the line has more than {LONGEST_LINE} bytes")]
     LineTooLong,
     /// The byte at this place of the line, from 1, is no blank and no visible character of ASCII:
     /// transfer the file from the instrument again.
@@ -83,7 +83,7 @@ pub enum FileFault {
     #[error("block {0}: {1}")]
     At(u32, FileKind),
     /// There was no memory. No call answers it. Run it again with more.
-    #[error("out of memory: run it again with more")]
+    #[error("out of memory")]
     Memory,
 }
 

@@ -4,5 +4,5 @@ use thiserror::Error;
 
 /// There was no memory for the buffer: run it again with more.
 #[derive(Clone, Copy, Debug, PartialEq, Eq, Error)]
-#[error("out of memory: run it again with more")]
+#[error("out of memory")]
 pub struct OutOfMemory;

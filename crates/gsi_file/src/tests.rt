@@ -441,29 +441,23 @@ fn lines_of_both_widths_may_stand_in_one_file(rt: HostRuntime) -> Result<(), Fai
 #[test]
 fn a_fault_is_told_in_words(rt: HostRuntime) -> Result<(), Fail> {
     let rows = [
-        (
-            FileKind::Read,
-            "a read of the field file failed: see whether it can be read to its end",
-        ),
+        (FileKind::Read, "a read of the field file failed"),
         (
             FileKind::FileTooLong,
-            "the file has more than 16777216 bytes: cut it in two where a station begins",
+            "the file has more than 16777216 bytes",
         ),
-        (
-            FileKind::LineTooLong,
-            "the line has more than 1024 bytes: see whether the file is a GSI file",
-        ),
+        (FileKind::LineTooLong, "the line has more than 1024 bytes"),
         (
             FileKind::Byte(16),
-            "byte 16 is no blank and no visible character of ASCII: transfer the file again",
+            "byte 16 is no blank and no visible character of ASCII",
         ),
         (
             FileKind::Word(2),
-            "word 2 is missing, cut short or not written as GSI: transfer the file again",
+            "word 2 is missing, cut short or not written as GSI",
         ),
         (
             FileKind::FirstWord,
-            "the first word is neither a point number nor a code number: write one of them first",
+            "the first word is neither a point number nor a code number",
         ),
     ];
     for (kind, text) in rows {
@@ -471,7 +465,7 @@ fn a_fault_is_told_in_words(rt: HostRuntime) -> Result<(), Fail> {
         let fault = format!(in rt.alloc(); "{}", FileFault::At(7, kind))?;
         assert_eq!(rt; fault.as_str().strip_prefix("block 7: "), Some(text));
     }
-    let memory = "out of memory: run it again with more";
+    let memory = "out of memory";
     let fault = FileFault::Memory;
     assert_eq!(rt; format!(in rt.alloc(); "{fault}")?.as_str(), memory);
     assert_eq!(rt; format!(in rt.alloc(); "{OutOfMemory}")?.as_str(), memory);

@@ -8,7 +8,7 @@ use Rattle.std.proofs.lemmas.Bool.{eqb-true, eqb-false, eq-eqb, ne_eqb}
 use Rattle.std.proofs.lemmas.List.{length-append, take_all}
 use Rattle.std.proofs.lemmas.Option.{slice_get-get_or}
 use lib.Lanes.{chunk}
-use Rattle.gsi_word.specs.Names.{name_of, IsName}
+use Rattle.gsi_word.specs.Names.{name_of, IsNameIn}
 
 -- a zero that is not the last byte goes
 pub name_step : (bytes : List ℕ) → 1 < length bytes → get_or bytes 0 0 ≡ 48
@@ -47,8 +47,8 @@ one_byte b true e = inl (ap (λ (x : ℕ). x ∷ []) (eqb-true b 48 e))
 one_byte b false e = inr (λ is. eqb-false b 48 e (same_byte b 48 is))
 
 more_bytes : (b c : ℕ) (bytes : List ℕ) (t : Bool) → eqb b 48 ≡ t
-    → IsName (c ∷ bytes) (name_of (c ∷ bytes))
-    → IsName (b ∷ c ∷ bytes) (if t then name_of (c ∷ bytes) else b ∷ c ∷ bytes)
+    → IsNameIn (c ∷ bytes) (name_of (c ∷ bytes))
+    → IsNameIn (b ∷ c ∷ bytes) (if t then name_of (c ∷ bytes) else b ∷ c ∷ bytes)
 more_bytes b c bytes true e h = record {
   zeros = suc h.zeros;
   text = ap (λ (x : ℕ). x ∷ c ∷ bytes) (eqb-true b 48 e) ∙ ap (λ (r : List ℕ). 48 ∷ r) h.text;
@@ -62,7 +62,7 @@ more_bytes b c bytes false e h = record {
   bare = inr (λ is. eqb-false b 48 e (same_byte b 48 is));
 }
 
-name_is : (content : List ℕ) → 0 < length content → IsName content (name_of content)
+name_is : (content : List ℕ) → 0 < length content → IsNameIn content (name_of content)
 name_is [] some = absurd (omega arith)
 name_is (b ∷ []) some = record {
   zeros = 0;
@@ -74,10 +74,10 @@ name_is (b ∷ c ∷ bytes) some = more_bytes b c bytes (eqb b 48) refl
     (name_is (c ∷ bytes) (omega arith))
 
 pub name_known : (content name : List ℕ) → 0 < length content
-    → IsName content name ↔ (name ≡ name_of content)
+    → IsNameIn content name ↔ (name ≡ name_of content)
 name_known content name some = (
   (λ h. name_after_zeros h.zeros name h.some_byte h.bare ∙ ap name_of (sym h.text)),
-  (λ e. subst (λ (r : List ℕ). IsName content r) (sym e) (name_is content some)),
+  (λ e. subst (λ (r : List ℕ). IsNameIn content r) (sym e) (name_is content some)),
 )
 
 -- a content begins with no more zeros than it has, and where it begins with none, none goes

@@ -1,6 +1,6 @@
 -- The first fault of a line that is no block, as a fact about the whole line. That bytes come
 -- before words, and all words before the first one's index, is profile.
-use Rattle.std.specs.Prelude.{◌≡◌, ◌≢◌, ℕ, ◌+◌, List, [], ◌∷◌, ◌++◌, length, All, Any, ◌⊎◌}
+use Rattle.std.specs.Prelude.{◌≡◌, ◌≢◌, ℕ, ◌+◌, List, [], ◌∷◌, ◌++◌, length, All, Any, ◌⊎◌, ⊤}
 use Rattle.std.specs.List.{flat_map}
 use Rattle.gsi_word.specs.declared.line_fault.LineFault.{LineFault}
 use Rattle.gsi_word.specs.declared.line_fault.LineFault.TheVariants.{Byte, Word, FirstWord}
@@ -19,7 +19,7 @@ pub record IsByteFault (line : List ℕ) (at : ℕ) : Type 0 where
 
 -- A word ends where the bytes end, or before a blank.
 abbrev pub EndsWord : List ℕ → Type 0
-EndsWord [] = Unit {0}
+EndsWord [] = ⊤
 EndsWord (b ∷ bs) = b ≡ 32
 
 -- The bytes begin with a word.

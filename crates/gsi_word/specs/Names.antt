@@ -11,7 +11,7 @@ name_of (b ∷ c ∷ bytes) = if b == 48 then name_of (c ∷ bytes) else b ∷ c
 
 -- The content is some zeros and then this name, which is not empty, and is `0` or does not begin
 -- with `0`.
-pub record IsName (content name : List ℕ) : Type 0 where
+pub record IsNameIn (content name : List ℕ) : Type 0 where
   pub zeros : ℕ
   pub text : content ≡ replicate zeros 48 ++ name
   pub some_byte : 0 < length name

@@ -10,19 +10,19 @@ use thiserror::Error;
 pub enum AngleFault {
     /// The fourth byte of the information is not `2`, for gon with five decimals: set the
     /// instrument to that unit.
-    #[error("the angle is not in gon with five decimals: set the instrument to that unit")]
+    #[error("the angle is not in gon with five decimals")]
     Unit,
     /// The third byte of the information is not `.`, `0`, `2` or `3`: measure the angle.
-    #[error("the input mode of the angle is none of ., 0, 2 and 3: measure the angle")]
+    #[error("the input mode of the angle is none of ., 0, 2 and 3")]
     InputMode,
     /// The sign is minus: set the instrument to angles from 0 to 400 gon.
-    #[error("the angle is negative: set the instrument to angles from 0 to 400 gon")]
+    #[error("the angle is negative")]
     Sign,
     /// The content is not digits alone: transfer the file from the instrument again.
-    #[error("the angle is not digits alone: transfer the file again")]
+    #[error("the angle is not digits alone")]
     Digits,
     /// The number is a full turn or more: set the instrument to angles from 0 to 400 gon.
-    #[error("the angle is a full turn or more: set the instrument to angles from 0 to 400 gon")]
+    #[error("the angle is a full turn or more")]
     Range,
 }
 

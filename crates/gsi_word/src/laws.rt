@@ -2,12 +2,14 @@
 
 ghost use Rattle.std.specs.Prelude.{◌≡◌, ◌↔◌, ◌<◌, ◌⊎◌, List, ℕ, Ok, length};
 ghost use Rattle.gsi_word.specs.Words.{GsiWord};
-ghost use Rattle.gsi_word.specs.Names.{name_of, IsName};
+ghost use Rattle.gsi_word.specs.Names.{name_of, IsNameIn};
 ghost use Rattle.gsi_word.specs.Angles.{angle_of, IsAngle};
 ghost use Rattle.gsi_word.specs.Blocks.{GsiBlock, IsBlock};
 ghost use Rattle.gsi_word.specs.LineFaults.{IsLineFault};
 ghost use Rattle.gsi_word.specs.declared.line_fault.LineFault.{LineFault};
-ghost use Rattle.gsi_word.specs.declared.index.TheConstants.{POINT_NUMBER, HORIZONTAL_DIRECTION, VERTICAL_ANGLE, CODE_NUMBER, CODE_INFORMATION};
+ghost use Rattle.gsi_word.specs.declared.index.TheConstants.{POINT_NUMBER, HORIZONTAL_DIRECTION};
+ghost use Rattle.gsi_word.specs.declared.index.TheConstants.{VERTICAL_ANGLE, CODE_NUMBER};
+ghost use Rattle.gsi_word.specs.declared.index.TheConstants.{CODE_INFORMATION};
 
 /// A line is one block at most: it has one width and one list of words.
 pub fn one_block()
@@ -36,7 +38,7 @@ pub fn block_or_fault()
 /// A content that is not empty has one name, the content without its leading zeros.
 pub fn one_name()
     ensures { (content name : List ℕ) → 0 < length content
-        → IsName content name ↔ (name ≡ name_of content) }
+        → IsNameIn content name ↔ (name ≡ name_of content) }
 {}
 
 /// The angle of a word is the number that all tests let pass.

@@ -351,15 +351,15 @@ fn a_fault_of_a_line_is_told_in_words(rt: HostRuntime) -> Result<(), Fail> {
     let rows = [
         (
             LineFault::Byte(16),
-            "byte 16 is no blank and no visible character of ASCII: transfer the file again",
+            "byte 16 is no blank and no visible character of ASCII",
         ),
         (
             LineFault::Word(2),
-            "word 2 is missing, cut short or not written as GSI: transfer the file again",
+            "word 2 is missing, cut short or not written as GSI",
         ),
         (
             LineFault::FirstWord,
-            "the first word is neither a point number nor a code number: write one of them first",
+            "the first word is neither a point number nor a code number",
         ),
     ];
     for (fault, text) in rows {
@@ -373,24 +373,15 @@ fn a_fault_of_an_angle_is_told_in_words(rt: HostRuntime) -> Result<(), Fail> {
     let rows = [
         (
             AngleFault::Unit,
-            "the angle is not in gon with five decimals: set the instrument to that unit",
+            "the angle is not in gon with five decimals",
         ),
         (
             AngleFault::InputMode,
-            "the input mode of the angle is none of ., 0, 2 and 3: measure the angle",
+            "the input mode of the angle is none of ., 0, 2 and 3",
         ),
-        (
-            AngleFault::Sign,
-            "the angle is negative: set the instrument to angles from 0 to 400 gon",
-        ),
-        (
-            AngleFault::Digits,
-            "the angle is not digits alone: transfer the file again",
-        ),
-        (
-            AngleFault::Range,
-            "the angle is a full turn or more: set the instrument to angles from 0 to 400 gon",
-        ),
+        (AngleFault::Sign, "the angle is negative"),
+        (AngleFault::Digits, "the angle is not digits alone"),
+        (AngleFault::Range, "the angle is a full turn or more"),
     ];
     for (fault, text) in rows {
         assert_eq!(rt; format!(in rt.alloc(); "{fault}")?.as_str(), text);

@@ -13,7 +13,8 @@ use Rattle.adjust_kernel.specs.Sheets.{IsDirection, IsOrientation, IsSheet, Shee
 use Rattle.sheet_format.specs.Drafts.{DraftValue, IsOfDraft, HasParts, blank, header_rows}
 use Rattle.sheet_format.specs.Drafts.{last_of_draft, last_of_header, rows_of_draft, said_by_draft}
 use Rattle.sheet_format.specs.Drafts.{sheet_of, version_of_header, with_row}
-use Rattle.sheet_format.specs.Faults.{Before, IsFirstFault, NoFaultBefore, fault_at, fault_between}
+use Rattle.sheet_format.specs.Faults.{Before, IsFirstFaultOfRows, NoFaultBefore, fault_at}
+use Rattle.sheet_format.specs.Faults.{fault_between}
 use Rattle.sheet_format.specs.Faults.{last_row_type, row_fault, said_by}
 use Rattle.sheet_format.specs.RowTypes.{may_end}
 use Rattle.sheet_format.specs.Rows.{IsOfVersion, IsSheetText, body_rows, records_of, rows_of}
@@ -89,7 +90,7 @@ read-more all d e row rest read none same =
 pub read-fault : (all : List (List (List ℕ))) (d : DraftValue) (row : List (List ℕ))
     (rest : List (List (List ℕ))) (k : RowKind) → HasRead all d (row ∷ rest)
     → row_fault (said_by_draft d) row ≡ Some k
-    → IsFirstFault all (length (rows_of_draft d)) k
+    → IsFirstFaultOfRows all (length (rows_of_draft d)) k
 unfolding fault_between
 read-fault all d row rest k read found =
     let here : row_fault (said_by (rows_of_draft d)) row ≡ Some k =
@@ -175,7 +176,7 @@ whole-or-not d ok = elim (none-or-some d.rows) [
 -- the end of the rows, where no sheet has the parts of the draft
 pub read-end : (all : List (List (List ℕ))) (d : DraftValue) → HasRead all d []
     → ((s : SheetValue) → IsOfDraft d s → IsSheet s → ⊥)
-    → IsFirstFault all (length (rows_of_draft d)) Unfinished
+    → IsFirstFaultOfRows all (length (rows_of_draft d)) Unfinished
 unfolding fault_between
 read-end all d read no_sheet =
     let unfinished : may_end (last_row_type (rows_of_draft d)) ≡ false =

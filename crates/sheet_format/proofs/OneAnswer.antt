@@ -8,7 +8,8 @@ use Rattle.std.proofs.lemmas.List.{take_all, drop_all}
 use Rattle.adjust_kernel.specs.Sheets.{IsSheet, SheetValue}
 use Rattle.sheet_format.specs.Drafts.{DraftValue, blank, last_of_draft, rows_of_draft}
 use Rattle.sheet_format.specs.Drafts.{said_by_draft, with_row}
-use Rattle.sheet_format.specs.Faults.{Before, IsFaultOrMemory, IsFirstFault, IsSheetFault, fault_at}
+use Rattle.sheet_format.specs.Faults.{Before, IsFaultOrMemory, IsFirstFaultOfRows, IsSheetFault}
+use Rattle.sheet_format.specs.Faults.{fault_at}
 use Rattle.sheet_format.specs.Faults.{fault_between, last_row_type, row_fault}
 use Rattle.sheet_format.specs.RowTypes.{may_end}
 use Rattle.sheet_format.specs.Rows.{IsOfVersion, IsSheetText, body_rows, obs_fields, records_of}
@@ -87,19 +88,19 @@ never-both bytes s (Row number kind) text fault =
 never-both bytes s Memory text fault = absurd fault
 
 -- bytes have one fault
-first-of-two : (rows : List (List (List ℕ))) (p q : ℕ) (j k : RowKind) → IsFirstFault rows p j
-    → IsFirstFault rows q k → p < q → ⊥
+first-of-two : (rows : List (List (List ℕ))) (p q : ℕ) (j k : RowKind) → IsFirstFaultOfRows rows p j
+    → IsFirstFaultOfRows rows q k → p < q → ⊥
 first-of-two rows p q j k one two below = none-some j (sym (two.before p below) ∙ one.here)
 
-same-place : (rows : List (List (List ℕ))) (p q : ℕ) (j k : RowKind) → IsFirstFault rows p j
-    → IsFirstFault rows q k → p ≡ q
+same-place : (rows : List (List (List ℕ))) (p q : ℕ) (j k : RowKind) → IsFirstFaultOfRows rows p j
+    → IsFirstFaultOfRows rows q k → p ≡ q
 same-place rows p q j k one two =
     let not_before : p < q → ⊥ = first-of-two rows p q j k one two in
     let not_after : q < p → ⊥ = first-of-two rows q p k j two one in
     omega (arith, not_before, not_after)
 
-same-kind : (rows : List (List (List ℕ))) (p q : ℕ) (j k : RowKind) → IsFirstFault rows p j
-    → IsFirstFault rows q k → p ≡ q → j ≡ k
+same-kind : (rows : List (List (List ℕ))) (p q : ℕ) (j k : RowKind) → IsFirstFaultOfRows rows p j
+    → IsFirstFaultOfRows rows q k → p ≡ q → j ≡ k
 same-kind rows p q j k one two same =
     let both : Some j ≡ Some k = sym one.here ∙ ap (fault_at rows) same ∙ two.here in
     cc both

@@ -1,7 +1,7 @@
 -- What the rows that were read so far say of the sheet, and what one more row adds: how the code
 -- reads. No public clause cites it.
 use Rattle.std.specs.Prelude.{◌≡◌, ℕ, ◌==◌, if◌then◌else◌, List, [], ◌∷◌, ◌++◌, ◌≤◌, length, All}
-use Rattle.std.specs.Prelude.{Option, Some, None, IfSome, unwrap_or}
+use Rattle.std.specs.Prelude.{Option, Some, None, IfSome, unwrap_or, ⊤}
 use Rattle.adjust_kernel.specs.Names.{IsName}
 use Rattle.adjust_kernel.specs.Sheets.{IsDenominator, IsDirection, IsOrientation, IsRow, SheetValue}
 use Rattle.adjust_kernel.specs.declared.bounds.TheConstants.{MOST_ROWS, MOST_SETS, MOST_TARGETS}
@@ -59,15 +59,16 @@ pub record KeepsRules (d : DraftValue) : Type 0 where
 abbrev pub blank : DraftValue
 blank = record { header = None; directions = []; orientations = []; rows = [] }
 
--- the rows that a draft stands for
+-- the row that a header stands for
 abbrev pub header_rows : Option Header → List (List (List ℕ))
 header_rows None = []
 header_rows (Some h) = sheet_fields h.version h.name h.denominator ∷ []
 
+-- the rows that a draft stands for
 abbrev pub rows_of_draft : DraftValue → List (List (List ℕ))
 rows_of_draft d = header_rows d.header ++ body_rows d.directions d.orientations d.rows
 
--- a sheet has the parts of a draft
+-- the sheet of a header and the parts of a draft
 abbrev pub sheet_of : Header → DraftValue → SheetValue
 sheet_of h d = record {
   name = h.name;
@@ -77,18 +78,21 @@ sheet_of h d = record {
   rows = d.rows;
 }
 
+-- the sheet is that of this header and the parts of the draft: no sheet, where there is no header
 abbrev pub HasParts : Option Header → DraftValue → SheetValue → Type 0
 HasParts None d s = ⊥
 HasParts (Some h) d s = s ≡ sheet_of h d
 
+-- the sheet has the parts of the draft
 abbrev pub IsOfDraft : DraftValue → SheetValue → Type 0
 IsOfDraft d s = HasParts d.header d s
 
--- the type of its last row
+-- the type of the last row, where a header alone may have been read
 abbrev pub last_of_header : Option Header → Option RowType
 last_of_header None = None
 last_of_header (Some h) = Some row_type.Sheet
 
+-- the type of the draft's last row
 abbrev pub last_of_draft : DraftValue → Option RowType
 last_of_draft d =
     if length d.rows == 0
@@ -97,6 +101,7 @@ last_of_draft d =
     else Some row_type.Set)
     else Some row_type.Obs
 
+-- the version that a header states; 1 where there is no header yet
 abbrev pub version_of_header : Option Header → Version
 version_of_header None = version.One
 version_of_header (Some h) = h.version
@@ -111,7 +116,7 @@ said_by_draft d = record {
   obs = length d.rows;
 }
 
--- what the columns of a row without a fault state
+-- the header that the columns of a row without a fault state
 abbrev pub header_of : Fields → Header
 header_of c = record {
   version = unwrap_or (version_of c.number) version.One;
@@ -119,12 +124,15 @@ header_of c = record {
   denominator = natural_of (value_of c.value);
 }
 
+-- the direction that they state
 abbrev pub direction_of : Fields → Direction
 direction_of c = record { name = c.name; value = value_of c.value }
 
+-- the orientation that they state
 abbrev pub orientation_of : Fields → Orientation
 orientation_of c = record { set = natural_of (value_of c.number); value = value_of c.value }
 
+-- the observation with its turns that they state
 abbrev pub obs_row_of : Fields → Row
 obs_row_of c = record {
   set = natural_of (value_of c.number);
@@ -133,7 +141,7 @@ obs_row_of c = record {
   turn = value_of c.turn;
 }
 
--- the draft with the entry of one more row
+-- the draft with the entry of one more row of this type
 abbrev pub with_columns : RowType → DraftValue → Fields → DraftValue
 with_columns row_type.Sheet d c =
     record {
@@ -164,18 +172,21 @@ with_columns row_type.Obs d c =
       rows = d.rows ++ (obs_row_of c ∷ []);
     }
 
+-- the same, where the row has a type
 abbrev pub with_row_type : Option RowType → DraftValue → Fields → DraftValue
 with_row_type None d c = d
 with_row_type (Some k) d c = with_columns k d c
 
+-- the same, where the row has its five columns
 abbrev pub with_fields : DraftValue → Option Fields → DraftValue
 with_fields d None = d
 with_fields d (Some c) = with_row_type (row_type_of c.kind) d c
 
+-- the draft with the entry of one more row
 unfoldable pub with_row : DraftValue → List (List ℕ) → DraftValue
 with_row d row = with_fields d (columns_of row)
 
 -- why a row was not taken: its fault, or that memory ran out
 abbrev pub ExplainsRow : Refusal → Option RowKind → Type 0
 ExplainsRow (Fault k) found = found ≡ Some k
-ExplainsRow Memory found = Unit {0}
+ExplainsRow Memory found = ⊤

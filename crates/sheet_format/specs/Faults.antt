@@ -178,7 +178,8 @@ abbrev pub NoFaultBefore : List (List (List ℕ)) → ℕ → Type 0
 NoFaultBefore rows place = (earlier : ℕ) → earlier < place → fault_at rows earlier ≡ None
 
 -- a place has this fault, and none before it has one
-pub record IsFirstFault (rows : List (List (List ℕ))) (place : ℕ) (kind : RowKind) : Type 0 where
+pub record IsFirstFaultOfRows (rows : List (List (List ℕ))) (place : ℕ)
+    (kind : RowKind) : Type 0 where
   pub here : fault_at rows place ≡ Some kind
   pub before : NoFaultBefore rows place
 
@@ -189,7 +190,7 @@ abbrev pub IsSheetFault : List ℕ → SheetFault → Type 0
 IsSheetFault bytes TooLong = LONGEST_SHEET < length bytes
 IsSheetFault bytes (Row number kind) =
     (length bytes ≤ LONGEST_SHEET) × (place : ℕ) × (number ≡ place + 1)
-    × IsFirstFault (records_of bytes) place kind
+    × IsFirstFaultOfRows (records_of bytes) place kind
 IsSheetFault bytes Memory = ⊥
 
 -- A refusal is the fault of the bytes, or that memory ran out.

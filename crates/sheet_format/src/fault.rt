@@ -15,34 +15,32 @@ use thiserror::Error;
 #[derive(Clone, Copy, Debug, PartialEq, Eq, Error)]
 pub enum RowKind {
     /// The row has not five columns: write all five, with four commas between them.
-    #[error("not five columns: write kind, number, name, value and turn, with commas between them")]
+    #[error("not five columns")]
     Fields,
     /// Its first column names no row that may stand here: bring the rows into their order.
-    #[error("no such row may stand here: write the sheet, its targets, its sets, its observations")]
+    #[error("no such row may stand here")]
     Kind,
     /// The first row names another version than 1 or 2: write the one or the other.
-    #[error("the version is not 1 or 2: write the one or the other")]
+    #[error("the version is not 1 or 2")]
     Version,
     /// A column that rows of its kind leave empty is not: empty it.
-    #[error("a column that such rows leave empty is not: empty it")]
+    #[error("a column that such rows leave empty is not")]
     NotEmpty,
     /// Its name is not 1 to 16 bytes from the blank to the tilde: write the name of the field file.
-    #[error("the name is not 1 to {most} bytes from the blank to the tilde: \
-        write the field file's name", most = LONGEST_NAME)]
+    #[error("the name is not 1 to {most} bytes from the blank to the tilde", most = LONGEST_NAME)]
     Name,
     /// One of its numbers is no decimal in its one form: write it so.
-    #[error("a number is not in its one form: write no plus, no blanks, no leading zeros, no -0")]
+    #[error("a number is not in its one form")]
     Number,
     /// One of its numbers is outside the range of the sheet's version: correct it, or state version
     /// 2, which has wider ranges.
-    #[error("a number is out of range: correct it, or state version 2, which has wider ranges")]
+    #[error("a number is out of range")]
     Range,
     /// There are as many rows of its kind before it as a sheet may have: leave out what is more.
-    #[error("too many rows: leave out what is more than {targets} targets, {sets} sets, \
-        {rows} observations", targets = MOST_TARGETS, sets = MOST_SETS, rows = MOST_ROWS)]
+    #[error("more than {targets} targets, {sets} sets or {rows} observations", targets = MOST_TARGETS, sets = MOST_SETS, rows = MOST_ROWS)]
     TooMany,
     /// The sheet ends before this row, and its last row is no observation: see whether it was cut.
-    #[error("the sheet ends before its observations: see whether it was cut")]
+    #[error("the sheet ends before its observations")]
     Unfinished,
 }
 
@@ -71,15 +69,14 @@ impl RowKind {
 pub enum SheetFault {
     /// There are more bytes than a sheet may have: see whether they are a sheet, and take out empty
     /// lines.
-    #[error("longer than {most} bytes: see whether it is a sheet, \
-        and take out empty lines", most = LONGEST_SHEET)]
+    #[error("longer than {most} bytes", most = LONGEST_SHEET)]
     TooLong,
     /// The first row with a fault, from 1, and its fault: mend that row. After the last row stands
     /// `Unfinished`.
     #[error("row {0}: {1}")]
     Row(u32, RowKind),
     /// Memory was refused. This is no fault of the sheet: with more memory it may be read.
-    #[error("out of memory: read the sheet again with more")]
+    #[error("out of memory")]
     Memory,
 }
 
@@ -101,11 +98,11 @@ impl SheetFault {
 #[derive(Clone, Copy, Debug, PartialEq, Eq, Error)]
 pub enum WriteFault {
     /// Memory for the text was refused, and nothing was written: write it again with more.
-    #[error("out of memory, and nothing was written: write the sheet again with more")]
+    #[error("out of memory, and nothing was written")]
     Memory,
     /// The writer failed, or its flush did, and what it took is the beginning of the text: see
     /// whether it is open and has room.
-    #[error("a write failed: see whether the output is open and has room")]
+    #[error("a write failed")]
     Write,
 }
 

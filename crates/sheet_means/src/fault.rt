@@ -14,7 +14,7 @@ pub enum MeansFault {
     #[error("some target was not observed in some set")]
     Incomplete,
     /// There was no memory for the sheet: run it again with more.
-    #[error("out of memory: run it again with more")]
+    #[error("out of memory")]
     Memory,
 }
 

@@ -1,5 +1,5 @@
 -- Why a station's least-squares directions are not told.
-use Rattle.std.specs.Prelude.{ℕ, Some}
+use Rattle.std.specs.Prelude.{ℕ, Some, ⊤}
 use Rattle.adjust_kernel.specs.Matching.{Matches}
 use Rattle.adjust_kernel.specs.Pairs.{choice_stated_by}
 use Rattle.adjust_kernel.specs.Sheets.{SheetValue}
@@ -46,4 +46,4 @@ IsAdjustFault station limit (Kernel (kernel.Residual number)) =
     AreTied station × IsFarInSheet station limit number
 IsAdjustFault station limit (Kernel fault) = ⊥
 IsAdjustFault station limit Unclear = AreTied station × IsUnclear station limit
-IsAdjustFault station limit Memory = Unit {0}
+IsAdjustFault station limit Memory = ⊤

@@ -8,9 +8,12 @@ use Rattle.station_book.specs.TwoFaces.{Angles}
 abbrev pub half_turned : Angles → Angles → ℕ
 half_turned first second = ((second.hz + CIRCLE) - first.hz) % CIRCLE
 
+-- 2c: the direction in face II less that in face I, less half a circle, brought to within
+-- half a circle of 0 (textbook)
 abbrev pub two_c : Angles → Angles → ℤ
 two_c first second = pos (half_turned first second) -ℤ pos HALF_CIRCLE
 
+-- 2i: both zenith angles together, less a circle (textbook)
 abbrev pub two_i : Angles → Angles → ℤ
 two_i first second = pos (first.zenith + second.zenith) -ℤ pos CIRCLE
 

@@ -37,6 +37,7 @@ reading b = record {
   face = unwrap_or (face_of (angles b).zenith) One;
 }
 
+-- the reading, or its fault where it has one
 abbrev pub unless_fault : Option BookKind → Reading → Result (Option Reading) BookKind
 unless_fault None s = Ok (Some s)
 unless_fault (Some k) s = Err k

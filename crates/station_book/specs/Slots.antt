@@ -26,6 +26,7 @@ abbrev pub with_face_reading : Face → Angles → Slot → Slot
 with_face_reading One v s = record s { first = Some v }
 with_face_reading Two v s = record s { second = Some v }
 
+-- no reading in either face
 abbrev pub empty_slot : Slot
 empty_slot = record { first = None; second = None }
 
@@ -45,10 +46,11 @@ pair_fault limits a b = first_of
     (when (has_no_two_c limits.two_c a b) kinds.TwoC ∷ when
     (has_no_two_i limits.two_i a b) kinds.TwoI ∷ [])
 
+-- whether there is no reading in either face
 abbrev pub is_unread : Slot → Bool
 is_unread s = is_none s.first && is_none s.second
 
--- one face alone
+-- whether there is a reading in one face alone
 abbrev pub is_single : Slot → Bool
 is_single s = (is_some s.first && is_none s.second) || (is_none s.first && is_some s.second)
 
@@ -70,6 +72,7 @@ observation_of set target (Some a) (Some b) = Some
 observation_of set target (Some a) None = None
 observation_of set target None b = None
 
+-- the observation of the slot at this place, where it has both readings
 abbrev pub obs_at : ℕ → ℕ × Slot → Option Obs
 obs_at set p = observation_of set p.0 p.1.first p.1.second
 
@@ -77,11 +80,13 @@ obs_at set p = observation_of set p.0 p.1.first p.1.second
 abbrev pub obs_of : ℕ → List Slot → List Obs
 obs_of set slots = filter_map (obs_at set) (enumerate_from 0 slots)
 
+-- the face differences of two readings
 abbrev pub compared : Option Angles → Option Angles → Option Faces
 compared (Some a) (Some b) = Some (record { two_c = two_c a b; two_i = two_i a b })
 compared (Some a) None = None
 compared None b = None
 
+-- the face differences of a slot, where it has both readings
 abbrev pub faces_at : Slot → Option Faces
 faces_at s = compared s.first s.second
 
@@ -89,5 +94,6 @@ faces_at s = compared s.first s.second
 abbrev pub faces_of : List Slot → List Faces
 faces_of slots = filter_map faces_at slots
 
+-- the slot at this place; an empty one beyond the last
 abbrev pub slot_at : List Slot → ℕ → Slot
 slot_at slots i = slice_index_or slots i empty_slot

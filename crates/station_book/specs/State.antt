@@ -1,6 +1,6 @@
 -- What a book keeps, and what each kind of block does to it.
 use Rattle.std.specs.Prelude.{ℕ, ◌+◌, Bool, true, false, if◌then◌else◌, Result, Ok, Err, List}
-use Rattle.std.specs.Prelude.{Option, Some, None, ◌<◌, length}
+use Rattle.std.specs.Prelude.{Option, Some, None, ◌<◌, length, ⊤}
 use Rattle.station_book.specs.declared.fault.BookKind.{BookKind}
 use Rattle.station_book.specs.declared.fault.BookKind.TheVariants as kinds
 use Rattle.station_book.specs.Limits.{FaceLimits}
@@ -120,8 +120,8 @@ after b k = after_as (role_of b) b (record k { taken = k.taken + 1 })
 
 -- Where the open station has a set, there is a station.
 abbrev pub HasLast : Stage → StationStates → Type 0
-HasLast Outside s = Unit {0}
-HasLast (Station name) s = Unit {0}
+HasLast Outside s = ⊤
+HasLast (Station name) s = ⊤
 HasLast BetweenSets s = 0 < length s
 HasLast InSet s = 0 < length s
 
@@ -130,7 +130,7 @@ abbrev pub RestMayEnd : Stage → StationStates → Type 0
 RestMayEnd Outside s = LastMayEnd s
 RestMayEnd (Station name) s = LastMayEnd s
 RestMayEnd BetweenSets s = LastMayEnd s
-RestMayEnd InSet s = Unit {0}
+RestMayEnd InSet s = ⊤
 
 -- what always holds of a book's stage and stations
 pub record IsBook (stage : Stage) (s : StationStates) : Type 0 where

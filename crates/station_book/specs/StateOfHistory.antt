@@ -1,7 +1,7 @@
 -- What is kept of the stations, and where the book stands, by the blocks before: station by
 -- station, from the sets and the readings that are the station's.
 use Rattle.std.specs.Prelude.{◌≡◌, ℕ, true, false, List, [], ◌∷◌, ◌++◌, length, filter, map, Option}
-use Rattle.std.specs.Prelude.{Some}
+use Rattle.std.specs.Prelude.{Some, ⊤}
 use Rattle.std.specs.Option.{option_map}
 use Rattle.adjust_kernel.specs.declared.obs.Obs.{Obs}
 use Rattle.station_book.specs.declared.face.Face.TheVariants.{One, Two}
@@ -20,6 +20,7 @@ use Rattle.station_book.specs.Places.{distinct, reading_in, target_at}
 use Rattle.station_book.specs.Stations.{SurveyedStation}
 use Rattle.station_book.specs.Faults.{open_sets, name_at, angles_at}
 
+-- the angles at a place, where there is one
 abbrev pub angles_of : Option Place → Option Angles
 angles_of o = option_map angles_at o
 
@@ -30,6 +31,7 @@ slot_of rs name = record {
   second = angles_of (reading_in Two name rs);
 }
 
+-- the slots of these targets, in their order
 abbrev pub slots_of : List (List ℕ) → List Place → List Slot
 slots_of targets rs = map (slot_of rs) targets
 
@@ -41,13 +43,14 @@ targets_in readings = distinct (map target_at readings)
 abbrev pub in_set : Place → List Place → List Place
 in_set set rs = filter (λ r. is_same (opening (before r)) set) rs
 
--- the observations of these sets, which come the newest first; their places are counted from the
--- oldest
+-- the observations of these sets, which come the newest first; the places of the sets are counted
+-- from the oldest
 abbrev pub obs_in : List (List ℕ) → List Place → List Place → List Obs
 obs_in targets readings [] = []
 obs_in targets readings (s ∷ older) = obs_in targets readings older ++ obs_of (length older)
     (slots_of targets (in_set s readings))
 
+-- the face differences of these sets, beside their observations
 abbrev pub faces_in : List (List ℕ) → List Place → List Place → List Faces
 faces_in targets readings [] = []
 faces_in targets readings (s ∷ older) = faces_in targets readings older ++ faces_of
@@ -68,6 +71,7 @@ pub record IsStateOf (st newest : Place) (older readings : List Place) (name : L
   pub obs : e.obs ≡ obs_in (targets_in readings) readings older
   pub faces : e.faces ≡ faces_in (targets_in readings) readings older
 
+-- the same of these sets, the newest first; a station without sets is not kept
 abbrev pub IsStateWith : Place → List Place → List Place → List ℕ × StationState → Type 0
 IsStateWith st [] readings e = ⊥
 IsStateWith st (s ∷ older) readings e = IsStateOf st s older readings e.0 e.1
@@ -90,7 +94,7 @@ pub record IsComputed (st : Place) (sets readings : List Place) (s : SurveyedSta
 
 -- Each station that has sets is kept; both lists come the newest first.
 abbrev pub AreStates : History → List Place → StationStates → Type 0
-AreStates h [] [] = Unit {0}
+AreStates h [] [] = ⊤
 AreStates h [] (e ∷ es) = ⊥
 AreStates h (st ∷ sts) [] = ⊥
 AreStates h (st ∷ sts) (e ∷ es) = IsStateAt h st e × AreStates h sts es

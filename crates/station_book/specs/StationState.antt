@@ -54,6 +54,7 @@ abbrev pub is_named : List ℕ → Option (List ℕ) → Bool
 is_named name None = false
 is_named name (Some t) = bytes_eq t name
 
+-- the place of the target of this name
 abbrev pub place_of : List ℕ → List (List ℕ) → Option ℕ
 place_of name targets = position (λ t. bytes_eq t name) targets
 
@@ -62,6 +63,7 @@ abbrev pub new_target_fault : List (List ℕ) → Option BookKind
 new_target_fault targets = first_of (when (nat_le MOST_TARGETS (length targets))
     kinds.TooManyTargets ∷ [])
 
+-- the faults of a reading in the last set, of the target at this place or of a new one
 abbrev pub state_faults_at : FaceLimits → StationState → Reading → Option ℕ → List (Option BookKind)
 state_faults_at limits e s None = when
     (nat_le MOST_TARGETS (length e.targets)) kinds.TooManyTargets ∷ []
@@ -71,6 +73,7 @@ state_faults_at limits e s (Some i) = slot_faults limits (slot_at e.slots i) s
 abbrev pub state_faults : FaceLimits → StationState → Reading → List (Option BookKind)
 state_faults limits e s = state_faults_at limits e s (place_of s.target e.targets)
 
+-- the station with one more reading in the last set, of the target at this place or of a new one
 abbrev pub with_reading_at : Reading → StationState → Option ℕ → StationState
 with_reading_at s e None = record
     e {

@@ -1,6 +1,6 @@
 -- The stations that have sets.
 use Rattle.std.specs.Prelude.{◌≡◌, ℕ, ◌==◌, nat_le, Bool, List, [], ◌∷◌, length, map, reverse, All}
-use Rattle.std.specs.Prelude.{Option}
+use Rattle.std.specs.Prelude.{Option, ⊤}
 use Rattle.std.specs.List.{list_any}
 use Rattle.std.specs.Str.{bytes_eq}
 use Rattle.adjust_kernel.specs.declared.bounds.TheConstants.{MOST_SETS}
@@ -70,10 +70,10 @@ more_set_faults e n =
 
 -- The last set of the newest station may end here.
 abbrev pub LastMayEnd : StationStates → Type 0
-LastMayEnd [] = Unit {0}
+LastMayEnd [] = ⊤
 LastMayEnd (e ∷ older) = MayEnd e.1
 
 -- The sets of the others may end.
 abbrev pub OlderMayEnd : StationStates → Type 0
-OlderMayEnd [] = Unit {0}
+OlderMayEnd [] = ⊤
 OlderMayEnd (e ∷ older) = All (λ o. MayEnd o.1) older

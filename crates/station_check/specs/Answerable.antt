@@ -1,6 +1,6 @@
 -- Which faults a call may answer, whatever its readers and writers tell. That memory ran out is
 -- answered as `Memory`, whichever part it was, and `Write` only where a call of the writer failed.
-use Rattle.std.specs.Prelude.{◌≡◌, Bool, true, Result, Ok, Err}
+use Rattle.std.specs.Prelude.{◌≡◌, Bool, true, Result, Ok, Err, ⊤}
 use Rattle.byte_ends.specs.declared.input.InputFault.{InputFault}
 use Rattle.byte_ends.specs.declared.input.InputFault.TheVariants as input
 use Rattle.gsi_file.specs.declared.file_fault.FileFault.{FileFault}
@@ -55,46 +55,46 @@ of_write writing.Memory = Memory
 
 -- A fault of the field file or of its blocks, or that memory ran out.
 abbrev pub IsOfFile : Fault → Type 0
-IsOfFile (Gsi (file.At number what)) = Unit {0}
-IsOfFile (Book (book.At number what)) = Unit {0}
-IsOfFile Memory = Unit {0}
+IsOfFile (Gsi (file.At number what)) = ⊤
+IsOfFile (Book (book.At number what)) = ⊤
+IsOfFile Memory = ⊤
 IsOfFile fault = ⊥
 
 -- A fault that comes from the sheet on, or that memory ran out. The kernel's fault `Name`, that the
 -- sheet is of another station, is none of these: the station was found by the sheet's name.
 abbrev pub IsOfSheet : Fault → Type 0
-IsOfSheet SheetRead = Unit {0}
-IsOfSheet (Sheet sheet.TooLong) = Unit {0}
-IsOfSheet (Sheet (sheet.Row number what)) = Unit {0}
-IsOfSheet NoStation = Unit {0}
+IsOfSheet SheetRead = ⊤
+IsOfSheet (Sheet sheet.TooLong) = ⊤
+IsOfSheet (Sheet (sheet.Row number what)) = ⊤
+IsOfSheet NoStation = ⊤
 IsOfSheet (Kernel kernel.Name) = ⊥
-IsOfSheet (Kernel fault) = Unit {0}
-IsOfSheet Memory = Unit {0}
+IsOfSheet (Kernel fault) = ⊤
+IsOfSheet Memory = ⊤
 IsOfSheet fault = ⊥
 
 -- What a check may answer.
 abbrev pub IsOfCheck : Fault → Type 0
-IsOfCheck (Gsi (file.At number what)) = Unit {0}
-IsOfCheck (Book (book.At number what)) = Unit {0}
+IsOfCheck (Gsi (file.At number what)) = ⊤
+IsOfCheck (Book (book.At number what)) = ⊤
 IsOfCheck fault = IsOfSheet fault
 
 -- What the writing of a list may answer.
 abbrev pub IsOfList : Fault → Type 0
-IsOfList Write = Unit {0}
+IsOfList Write = ⊤
 IsOfList fault = IsOfFile fault
 
 -- What the writing of a sheet of means may answer.
 abbrev pub IsOfMeans : Fault → Type 0
-IsOfMeans NoStation = Unit {0}
-IsOfMeans (Means means.Incomplete) = Unit {0}
-IsOfMeans Write = Unit {0}
+IsOfMeans NoStation = ⊤
+IsOfMeans (Means means.Incomplete) = ⊤
+IsOfMeans Write = ⊤
 IsOfMeans fault = IsOfFile fault
 
 -- What the writing of words may answer.
 abbrev pub IsOfWords : Fault → Type 0
-IsOfWords (Gsi (file.At number what)) = Unit {0}
-IsOfWords Write = Unit {0}
-IsOfWords Memory = Unit {0}
+IsOfWords (Gsi (file.At number what)) = ⊤
+IsOfWords Write = ⊤
+IsOfWords Memory = ⊤
 IsOfWords fault = ⊥
 
 -- A call of the writer failed exactly where the answer says so.
@@ -105,24 +105,24 @@ FailsAtWrite (Ok x) old new = new ≡ old
 
 -- At a refusal other than a failed write nothing was asked of the writer.
 abbrev pub IsUnwritten : {A W : Type 0} → Result A Fault → W → W → Type 0
-IsUnwritten (Ok x) old new = Unit {0}
-IsUnwritten (Err Write) old new = Unit {0}
+IsUnwritten (Ok x) old new = ⊤
+IsUnwritten (Err Write) old new = ⊤
 IsUnwritten (Err fault) old new = new ≡ old
 
 -- With Ok all that was written was handed on, after its last byte.
 abbrev pub HandsOn : {A : Type 0} → Result A Fault → Bool → Type 0
 HandsOn (Ok x) handed_on = handed_on ≡ true
-HandsOn (Err fault) handed_on = Unit {0}
+HandsOn (Err fault) handed_on = ⊤
 
 -- The same of words, where a fault of the file comes after them.
 abbrev pub HandsWordsOn : {A : Type 0} → Result A Fault → Bool → Type 0
 HandsWordsOn (Ok x) handed_on = handed_on ≡ true
 HandsWordsOn (Err (Gsi fault)) handed_on = handed_on ≡ true
-HandsWordsOn (Err fault) handed_on = Unit {0}
+HandsWordsOn (Err fault) handed_on = ⊤
 
 -- A fault of the field file that is no failed read is answered where none failed.
 abbrev pub NoReadFailed : FileKind → Bool → Bool → Type 0
-NoReadFailed kind.Read old new = Unit {0}
+NoReadFailed kind.Read old new = ⊤
 NoReadFailed other old new = new ≡ old
 
 -- No read of the field file failed, where another answer is given than that one did.

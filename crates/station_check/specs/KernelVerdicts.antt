@@ -1,5 +1,5 @@
 -- The kernel's verdict on a sheet, as it came about.
-use Rattle.std.specs.Prelude.{◌≡◌, ◌⊎◌, ℕ, List, Option, Some, Result, Ok, Err, OnOk}
+use Rattle.std.specs.Prelude.{◌≡◌, ◌⊎◌, ℕ, List, Option, Some, Result, Ok, Err, OnOk, ⊤}
 use Rattle.byte_ends.specs.Source.{Told}
 use Rattle.byte_ends.specs.Input.{input_within}
 use Rattle.adjust_kernel.specs.Matching.{Matches}
@@ -36,7 +36,7 @@ pub record IsJudgedSheet (stations : List SurveyedStation) (most : Option ℕ) (
 abbrev pub IfKernels : (Result Accepted KernelFault → Type 0) → Result Accepted Fault → Type 0
 IfKernels P (Ok accepted) = P (Ok accepted)
 IfKernels P (Err (Kernel fault)) = P (Err fault)
-IfKernels P (Err fault) = Unit {0}
+IfKernels P (Err fault) = ⊤
 
 -- The answer on a sheet of these bytes, by these stations: its verdict, or that there was no
 -- memory; and a verdict of the kernel came about as it must.

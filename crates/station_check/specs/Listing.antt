@@ -1,5 +1,5 @@
 -- What is answered and written of the list of a field file's stations.
-use Rattle.std.specs.Prelude.{◌≡◌, ℕ, List, Option, Result, Ok, Err}
+use Rattle.std.specs.Prelude.{◌≡◌, ℕ, List, Option, Result, Ok, Err, ⊤}
 use Rattle.std.specs.Io.KnownBytes.{Appends}
 use Rattle.byte_ends.specs.Sink.{AppendsSome}
 use Rattle.gsi_file.specs.FileAnswers.{FileAnswers}
@@ -25,5 +25,5 @@ WritesList limits answers (Ok x) old new =
     (text : List ℕ) × IsList limits answers text × Appends old new text
 WritesList limits answers (Err Write) old new =
     (text : List ℕ) × IsList limits answers text × AppendsSome old new text
-WritesList limits answers (Err Memory) old new = Unit {0}
+WritesList limits answers (Err Memory) old new = ⊤
 WritesList limits answers (Err fault) old new = FileComesTo limits answers (Err fault)

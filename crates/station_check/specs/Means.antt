@@ -1,5 +1,5 @@
 -- What is answered and written of the sheet of means of a station.
-use Rattle.std.specs.Prelude.{◌≡◌, ℕ, false, List, Option, Some, None, Result, Ok, Err}
+use Rattle.std.specs.Prelude.{◌≡◌, ℕ, false, List, Option, Some, None, Result, Ok, Err, ⊤}
 use Rattle.std.specs.Io.KnownBytes.{Appends}
 use Rattle.byte_ends.specs.Sink.{AppendsSome}
 use Rattle.gsi_file.specs.FileAnswers.{FileAnswers}
@@ -65,5 +65,5 @@ WritesMeans limits answers name (Err Write) old new =
 WritesMeans limits answers name (Err NoStation) old new = HasNoStation limits answers name
 WritesMeans limits answers name (Err (Means means.Incomplete)) old new =
     HasIncomplete limits answers name
-WritesMeans limits answers name (Err Memory) old new = Unit {0}
+WritesMeans limits answers name (Err Memory) old new = ⊤
 WritesMeans limits answers name (Err fault) old new = FileComesTo limits answers (Err fault)

@@ -1,5 +1,5 @@
 -- What the refusal of a sheet says.
-use Rattle.std.specs.Prelude.{◌≡◌, ◌≢◌, ◌⊎◌, ℕ, List, Option, Some, Result, Err}
+use Rattle.std.specs.Prelude.{◌≡◌, ◌≢◌, ◌⊎◌, ℕ, List, Option, Some, Result, Err, ⊤}
 use Rattle.std.specs.List.{Contains}
 use Rattle.byte_ends.specs.Source.{Told}
 use Rattle.byte_ends.specs.Input.{Input, input_within, Ended, BrokeOff, RanPast}
@@ -27,7 +27,7 @@ use Rattle.station_check.specs.Surveys.{IsSurvey}
 abbrev pub TellsOfFile : FaceLimits → FileAnswers → Fault → Type 0
 TellsOfFile limits file (Gsi fault) = IsFirstFault limits file (Gsi fault)
 TellsOfFile limits file (Book fault) = IsFirstFault limits file (Book fault)
-TellsOfFile limits file fault = Unit {0}
+TellsOfFile limits file fault = ⊤
 
 -- Where the field file comes to a fault, that is the answer, whatever the sheet is, unless there
 -- was no memory.
@@ -40,11 +40,11 @@ IsFileFirst limits file r =
 abbrev pub IsUnreadAtFileFault : {Q : Type 0} → Result Accepted Fault → Q → Q → Type 0
 IsUnreadAtFileFault (Err (Gsi fault)) old new = new ≡ old
 IsUnreadAtFileFault (Err (Book fault)) old new = new ≡ old
-IsUnreadAtFileFault r old new = Unit {0}
+IsUnreadAtFileFault r old new = ⊤
 
 -- The sheet's reader gave these bytes, no more than a sheet may have, and then failed.
-abbrev pub BreaksOff : Told → Type 0
-BreaksOff stated = (bytes : List ℕ) × (input_within LONGEST_SHEET stated ≡ BrokeOff bytes)
+abbrev pub SheetBreaksOff : Told → Type 0
+SheetBreaksOff stated = (bytes : List ℕ) × (input_within LONGEST_SHEET stated ≡ BrokeOff bytes)
 
 -- This is the first fault of what came of the sheet's reader: there are too many bytes, or it is
 -- that of the bytes.
@@ -58,7 +58,7 @@ pub record IsRefusedByRead (limits : FaceLimits) (file : FileAnswers) (stated : 
   -- The field file ended without a fault, and has these stations.
   pub stations : List SurveyedStation
   pub survey : IsSurvey limits file stations
-  pub broke_off : BreaksOff stated
+  pub broke_off : SheetBreaksOff stated
 
 -- The sheet's bytes have this first fault.
 pub record IsRefusedByText (limits : FaceLimits) (file : FileAnswers) (stated : Told)
@@ -107,5 +107,5 @@ TellsOfRefusal limits most file stated (Sheet fault) = IsRefusedByText limits fi
 TellsOfRefusal limits most file stated NoStation = IsRefusedByName limits file stated
 TellsOfRefusal limits most file stated (Kernel fault) =
     IsRefusedByKernel limits most file stated fault
-TellsOfRefusal limits most file stated Memory = Unit {0}
+TellsOfRefusal limits most file stated Memory = ⊤
 TellsOfRefusal limits most file stated fault = ⊥

@@ -1,6 +1,6 @@
 -- What is answered of a field file and of a table of directions, and how the table's reader is
 -- left.
-use Rattle.std.specs.Prelude.{◌≡◌, ℕ, Bool, true, List, Option, Some, Result, Ok, Err}
+use Rattle.std.specs.Prelude.{◌≡◌, ℕ, Bool, true, List, Option, Some, Result, Ok, Err, ⊤}
 use Rattle.byte_ends.specs.Came.{IsReadOut}
 use Rattle.byte_ends.specs.Input.{input_within}
 use Rattle.byte_ends.specs.Source.{Told, broken_off}
@@ -35,14 +35,14 @@ abbrev pub Compares : FaceLimits → FileAnswers → Told → List ℕ → ℕ
 Compares limits file stated name within (Ok a) = Agrees limits file stated name within a
 Compares limits file stated name within (Err (File NoStation)) = HasNoStation limits file name
 Compares limits file stated name within (Err (File fault)) = FileComesTo limits file (Err fault)
-Compares limits file stated name within (Err Memory) = Unit {0}
+Compares limits file stated name within (Err Memory) = ⊤
 Compares limits file stated name within (Err fault) =
     IsRefusedByTable limits file stated name within fault
 
 -- The table's reader is not asked where the field file has a fault, or no station of the name.
 abbrev pub IsUnreadAtFileFault : {Q : Type 0} → Result Agreement CompareFault → Q → Q → Type 0
 IsUnreadAtFileFault (Err (File fault)) old new = new ≡ old
-IsUnreadAtFileFault result old new = Unit {0}
+IsUnreadAtFileFault result old new = ⊤
 
 -- How an answer leaves the table's reader: at `TableRead` a read of it failed, and it has broken
 -- off. At a fault of its bytes, but that there are too many, and at each answer that comes after,

@@ -1,5 +1,5 @@
 -- How a table of directions and a station compare.
-use Rattle.std.specs.Prelude.{◌≡◌, ◌⊎◌, ℕ, ◌≤◌, ◌<◌, ◌-◌, List, length, ℤ, Result, Ok, Err}
+use Rattle.std.specs.Prelude.{◌≡◌, ◌⊎◌, ℕ, ◌≤◌, ◌<◌, ◌-◌, List, length, ℤ, Result, Ok, Err, ⊤}
 use Rattle.adjust_kernel.specs.Residuals.{Choice}
 use Rattle.adjust_kernel.specs.Stations.{StationValue}
 use Rattle.adjust_kernel.specs.declared.bounds.TheConstants.{LARGEST_RESIDUAL_LIMIT}
@@ -53,7 +53,7 @@ ByTable station within bytes (Err (Table fault)) = IsTableFault station.targets 
 ByTable station within bytes (Err (Adjust fault)) = IsUnadjusted station bytes fault
 ByTable station within bytes (Err (Apart apart)) =
     (within < apart) × IsComparedWith station bytes apart
-ByTable station within bytes (Err Memory) = Unit {0}
+ByTable station within bytes (Err Memory) = ⊤
 ByTable station within bytes (Err fault) = ⊥
 
 -- This fault is answered, or that memory ran out.

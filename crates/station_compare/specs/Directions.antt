@@ -1,6 +1,6 @@
 -- The table of a station's least-squares directions, as it is printed, and why there is none.
 use Rattle.std.specs.Prelude.{◌≡◌, ℕ, ◌+◌, ◌*◌, List, All, length, map, slice_index_or, ℤ, Result}
-use Rattle.std.specs.Prelude.{Ok, Err}
+use Rattle.std.specs.Prelude.{Ok, Err, ⊤}
 use Rattle.adjust_kernel.specs.Residuals.{Choice}
 use Rattle.adjust_kernel.specs.Stations.{StationValue}
 use Rattle.adjust_kernel.specs.declared.bounds.TheConstants.{LARGEST_RESIDUAL_LIMIT}
@@ -58,7 +58,7 @@ pub record StatesDirections (limits : FaceLimits) (file : FileAnswers) (name : L
 -- Why a station has no table: what its adjustment has, or that there was no memory.
 abbrev pub HasNoTable : StationValue → CompareFault → Type 0
 HasNoTable station (Adjust fault) = IsAdjustFault station LARGEST_RESIDUAL_LIMIT fault
-HasNoTable station Memory = Unit {0}
+HasNoTable station Memory = ⊤
 HasNoTable station fault = ⊥
 
 -- The file has a station of this name, and this is why it has no table.
@@ -74,7 +74,7 @@ abbrev pub HasNoDirections :
     FaceLimits → FileAnswers → List ℕ → CompareFault → Type 0
 HasNoDirections limits file name (File NoStation) = HasNoStation limits file name
 HasNoDirections limits file name (File fault) = FileComesTo limits file (Err fault)
-HasNoDirections limits file name Memory = Unit {0}
+HasNoDirections limits file name Memory = ⊤
 HasNoDirections limits file name fault = IsWithoutTable limits file name fault
 
 -- What is answered: the text of the table, or why there is none.

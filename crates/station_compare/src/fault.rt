@@ -18,7 +18,7 @@ pub enum CompareFault {
     #[error("{0}")]
     File(Fault),
     /// A read of the table failed: see whether it can be read to its end.
-    #[error("a read of the table failed: see whether it can be read to its end")]
+    #[error("a read of the table failed")]
     TableRead,
     /// The bytes are no table of the station's directions: mend them at the row that is named.
     #[error("the table has a fault: {0}")]
@@ -32,10 +32,10 @@ pub enum CompareFault {
     Apart(u32),
     /// What was to be written couldn't be written whole: see whether the output is open and has
     /// room.
-    #[error("a write failed: see whether the output is open and has room")]
+    #[error("a write failed")]
     Write,
     /// Memory ran out: run it again with more.
-    #[error("out of memory: run it again with more")]
+    #[error("out of memory")]
     Memory,
 }
 

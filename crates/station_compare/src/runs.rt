@@ -1,7 +1,7 @@
 //! The commands `compare` and `directions`, over sources of bytes and sinks: each makes its call,
 //! and answers the exit status.
 
-ghost use Rattle.std.specs.Prelude.{◌≡◌};
+ghost use Rattle.std.specs.Prelude.{◌≡◌, ⊤};
 ghost use Rattle.station_check.specs.RunEndings.{EndsWith, WritesOrFails};
 ghost use Rattle.station_compare.specs.FaultTexts.{refusal_line};
 ghost use Rattle.station_compare.specs.FaultTexts as spec;
@@ -32,7 +32,7 @@ pub fn run_compare<R: Source, Q: Source, W: Sink, E: Sink>(
     out: &mut W,
     err: &mut E,
 ) -> u8
-    ensures { EndsWith {A = Unit {0}} refusal_line (IsCompareRun limits within (R.told gsi)
+    ensures { EndsWith {A = ⊤} refusal_line (IsCompareRun limits within (R.told gsi)
         Q.told Q.failed table.old table.new name.now
         W.failed W.holds W.handed_on out.old out.new)
         result E.failed E.holds err.old err.new }
@@ -56,7 +56,7 @@ pub fn run_directions<R: Source, W: Sink, E: Sink>(
     out: &mut W,
     err: &mut E,
 ) -> u8
-    ensures { EndsWith {A = Unit {0}} refusal_line (IsDirectionsRun limits (R.told gsi) name.now
+    ensures { EndsWith {A = ⊤} refusal_line (IsDirectionsRun limits (R.told gsi) name.now
         decimals W.failed W.holds W.handed_on out.old out.new)
         result E.failed E.holds err.old err.new }
 {

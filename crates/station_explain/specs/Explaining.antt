@@ -1,6 +1,6 @@
 -- What is printed of faults, and what the answer of a run that explains them says.
 use Rattle.std.specs.Prelude.{◌≡◌, ◌-◌, ◌∷◌, ◌++◌, [], ℕ, Bool, List, Option, Some, None, Result}
-use Rattle.std.specs.Prelude.{OnOk, OnErr, IfErr, codes}
+use Rattle.std.specs.Prelude.{OnOk, OnErr, IfErr, codes, ⊤}
 use Rattle.std.specs.Borrow.{Bor}
 use Rattle.std.specs.Fmt.{char_count}
 use Rattle.std.specs.List.{join_by, flat_map, repeat}
@@ -43,8 +43,8 @@ Explains table None text = text ≡ list_text table
 
 -- What a run that explains may answer: that a call of `out` failed, or that memory ran out.
 abbrev pub IsOfExplain : Fault → Type 0
-IsOfExplain Write = Unit {0}
-IsOfExplain Memory = Unit {0}
+IsOfExplain Write = ⊤
+IsOfExplain Memory = ⊤
 IsOfExplain fault = ⊥
 
 -- A run that prints this text: with Ok it was written whole and handed on; where a call of `out`

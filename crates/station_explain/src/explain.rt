@@ -1,6 +1,6 @@
 //! What is printed of faults: the names of all, or what one of them means.
 
-ghost use Rattle.std.specs.Prelude.{◌≡◌, ◌++◌, IfOk, OnOk, IfNone, option_map, string_bytes};
+ghost use Rattle.std.specs.Prelude.{◌≡◌, ◌++◌, IfOk, OnOk, IfNone, option_map, string_bytes, ⊤};
 ghost use Rattle.std.specs.List.{flat_map};
 ghost use Rattle.station_check.specs.RunEndings.{EndsWith};
 ghost use Rattle.station_check.specs.VerdictLines.{refusal_line};
@@ -24,7 +24,7 @@ pub fn run_explain<W: Sink, E: Sink>(
     out: &mut W,
     err: &mut E,
 ) -> u8
-    ensures { EndsWith {A = Unit {0}} refusal_line
+    ensures { EndsWith {A = ⊤} refusal_line
         (IsExplainRun table.now (option_map (λ e. e.now) fault.entry)
         W.failed W.holds W.handed_on out.old out.new)
         result E.failed E.holds err.old err.new }

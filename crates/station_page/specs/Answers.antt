@@ -1,6 +1,6 @@
 -- What each call answers, of the very bytes that it was given. `room` is how many bytes there is
 -- room for, `answered` the status, and `shown` what was handed out.
-use Rattle.std.specs.Prelude.{◌≢◌, ℕ, Bool, List, [], Some, Result, Err, IfErr}
+use Rattle.std.specs.Prelude.{◌≢◌, ℕ, Bool, List, [], Some, Result, Err, IfErr, ⊤}
 use Rattle.std.specs.Borrow.{Bor}
 use Rattle.gsi_file.specs.FileAnswers.{file_answers}
 use Rattle.adjust_kernel.specs.declared.accepted.Accepted.{Accepted}
@@ -42,7 +42,7 @@ pub record IsListOf (two_c two_i : ℕ) (gsi : List ℕ) (room answered : ℕ) (
     : Type 0 where
   pub limits : FaceLimits
   pub states : States two_c two_i limits
-  pub answer : Result (Unit {0}) Fault
+  pub answer : Result ⊤ Fault
   pub text : List ℕ
   pub writes : WritesList limits (file_answers (handed_in gsi)) answer (Some []) (Some text)
   pub unfailed : answer ≢ Err Write
@@ -54,7 +54,7 @@ pub record IsMeansOf (two_c two_i : ℕ) (gsi name : List ℕ) (room answered : 
     : Type 0 where
   pub limits : FaceLimits
   pub states : States two_c two_i limits
-  pub answer : Result (Unit {0}) Fault
+  pub answer : Result ⊤ Fault
   pub text : List ℕ
   pub writes : WritesMeans limits (file_answers (handed_in gsi)) name answer
       (Some []) (Some text)

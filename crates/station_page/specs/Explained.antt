@@ -1,5 +1,5 @@
 -- What is answered of a text that names a fault. `table` has the explanations, in groups.
-use Rattle.std.specs.Prelude.{◌≡◌, ◌≢◌, ℕ, List, [], Option, Some, None, Result, Ok, Err, codes}
+use Rattle.std.specs.Prelude.{◌≡◌, ◌≢◌, ℕ, List, [], Option, Some, None, Result, Ok, Err, codes, ⊤}
 use Rattle.std.specs.Borrow.{Bor}
 use Rattle.std.specs.Str.{IsUtf8}
 use Rattle.station_check.specs.VerdictLines.{refusal_line}
@@ -37,7 +37,7 @@ pub record IsUnnamed (table : List (Bor (List Explanation))) (line : List ℕ) :
 abbrev pub IsUnexplained : List (Bor (List Explanation)) → List ℕ → Unexplained → Type 0
 IsUnexplained table line NotUtf8 = ¬ (IsUtf8 line)
 IsUnexplained table line NoName = IsUnnamed table line
-IsUnexplained table line Memory = Unit {0}
+IsUnexplained table line Memory = ⊤
 
 -- What is answered of a line: a text that explains, or why there is none.
 abbrev pub AnswersLine : List (Bor (List Explanation)) → List ℕ → Result (List ℕ) Unexplained

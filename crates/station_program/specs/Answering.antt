@@ -1,5 +1,5 @@
 -- How a request is answered: its files are opened, and its own run is made over them.
-use Rattle.std.specs.Prelude.{◌≡◌, ◌⊎◌, ◌≤◌, ℕ, Bool, false, List, Option, None, option_map}
+use Rattle.std.specs.Prelude.{◌≡◌, ◌⊎◌, ◌≤◌, ℕ, Bool, false, List, Option, None, option_map, ⊤}
 use Rattle.std.specs.Borrow.{Bor}
 use Rattle.byte_ends.specs.declared.of_read.OfRead.{OfRead}
 use Rattle.byte_ends.specs.declared.of_write.OfWrite.{OfWrite}
@@ -32,27 +32,27 @@ abbrev pub IsRun : {R W E : Type 0} → List (Bor (List Explanation))
 IsRun {R} faults told read_failed input failed holds handed_on out out' err_failed err_holds err
     err'
     (request.Check gsi sheet limits residual) status =
-    (sheet' : R) × EndsWith {A = Unit {0}} refusal_line (IsCheckRun limits residual (told gsi)
+    (sheet' : R) × EndsWith {A = ⊤} refusal_line (IsCheckRun limits residual (told gsi)
     told read_failed sheet sheet' failed holds handed_on out out')
     status err_failed err_holds err err'
 IsRun faults told read_failed input failed holds handed_on out out' err_failed err_holds err err'
     (request.Means gsi station limits) status =
-    EndsWith {A = Unit {0}} refusal_line (IsMeansRun limits (told gsi) station.now
+    EndsWith {A = ⊤} refusal_line (IsMeansRun limits (told gsi) station.now
     failed holds handed_on out out') status err_failed err_holds err err'
 IsRun faults told read_failed input failed holds handed_on out out' err_failed err_holds err err'
     (request.Directions gsi station limits decimals) status =
-    EndsWith {A = Unit {0}} compare_refusal_line (IsDirectionsRun limits (told gsi) station.now
+    EndsWith {A = ⊤} compare_refusal_line (IsDirectionsRun limits (told gsi) station.now
     decimals failed holds handed_on out out') status err_failed err_holds err err'
 IsRun {R} faults told read_failed input failed holds handed_on out out' err_failed err_holds err
     err'
     (request.Compare gsi station table limits within) status =
     (table' : R)
-    × EndsWith {A = Unit {0}} compare_refusal_line (IsCompareRun limits within (told gsi)
+    × EndsWith {A = ⊤} compare_refusal_line (IsCompareRun limits within (told gsi)
     told read_failed table table' station.now failed holds handed_on out out')
     status err_failed err_holds err err'
 IsRun faults told read_failed input failed holds handed_on out out' err_failed err_holds err err'
     (request.List gsi limits) status =
-    EndsWith {A = Unit {0}} refusal_line (IsListRun limits (told gsi)
+    EndsWith {A = ⊤} refusal_line (IsListRun limits (told gsi)
     failed holds handed_on out out') status err_failed err_holds err err'
 IsRun faults told read_failed input failed holds handed_on out out' err_failed err_holds err err'
     (request.Words gsi) status =
@@ -64,7 +64,7 @@ IsRun faults told read_failed input failed holds handed_on out out' err_failed e
     failed holds handed_on out out') status err_failed err_holds err err'
 IsRun faults told read_failed input failed holds handed_on out out' err_failed err_holds err err'
     (request.Explain fault) status =
-    EndsWith {A = Unit {0}} refusal_line (IsExplainRun faults (option_map (λ e. e.now) fault)
+    EndsWith {A = ⊤} refusal_line (IsExplainRun faults (option_map (λ e. e.now) fault)
     failed holds handed_on out out') status err_failed err_holds err err'
 
 -- A file as it is when it was opened: it tells nothing, and no read of it has failed.
@@ -88,7 +88,7 @@ IsOpened (request.Compare gsi station table limits within)
 IsOpened (request.List gsi limits) (request.List field_file limits') =
     IsUnread field_file × (limits' ≡ limits)
 IsOpened (request.Words gsi) (request.Words field_file) = IsUnread field_file
-IsOpened request.WordsOfInput request.WordsOfInput = Unit {0}
+IsOpened request.WordsOfInput request.WordsOfInput = ⊤
 IsOpened (request.Explain fault) (request.Explain fault') = fault' ≡ fault
 IsOpened asked other = ⊥
 

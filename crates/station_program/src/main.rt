@@ -25,7 +25,7 @@ use clap::Error;
 use clap::error::ErrorKind;
 use command_line::asked_for;
 use printable::Printable;
-use station_check::{DONE, REFUSED};
+use station_check::{DONE, Fault, refuse};
 use station_explain::{Explanation, all_explanations};
 use std::io;
 use std::process::ExitCode;
@@ -78,7 +78,7 @@ fn status_of_run(
             let mut err = OfWrite::new(rt.stderr());
             status_of_words(rt, faults, words.as_slice(), &mut out, &mut err)
         }
-        Err(NoWords::OutOfMemory) => out_of_memory(rt),
+        Err(NoWords::OutOfMemory) => refused(rt, Fault::Memory),
         Err(NoWords::NotText) => {
             let _ = eprintln!(rt; "{NOT_TEXT}");
             USAGE
@@ -125,11 +125,11 @@ fn command_line_words(rt: &HostRuntime) -> Result<Vec<String>, NoWords> {
     }
 }
 
-fn out_of_memory(rt: &HostRuntime) -> u8
+/// Prints the line of a refusal on standard error, and answers its exit status.
+fn refused(rt: &HostRuntime, fault: Fault) -> u8
     ensures { result ≡ 1 }
 {
-    let _ = eprintln!(rt; "refused: out of memory");
-    REFUSED
+    refuse(fault, &mut OfWrite::new(rt.stderr()))
 }
 
 /// Prints what the parse of the command line answered in place of a request: help, the version, or
@@ -138,7 +138,7 @@ fn show(rt: &HostRuntime, error: &Error) -> u8
     ensures { IsStatusOfKind (kind_of error.now) result }
 {
     match error.kind() {
-        ErrorKind::OutOfMemory => out_of_memory(rt),
+        ErrorKind::OutOfMemory => refused(rt, Fault::Memory),
         ErrorKind::DisplayHelp | ErrorKind::DisplayVersion => status_of_print(rt, error.print(rt)),
         ErrorKind::ValueValidation => {
             let _ = error.print(rt);
@@ -159,10 +159,7 @@ fn status_of_print(rt: &HostRuntime, printed: io::Result<()>) -> u8
 {
     match printed {
         Ok(()) => DONE,
-        Err(_) => {
-            let _ = eprintln!(rt; "refused: write failed");
-            REFUSED
-        }
+        Err(_) => refused(rt, Fault::Write),
     }
 }
 

@@ -546,7 +546,7 @@ fn faults_are_told_in_words(rt: HostRuntime) -> Result<(), Fail> {
     }
     assert_eq!(rt;
         OutOfMemory.to_string(rt.alloc())?.as_str(),
-        "out of memory: run it again with more"
+        "out of memory"
     );
     Ok(())
 }

@@ -5,19 +5,19 @@ use crate::{RowKind, SheetFault, WriteFault};
 use std::test::Fail;
 
 const FAULTS: &str = "\
-row 7: not five columns: write kind, number, name, value and turn, with commas between them
-row 7: no such row may stand here: write the sheet, its targets, its sets, its observations
-row 7: the version is not 1 or 2: write the one or the other
-row 7: a column that such rows leave empty is not: empty it
-row 7: the name is not 1 to 16 bytes from the blank to the tilde: write the field file's name
-row 7: a number is not in its one form: write no plus, no blanks, no leading zeros, no -0
-row 7: a number is out of range: correct it, or state version 2, which has wider ranges
-row 7: too many rows: leave out what is more than 100 targets, 40 sets, 4000 observations
-row 7: the sheet ends before its observations: see whether it was cut
-longer than 1048576 bytes: see whether it is a sheet, and take out empty lines
-out of memory: read the sheet again with more
-out of memory, and nothing was written: write the sheet again with more
-a write failed: see whether the output is open and has room
+row 7: not five columns
+row 7: no such row may stand here
+row 7: the version is not 1 or 2
+row 7: a column that such rows leave empty is not
+row 7: the name is not 1 to 16 bytes from the blank to the tilde
+row 7: a number is not in its one form
+row 7: a number is out of range
+row 7: more than 100 targets, 40 sets or 4000 observations
+row 7: the sheet ends before its observations
+longer than 1048576 bytes
+out of memory
+out of memory, and nothing was written
+a write failed
 ";
 
 #[test]

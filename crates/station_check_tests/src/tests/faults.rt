@@ -19,15 +19,12 @@ fn a_fault_is_told_in_words(rt: HostRuntime) -> Result<(), Fail> {
         (
             Fault::Book(BookFault::At(7, BookKind::FaceTwice)),
             "the field file has a fault: block 7: \
-             the set has a reading of this target and face: keep the one that holds",
+             the set has a reading of this target and face",
         ),
-        (
-            Fault::SheetRead,
-            "a read of the sheet failed: see whether it can be read to its end",
-        ),
+        (Fault::SheetRead, "a read of the sheet failed"),
         (
             Fault::NoStation,
-            "the field file has no station of this name: see the list of its stations",
+            "the field file has no station of this name",
         ),
         (
             Fault::Means(MeansFault::Incomplete),
@@ -37,13 +34,10 @@ fn a_fault_is_told_in_words(rt: HostRuntime) -> Result<(), Fail> {
         (
             Fault::Kernel(KernelFault::TargetSum(2)),
             "the sheet is not the adjustment of its station, \
-             the residuals of target 2 do not add to 0: ask for another",
+             the residuals of target 2 do not add to 0",
         ),
-        (
-            Fault::Write,
-            "a write failed: see whether the output is open and has room",
-        ),
-        (Fault::Memory, "out of memory: run it again with more"),
+        (Fault::Write, "a write failed"),
+        (Fault::Memory, "out of memory"),
     ];
     for (fault, text) in rows {
         let told = format!(in rt.alloc(); "{fault}")?;
