@@ -147,7 +147,6 @@ impl fmt::Display for Name {
 
 /// The last of eight bytes, from this place on, and then zeros. The first byte is the lowest of a
 /// number, so a shift takes off those before the place.
-#[inline(always)]
 fn end_of_eight(bytes: &[u8], from: usize) -> [u8; LONGEST_NAME]
     requires eight { length bytes.now ≡ 8 }
     requires inside { from < 8 }

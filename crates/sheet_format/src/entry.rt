@@ -51,7 +51,6 @@ fn set_number(number: &Numeral<'_>) -> Option<u16>
 }
 
 /// A direction on the circle, in half units.
-#[inline(always)]
 fn circle_value(number: &Numeral<'_>) -> Option<u32>
     ensures value { IfSome result (λ value. value ≡ natural_of (number_of number.now)) }
     ensures valid { IfSome result (λ value. value < TURN) }
@@ -64,7 +63,6 @@ fn circle_value(number: &Numeral<'_>) -> Option<u32>
 }
 
 /// The full turns of an observation.
-#[inline(always)]
 fn full_turns(number: &Numeral<'_>) -> Option<i8>
     ensures value { IfSome result (λ turns. turns ≡ number_of number.now) }
     ensures valid { IfSome result (IsWithin LARGEST_TURN) }

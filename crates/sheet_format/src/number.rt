@@ -77,7 +77,6 @@ fn positive_of(field: &[u8]) -> Option<u64>
 }
 
 /// The number of a short field, if it is a canonical decimal.
-#[inline(always)]
 fn short_number(field: &[u8]) -> Option<i64>
     requires { length field.now ≤ SHORT }
     ensures value { IfSome result (λ number. number ≡ spec.value_of field.now) }

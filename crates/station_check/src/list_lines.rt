@@ -94,7 +94,6 @@ pub(crate) fn put_observation(
 }
 
 /// Puts what was observed: the set, the target and the direction.
-#[inline(always)]
 fn put_key(room: &mut Room, at: usize, station: &Station, obs: Obs) -> usize
     requires room { at + KEY ≤ PAGE }
     requires set_in { obs.set < length station.now.sets }
@@ -112,7 +111,6 @@ fn put_key(room: &mut Room, at: usize, station: &Station, obs: Obs) -> usize
 }
 
 /// Puts face differences, and ends the line.
-#[inline(always)]
 fn put_faces(room: &mut Room, at: usize, faces: Faces) -> usize
     requires { at + FACES ≤ PAGE }
     ensures within { result ≤ PAGE }
