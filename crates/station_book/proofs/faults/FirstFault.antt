@@ -30,8 +30,7 @@ in_order (c ∷ past) a b (inr pa) (inr pb) = in_order past a b pa pb
 
 pub fault_or_none : (limits : FaceLimits) (h : History)
     → IsWithoutFault limits h
-    ⊎ ((past : History) × (b : GsiBlock) × (kind : BookKind)
-    × IsFirstFaultOfBlock limits h past b kind)
+    ⊎ ((past : History) × (b : GsiBlock) × (kind : BookKind) × IsFirstFaultOfBlock limits h past b kind)
 fault_or_none limits [] = inl tt
 fault_or_none limits (b ∷ past) = elim (fault_or_none limits past) [
   | inl clean ↦ elim (none_or_some (fault_after limits past b)) [

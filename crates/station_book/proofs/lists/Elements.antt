@@ -127,17 +127,14 @@ module _ {X : Type 0} where
   pub place_in : (xs : List X) (x : X) → In x xs → (k : ℕ) × IsAt xs k x
   place_in [] x h = absurd h
   place_in (y ∷ ys) x (inl e) = (0, record { inside = omega arith; value = λ d. sym e })
-  place_in (y ∷ ys) x (inr h) =
-      let r = place_in ys x h in
+  place_in (y ∷ ys) x (inr h) = let r = place_in ys x h in
       (suc r.0, record { inside = (let lt = r.1.inside in omega arith); value = λ d. r.1.value d })
 
   in_enumerate : (n : ℕ) (xs : List X) (k : ℕ) (x : X) → IsAt xs k x
       → In (n + k, x) (enumerate_from n xs)
   in_enumerate n [] k x at = absurd (let lt = at.inside in omega arith)
   in_enumerate n (y ∷ ys) zero x at =
-      let here : n + 0 ≡ n = omega arith in
-      let same : x ≡ y = sym (at.value x) in
-      inl (λ i. (here i, same i))
+      let here : n + 0 ≡ n = omega arith in inl (λ i. (here i, sym (at.value x) i))
   in_enumerate n (y ∷ ys) (suc k) x at =
       let rest = in_enumerate (n + 1) ys k x
       (record { inside = (let lt = at.inside in omega arith); value = λ d. at.value d }) in
@@ -159,10 +156,7 @@ module _ {X : Type 0} where
       let moved : e.0 ≡ n + suc r.0 = r.1 ∙ (omega arith) in (
         suc r.0,
         moved,
-        record {
-          inside = (let lt = r.2.inside in omega arith);
-          value = λ d. r.2.value d;
-        },
+        record { inside = (let lt = r.2.inside in omega arith); value = λ d. r.2.value d },
         inr r.3,
       )
 
@@ -246,10 +240,7 @@ module _ {X Y : Type 0} where
 -- each element with its place, from 0
 pub of_places : {X : Type 0} (xs : List X) (e : ℕ × X) → In e (enumerate_from 0 xs)
     → (k : ℕ) × (e.0 ≡ k) × IsAt xs k e.1 × In e.1 xs
-of_places xs e h =
-    let r = of_enumerate 0 xs e h in
-    let moved : e.0 ≡ r.0 = r.1 ∙ (omega arith) in
-    (r.0, moved, r.2, r.3)
+of_places xs e h = let r = of_enumerate 0 xs e h in (r.0, r.1 ∙ (omega arith), r.2, r.3)
 
 pub in_places : {X : Type 0} (xs : List X) (k : ℕ) (x : X) → IsAt xs k x
     → In (k, x) (enumerate_from 0 xs)

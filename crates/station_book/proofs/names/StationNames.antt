@@ -34,8 +34,7 @@ module _ {X : Type 0} where
   pub all_reverse : (P : X → Type 0) (xs : List X) → AllByRecursion P xs
       → AllByRecursion P (reverse xs)
   all_reverse P [] all = tt
-  all_reverse P (x ∷ xs) all =
-      subst (AllByRecursion P) (sym (reverse-append (x ∷ []) xs))
+  all_reverse P (x ∷ xs) all = subst (AllByRecursion P) (sym (reverse-append (x ∷ []) xs))
       (all_snoc P (reverse xs) x (all_reverse P xs all.1) all.0)
 
   pub pairwise_snoc : (R : X → X → Type 0) (xs : List X) (z : X) → Pairwise R xs

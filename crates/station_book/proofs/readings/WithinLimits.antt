@@ -1,7 +1,7 @@
 -- In a file without fault the two readings of a target in a set are within the limits.
 use Rattle.std.proofs.Common.{◌≡◌, ℕ, ◌<◌, Bool, true, false, cond, eqb, leb, ltb, ◌+◌, ◌-◌, ◌%◌, ◌&&◌, ◌||◌, not, add_comm, List, [], ◌∷◌, length, filter, Option, Some, None, Ok, Err, refl, sym, ap, subst, ◌∙◌, arith, inr, inl}
 use Rattle.std.specs.Str.{bytes_eq}
-use Rattle.std.proofs.lemmas.Bool.{eqb-true, leb-true, ltb-true, ltb-false, and_parts, and_cases, false_from_ne_true, cases_Bool}
+use Rattle.std.proofs.lemmas.Bool.{eqb-true, leb-true, ltb-true, ltb-false, and_parts, and_cases, true_from_ne_false, cases_Bool}
 use Rattle.std.proofs.lemmas.Slice.Eq.{bytes_eq-Decides}
 use Rattle.gsi_word.specs.Blocks.{GsiBlock}
 use Rattle.gsi_word.specs.Angles.{is_gon, is_input_mode, decimal_number, angle_within_turn, last_unit}
@@ -16,6 +16,7 @@ use Rattle.station_book.specs.Blocks.{found, angle_found, angle_or_zero, angles,
 use Rattle.station_book.specs.StateOfHistory.{in_set}
 use Rattle.station_book.specs.Places.{History, Place, places, before, station, opening, is_same, is_reading, reading_in, station_readings}
 use Rattle.station_book.specs.Faults.{face, has_no_two_c, has_no_two_i, open_readings, angles_at, IsWithoutFault}
+use Rattle.station_book.proofs.lists.Elements.{same_test}
 use Rattle.station_book.proofs.readings.FaceReadings.{one_face, face_of}
 use Rattle.station_book.proofs.readings.CleanBlocks.{IsCleanReading, clean_reading}
 use Rattle.station_book.proofs.readings.SetReadings.{open_in_set}
@@ -58,28 +59,31 @@ pub record AreWithin (limits : FaceLimits) (first second : Angles) : Type 0 wher
   pub two_c : has_no_two_c limits.two_c first second ≡ false
   pub two_i : has_no_two_i limits.two_i first second ≡ false
 
--- The tests ask the same whichever reading comes first.
+-- Each test answers the same whichever reading comes first.
 two_c_turned : (limit : ℕ) (a b : Angles) → AreOnCircle a → AreOnCircle b
-    → has_no_two_c limit a b ≡ false → has_no_two_c limit b a ≡ false
+    → has_no_two_c limit a b ≡ true → has_no_two_c limit b a ≡ true
 unfolding has_no_two_c
-two_c_turned limit a b ha hb e = false_from_ne_true (has_no_two_c limit b a) (λ t.
-    let parts = and_parts (ltb limit (((a.hz + 60_000_000) - b.hz) % 40_000_000))
-    (ltb (((a.hz + 60_000_000) - b.hz) % 40_000_000) (40_000_000 - limit)) t in
-    let low = ltb-true limit (((a.hz + 60_000_000) - b.hz) % 40_000_000) parts.0 in
-    let high = ltb-true (((a.hz + 60_000_000) - b.hz) % 40_000_000) (40_000_000 - limit) parts.1 in
-    elim (and_cases (ltb limit (((b.hz + 60_000_000) - a.hz) % 40_000_000)) _ e) [
-      | inl f ↦ let le = ltb-false limit (((b.hz + 60_000_000) - a.hz) % 40_000_000) f in
+two_c_turned limit a b ha hb t = true_from_ne_false (has_no_two_c limit b a) (λ e.
+    let parts = and_parts (ltb limit (((b.hz + 60_000_000) - a.hz) % 40_000_000))
+    (ltb (((b.hz + 60_000_000) - a.hz) % 40_000_000) (40_000_000 - limit)) t in
+    let low = ltb-true limit (((b.hz + 60_000_000) - a.hz) % 40_000_000) parts.0 in
+    let high = ltb-true (((b.hz + 60_000_000) - a.hz) % 40_000_000) (40_000_000 - limit) parts.1 in
+    elim (and_cases (ltb limit (((a.hz + 60_000_000) - b.hz) % 40_000_000)) _ e) [
+      | inl f ↦ let le = ltb-false limit (((a.hz + 60_000_000) - b.hz) % 40_000_000) f in
           omega arith
-      | inr f ↦ let le = ltb-false (((b.hz + 60_000_000) - a.hz) % 40_000_000)
+      | inr f ↦ let le = ltb-false (((a.hz + 60_000_000) - b.hz) % 40_000_000)
           (40_000_000 - limit) f in omega arith
     ])
 
-two_i_turned : (limit : ℕ) (a b : Angles) → has_no_two_i limit a b ≡ false
-    → has_no_two_i limit b a ≡ false
+pub two_c_either_order : (limit : ℕ) (a b : Angles) → AreOnCircle a → AreOnCircle b
+    → has_no_two_c limit a b ≡ has_no_two_c limit b a
+two_c_either_order limit a b ha hb = same_test (has_no_two_c limit a b) (has_no_two_c limit b a)
+    (two_c_turned limit a b ha hb) (two_c_turned limit b a hb ha)
+
+pub two_i_either_order : (limit : ℕ) (a b : Angles) → has_no_two_i limit a b ≡ has_no_two_i limit b a
 unfolding has_no_two_i
-two_i_turned limit a b e =
-    (λ i. ltb (40_000_000 + limit) (add_comm b.zenith a.zenith i)
-    || ltb (add_comm b.zenith a.zenith i + limit) 40_000_000) ∙ e
+two_i_either_order limit a b i = ltb (40_000_000 + limit) (add_comm a.zenith b.zenith i)
+    || ltb (add_comm a.zenith b.zenith i + limit) 40_000_000
 
 -- a reading without fault, and the reading of the other face
 beside_first : (limits : FaceLimits) (past : History) (b : GsiBlock) (m : Place)
@@ -94,10 +98,9 @@ beside_second : (limits : FaceLimits) (past : History) (b : GsiBlock) (m : Place
     → reading_in faces.One (target b) (open_readings past) ≡ Some m
     → AreWithin limits (angles_at m) (angles b)
 beside_second limits past b m clean f g = record {
-  two_c = two_c_turned limits.two_c (angles b) (angles_at m) (angles_on_circle b)
-      (place_on_circle m)
-      (rw (f, g) at clean.two_c);
-  two_i = two_i_turned limits.two_i (angles b) (angles_at m) (rw (f, g) at clean.two_i);
+  two_c = two_c_either_order limits.two_c (angles_at m) (angles b) (place_on_circle m)
+      (angles_on_circle b) ∙ (rw (f, g) at clean.two_c);
+  two_i = two_i_either_order limits.two_i (angles_at m) (angles b) ∙ (rw (f, g) at clean.two_i);
 }
 
 -- the readings of a set by the lengths of its place and of its station's

@@ -1,8 +1,6 @@
 -- In a whole file no reading is lost: each has one of the other face beside it, and the two are
 -- listed.
-use Rattle.std.proofs.Common.{◌≡◌, ℕ, ◌+◌, true, false, ◌&&◌, ◌||◌, List, [], ◌∷◌, ◌++◌, length}
-use Rattle.std.proofs.Common.{get_or, Option, Some, None, is_none, refl, sym, ap, ◌∙◌, inl, inr}
-use Rattle.std.proofs.Common.{◌⊎◌, subst}
+use Rattle.std.proofs.Common.{◌≡◌, ℕ, ◌+◌, true, false, ◌&&◌, ◌||◌, List, [], ◌∷◌, ◌++◌, length, get_or, Option, Some, None, is_none, refl, sym, ap, ◌∙◌, inl, inr, ◌⊎◌, subst}
 use Rattle.std.specs.List.{Contains}
 use Rattle.std.specs.Str.{bytes_eq}
 use Rattle.std.proofs.lemmas.Bool.{cases_Bool, and_parts, eqb-true, false≢true}
@@ -16,24 +14,16 @@ use Rattle.station_book.specs.declared.fault.BookKind.TheVariants as kinds
 use Rattle.station_book.specs.declared.role.Role.{Role}
 use Rattle.station_book.specs.declared.role.Role.TheVariants as roles
 use Rattle.station_book.specs.Limits.{FaceLimits}
-use Rattle.station_book.specs.Blocks.{role_of, is_station, is_set_code, is_close, opens_set}
-use Rattle.station_book.specs.Blocks.{is_opening, has_direction, is_of_face, other_face}
-use Rattle.station_book.specs.Places.{History, Place, places, last, before, opening, station}
-use Rattle.station_book.specs.Places.{is_open, is_same, is_reading, target_at, passes_at}
-use Rattle.station_book.specs.Places.{reading_in}
-use Rattle.station_book.specs.Faults.{first_of, faults_as, end_faults, station_faults, set_faults}
-use Rattle.station_book.specs.Faults.{fault_after, fault_at_end, IsWithoutFault}
-use Rattle.station_book.specs.Faults.{IsFirstFaultOfBlock, IsWholeFile, IsFaultOfBook}
-use Rattle.station_book.specs.Faults.{open_readings, face_at, has_one_face, name_at}
+use Rattle.station_book.specs.Blocks.{role_of, is_station, is_set_code, is_close, opens_set, is_opening, has_direction, is_of_face, other_face}
+use Rattle.station_book.specs.Places.{History, Place, places, last, before, opening, station, is_open, is_same, is_reading, target_at, passes_at, reading_in}
+use Rattle.station_book.specs.Faults.{first_of, faults_as, end_faults, station_faults, set_faults, fault_after, fault_at_end, IsWithoutFault, IsFirstFaultOfBlock, IsWholeFile, IsFaultOfBook, open_readings, face_at, has_one_face, name_at}
 use Rattle.station_book.specs.Stations.{SurveyedStation, IsSurveyed, AreStations, stations_of}
 use Rattle.station_book.specs.Recorded.{IsReadingOf, IsListed}
-use Rattle.station_book.proofs.lists.Elements.{In, any_from, find_some, in_contains, contains_in}
-use Rattle.station_book.proofs.lists.Elements.{in_map, of_filter, zip_right}
+use Rattle.station_book.proofs.lists.Elements.{In, any_from, find_some, in_contains, contains_in, in_map, of_filter, zip_right}
 use Rattle.station_book.proofs.places.Steps.{readings-more, readings-other, direction_opens_nothing}
 use Rattle.station_book.proofs.readings.CleanBlocks.{all_none, none_when, clean_reading}
 use Rattle.station_book.proofs.faults.FirstFault.{fault_or_none, no_first_fault, one_first_fault}
-use Rattle.station_book.proofs.places.FilePlaces.{HasItsSet, last_placed, owner_placed}
-use Rattle.station_book.proofs.places.FilePlaces.{same_of_file, set_of_reading, set_station}
+use Rattle.station_book.proofs.places.FilePlaces.{HasItsSet, last_placed, owner_placed, same_of_file, set_of_reading, set_station}
 use Rattle.station_book.proofs.recorded.PairReadings.{IsRead}
 use Rattle.station_book.proofs.recorded.Recorded.{IsPairObserved, pair_observed}
 use Rattle.station_book.proofs.places.StationSets.{right_false}
@@ -286,11 +276,9 @@ pub whole_or_fault : (limits : FaceLimits) (h : History)
     → IsWholeFile limits h ⊎ ((number : ℕ) × (kind : BookKind) × IsFaultOfBook limits h number kind)
 whole_or_fault limits h = split (fault_or_none limits h) (fault_at_end h) refl where
   split : IsWithoutFault limits h
-      ⊎ ((past : History) × (b : GsiBlock) × (kind : BookKind)
-      × IsFirstFaultOfBlock limits h past b kind)
+      ⊎ ((past : History) × (b : GsiBlock) × (kind : BookKind) × IsFirstFaultOfBlock limits h past b kind)
       → (o : Option BookKind) → fault_at_end h ≡ o
-      → IsWholeFile limits h
-      ⊎ ((number : ℕ) × (kind : BookKind) × IsFaultOfBook limits h number kind)
+      → IsWholeFile limits h ⊎ ((number : ℕ) × (kind : BookKind) × IsFaultOfBook limits h number kind)
   split (inl clean) None e = inl (record { blocks = clean; ending = e })
   split (inl clean) (Some kind) e = inr (length h + 1, kind, inr (clean, e, refl))
   split (inr f) o e = inr (length f.0 + 1, f.2, inl (f.0, f.1, f.3, refl))
