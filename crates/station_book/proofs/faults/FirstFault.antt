@@ -4,7 +4,7 @@ use Rattle.gsi_word.specs.Blocks.{GsiBlock}
 use Rattle.station_book.specs.declared.fault.BookKind.{BookKind}
 use Rattle.station_book.specs.Limits.{FaceLimits}
 use Rattle.station_book.specs.Places.{History, Place, places, before}
-use Rattle.station_book.specs.Faults.{fault_after, IsWithoutFault, IsFirstFaultOfBlock}
+use Rattle.station_book.specs.Faults.{fault_after, IsWithoutFault, IsFaultOfBlock}
 use Rattle.station_book.proofs.lists.Elements.{In, in_contains, contains_in}
 use Rattle.station_book.proofs.readings.FaceReadings.{none_or_some}
 
@@ -30,7 +30,7 @@ in_order (c ∷ past) a b (inr pa) (inr pb) = in_order past a b pa pb
 
 pub fault_or_none : (limits : FaceLimits) (h : History)
     → IsWithoutFault limits h
-    ⊎ ((past : History) × (b : GsiBlock) × (kind : BookKind) × IsFirstFaultOfBlock limits h past b kind)
+    ⊎ ((past : History) × (b : GsiBlock) × (kind : BookKind) × IsFaultOfBlock limits h past b kind)
 fault_or_none limits [] = inl tt
 fault_or_none limits (b ∷ past) = elim (fault_or_none limits past) [
   | inl clean ↦ elim (none_or_some (fault_after limits past b)) [
@@ -62,20 +62,20 @@ fault_or_none limits (b ∷ past) = elim (fault_or_none limits past) [
 
 -- where a block has a fault, what comes after isn't without fault
 not_clean : (limits : FaceLimits) (h later past : History) (b : GsiBlock) (kind : BookKind)
-    → IsFirstFaultOfBlock limits h past b kind → IsWithoutFault limits later
+    → IsFaultOfBlock limits h past b kind → IsWithoutFault limits later
     → In (b ∷ past) (places later) → ⊥
 not_clean limits h later past b kind f clean placed =
     let none = (clean_at limits later b past clean placed).0 in
     let bad : Some kind ≡ None = sym f.fault ∙ none in cc
 
 pub no_first_fault : (limits : FaceLimits) (h past : History) (b : GsiBlock) (kind : BookKind)
-    → IsWithoutFault limits h → ¬ IsFirstFaultOfBlock limits h past b kind
+    → IsWithoutFault limits h → ¬ IsFaultOfBlock limits h past b kind
 no_first_fault limits h past b kind clean f = not_clean limits h h past b kind f clean
     (in_contains (b ∷ past) (places h) f.placed)
 
 pub one_first_fault : (limits : FaceLimits) (h past older : History) (b c : GsiBlock)
     (kind other : BookKind)
-    → IsFirstFaultOfBlock limits h past b kind → IsFirstFaultOfBlock limits h older c other
+    → IsFaultOfBlock limits h past b kind → IsFaultOfBlock limits h older c other
     → (b ∷ past ≡ c ∷ older) × (kind ≡ other)
 one_first_fault limits h past older b c kind other f g = split
     (in_order h (b ∷ past) (c ∷ older) (in_contains (b ∷ past) (places h) f.placed)

@@ -153,12 +153,10 @@ module _ {X : Type 0} where
       )
   of_enumerate n (y ∷ ys) e (inr h) =
       let r = of_enumerate (n + 1) ys e h in
-      let moved : e.0 ≡ n + suc r.0 = r.1 ∙ (omega arith) in (
-        suc r.0,
-        moved,
-        record { inside = (let lt = r.2.inside in omega arith); value = λ d. r.2.value d },
-        inr r.3,
-      )
+      let moved : e.0 ≡ n + suc r.0 = r.1 ∙ (omega arith) in
+      let at : IsAt (y ∷ ys) (suc r.0) e.1 =
+      record { inside = (let lt = r.2.inside in omega arith); value = λ d. r.2.value d } in
+      (suc r.0, moved, at, inr r.3)
 
 module _ {X Y : Type 0} where
   pub in_map : (f : X → Y) (x : X) (xs : List X) → In x xs → In (f x) (map f xs)

@@ -75,14 +75,14 @@ two_c_turned limit a b ha hb t = true_from_ne_false (has_no_two_c limit b a) (λ
           (40_000_000 - limit) f in omega arith
     ])
 
-pub two_c_either_order : (limit : ℕ) (a b : Angles) → AreOnCircle a → AreOnCircle b
+pub two_c_any_order : (limit : ℕ) (a b : Angles) → AreOnCircle a → AreOnCircle b
     → has_no_two_c limit a b ≡ has_no_two_c limit b a
-two_c_either_order limit a b ha hb = same_test (has_no_two_c limit a b) (has_no_two_c limit b a)
+two_c_any_order limit a b ha hb = same_test (has_no_two_c limit a b) (has_no_two_c limit b a)
     (two_c_turned limit a b ha hb) (two_c_turned limit b a hb ha)
 
-pub two_i_either_order : (limit : ℕ) (a b : Angles) → has_no_two_i limit a b ≡ has_no_two_i limit b a
+pub two_i_any_order : (limit : ℕ) (a b : Angles) → has_no_two_i limit a b ≡ has_no_two_i limit b a
 unfolding has_no_two_i
-two_i_either_order limit a b i = ltb (40_000_000 + limit) (add_comm a.zenith b.zenith i)
+two_i_any_order limit a b i = ltb (40_000_000 + limit) (add_comm a.zenith b.zenith i)
     || ltb (add_comm a.zenith b.zenith i + limit) 40_000_000
 
 -- a reading without fault, and the reading of the other face
@@ -98,9 +98,9 @@ beside_second : (limits : FaceLimits) (past : History) (b : GsiBlock) (m : Place
     → reading_in faces.One (target b) (open_readings past) ≡ Some m
     → AreWithin limits (angles_at m) (angles b)
 beside_second limits past b m clean f g = record {
-  two_c = two_c_either_order limits.two_c (angles_at m) (angles b) (place_on_circle m)
+  two_c = two_c_any_order limits.two_c (angles_at m) (angles b) (place_on_circle m)
       (angles_on_circle b) ∙ (rw (f, g) at clean.two_c);
-  two_i = two_i_either_order limits.two_i (angles_at m) (angles b) ∙ (rw (f, g) at clean.two_i);
+  two_i = two_i_any_order limits.two_i (angles_at m) (angles b) ∙ (rw (f, g) at clean.two_i);
 }
 
 -- the readings of a set by the lengths of its place and of its station's

@@ -16,7 +16,7 @@ use Rattle.station_book.specs.declared.role.Role.TheVariants as roles
 use Rattle.station_book.specs.Limits.{FaceLimits}
 use Rattle.station_book.specs.Blocks.{role_of, is_station, is_set_code, is_close, opens_set, is_opening, has_direction, is_of_face, other_face}
 use Rattle.station_book.specs.Places.{History, Place, places, last, before, opening, station, is_open, is_same, is_reading, target_at, passes_at, reading_in}
-use Rattle.station_book.specs.Faults.{first_of, faults_as, end_faults, station_faults, set_faults, fault_after, fault_at_end, IsWithoutFault, IsFirstFaultOfBlock, IsWholeFile, IsFaultOfBook, open_readings, face_at, has_one_face, name_at}
+use Rattle.station_book.specs.Faults.{first_of, faults_as, end_faults, station_faults, set_faults, fault_after, fault_at_end, IsWithoutFault, IsFaultOfBlock, IsWholeFile, IsBookFault, open_readings, face_at, has_one_face, name_at}
 use Rattle.station_book.specs.Stations.{SurveyedStation, IsSurveyed, AreStations, stations_of}
 use Rattle.station_book.specs.Recorded.{IsReadingOf, IsListed}
 use Rattle.station_book.proofs.lists.Elements.{In, any_from, find_some, in_contains, contains_in, in_map, of_filter, zip_right}
@@ -273,25 +273,25 @@ no_reading_lost limits h stations r whole are contained reading = by (face_at r)
 
 -- A file is whole, or has a first fault: at a block or at its end.
 pub whole_or_fault : (limits : FaceLimits) (h : History)
-    → IsWholeFile limits h ⊎ ((number : ℕ) × (kind : BookKind) × IsFaultOfBook limits h number kind)
+    → IsWholeFile limits h ⊎ ((number : ℕ) × (kind : BookKind) × IsBookFault limits h number kind)
 whole_or_fault limits h = split (fault_or_none limits h) (fault_at_end h) refl where
-  split : IsWithoutFault limits h
-      ⊎ ((past : History) × (b : GsiBlock) × (kind : BookKind) × IsFirstFaultOfBlock limits h past b kind)
+  split : IsWithoutFault limits h ⊎ ((past : History) × (b : GsiBlock) × (kind : BookKind)
+      × IsFaultOfBlock limits h past b kind)
       → (o : Option BookKind) → fault_at_end h ≡ o
-      → IsWholeFile limits h ⊎ ((number : ℕ) × (kind : BookKind) × IsFaultOfBook limits h number kind)
+      → IsWholeFile limits h ⊎ ((number : ℕ) × (kind : BookKind) × IsBookFault limits h number kind)
   split (inl clean) None e = inl (record { blocks = clean; ending = e })
   split (inl clean) (Some kind) e = inr (length h + 1, kind, inr (clean, e, refl))
   split (inr f) o e = inr (length f.0 + 1, f.2, inl (f.0, f.1, f.3, refl))
 
 pub whole_has_none : (limits : FaceLimits) (h : History) (number : ℕ) (kind : BookKind)
-    → IsWholeFile limits h → ¬ IsFaultOfBook limits h number kind
+    → IsWholeFile limits h → ¬ IsBookFault limits h number kind
 whole_has_none limits h number kind whole
     (inl f) = no_first_fault limits h f.0 f.1 kind whole.blocks f.2
 whole_has_none limits h number kind whole (inr f) = let bad : Some kind ≡ None = sym f.1
     ∙ whole.ending in cc
 
 pub one_file_fault : (limits : FaceLimits) (h : History) (m n : ℕ) (kind other : BookKind)
-    → IsFaultOfBook limits h m kind → IsFaultOfBook limits h n other → (m ≡ n) × (kind ≡ other)
+    → IsBookFault limits h m kind → IsBookFault limits h n other → (m ≡ n) × (kind ≡ other)
 one_file_fault limits h m n kind other (inl f) (inl g) =
     let same = one_first_fault limits h f.0 g.0 f.1 g.1 kind other f.2 g.2 in
     (f.3 ∙ ap (λ (p : Place). length (before p) + 1) same.0 ∙ sym g.3, same.1)

@@ -298,8 +298,8 @@ set_kept n e targets slots sets obs faces et el es eo ef h may new few number = 
 
 -- the fault of a new target, as that of a reading
 pub fault_moved : {X : Type 0} (limits : FaceLimits) (e now : StationState) (s : Reading)
-    (f : BookKind) (r : Result X BookKind) → Err f ≡ r → e ≡ now → place_of s.target e.targets ≡ None
-    → new_target_fault e.targets ≡ Some f
+    (f : BookKind) (r : Result X BookKind) → Err f ≡ r → e ≡ now
+    → place_of s.target e.targets ≡ None → new_target_fault e.targets ≡ Some f
     → IfErr r (λ kind. first_of (state_faults limits now s) ≡ Some kind)
 fault_moved limits e now s f r it v absent h =
     subst (λ r. IfErr r (λ kind. first_of (state_faults limits now s) ≡ Some kind)) it

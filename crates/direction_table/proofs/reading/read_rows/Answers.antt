@@ -122,8 +122,8 @@ returns-in-Err-clause-fault c =
       c.requires.short,
       c.rows.number,
       refl,
-      read-fault c.args.targets.now
-          (records_of c.args.bytes.now) c.rows.stated.items c.rows.number row rest c.in-Err.kind here
+      read-fault c.args.targets.now (records_of c.args.bytes.now) c.rows.stated.items
+          c.rows.number row rest c.in-Err.kind here
           (λ before same. c.in-Err.ensures.err before (was ∙ same)),
     )
 

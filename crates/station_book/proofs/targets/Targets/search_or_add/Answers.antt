@@ -45,7 +45,8 @@ pub returns-in-Vacant-clause-place : goal.returns-in-Vacant-clause-place
 unfolding entry_value
 returns-in-Vacant-clause-place c =
     unknown_place c.args.name c.self.inside.slots.entries
-    (sym (of_ok _ c.entry.result c.unwrap.result c.unwrap.ensures c.entry.ensures.value) ∙ ap entry_value c.in-Vacant.is)
+    (sym (of_ok _ c.entry.result c.unwrap.result c.unwrap.ensures c.entry.ensures.value)
+    ∙ ap entry_value c.in-Vacant.is)
     ∙ ap (λ (t : TargetsValue). place_of c.args.name t.names) c.self.view_is
 
 pub returns-in-Vacant-clause-targets : goal.returns-in-Vacant-clause-targets
@@ -55,8 +56,10 @@ returns-in-Vacant-clause-targets c =
     let one : List (List ℕ × Slot) = (c.args.name, c.args.first) ∷ [] in
     let now : c.self-in-Vacant-2-1.given.0 ≡ map_with_value c.unwrap.result c.args.first = search
     rules in
-    let more = ap (λ m. m.entries) now ∙ (of_ok _ c.entry.result c.unwrap.result c.unwrap.ensures c.entry.ensures.update).1 c.args.first
-    ∙ added c.args.name c.args.first es (sym (of_ok _ c.entry.result c.unwrap.result c.unwrap.ensures c.entry.ensures.value)
+    let more = ap (λ m. m.entries) now ∙
+    (of_ok _ c.entry.result c.unwrap.result c.unwrap.ensures c.entry.ensures.update).1 c.args.first
+    ∙ added c.args.name c.args.first es
+    (sym (of_ok _ c.entry.result c.unwrap.result c.unwrap.ensures c.entry.ensures.value)
     ∙ ap entry_value c.in-Vacant.is) in
     (λ i. record { names = keys_of (more i); slots = values_of (more i) })
     ∙ (λ i. record {
