@@ -49,6 +49,7 @@ pub struct Lines<R> {
 
 /// The shape of the block that a line is, or the line's fault. Its bytes are tested where they
 /// are not known to be printable.
+#[inline(always)]
 fn check_line(line: &[u8], printable: bool) -> Result<Shape, FileKind>
     requires { printable ≡ true → All IsPrintable line.now }
     ensures shape { IfOk result (λ s. IsShape s line.now) }
@@ -140,6 +141,7 @@ impl<R: Source> Lines<R> {
     }
 
     /// Finds the next line and counts it, and answers the shape of its block.
+    #[inline(always)]
     fn advance(&mut self) -> Result<Option<Shape>, FileFault>
         ensures finds { FindsNext (to_come R.told self.old) result (to_come R.told self.new)
             (line_found self.new) }

@@ -113,6 +113,7 @@ impl<'a> Block<'a> {
     /// The second word and the third, where there are three words, and the first index is of the
     /// second alone and the second index of the third alone: so a reading of a direction and a
     /// zenith angle is written.
+    #[inline(always)]
     fn second_and_third(&self, first: u8, second: u8) -> Option<(Word<'a>, Word<'a>)>
         ensures first { IfSome result (λ r. One r.0 ≡ found first (block_of self.now).words) }
         ensures second { IfSome result (λ r. One r.1 ≡ found second (block_of self.now).words) }
@@ -130,6 +131,7 @@ impl<'a> Block<'a> {
     }
 
     /// The same of any block, in one pass.
+    #[inline(always)]
     fn search_two(&self, first: u8, second: u8) -> (Found<'a>, Found<'a>)
         ensures first { result.0 ≡ found first (block_of self.now).words }
         ensures second { result.1 ≡ found second (block_of self.now).words }

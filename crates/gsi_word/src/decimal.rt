@@ -42,6 +42,7 @@ fn number_one_by_one(bytes: &[u8]) -> Option<u64>
 }
 
 /// The same of eight bytes: one test for all of them, and then the sum of what each digit is worth.
+#[inline(always)]
 fn number_of_eight(bytes: &[u8]) -> Option<u64>
     requires { length bytes.now ≡ 8 }
     ensures { result ≡ decimal_number bytes.now }
@@ -55,6 +56,7 @@ fn number_of_eight(bytes: &[u8]) -> Option<u64>
 }
 
 /// Whether all bytes are digits, in one pass without an early end.
+#[inline(always)]
 fn are_digits(bytes: &[u8]) -> bool
     ensures { result ≡ list_all is_ascii_digit bytes.now }
 {

@@ -35,6 +35,7 @@ pub fn read_block(line: &[u8]) -> Result<Block<'_>, LineFault>
 }
 
 /// The shape of the block that a line is, or the line's first fault.
+#[inline(always)]
 fn read_shape(line: &[u8]) -> Result<Shape, LineFault>
     ensures shape { IfOk result (λ s. IsShape s line.now) }
     ensures fault { IfErr result (IsLineFault line.now) }
@@ -100,6 +101,7 @@ fn word_bytes(line: &[u8]) -> &[u8]
 }
 
 /// How many words the bytes are, or the place of the first, from 1, that is none.
+#[inline(always)]
 fn count_words(bytes: &[u8], width: u8) -> Result<usize, usize>
     requires printable { All IsPrintable bytes.now }
     requires known { IsTrue (is_width width) }

@@ -24,6 +24,7 @@ pub(crate) fn zeros_before(content: &[u8]) -> usize
 }
 
 /// How many zeros the content begins with. All its bytes are looked at together.
+#[inline(always)]
 fn leading_zeros(content: &[u8]) -> usize
     requires { (length content.now ≡ 8) ⊎ (length content.now ≡ 16) }
     ensures { result ≡ prefix_len (λ b. b == 48) content.now }
