@@ -19,7 +19,7 @@ use crate::out_of_memory::OutOfMemory;
 use crate::search::find_line;
 use crate::window::Window;
 use byte_ends::Source;
-use gsi_word::{Shape, block_in, check_printable, read_words};
+use gsi_word::steps::{Shape, block_in, check_printable, read_words};
 use std::alloc::Global;
 
 /// Whether more is to come.

@@ -4,7 +4,7 @@
 //! a point number, 21 a horizontal direction, 41 a code), four bytes of information, a sign and a
 //! content of 8 or 16 bytes. [`read_block`] reads one line without its end; [`Block`] and [`Word`]
 //! give what stands in it. All of it is parts of the line: nothing is copied, and no call takes
-//! memory.
+//! memory. [`steps`] is for a reader of files.
 #![tactic(auto)]
 
 mod angle;
@@ -18,6 +18,7 @@ mod line;
 mod line_fault;
 mod printable;
 mod shape;
+pub mod steps;
 #[cfg(test)]
 mod tests;
 mod word;
@@ -31,9 +32,7 @@ pub use found::Found;
 pub use index::{
     CODE_INFORMATION, CODE_NUMBER, HORIZONTAL_DIRECTION, POINT_NUMBER, VERTICAL_ANGLE,
 };
-pub use line::{block_in, read_block, read_words};
+pub use line::read_block;
 pub use line_fault::LineFault;
-pub use printable::{LANES, check_printable, printable_run};
-pub use shape::Shape;
 pub use word::Word;
 pub use words::Words;

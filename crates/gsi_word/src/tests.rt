@@ -1,8 +1,9 @@
 //! Worked lines, words, names and angles.
 
+use crate::steps::{LANES, printable_run};
 use crate::{
-    AngleFault, CODE_INFORMATION, CODE_NUMBER, Found, HORIZONTAL_DIRECTION, LANES, LineFault,
-    POINT_NUMBER, VERTICAL_ANGLE, Word, decimal_number, laws, printable_run, read_block,
+    AngleFault, CODE_INFORMATION, CODE_NUMBER, Found, HORIZONTAL_DIRECTION, LineFault,
+    POINT_NUMBER, VERTICAL_ANGLE, Word, decimal_number, laws, read_block,
 };
 use std::process::Abort;
 use std::test::Fail;
