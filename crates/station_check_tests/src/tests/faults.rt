@@ -13,8 +13,7 @@ fn a_fault_is_told_in_words(rt: HostRuntime) -> Result<(), Fail> {
     let rows = [
         (
             Fault::Gsi(FileFault::At(2, FileKind::LineTooLong)),
-            "the field file has a fault: block 2: the line has more than 1024 bytes: \
-             see whether the file is a GSI file",
+            "the field file has a fault: block 2: the line has more than 1024 bytes",
         ),
         (
             Fault::Book(BookFault::At(7, BookKind::FaceTwice)),
@@ -28,8 +27,7 @@ fn a_fault_is_told_in_words(rt: HostRuntime) -> Result<(), Fail> {
         ),
         (
             Fault::Means(MeansFault::Incomplete),
-            "no sheet of means, some target was not observed in some set: \
-             observe it, or have another program adjust the station",
+            "no sheet of means, some target was not observed in some set",
         ),
         (
             Fault::Kernel(KernelFault::TargetSum(2)),
