@@ -7,7 +7,7 @@ use Rattle.adjust_kernel.specs.Residuals.{Choice, target_sum, set_sum}
 use Rattle.adjust_kernel.specs.Sums.{int_sum_where}
 use native.Mathlib.Decide.{dec_lt}
 
--- the residuals of each target and of each set add to 0: the normal equations
+-- The residuals of each target and of each set add to 0: the normal equations.
 pub record IsBalanced (c : Choice) (observations : List TurnedObservation) : Type 0 where
   pub targets : (t : ℕ) → target_sum c observations t ≡ pos 0
   pub sets : (s : ℕ) → set_sum c observations s ≡ pos 0

@@ -13,7 +13,7 @@ use Rattle.adjust_kernel.proofs.Ring.{num, ◌⊕◌, ◌⊖◌, ◌⊗◌, same
 use Rattle.adjust_kernel.proofs.SumLaws.{int_sum_by-same, int_sum_by-add, int_sum_by-sub}
 use Rattle.adjust_kernel.proofs.SumLaws.{int_sum_by-scale}
 
--- how many pass
+-- How many pass.
 abbrev passing : {X : Type 0} → (X → Bool) → List X → ℕ
 passing p [] = 0
 passing p (x ∷ xs) = cond (p x) 1 0 + passing p xs

@@ -14,7 +14,7 @@ use Rattle.adjust_kernel.proofs.LeastLaws.{squared-not_negative}
 use Rattle.adjust_kernel.proofs.SquareBounds.{int_sum_by-at_most, int_sum_by-below, each-at_most}
 use Rattle.adjust_kernel.proofs.SquareBounds.{squared_difference, within_squared, squared_within}
 
--- more than any change of a residual, in half units
+-- More than any change of a residual, in half units.
 abbrev pub MOST_CHANGE : ℕ
 MOST_CHANGE = 253_000
 
@@ -51,7 +51,7 @@ size n d e h =
     mul-le-mul h (omega arith) in
     omega arith
 
--- v and w are the residuals of this choice over d and of the other over e, element by element
+-- v and w are the residuals of this choice over d and of the other over e, element by element.
 module _ {X : Type 0} (d e limit : ℕ) (v w : X → ℤ) (xs : List X)
     (few : length xs ≤ MOST_ROWS) (limit_in : limit ≤ LARGEST_RESIDUAL_LIMIT)
     (limited : AllByRecursion (λ x. IsWithin (pos (limit * d)) (v x)) xs) where

@@ -14,17 +14,17 @@ use Rattle.adjust_kernel.proofs.FirstLaws.{none_or_first, by_not_not, dec_not}
 use Rattle.adjust_kernel.proofs.ReachLaws.{AllWithin}
 use Rattle.adjust_kernel.proofs.SumLaws.{AllByRecursion-map}
 
--- the part of a set, which is on the left, or of a target
+-- The part of a set, which is on the left, or of a target.
 abbrev part : (ℕ → Bool) → (ℕ → Bool) → ℕ ⊎ ℕ → Bool
 part p q (inl s) = p s
 part p q (inr t) = q t
 
--- at first no two have one label
+-- At first no two have one label.
 abbrev own_label : ℕ ⊎ ℕ → ℕ
 own_label (inl s) = s + s
 own_label (inr t) = suc (t + t)
 
--- label a becomes label b
+-- Label a becomes label b.
 abbrev merged : ℕ → ℕ → ℕ → ℕ
 merged a b n = cond (eqb n a) b n
 
@@ -46,7 +46,7 @@ merged_both a b = merged_is a b a refl ∙ sym (by (ℕ_discrete b a)) where
   by (yes e) = merged_is a b b e
   by (no f) = merged_other a b b f
 
--- the set and the target of an observation have one label
+-- The set and the target of an observation have one label.
 joined : (observations : List TurnedObservation) → AllByRecursion
     (λ r. label observations (inl r.set) ≡ label observations (inr r.target)) observations
 joined [] = tt
@@ -67,12 +67,12 @@ module _ (p q : ℕ → Bool) where
   own_part (inr t) (inl s) e = absurd (omega (arith, e))
   own_part (inr t) (inr t') e = ap q (omega (arith, e))
 
-  -- something in the same part that had this label before this observation was taken
+  -- Something in the same part that had this label before this observation was taken.
   abbrev HadLabel : TurnedObservation → List TurnedObservation → ℕ ⊎ ℕ → Type 0
   HadLabel r observations x = (y : ℕ ⊎ ℕ) × (label observations y ≡ label (r ∷ observations) x)
       × (part p q y ≡ part p q x)
 
-  -- what has one label lies in one part, where no observation stands between the parts
+  -- What has one label lies in one part, where no observation stands between the parts.
   one_part : (observations : List TurnedObservation) → AllWithin p q observations → (x y : ℕ ⊎ ℕ)
       → label observations x ≡ label observations y → part p q x ≡ part p q y
   one_part [] w x y e = own_part x y e
@@ -119,7 +119,7 @@ module _ (sets targets : ℕ) where
     abbrev first_label : ℕ
     first_label = label observations first
 
-    -- those that have the label of the first, and the others
+    -- Those that have the label of the first, and the others.
     abbrev alike : ℕ ⊎ ℕ → Bool
     alike x = eqb (label observations x) first_label
 
@@ -166,7 +166,7 @@ module _ (sets targets : ℕ) where
               ∙ one_part d.part_of_set d.part_of_target observations within
               (inr t) first (of_targets t h)
 
-    -- the label of a set or of a target is another
+    -- The label of a set or of a target is another.
     abbrev Other : (ℕ → ℕ ⊎ ℕ) → ℕ → Type 0
     Other node n = label observations (node n) ≢ first_label
 
@@ -187,7 +187,7 @@ module _ (sets targets : ℕ) where
           by (inr (s, f)) g = inr (split (inl s) f.inside f.here)
           by (inl f) (inr (t, g)) = inr (split (inr t) g.inside g.here)
 
--- the observations hold all together, or leave two parts
+-- The observations hold all together, or leave two parts.
 pub connected_or_divided : (sets targets : ℕ) (observations : List TurnedObservation)
     → IsConnected sets targets observations ⊎ IsDivided sets targets observations
 connected_or_divided zero zero observations = inl (λ d. none d.first_part) where

@@ -32,7 +32,7 @@ module _ {X : Type 0} where
   agree_to xs ys (suc n) h = agree_suc xs ys n (agree_to xs ys n (λ k below. h k (omega arith)))
       (h n (omega arith))
 
-  -- what a search from 0 on finds, up to where both have ended
+  -- What a search from 0 on finds, up to where both have ended.
   pub first_difference : (xs ys : List X) (n : ℕ) (r : Option ℕ) → length xs ≤ n → length ys ≤ n
       → MatchOption r ((k : ℕ) → 0 ≤ k → k < n → slice_get xs k ≡ slice_get ys k) (λ i. (0 ≤ i)
       × (i < n) × (slice_get xs i ≢ slice_get ys i)
@@ -48,17 +48,17 @@ module _ {X : Type 0} where
     record { before = agree_to xs ys i (λ k below. h.3 k (omega arith) below); differ = h.2 },
   )
 
-  -- lists that agree at each place before both end are one
+  -- Lists that agree at each place before both end are one.
   pub same_lists : (xs ys : List X) (n : ℕ) → length xs ≤ n → length ys ≤ n
       → ((k : ℕ) → k < n → slice_get xs k ≡ slice_get ys k) → xs ≡ ys
   same_lists xs ys n a b h = sym (take_all n xs a) ∙ agree_to xs ys n h ∙ take_all n ys b
 
-  -- lists that agree before a place differ first at it, where they do
+  -- Lists that agree before a place differ first at it, where they do.
   pub differ_at : (xs ys : List X) (n : ℕ) → ((k : ℕ) → k < n → slice_get xs k ≡ slice_get ys k)
       → slice_get xs n ≢ slice_get ys n → IsFirstDifference xs ys n
   differ_at xs ys n h d = record { before = agree_to xs ys n h; differ = d }
 
-  -- one list has ended where the other has not
+  -- One list has ended where the other has not.
   pub ended_first : (xs ys : List X) (n : ℕ) → X → length xs ≤ n → n < length ys
       → slice_get xs n ≢ slice_get ys n
   ended_first xs ys n d a b e = let f : None ≡ Some (get_or ys n d) = sym (slice_get_past xs n a)

@@ -11,7 +11,7 @@ use Rattle.adjust_kernel.specs.Least.{HasAnother}
 use Rattle.adjust_kernel.proofs.SumLaws.{AllByRecursion-map, int_sum_by-same_at}
 use Rattle.adjust_kernel.specs.Connected.{IsDivided, HasMember}
 
--- nothing on the side of b, one on the other
+-- Nothing on the side of b, one on the other.
 abbrev lift : Bool → Bool → ℤ
 lift true true = pos 0
 lift true false = pos 1

@@ -2,11 +2,11 @@
 use Rattle.std.proofs.Common.{ℕ, ◌+◌, ◌<◌, List, get_or, below_more}
 
 module _ {X : Type 0} where
-  -- R holds of each element below this place and each later one below it
+  -- R holds of each element below this place and each later one below it.
   abbrev pub PairsBelow : (X → X → Type 0) → List X → ℕ → Type 0
   PairsBelow R xs n = (j : ℕ) → j < n → (i : ℕ) (d : X) → i < j → R (get_or xs i d) (get_or xs j d)
 
-  -- one more element, of which R holds with each earlier one
+  -- One more element, of which R holds with each earlier one.
   pub pairs_more : (R : X → X → Type 0) (xs : List X) (n : ℕ) → PairsBelow R xs n
       → ((i : ℕ) (d : X) → i < n → R (get_or xs i d) (get_or xs n d)) → PairsBelow R xs (n + 1)
   pairs_more R xs n h new = below_more (λ j. (i : ℕ) (d : X) → i < j

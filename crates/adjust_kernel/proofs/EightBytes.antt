@@ -12,7 +12,7 @@ use Rattle.adjust_kernel.specs.Names.{padded}
 abbrev pub AreBytes : List ℕ → Type 0
 AreBytes bytes = AllByRecursion (λ b. b < 256) bytes
 
--- the number of some bytes
+-- The number of some bytes.
 abbrev pub number : List ℕ → ℕ
 number [] = 0
 number (b ∷ bytes) = number bytes * 256 + b
@@ -33,7 +33,7 @@ spelled_zero : (k : ℕ) → digits_l 256 k 0 ≡ replicate k 0
 spelled_zero zero = refl
 spelled_zero (suc k) = ap (λ (bytes : List ℕ). 0 ∷ bytes) (spelled_zero k)
 
--- a number has the bytes that it is of, and then zeros
+-- A number has the bytes that it is of, and then zeros.
 spelled_number : (k : ℕ) (bytes : List ℕ) → AreBytes bytes → length bytes ≤ k
     → digits_l 256 k (number bytes) ≡ bytes ++ replicate (k - length bytes) 0
 spelled_number k [] small le =
@@ -50,7 +50,7 @@ spelled_number (suc k) (b ∷ bytes) small le =
     rest : k - length bytes ≡ suc k - length (b ∷ bytes)
     rest = omega arith
 
--- the number without its lowest bytes is that of the bytes after them
+-- The number without its lowest bytes is that of the bytes after them.
 shifted : (from : ℕ) (bytes : List ℕ) → AreBytes bytes
     → number bytes / 2 ^ (8 * from) ≡ number (drop from bytes)
 shifted zero bytes small = div-one (number bytes)
@@ -69,7 +69,7 @@ drop_bytes zero bytes small = small
 drop_bytes (suc from) [] small = tt
 drop_bytes (suc from) (b ∷ bytes) small = drop_bytes from bytes small.1
 
--- eight bytes that are moved down as one number lose those before the place, and zeros follow
+-- Eight bytes that are moved down as one number lose those before the place, and zeros follow.
 pub moved : (bytes : List ℕ) (from last : ℕ) → length bytes ≡ 8 → AreBytes bytes
     → last ≡ from_le_bytes w64 bytes / 2 ^ (8 * from)
     → digits_l 256 16 (number_l 18446744073709551616 (last ∷ 0 ∷ [])) ≡ padded (drop from bytes)

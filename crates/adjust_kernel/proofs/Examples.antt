@@ -11,7 +11,7 @@ use Rattle.adjust_kernel.specs.Connected.{IsDivided}
 abbrev row : ℕ → ℕ → ℕ → ℤ → TurnedObservation
 row s t p k = record { set = s; target = t; value = p; turn = k }
 
--- two sets of two targets
+-- Two sets of two targets.
 abbrev pair : List TurnedObservation
 pair = row 0 0 6 (pos 0) ∷ row 0 1 10_000_010 (pos 0) ∷ row 1 0 20_000_004 (pos 0)
     ∷ row 1 1 30_000_012 (pos 0) ∷ []
@@ -32,7 +32,7 @@ pair_target_sums = refl
 pair_set_sums : map (set_sum pair_sheet pair) (0 ∷ 1 ∷ []) ≡ pos 0 ∷ pos 0 ∷ []
 pair_set_sums = refl
 
--- the second direction one more
+-- The second direction one more.
 abbrev moved_direction : Choice
 moved_direction = choice_of 4 (pos 0 ∷ pos 40_000_025 ∷ [])
     (neg_ℤ (pos 20) ∷ neg_ℤ (pos 80_000_020) ∷ [])
@@ -43,7 +43,7 @@ moved_direction_squares = refl
 moved_direction_sum : target_sum moved_direction pair 1 ≡ pos 2
 moved_direction_sum = refl
 
--- the orientations one more and one less
+-- The orientations one more and one less.
 abbrev moved_orientations : Choice
 moved_orientations = choice_of 4 (pos 0 ∷ pos 40_000_024 ∷ [])
     (neg_ℤ (pos 19) ∷ neg_ℤ (pos 80_000_021) ∷ [])
@@ -55,7 +55,7 @@ moved_orientations_sums : map (set_sum moved_orientations pair) (0 ∷ 1 ∷ [])
     ∷ []
 moved_orientations_sums = refl
 
--- three sets that each miss one of three targets
+-- Three sets that each miss one of three targets.
 abbrev triangle : List TurnedObservation
 triangle = row 0 0 0 (pos 0) ∷ row 0 1 100 (pos 0) ∷ row 1 1 0 (pos 0) ∷ row 1 2 100 (pos 0)
     ∷ row 2 0 79_999_806 (neg_ℤ (pos 1)) ∷ row 2 2 0 (pos 0) ∷ []
@@ -71,7 +71,7 @@ triangle_sums : map (target_sum triangle_sheet triangle) (0 ∷ 1 ∷ 2 ∷ []) 
     ∷ []
 triangle_sums = refl
 
--- two sets with two targets each and none in common
+-- Two sets with two targets each and none in common.
 abbrev two_pairs : List TurnedObservation
 two_pairs = row 0 0 0 (pos 0) ∷ row 0 1 100 (pos 0) ∷ row 1 2 0 (pos 0) ∷ row 1 3 100 (pos 0) ∷ []
 
@@ -95,7 +95,7 @@ two_pairs_divided = record {
     first_targets (suc zero) = true
     first_targets (suc (suc n)) = false
 
--- both choices of the divided station reach the sum 0
+-- Both choices of the divided station reach the sum 0.
 two_pairs_squares : sum_of_squares (choice_of 1 (pos 0 ∷ pos 100 ∷ pos 0 ∷ pos 100 ∷ [])
     (pos 0 ∷ pos 0 ∷ [])) two_pairs ≡ pos 0
 two_pairs_squares = refl

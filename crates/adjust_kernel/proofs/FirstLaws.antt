@@ -7,7 +7,7 @@ use Rattle.std.specs.List.{slice_get}
 use native.Mathlib.Decide.{dec_lt, ℕ_discrete}
 use Rattle.adjust_kernel.specs.Firsts.{IsFirstDifference, IsFirstWhere}
 
--- two places of which neither is below the other are one
+-- Two places of which neither is below the other are one.
 same_place : (m n : ℕ) → (m < n → ⊥) → (n < m → ⊥) → m ≡ n
 same_place m n h k = by (dec_lt m n) (dec_lt n m) where
   by : Dec (m < n) → Dec (n < m) → m ≡ n
@@ -15,7 +15,7 @@ same_place m n h k = by (dec_lt m n) (dec_lt n m) where
   by (no e) (yes f) = absurd (k f)
   by (no e) (no f) = omega arith
 
--- the place of a list's beginning, and of the list
+-- The place of a list's beginning, and of the list.
 slice_get-take : {X : Type 0} (n : ℕ) (xs : List X) (m : ℕ) → m < n
     → slice_get (take n xs) m ≡ slice_get xs m
 slice_get-take zero xs m h = absurd (omega arith)
@@ -29,22 +29,22 @@ module _ {X : Type 0} (xs ys : List X) where
   not_earlier_difference m n f g below = f.differ (sym (slice_get-take n xs m below)
       ∙ ap (λ zs. slice_get zs m) g.before ∙ slice_get-take n ys m below)
 
-  -- there is one first difference at most
+  -- There is one first difference at most.
   pub one_difference : (m n : ℕ) → IsFirstDifference xs ys m → IsFirstDifference xs ys n → m ≡ n
   one_difference m n f g = same_place m n (not_earlier_difference m n f g)
       (not_earlier_difference n m g f)
 
-  -- the same lists have none
+  -- The same lists have none.
   pub no_difference : xs ≡ ys → (n : ℕ) → IsFirstDifference xs ys n → ⊥
   no_difference e n f = f.differ (ap (λ zs. slice_get zs n) e)
 
--- there is one first place at most
+-- There is one first place at most.
 pub one_first : (P : ℕ → Type 0) (count m n : ℕ) → IsFirstWhere P count m → IsFirstWhere P count n
     → m ≡ n
 one_first P count m n f g = same_place m n (λ below. g.before m below f.here)
     (λ below. f.before n below g.here)
 
--- the lists are the same, or differ at a first place
+-- The lists are the same, or differ at a first place.
 pub same_or_first : {X : Type 0} → ((x y : X) → Dec (x ≡ y)) → (xs ys : List X) → (xs ≡ ys)
     ⊎ ((n : ℕ) × IsFirstDifference xs ys n)
 same_or_first same [] [] = inl refl
@@ -63,7 +63,7 @@ same_or_first {X} same (x ∷ xs) (y ∷ ys) = by (same x y) (same_or_first same
   )
   by (no g) rest = inr (0, record { before = refl; differ = λ e. let h : x ≡ y = cc in g h })
 
--- it holds of no place below the count, or of a first one
+-- It holds of no place below the count, or of a first one.
 pub none_or_first : (P : ℕ → Type 0) → ((n : ℕ) → Dec (P n)) → (count : ℕ)
     → ((n : ℕ) → n < count → P n → ⊥) ⊎ ((n : ℕ) × IsFirstWhere P count n)
 none_or_first P holds zero = inl (λ n h p. absurd (omega arith))

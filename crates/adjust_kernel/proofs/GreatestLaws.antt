@@ -11,19 +11,19 @@ use Rattle.adjust_kernel.specs.Residuals.{Choice, residual}
 use Rattle.adjust_kernel.specs.Within.{IsWithin}
 use Rattle.adjust_kernel.specs.Greatest.{IsGreatest}
 
--- the size of a number within a bound
+-- The size of a number within a bound.
 pub size_within : (m : ℕ) (z : ℤ) → IsWithin (pos m) z → unsigned_abs z ≤ m
 size_within m (pos n) h = omega (arith, ints)
 size_within m (negsuc n) h = omega (arith, ints)
 
--- what isn't above a size is within it
+-- What isn't above a size is within it.
 pub within_size : (m : ℕ) (z : ℤ) → (m < unsigned_abs z → ⊥) → IsWithin (pos m) z
 within_size m (pos n) h = let le : n ≤ m = omega (arith, h) in
     record { low = omega (arith, ints); high = omega (arith, ints) }
 within_size m (negsuc n) h = let le : suc n ≤ m = omega (arith, h) in
     record { low = omega (arith, ints); high = omega (arith, ints) }
 
--- the greatest size of a residual, observation by observation
+-- The greatest size of a residual, observation by observation.
 abbrev pub greatest_from : Choice → ℕ → List TurnedObservation → ℕ
 greatest_from c known observations =
     fold (λ g r. max g (unsigned_abs (residual c r))) known observations
@@ -52,11 +52,11 @@ module _ (c : Choice) where
       (λ above. absurd (omega arith)))
       (bounds next observations)
 
-  -- some observation has this size
+  -- Some observation has this size.
   abbrev IsReached : ℕ → List TurnedObservation → Type 0
   IsReached size observations = Any (λ r. pos (unsigned_abs (residual c r)) ≡ pos size) observations
 
-  -- the greatest is what was known before, or is reached
+  -- The greatest is what was known before, or is reached.
   reaches : (known : ℕ) (observations : List TurnedObservation)
       → (greatest_from c known observations ≡ known)
       ⊎ IsReached (greatest_from c known observations) observations
@@ -72,7 +72,7 @@ module _ (c : Choice) where
         by size (inl e) (yes le) = inl (omega (arith, e, le))
         by size (inl e) (no f) = inr (0, r, omega arith, refl, ap pos (omega (arith, e, f)))
 
-  -- of some observations, this is the greatest
+  -- Of some observations, this is the greatest.
   pub greatest_is : (observations : List TurnedObservation) → 1 ≤ length observations
       → IsGreatest c observations (pos (greatest_size c observations))
   greatest_is [] h = absurd (omega arith)
@@ -88,7 +88,7 @@ module _ (c : Choice) where
         let g = grows (max 0 (unsigned_abs (residual c r))) observations in
         (0, r, omega arith, refl, ap pos (omega (arith, e, g)))
 
-  -- a greatest size is no larger than another
+  -- A greatest size is no larger than another.
   no_larger : (observations : List TurnedObservation) (a b : ℤ) → IsGreatest c observations a
       → IsGreatest c observations b → (n : ℕ) → a ≡ pos n → pos n ≤ℤ b
   no_larger observations a b f g n e =
@@ -101,7 +101,7 @@ module _ (c : Choice) where
       at_most (pos m) n b e w = let h = w.high in omega (arith, ints, e)
       at_most (negsuc m) n b e w = let l = w.low in omega (arith, ints, e)
 
-  -- there is one greatest size
+  -- There is one greatest size.
   pub one_greatest : (observations : List TurnedObservation) (a b : ℤ) → IsGreatest c observations a
       → IsGreatest c observations b → a ≡ b
   one_greatest observations a b f g =

@@ -19,7 +19,7 @@ use Rattle.adjust_kernel.specs.TurnedObservations.{TurnedObservation}
 use Rattle.adjust_kernel.specs.Stations.{IsObs, EachSetObserved, EachTargetObserved}
 use Rattle.adjust_kernel.proofs.ReachLaws.{AllWithin}
 
--- what follows where a test passed, and where it did not
+-- What follows where a test passed, and where it did not.
 pub on_true : {P Q : Type 0} (b : Bool) → (P → Q) → OnTrue b P → OnTrue b Q
 on_true true f p = f p
 on_true false f p = p
@@ -28,12 +28,12 @@ pub on_false : {P Q : Type 0} (b : Bool) → (P → Q) → OnFalse b P → OnFal
 on_false true f p = p
 on_false false f p = f p
 
--- no observation stands between the two parts
+-- No observation stands between the two parts.
 abbrev pub AllObsWithin : (ℕ → Bool) → (ℕ → Bool) → List Obs → Type 0
 AllObsWithin part_of_set part_of_target obs =
     AllByRecursion (λ o. part_of_set o.set ≡ part_of_target o.target) obs
 
--- full turns make no difference to the parts
+-- Full turns make no difference to the parts.
 obs_within : (p q : ℕ → Bool) (obs : List Obs) (rows : List Row) → length rows ≡ length obs
     → AllWithin p q (turned_by_rows obs rows) → AllObsWithin p q obs
 obs_within p q [] rows e w = tt
@@ -63,7 +63,7 @@ mark_after marks n k h e = by (ℕ_discrete k n)
     by (yes p) = inl p
     by (no f) = inr (sym (get_or-set_other marks n k true false f) ∙ e)
 
--- a mark is kept where another is set
+-- A mark is kept where another is set.
 mark_kept : (marks : List Bool) (n k : ℕ) → n < length marks → mark marks k ≡ true
     → mark (set marks n true) k ≡ true
 mark_kept marks n k h e = by (ℕ_discrete k n)
@@ -72,12 +72,12 @@ mark_kept marks n k h e = by (ℕ_discrete k n)
     by (yes p) = ap (mark (set marks n true)) p ∙ get_or-set_same marks n true false h
     by (no f) = get_or-set_other marks n k true false f ∙ e
 
--- and where two are
+-- And where two are.
 both_kept : (marks : List Bool) (a b k : ℕ) → a < length marks → b < length (set marks a true)
     → mark marks k ≡ true → mark (set (set marks a true) b true) k ≡ true
 both_kept marks a b k h j e = mark_kept (set marks a true) b k j (mark_kept marks a k h e)
 
--- one mark more is one unmarked node fewer
+-- One mark more is one unmarked node fewer.
 one_fewer_unmarked : (marks : List Bool) (n : ℕ) → n < length marks → mark marks n ≡ false
     → count_by not (set marks n true) < count_by not marks
 one_fewer_unmarked marks n h e =
@@ -86,7 +86,7 @@ one_fewer_unmarked marks n h e =
     let f : cond (not (mark marks n)) 1 0 ≡ one = ap (λ b. cond (not b) 1 0) e in
     omega (arith, s, f)
 
--- no node is marked at first
+-- No node is marked at first.
 none_marked : (k : ℕ) → mark (replicate 140 false) k ≡ true → ⊥
 none_marked k e = by (dec_lt k 140)
   where
@@ -96,7 +96,7 @@ none_marked k e = by (dec_lt k 140)
         (let g = length-replicate {A = Bool} 140 false in omega arith)) ∙ e in cc
 
 module _ (sets targets : ℕ) (obs : List Obs) where
-  -- the first observations of a sweep are done
+  -- The first observations of a sweep are done.
   pub record IsSwept (before marks : List Bool) (any : Bool) (n : ℕ) : Type 0 where
     pub spread : IsSpread sets targets obs before → IsSpread sets targets obs marks
     pub at_most : count_by not marks ≤ count_by not before
@@ -111,7 +111,7 @@ module _ (sets targets : ℕ) (obs : List Obs) where
     alike = λ k d h. absurd (omega arith);
   }
 
-  -- the marks of the first observations' sets and targets
+  -- The marks of the first observations' sets and targets.
   pub record AreSeen (marks : List Bool) (n : ℕ) : Type 0 where
     pub long : length marks ≡ 140
     pub marked : (i : ℕ) → i < n → (d : Obs) → (mark marks (get_or obs i d).set ≡ true)
@@ -127,7 +127,7 @@ module _ (sets targets : ℕ) (obs : List Obs) where
   }
 
 module _ (sets targets : ℕ) (obs : List Obs) (placed : All (IsObs sets targets) obs) where
-  -- a mark that is carried along an observation stays in the part of the first target
+  -- A mark that is carried along an observation stays in the part of the first target.
   spread_one : (marks : List Bool) (i : ℕ) (d : Obs) → i < length obs → (n : ℕ)
       → IsOpenEnd marks sets (get_or obs i d) n → IsSpread sets targets obs marks
       → IsSpread sets targets obs (set marks n true)
@@ -153,7 +153,7 @@ module _ (sets targets : ℕ) (obs : List Obs) (placed : All (IsObs sets targets
           ∙ s.one_part p q u r.set j.1)
           open_end.joined
 
-  -- one more observation
+  -- One more observation.
   pub swept_more : (before marks new : List Bool) (any carried : Bool) (i : ℕ) (d : Obs)
       → i < length obs
       → OnTrue carried ((n : ℕ) × IsOpenEnd marks sets (get_or obs i d) n
@@ -198,7 +198,7 @@ module _ (sets targets : ℕ) (obs : List Obs) (placed : All (IsObs sets targets
         (All-more (AreAlike marks sets) obs i d inside w.alike alike);
   }
 
-  -- one more observation
+  -- One more observation.
   seen_at : (marks : List Bool) (i : ℕ) (o : Obs) → i < length obs
       → ((d : Obs) → get_or obs i d ≡ o) → o.set < length marks
       → sets + o.target < length (set marks o.set true)
@@ -245,7 +245,7 @@ module _ (sets targets : ℕ) (obs : List Obs) (placed : All (IsObs sets targets
       seen_at marks i (get_or obs i d) inside (λ d2. get_or_default obs i d2 d inside) set_in
       target_in s
 
-  -- where all nodes are marked, each set and target was observed
+  -- Where all nodes are marked, each set and target was observed.
   pub each_observed : (marks : List Bool) → AreSeen sets targets obs marks (length obs)
       → ((n : ℕ) → n < sets + targets → mark marks n ≡ true) → EachSetObserved sets obs
       × EachTargetObserved targets obs
@@ -258,7 +258,7 @@ module _ (sets targets : ℕ) (obs : List Obs) (placed : All (IsObs sets targets
         (i, o, inside, at, ⊎_elim (λ e. absurd (omega arith)) (λ e. omega arith) ends),
   )
 
-  -- where a node isn't, its set or target wasn't
+  -- Where a node isn't, its set or target wasn't.
   pub some_unobserved : (marks : List Bool) → AreSeen sets targets obs marks (length obs) → (n : ℕ)
       → n < sets + targets → mark marks n ≡ false → EachSetObserved sets obs
       × EachTargetObserved targets obs → ⊥
@@ -277,7 +277,7 @@ module _ (sets targets : ℕ) (obs : List Obs) (placed : All (IsObs sets targets
           (ap (λ (x : Obs). sets + x.target) at ∙ ap (λ (t : ℕ). sets + t) is ∙ there)
           (s.marked i inside o).1
 
--- at first only the first target is marked
+-- At first only the first target is marked.
 pub spread_start : (sets targets : ℕ) (obs : List Obs) → sets < 140
     → IsSpread sets targets obs (set (replicate 140 false) sets true)
 spread_start sets targets obs h = record {
@@ -293,7 +293,7 @@ spread_start sets targets obs h = record {
     long : sets < length (replicate 140 false)
     long = let e = length-replicate 140 false in omega arith
 
--- where all are marked, no division is left
+-- Where all are marked, no division is left.
 pub marked_is_whole : (sets targets : ℕ) (obs : List Obs) (marks : List Bool)
     → IsSpread sets targets obs marks → ((n : ℕ) → n < sets + targets → mark marks n ≡ true)
     → (rows : List Row) → length rows ≡ length obs
@@ -315,8 +315,8 @@ marked_is_whole sets targets obs marks s all rows same_length d =
     let e : true ≡ false = at true d.first_part ∙ sym (at false d.second_part) in
     cc
 
--- where no observation has an open end, the first target is marked and a node isn't, the marks
--- divide
+-- Where no observation has an open end, the first target is marked and a node isn't, the marks
+-- divide.
 pub marks_divide : (sets targets : ℕ) (obs : List Obs) (marks : List Bool) → 0 < targets
     → IsSpread sets targets obs marks → All (AreAlike marks sets) obs
     → (n : ℕ) → n < sets + targets → mark marks n ≡ false → (rows : List Row)

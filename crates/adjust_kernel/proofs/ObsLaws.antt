@@ -13,7 +13,7 @@ before_both a b c (inl e) (inr f) = inl (omega arith)
 before_both a b c (inr e) (inl f) = inl (omega arith)
 before_both a b c (inr e) (inr f) = inr (omega arith, omega arith)
 
--- one more observation, before which the last one comes; d is any default
+-- One more observation, before which the last one comes; d is any default.
 pub ordered_more : (obs : List Obs) (n : ℕ) (d : Obs) → 1 ≤ n → n < length obs
     → PairsBelow IsBefore obs n → IsBefore (get_or obs (n - 1) d) (get_or obs n d)
     → PairsBelow IsBefore obs (n + 1)
@@ -43,7 +43,7 @@ module _ (sets targets : ℕ) (obs : List Obs) (h : AreObs sets targets obs)
         by (inl e) earlier o = let t = o.target in omega (arith, t, few_targets)
         by (inr e) earlier o = omega arith
 
-  -- a station has at most an observation of each target in each set
+  -- A station has at most an observation of each target in each set.
   pub few_obs : length obs ≤ MOST_ROWS
   few_obs = by (length obs) refl where
     any_obs : Obs

@@ -6,7 +6,7 @@ use Rattle.adjust_kernel.specs.declared.row.Row.{Row}
 use Rattle.adjust_kernel.specs.TurnedObservations.{TurnedObservation}
 use Rattle.adjust_kernel.specs.Pairs.{turned_by, turned_by_rows}
 
--- the observation's set is one of this many sets, and its target one of this many targets
+-- The observation's set is one of this many sets, and its target one of this many targets.
 pub record IsPlaced (sets targets : ℕ) (observation : TurnedObservation) : Type 0 where
   pub set_in : observation.set < sets
   pub target_in : observation.target < targets

@@ -11,7 +11,7 @@ use Rattle.adjust_kernel.specs.Connected.{IsDivided}
 use Rattle.adjust_kernel.specs.Turns.{with_turns}
 use Rattle.adjust_kernel.proofs.ReachLaws.{AllWithin}
 
--- an observation and another number of full turns for it
+-- An observation and another number of full turns for it.
 abbrev pub Pair : Type 0
 Pair = TurnedObservation × ℤ
 
@@ -20,11 +20,11 @@ paired [] turns = []
 paired (r ∷ observations) [] = []
 paired (r ∷ observations) (k ∷ turns) = (r, k) ∷ paired observations turns
 
--- the observation with the other turns
+-- The observation with the other turns.
 abbrev pub retuned : Pair → TurnedObservation
 retuned x = record x.0 { turn = x.1 }
 
--- the observation with the difference of its turns
+-- The observation with the difference of its turns.
 abbrev pub difference : Pair → TurnedObservation
 difference x = record x.0 { turn = x.1 -ℤ x.0.turn }
 
@@ -91,7 +91,7 @@ differences-divided sets targets observations turns e d = record {
     between : TurnedObservation → Type 0
     between r = d.part_of_set r.set ≡ d.part_of_target r.target
 
--- turns that are given by each observation
+-- Turns that are given by each observation.
 pub turns_by : (f : TurnedObservation → ℤ) (observations : List TurnedObservation) (turns : List ℤ)
     → length turns ≡ length observations
     → AllByRecursion (λ (x : Pair). x.1 ≡ f x.0) (paired observations turns)

@@ -33,7 +33,7 @@ module _ {X : Type 0} where
       let r = int_sum_by-not_negative f h xs in
       (omega (arith, ints), each-at_most f h m xs (omega (arith, ints)))
 
--- (p - q)^2 is at most 2 p^2 + 2 q^2
+-- (p - q)^2 is at most 2 p^2 + 2 q^2.
 pub squared_difference : (p q : ℤ) → squared (p -ℤ q) ≤ℤ (pos 2 *ℤ squared p +ℤ pos 2 *ℤ squared q)
 squared_difference p q =
     let e : pos 2 *ℤ squared p +ℤ pos 2 *ℤ squared q ≡ squared (p -ℤ q) +ℤ squared (p +ℤ q) =

@@ -22,7 +22,7 @@ use Rattle.adjust_kernel.proofs.ObservationLaws.{length-turned_by_rows, get_or-t
 use Rattle.adjust_kernel.proofs.SumLaws.{int_sum_by-push}
 use native.Mathlib.Decide.{ℕ_discrete}
 
--- the sums of all keys below a count, with one more element
+-- The sums of all keys below a count, with one more element.
 one_more : {X : Type 0} (key : X → ℕ) (f : X → ℤ) (sums : List ℤ) (l : List X) (x : X) (count : ℕ)
     → key x < length sums
     → ((k : ℕ) → k < count → get_or sums k (pos 0) ≡ int_sum_where (λ a. eqb (key a) k) f l)
@@ -59,7 +59,7 @@ keeps_sums targets sets taken l x a b p q s = record {
   of_sets = one_more (λ (y : Added). y.set) (λ y. y.residual) sets l x 40 (omega arith) s.of_sets;
 }
 
--- each sum of n elements grows by one element at most
+-- Each sum of n elements grows by one element at most.
 pub still_within : (m n : ℕ) (sums : List ℤ) (i : ℕ) (z : ℤ) → i < length sums → IsWithin (pos m) z
     → All (IsWithin (pos (m * n))) sums → All (IsWithin (pos (m * (n + 1))))
     (set sums i (get_or sums i (pos 0) +ℤ z))
@@ -76,7 +76,7 @@ still_within m n sums i z inside w all =
     more y v = let a = v.low in let b = v.high in
         record { low = omega (arith, ints); high = omega (arith, ints) }
 
--- nothing was added yet
+-- Nothing was added yet.
 pub zeros_within : (n : ℕ) → All (IsWithin (pos 0)) (replicate n (pos 0))
 zeros_within n = All-replicate (IsWithin (pos 0)) n (pos 0)
     (record { low = omega (arith, ints); high = omega (arith, ints) })
@@ -88,7 +88,7 @@ zeros_are_sums = record {
   of_sets = λ s below. get_or-replicate 40 s (pos 0) (pos 0) below;
 }
 
--- what one more row adds
+-- What one more row adds.
 pub all_added-more : (c : Choice) (obs : List Obs) (rows : List Row) (n : ℕ) (o : Obs) (r : Row)
     (z : ℤ) → length obs ≡ length rows → n < length obs
     → ((d : TurnedObservation) → z ≡ residual c (get_or (turned_by_rows obs rows) n d))
@@ -111,14 +111,14 @@ all_added-more c obs rows n o r z same below value =
     ∙ sym (map-append (added_of c) (take n observations) (get_or observations n d ∷ []))
     ∙ ap (all_added c) (sym (take_more observations n d inside))
 
--- what was added for a target adds up to the target's sum
+-- What was added for a target adds up to the target's sum.
 pub added_for_target-all : (c : Choice) (rs : List TurnedObservation) (t : ℕ)
     → added_for_target (all_added c rs) t ≡ target_sum c rs t
 added_for_target-all c [] t = refl
 added_for_target-all c (r ∷ rs) t = ap (λ z. cond (eqb r.target t) (residual c r) (pos 0) +ℤ z)
     (added_for_target-all c rs t)
 
--- what was added for a set adds up to the set's sum
+-- What was added for a set adds up to the set's sum.
 pub added_for_set-all : (c : Choice) (rs : List TurnedObservation) (s : ℕ)
     → added_for_set (all_added c rs) s ≡ set_sum c rs s
 added_for_set-all c [] s = refl

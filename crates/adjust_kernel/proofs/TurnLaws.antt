@@ -32,7 +32,7 @@ use Rattle.adjust_kernel.proofs.ChangeBounds.{MOST_CHANGE, changes_in}
 use Rattle.adjust_kernel.proofs.NearLaws.{IsNear, EndsAreNear, AllAreNear, all_near}
 use native.Mathlib.Decide.{dec_lt}
 
--- what stands where a sheet's sets and targets are held together and its residuals keep a limit
+-- What stands where a sheet's sets and targets are held together and its residuals keep a limit.
 pub record IsHeldUnder (limit sets targets : ℕ) (c : Choice)
     (observations : List TurnedObservation) :
     Type 0 where
@@ -46,7 +46,7 @@ pub record IsHeldUnder (limit sets targets : ℕ) (c : Choice)
   pub connected : IsConnected sets targets observations
   pub limited : IsLimited limit c observations
 
--- what stands where a sheet is accepted under a residual limit
+-- What stands where a sheet is accepted under a residual limit.
 pub record IsAcceptedUnder (limit sets targets : ℕ) (c : Choice)
     (observations : List TurnedObservation) :
     Type 0 where
@@ -67,7 +67,7 @@ change_is d e v a a' o o' k k' =
     ⊖ num (pos (d * e * TURN)) ⊗ (num k' ⊖ num k))
     (omega arith)
 
--- a whole number of turns that is less than one turn is none
+-- A whole number of turns that is less than one turn is none.
 no_turn : (unit j : ℕ) (z : ℤ) → 1 ≤ unit → j ≤ 279
     → IsWithin (pos (j * (MOST_CHANGE * unit))) (pos (unit * TURN) *ℤ z) → z ≡ pos 0
 no_turn unit j (pos zero) h k w = refl
@@ -106,8 +106,8 @@ module _ (limit sets targets : ℕ) (c : Choice) (observations : List TurnedObse
   abbrev pairs : List Pair
   pairs = paired observations turns
 
-  -- the change of an observation's residual, with what its turns change taken off, is that of its
-  -- ends
+  -- The change of an observation's residual, with what its turns change taken off, is that of its
+  -- ends.
   abbrev EndsNear : TurnedObservation → Type 0
   EndsNear = EndsAreNear sets targets (unit * TURN) (MOST_CHANGE * unit) (moved_direction c other)
       (moved_orientation c other)
@@ -164,7 +164,7 @@ module _ (limit sets targets : ℕ) (c : Choice) (observations : List TurnedObse
   Node = IsNear sets targets (unit * TURN) (MOST_CHANGE * unit) (moved_direction c other)
       (moved_orientation c other) (sets + targets - 1)
 
-  -- the whole turns of a target and of a set
+  -- The whole turns of a target and of a set.
   of_target : ℕ → ℤ
   of_target t = turns_where (λ h. (near.targets_near t h).turns) (dec_lt t targets)
 
@@ -225,7 +225,7 @@ module _ (limit sets targets : ℕ) (c : Choice) (observations : List TurnedObse
         (λ (x : Pair). IsPlaced sets targets x.0) pairs ends_near placed_pairs));
   }
 
--- turns of targets and sets are taken up by directions and orientations
+-- Turns of targets and sets are taken up by directions and orientations.
 pub taken_up : (e v : ℕ) (a o k mt ms : ℤ) → (a -ℤ pos (e * TURN) *ℤ mt)
     -ℤ (o -ℤ pos (e * TURN) *ℤ ms) -ℤ pos e *ℤ (pos v +ℤ pos TURN *ℤ k)
     ≡ a -ℤ o -ℤ pos e *ℤ (pos v +ℤ pos TURN *ℤ (k +ℤ mt -ℤ ms))

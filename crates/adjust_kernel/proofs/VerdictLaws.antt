@@ -50,7 +50,7 @@ IsClearOf station sheet limit (SetSum n) = SetsAddUp station sheet
 IsClearOf station sheet limit NotConnected = HoldsTogether station sheet
 IsClearOf station sheet limit (Residual n) = IfSome limit (KeepsLimit station sheet)
 
--- places counted from 1, of places from 0
+-- Places counted from 1, of places from 0.
 one_nth : (P : ℕ → Type 0) → ((j k : ℕ) → P j → P k → j ≡ k) → (m n : ℕ) → AtNth P m → AtNth P n
     → m ≡ n
 one_nth P one m n (j, e, f) (k, d, g) = e ∙ ap (λ i. i + 1) (one j k f g) ∙ sym d
@@ -71,7 +71,7 @@ any_observation : TurnedObservation
 any_observation = record { set = 0; target = 0; value = 0; turn = pos 0 }
 
 module _ (station : StationValue) (sheet : SheetValue) where
-  -- no residual is above the limit, and that of no row is
+  -- No residual is above the limit, and that of no row is.
   keeps_limit : (most : ℕ) → ((n : ℕ) → n < length (observations station sheet)
       → IsAbove most (choice_stated_by sheet) (observations station sheet) n → ⊥)
       → KeepsLimit station sheet most
@@ -93,7 +93,7 @@ module _ (station : StationValue) (sheet : SheetValue) where
       (get_or-map v rs n any_observation (pos 0) inside) above in
       omega arith
 
-  -- a fault does not stand where what it denies holds
+  -- A fault does not stand where what it denies holds.
   pub not_standing : (limit : Option ℕ) (fault : KernelFault) → IsClearOf station sheet limit fault
       → Stands station sheet limit fault → ⊥
   not_standing limit Name e stands = stands e
@@ -107,7 +107,7 @@ module _ (station : StationValue) (sheet : SheetValue) where
   not_standing None (Residual n) clear stands = absurd stands
   not_standing (Some most) (Residual n) clear (k, _, f) = none_above most clear k f.inside f.here
 
-  -- of two faults that stand, and that are looked for at one place in the order
+  -- Of two faults that stand, and that are looked for at one place in the order.
   one_fault : (limit : Option ℕ) (f g : KernelFault) → order_of f ≡ order_of g
       → Stands station sheet limit f → Stands station sheet limit g → f ≡ g
   one_fault limit Name Name e a b = refl
@@ -138,7 +138,7 @@ module _ (station : StationValue) (sheet : SheetValue) where
     denominator = (f.denominator ∙ sym g.denominator) i;
   }
 
-  -- no two verdicts stand for one station, one sheet and one limit
+  -- No two verdicts stand for one station, one sheet and one limit.
   pub only_one_verdict : (limit : Option ℕ) (a b : Result Accepted KernelFault)
       → IsVerdict station sheet limit a → IsVerdict station sheet limit b → a ≡ b
   only_one_verdict limit (Ok a) (Ok b) v w = ap Ok (one_acceptance a b v.1 w.1)
@@ -151,7 +151,7 @@ module _ (station : StationValue) (sheet : SheetValue) where
         by (no e) (yes d) = absurd (v.1 g d w.0)
         by (no e) (no d) = one_fault limit f g (omega arith) v.0 w.0
 
-  -- no fault of this kind stands, or one does
+  -- No fault of this kind stands, or one does.
   abbrev IsClearOrStanding : Option ℕ → KernelFault → Type 0
   IsClearOrStanding limit fault = IsClearOf station sheet limit fault
       ⊎ ((found : KernelFault) × (order_of found ≡ order_of fault)
@@ -218,7 +218,7 @@ module _ (station : StationValue) (sheet : SheetValue) where
       (unsigned_abs (slice_index_or (map (residual (choice_stated_by sheet)) rs) k (pos 0))))
       (length rs))
 
-  -- what holds where no fault of a kind stands, whatever its number
+  -- What holds where no fault of a kind stands, whatever its number.
   clear_where_none_stands : (limit : Option ℕ) (fault : KernelFault)
       → ((other : KernelFault) → order_of other ≡ order_of fault → Stands station sheet limit other
       → ⊥) → IsClearOf station sheet limit fault
@@ -227,14 +227,14 @@ module _ (station : StationValue) (sheet : SheetValue) where
     by (inl clear) = clear
     by (inr (found, same, stands)) = absurd (none found same stands)
 
-  -- what holds of an accepted sheet
+  -- What holds of an accepted sheet.
   pub clear_where_accepted : (limit : Option ℕ) (accepted : Accepted)
       → IsVerdict station sheet limit (Ok accepted) → (fault : KernelFault)
       → IsClearOf station sheet limit fault
   clear_where_accepted limit accepted v fault =
       clear_where_none_stands limit fault (λ other same. v.0 other)
 
-  -- what holds of a refused sheet
+  -- What holds of a refused sheet.
   pub clear_where_refused : (limit : Option ℕ) (fault : KernelFault)
       → IsVerdict station sheet limit (Err fault) → (other : KernelFault)
       → order_of other < order_of fault → IsClearOf station sheet limit other
@@ -251,19 +251,19 @@ module _ (station : StationValue) (sheet : SheetValue) where
     datum = clear Datum (omega arith);
   }
 
-  -- an accepted sheet is of the station
+  -- An accepted sheet is of the station.
   pub matches_where_accepted : (limit : Option ℕ) (accepted : Accepted)
       → IsVerdict station sheet limit (Ok accepted) → Matches station sheet
   matches_where_accepted limit accepted v = matches_where_clear limit
       (λ fault h. clear_where_accepted limit accepted v fault)
 
-  -- so is one that is refused for its sums or for what is looked for after them
+  -- So is one that is refused for its sums or for what is looked for after them.
   pub matches_where_refused : (limit : Option ℕ) (fault : KernelFault)
       → IsVerdict station sheet limit (Err fault) → 5 < order_of fault → Matches station sheet
   matches_where_refused limit fault v past = matches_where_clear limit
       (λ other h. clear_where_refused limit fault v other (omega arith))
 
-  -- what a sheet keeps that is of the station
+  -- What a sheet keeps that is of the station.
   kept : Matches station sheet → (limit : Option ℕ) (fault : KernelFault) → order_of fault < 6
       → IsClearOf station sheet limit fault
   kept matches limit Name h = matches.name
@@ -273,7 +273,7 @@ module _ (station : StationValue) (sheet : SheetValue) where
   kept matches limit Datum h = matches.datum
   kept matches limit fault h = absurd (omega arith)
 
-  -- the verdict where all is as it has to be
+  -- The verdict where all is as it has to be.
   pub accepted_verdict : (limit : Option ℕ) (accepted : Accepted) → Matches station sheet
       → TargetsAddUp station sheet → SetsAddUp station sheet → HoldsTogether station sheet
       → IfSome limit (KeepsLimit station sheet)
@@ -291,7 +291,7 @@ module _ (station : StationValue) (sheet : SheetValue) where
         clear (ObsRow n) = matches.rows
         clear Datum = matches.datum
 
-  -- such a sheet with some observations is accepted
+  -- Such a sheet with some observations is accepted.
   pub accepted_sheet : (limit : Option ℕ) → Matches station sheet → TargetsAddUp station sheet
       → SetsAddUp station sheet → HoldsTogether station sheet
       → IfSome limit (KeepsLimit station sheet)
@@ -316,13 +316,13 @@ module _ (station : StationValue) (sheet : SheetValue) where
         }),
       )
 
-  -- the verdict of a fault that stands, where what is looked for before it is as it has to be
+  -- The verdict of a fault that stands, where what is looked for before it is as it has to be.
   refused : (limit : Option ℕ) (fault : KernelFault) → Stands station sheet limit fault
       → ((other : KernelFault) → order_of other < order_of fault
       → IsClearOf station sheet limit other) → IsVerdict station sheet limit (Err fault)
   refused limit fault stands clear = (stands, λ other h. not_standing limit other (clear other h))
 
-  -- what holds of a kind of fault holds whatever the number
+  -- What holds of a kind of fault holds whatever the number.
   clear_as : (limit : Option ℕ) (a b : KernelFault) → order_of a ≡ order_of b
       → IsClearOf station sheet limit a → IsClearOf station sheet limit b
   clear_as limit Name Name e clear = clear
@@ -336,7 +336,7 @@ module _ (station : StationValue) (sheet : SheetValue) where
   clear_as limit (Residual m) (Residual n) e clear = clear
   clear_as limit a b e clear = absurd (omega arith)
 
-  -- some verdict stands, or no fault that is looked for before this place in the order
+  -- Some verdict stands, or no fault that is looked for before this place in the order.
   abbrev IsToldBefore : Option ℕ → ℕ → Type 0
   IsToldBefore limit n = ((verdict : Result Accepted KernelFault)
       × IsVerdict station sheet limit verdict)
@@ -347,7 +347,7 @@ module _ (station : StationValue) (sheet : SheetValue) where
   none_before limit Name h = absurd (omega arith)
   none_before limit other h = absurd (omega arith)
 
-  -- one kind of fault more
+  -- One kind of fault more.
   told_more : (limit : Option ℕ) (fault : KernelFault) → IsToldBefore limit (order_of fault)
       → IsToldBefore limit (order_of fault + 1)
   told_more limit fault (inl told) = inl told
@@ -364,7 +364,7 @@ module _ (station : StationValue) (sheet : SheetValue) where
           at other h (yes e) = clear_as limit fault other e clear
           at other h (no f) = before other (omega arith)
 
-  -- there is a verdict, where something was observed
+  -- There is a verdict, where something was observed.
   pub some_verdict : (limit : Option ℕ) → 1 ≤ length station.obs
       → (verdict : Result Accepted KernelFault) × IsVerdict station sheet limit verdict
   some_verdict limit some =

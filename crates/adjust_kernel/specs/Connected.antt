@@ -2,19 +2,19 @@
 use Rattle.std.specs.Prelude.{◌≡◌, ◌⊎◌, ℕ, ◌<◌, Bool, true, false, List, All}
 use Rattle.adjust_kernel.specs.TurnedObservations.{TurnedObservation}
 
--- some set or some target is in this part; the parts are called true and false
+-- Some set or some target is in this part; the parts are called true and false.
 abbrev pub HasMember : ℕ → ℕ → (ℕ → Bool) → (ℕ → Bool) → Bool → Type 0
 HasMember sets targets part_of_set part_of_target part =
     ((s : ℕ) × (s < sets) × (part_of_set s ≡ part))
     ⊎ ((t : ℕ) × (t < targets) × (part_of_target t ≡ part))
 
--- no observation stands between the two parts
+-- No observation stands between the two parts.
 abbrev pub HasNoneBetween : (ℕ → Bool) → (ℕ → Bool) → List TurnedObservation → Type 0
 HasNoneBetween part_of_set part_of_target observations =
     All (λ r. part_of_set r.set ≡ part_of_target r.target) observations
 
--- the sets and targets together can be divided into two parts, neither of them empty, with no
--- observation between the parts
+-- The sets and targets together can be divided into two parts, neither of them empty, with no
+-- observation between the parts.
 pub record IsDivided (sets targets : ℕ) (observations : List TurnedObservation) : Type 0 where
   pub part_of_set : ℕ → Bool
   pub part_of_target : ℕ → Bool
@@ -22,6 +22,6 @@ pub record IsDivided (sets targets : ℕ) (observations : List TurnedObservation
   pub first_part : HasMember sets targets part_of_set part_of_target true
   pub second_part : HasMember sets targets part_of_set part_of_target false
 
--- there is no such division
+-- There is no such division.
 abbrev pub IsConnected : ℕ → ℕ → List TurnedObservation → Type 0
 IsConnected sets targets observations = IsDivided sets targets observations → ⊥

@@ -8,7 +8,7 @@ use Rattle.adjust_kernel.specs.declared.kernel_fault.KernelFault.TheVariants.{Da
 use Rattle.adjust_kernel.specs.declared.kernel_fault.KernelFault.TheVariants.{SetSum, NotConnected}
 use Rattle.adjust_kernel.specs.declared.kernel_fault.KernelFault.TheVariants.{Residual}
 
--- the name of a fault of a sheet against its station
+-- The name of a fault of a sheet against its station.
 abbrev pub kernel_fault_name : KernelFault → List ℕ
 kernel_fault_name Name = codes "Name"
 kernel_fault_name (TargetRow n) = codes "TargetRow"
@@ -20,7 +20,7 @@ kernel_fault_name (SetSum n) = codes "SetSum"
 kernel_fault_name NotConnected = codes "NotConnected"
 kernel_fault_name (Residual n) = codes "Residual"
 
--- the number that a fault carries
+-- The number that a fault carries.
 abbrev pub kernel_fault_number : KernelFault → Option ℕ
 kernel_fault_number (TargetRow n) = Some n
 kernel_fault_number (SetRow n) = Some n

@@ -10,36 +10,36 @@ abbrev pub sum_beside : Choice → Choice → List TurnedObservation → ℤ
 sum_beside other c observations =
     pos (other.denominator * other.denominator) *ℤ sum_of_squares c observations
 
--- the sum of squares of a choice over these observations is no larger than another's over its
--- observations
+-- The sum of squares of a choice over these observations is no larger than another's over its
+-- observations.
 abbrev pub IsNoLargerSum : Choice → List TurnedObservation → Choice → List TurnedObservation
     → Type 0
 IsNoLargerSum c observations other other_observations =
     sum_beside other c observations ≤ℤ sum_beside c other other_observations
 
--- it is smaller
+-- It is smaller.
 abbrev pub IsSmallerSum : Choice → List TurnedObservation → Choice → List TurnedObservation → Type 0
 IsSmallerSum c observations other other_observations =
     sum_beside other c observations <ℤ sum_beside c other other_observations
 
--- it is the same
+-- It is the same.
 abbrev pub IsSameSum : Choice → List TurnedObservation → Choice → List TurnedObservation → Type 0
 IsSameSum c observations other other_observations =
     sum_beside other c observations ≡ sum_beside c other other_observations
 
--- no choice, over any denominator, has a smaller sum of squares
+-- No choice, over any denominator, has a smaller sum of squares.
 abbrev pub IsLeast : Choice → List TurnedObservation → Type 0
 IsLeast c observations =
     (other : Choice) → 1 ≤ other.denominator → IsNoLargerSum c observations other observations
 
--- some choice has a smaller sum of squares
+-- Some choice has a smaller sum of squares.
 pub record HasBetter (c : Choice) (observations : List TurnedObservation) : Type 0 where
   pub other : Choice
   pub denominator : 1 ≤ other.denominator
   pub smaller : IsSmallerSum other observations c observations
 
--- the two choices differ by one rotation of the whole circle; by none where the other's first
--- direction is 0
+-- The two choices differ by one rotation of the whole circle; by none where the other's first
+-- direction is 0.
 pub record DiffersByRotation (sets targets : ℕ) (c other : Choice) : Type 0 where
   pub rotation : ℤ
   pub directions : (t : ℕ) → t < targets
@@ -58,7 +58,7 @@ IsUnique sets targets c observations =
     (other : Choice) → 1 ≤ other.denominator → IsSameSum c observations other observations
     → DiffersByRotation sets targets c other
 
--- another choice over the same denominator, with the first direction 0, has the same sum
+-- Another choice over the same denominator, with the first direction 0, has the same sum.
 pub record HasAnother (sets targets : ℕ) (c : Choice)
     (observations : List TurnedObservation) : Type 0 where
   pub other : Choice

@@ -6,18 +6,18 @@ use Rattle.adjust_kernel.specs.Pairs.{choice_stated_by}
 use Rattle.adjust_kernel.specs.Sheets.{SheetValue}
 use Rattle.adjust_kernel.specs.Stations.{StationValue}
 
--- what a row of a sheet and an observation of a station have to agree in: the number of the set,
--- the name of the target, and the direction
+-- What a row of a sheet and an observation of a station have to agree in: the number of the set,
+-- the name of the target, and the direction.
 pub record Key : Type 0 where
   pub set : ℕ
   pub target : List ℕ
   pub value : ℕ
 
--- the key of a row
+-- The key of a row.
 abbrev pub key_of_row : Row → Key
 key_of_row r = record { set = r.set; target = r.target; value = r.value }
 
--- the key of an observation, by the station's numbers of sets and names of targets
+-- The key of an observation, by the station's numbers of sets and names of targets.
 abbrev pub key_of_obs : List ℕ → List (List ℕ) → Obs → Key
 key_of_obs sets targets o = record {
   set = slice_index_or sets o.set 0;
@@ -25,19 +25,19 @@ key_of_obs sets targets o = record {
   value = o.value;
 }
 
--- the names of the targets, as the sheet has them
+-- The names of the targets, as the sheet has them.
 abbrev pub names_of : SheetValue → List (List ℕ)
 names_of sheet = map (λ d. d.name) sheet.directions
 
--- the numbers of the sets, as the sheet has them
+-- The numbers of the sets, as the sheet has them.
 abbrev pub numbers_of : SheetValue → List ℕ
 numbers_of sheet = map (λ o. o.set) sheet.orientations
 
--- what the rows of the sheet say was observed
+-- What the rows of the sheet say was observed.
 abbrev pub keys_of : SheetValue → List Key
 keys_of sheet = map key_of_row sheet.rows
 
--- what was observed
+-- What was observed.
 abbrev pub observed : StationValue → List Key
 observed station = map (key_of_obs station.sets station.targets) station.obs
 

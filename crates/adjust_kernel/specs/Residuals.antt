@@ -12,7 +12,7 @@ pub record Choice : Type 0 where
   pub direction : ℕ → ℤ
   pub orientation : ℕ → ℤ
 
--- the choice that a sheet's lists state
+-- The choice that a sheet's lists state.
 abbrev pub choice_of : ℕ → List ℤ → List ℤ → Choice
 choice_of denominator directions orientations = record {
   denominator = denominator;
@@ -20,23 +20,23 @@ choice_of denominator directions orientations = record {
   orientation = λ s. slice_index_or orientations s (pos 0);
 }
 
--- an observation with its full turns, in half units
+-- An observation with its full turns, in half units.
 abbrev pub unrolled : TurnedObservation → ℤ
 unrolled r = pos r.value +ℤ pos TURN *ℤ r.turn
 
--- the scaled residual of an observation: direction less orientation less the denominator times the
--- observation with its turns
+-- The scaled residual of an observation: direction less orientation less the denominator times the
+-- observation with its turns.
 abbrev pub residual : Choice → TurnedObservation → ℤ
 residual c r = c.direction r.target -ℤ c.orientation r.set -ℤ pos c.denominator *ℤ unrolled r
 
--- the sum of the squares of the residuals (textbook), times the square of the denominator
+-- The sum of the squares of the residuals (textbook), times the square of the denominator.
 abbrev pub sum_of_squares : Choice → List TurnedObservation → ℤ
 sum_of_squares c observations = int_sum_by (λ r. squared (residual c r)) observations
 
--- the sum of the residuals of one target
+-- The sum of the residuals of one target.
 abbrev pub target_sum : Choice → List TurnedObservation → ℕ → ℤ
 target_sum c observations t = int_sum_where (λ r. r.target == t) (residual c) observations
 
--- the sum of the residuals of one set
+-- The sum of the residuals of one set.
 abbrev pub set_sum : Choice → List TurnedObservation → ℕ → ℤ
 set_sum c observations s = int_sum_where (λ r. r.set == s) (residual c) observations

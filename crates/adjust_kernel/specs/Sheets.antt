@@ -11,7 +11,7 @@ use Rattle.adjust_kernel.specs.declared.row.Row.{Row}
 use Rattle.adjust_kernel.specs.Names.{IsName}
 use Rattle.adjust_kernel.specs.Within.{IsWithin}
 
--- a sheet as contracts see it: the station's name, the denominator, and the three lists
+-- A sheet as contracts see it: the station's name, the denominator, and the three lists.
 pub record SheetValue : Type 0 where
   pub name : List ℕ
   pub denominator : ℕ
@@ -19,7 +19,7 @@ pub record SheetValue : Type 0 where
   pub orientations : List Orientation
   pub rows : List Row
 
--- the sheet with these parts
+-- The sheet with these parts.
 abbrev pub sheet_of : List ℕ → ℕ → List Direction → List Orientation → List Row → SheetValue
 sheet_of name denominator directions orientations rows = record {
   name = name;
@@ -29,47 +29,47 @@ sheet_of name denominator directions orientations rows = record {
   rows = rows;
 }
 
--- a number that a set may have
+-- A number that a set may have.
 abbrev pub IsSetNumber : ℕ → Type 0
 IsSetNumber number = (1 ≤ number) × (number ≤ LARGEST_SET_NUMBER)
 
--- a direction within the limits: of a named target, and not too large
+-- A direction within the limits: of a named target, and not too large.
 pub record IsDirection (d : Direction) : Type 0 where
   pub name : IsName d.name
   pub value : IsWithin LARGEST_ANGLE d.value
 
--- an orientation within the limits: of a set with a number, and not too large
+-- An orientation within the limits: of a set with a number, and not too large.
 pub record IsOrientation (o : Orientation) : Type 0 where
   pub set : IsSetNumber o.set
   pub value : IsWithin LARGEST_ANGLE o.value
 
--- a row within the limits: of a set with a number and a named target, on the circle, and with few
--- full turns
+-- A row within the limits: of a set with a number and a named target, on the circle, and with few
+-- full turns.
 pub record IsRow (r : Row) : Type 0 where
   pub set : IsSetNumber r.set
   pub target : IsName r.target
   pub value : r.value < TURN
   pub turn : IsWithin LARGEST_TURN r.turn
 
--- the directions of a sheet (profile): some, not too many, each within the limits
+-- The directions of a sheet (profile): some, not too many, each within the limits.
 pub record AreDirections (directions : List Direction) : Type 0 where
   pub some : 1 ≤ length directions
   pub few : length directions ≤ MOST_TARGETS
   pub each : All IsDirection directions
 
--- the orientations of a sheet (profile): some, not too many, each within the limits
+-- The orientations of a sheet (profile): some, not too many, each within the limits.
 pub record AreOrientations (orientations : List Orientation) : Type 0 where
   pub some : 1 ≤ length orientations
   pub few : length orientations ≤ MOST_SETS
   pub each : All IsOrientation orientations
 
--- the rows of a sheet (profile): some, not too many, each within the limits
+-- The rows of a sheet (profile): some, not too many, each within the limits.
 pub record AreRows (rows : List Row) : Type 0 where
   pub some : 1 ≤ length rows
   pub few : length rows ≤ MOST_ROWS
   pub each : All IsRow rows
 
--- what directions and orientations may be divided by (profile)
+-- What directions and orientations may be divided by (profile).
 abbrev pub IsDenominator : ℕ → Type 0
 IsDenominator d = (1 ≤ d) × (d ≤ LARGEST_DENOMINATOR)
 

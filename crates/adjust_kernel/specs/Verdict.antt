@@ -20,32 +20,32 @@ use Rattle.adjust_kernel.specs.Sheets.{SheetValue}
 use Rattle.adjust_kernel.specs.Stations.{StationValue}
 use Rattle.adjust_kernel.specs.Turns.{IsAbove, IsLimited}
 
--- the observations of the station with the full turns of the sheet
+-- The observations of the station with the full turns of the sheet.
 abbrev pub observations : StationValue → SheetValue → List TurnedObservation
 observations station sheet = turned_by_rows station.obs sheet.rows
 
--- the residuals of each target add to 0
+-- The residuals of each target add to 0.
 abbrev pub TargetsAddUp : StationValue → SheetValue → Type 0
 TargetsAddUp station sheet =
     (t : ℕ) → t < length station.targets
     → target_sum (choice_stated_by sheet) (observations station sheet) t ≡ pos 0
 
--- the residuals of each set add to 0
+-- The residuals of each set add to 0.
 abbrev pub SetsAddUp : StationValue → SheetValue → Type 0
 SetsAddUp station sheet =
     (s : ℕ) → s < length station.sets
     → set_sum (choice_stated_by sheet) (observations station sheet) s ≡ pos 0
 
--- the observations hold all sets and targets together
+-- The observations hold all sets and targets together.
 abbrev pub HoldsTogether : StationValue → SheetValue → Type 0
 HoldsTogether station sheet =
     IsConnected (length station.sets) (length station.targets) (observations station sheet)
 
--- no residual is above this limit
+-- No residual is above this limit.
 abbrev pub KeepsLimit : StationValue → SheetValue → ℕ → Type 0
 KeepsLimit station sheet most = IsLimited most (choice_stated_by sheet) (observations station sheet)
 
--- P holds of the place that is the n-th, counted from 1
+-- P holds of the place that is the n-th, counted from 1.
 abbrev pub AtNth : (ℕ → Type 0) → ℕ → Type 0
 AtNth P n = (place : ℕ) × (n ≡ place + 1) × P place
 
@@ -76,7 +76,7 @@ Stands station sheet limit (Residual n) =
     AtNth (IsFirstWhere (IsAbove most (choice_stated_by sheet) (observations station sheet))
     (length (observations station sheet))) n)
 
--- the order in which the faults are looked for
+-- The order in which the faults are looked for.
 abbrev pub order_of : KernelFault → ℕ
 order_of Name = 1
 order_of (TargetRow n) = 2
@@ -88,7 +88,7 @@ order_of (SetSum n) = 7
 order_of NotConnected = 8
 order_of (Residual n) = 9
 
--- what is said of a sheet that is accepted
+-- What is said of a sheet that is accepted.
 pub record IsAcceptance (station : StationValue) (sheet : SheetValue) (accepted : Accepted) :
     Type 0 where
   pub name : accepted.name ≡ station.name
@@ -110,11 +110,11 @@ IsVerdict station sheet limit (Ok accepted) =
     ((fault : KernelFault) → Stands station sheet limit fault → ⊥)
     × IsAcceptance station sheet accepted
 
--- the verdict is this fault, whatever limit is stated
+-- The verdict is this fault, whatever limit is stated.
 abbrev pub IsFault : StationValue → SheetValue → KernelFault → Type 0
 IsFault station sheet fault = (limit : Option ℕ) → IsVerdict station sheet limit (Err fault)
 
--- the verdict is an acceptance
+-- The verdict is an acceptance.
 abbrev pub IsAcceptedSheet : StationValue → SheetValue → Option ℕ → Type 0
 IsAcceptedSheet station sheet limit =
     (accepted : Accepted) × IsVerdict station sheet limit (Ok accepted)

@@ -2,27 +2,27 @@
 use Rattle.std.specs.Prelude.{◌≡◌, ℕ, Bool, List}
 use Rattle.byte_ends.specs.declared.held.Held.{Held}
 
--- the bytes that were written to it
+-- The bytes that were written to it.
 abbrev pub held_bytes : Held → List ℕ
 held_bytes h = h.bytes.items
 
--- how many bytes it still takes
+-- How many bytes it still takes.
 abbrev pub held_room : Held → ℕ
 held_room h = h.room
 
--- the most bytes that it takes for one write
+-- The most bytes that it takes for one write.
 abbrev pub held_step : Held → ℕ
 held_step h = h.step
 
--- whether each flush fails
+-- Whether each flush fails.
 abbrev pub held_flush_fails : Held → Bool
 held_flush_fails h = h.flush_fails
 
--- whether a call of it has failed
+-- Whether a call of it has failed.
 abbrev pub has_failed : Held → Bool
 has_failed h = h.has_failed
 
--- whether all that was written is handed on
+-- Whether all that was written is handed on.
 abbrev pub is_handed_on : Held → Bool
 is_handed_on h = h.is_handed_on
 

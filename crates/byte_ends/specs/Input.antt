@@ -2,13 +2,13 @@
 use Rattle.std.specs.Prelude.{ℕ, List, length, nat_lt, if◌then◌else◌}
 use Rattle.byte_ends.specs.Source.{Told}
 
--- how a source comes to its end under a limit
+-- How a source comes to its end under a limit.
 pub data Input : Type 0 where
-  -- it gave these bytes in all, and then no more
+  -- It gave these bytes in all, and then no more.
   Ended : List ℕ → Input
-  -- it gave these bytes in all, and then a read failed
+  -- It gave these bytes in all, and then a read failed.
   BrokeOff : List ℕ → Input
-  -- it gave a byte more than the limit
+  -- It gave a byte more than the limit.
   RanPast : Input
 
 -- A byte past the limit comes before the failure of a source that gives more bytes than the limit.

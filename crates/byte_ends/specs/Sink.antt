@@ -8,23 +8,23 @@ abbrev pub TakesSome : {E : Type 0} → Result ℕ E → ℕ → Type 0
 TakesSome (Ok n) len = (n ≤ len) × (0 < len → 0 < n)
 TakesSome (Err e) len = ⊤
 
--- whether a call has failed by now: a failed call is never forgotten
+-- Whether a call has failed by now: a failed call is never forgotten.
 abbrev pub failed_after : {T E : Type 0} → Bool → Result T E → Bool
 failed_after old (Ok x) = old
 failed_after old (Err e) = true
 
--- whether all that was written is handed on after so many more bytes were taken: only where none
--- was
+-- Whether all that was written is handed on after so many more bytes were taken: only where none
+-- was.
 abbrev pub handed_on_after : Bool → ℕ → Bool
 handed_on_after old zero = old
 handed_on_after old (suc n) = false
 
--- the same after a write: one that failed took no byte
+-- The same after a write: one that failed took no byte.
 abbrev pub handed_on_by_write : {E : Type 0} → Bool → Result ℕ E → Bool
 handed_on_by_write old (Ok n) = handed_on_after old n
 handed_on_by_write old (Err e) = old
 
--- the same after a flush: one that failed handed nothing on
+-- The same after a flush: one that failed handed nothing on.
 abbrev pub handed_on_by_flush : {T E : Type 0} → Bool → Result T E → Bool
 handed_on_by_flush old (Ok x) = true
 handed_on_by_flush old (Err e) = old

@@ -3,7 +3,7 @@
 use Rattle.std.specs.Prelude.{◌≡◌, ℕ, ◌<◌, Bool, true, false, List, [], ◌++◌, length, take, ⊤}
 use Rattle.std.specs.Prelude.{Option, Some, None, IfSome, Result, Ok, Err}
 
--- the bytes that a source still gives, and whether it then fails
+-- The bytes that a source still gives, and whether it then fails.
 pub record Told : Type 0 where
   pub bytes : List ℕ
   pub fails : Bool
@@ -35,20 +35,20 @@ pub record Fails (old new : Told) : Type 0 where
   pub unchanged : new ≡ old
   pub end : HasBrokenOff new
 
--- what a read into this buffer did to a source that tells
+-- What a read into this buffer did to a source that tells.
 abbrev pub AfterRead : {E : Type 0} → Told → Told → Result ℕ E → List ℕ → Type 0
 AfterRead old new (Ok n) buf = Gives old new (take n buf) (length buf)
 AfterRead old new (Err e) buf = Fails old new
 
--- what a read into this buffer did, where the source tells
+-- What a read into this buffer did, where the source tells.
 abbrev pub Reads : {E : Type 0} → Option Told → Option Told → Result ℕ E → List ℕ → Type 0
 Reads old new r buf = WhereTold old new (λ o n. AfterRead o n r buf)
 
--- no byte is left, and the source ends
+-- No byte is left, and the source ends.
 abbrev pub ended : Told
 ended = record { bytes = []; fails = false }
 
--- no byte is left, and the source fails
+-- No byte is left, and the source fails.
 abbrev pub broken_off : Told
 broken_off = record { bytes = []; fails = true }
 

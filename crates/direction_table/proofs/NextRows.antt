@@ -5,7 +5,7 @@ use Rattle.csv.specs.Reading.{ReadRecord, default_config, records_from, source_o
 use Rattle.csv.specs.declared.reader.Reader.{Reader}
 use Rattle.sheet_format.proofs.RecordFacts.{next-leaves, records-step, row-read}
 
--- a row was read, and a shorter text is left
+-- A row was read, and a shorter text is left.
 pub record NextRow {R : Type 0} (rem : R → Option (List ℕ)) (a b : Reader R) (row : List (List ℕ))
     (y : List ℕ) (n : ℕ) : Type 0 where
   pub left : List ℕ

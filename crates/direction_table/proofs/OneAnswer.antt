@@ -20,7 +20,7 @@ use Rattle.direction_table.specs.declared.reading.TheConstants.{LONGEST_TABLE}
 use Rattle.direction_table.proofs.RowsRead.{clean-end, clean-more, first-here}
 use Rattle.direction_table.proofs.StatedDirections.{not-before}
 
--- the directions are what is stated
+-- The directions are what is stated.
 same-directions : (a b : List ℤ) → map Some a ≡ map Some b → a ≡ b
 same-directions [] [] e = refl
 same-directions [] (y ∷ ys) e = cc e
@@ -34,7 +34,7 @@ pub one-table : (targets : List (List ℕ)) (bytes : List ℕ) (a b : List ℤ)
     → IsTableText targets bytes a → IsTableText targets bytes b → a ≡ b
 one-table targets bytes a b s t = same-directions a b (sym s.stated ∙ t.stated)
 
--- where all is stated, nothing is missing
+-- Where all is stated, nothing is missing.
 not-missing : (stated : List (Option ℤ)) (directions : List ℤ) (place : ℕ)
     → stated ≡ map Some directions → place < length stated → IsNoneAt stated place → ⊥
 not-missing stated directions place same inside none =
@@ -65,7 +65,7 @@ never-both targets bytes directions (Missing number) text fault =
     first.here
 never-both targets bytes directions Memory text fault = absurd fault
 
--- the first place of two
+-- The first place of two.
 one-place : (P : ℕ → Type 0) (p q : ℕ) → P p → P q → ((m : ℕ) → m < p → P m → ⊥)
     → ((m : ℕ) → m < q → P m → ⊥) → p ≡ q
 one-place P p q one two before after =
@@ -145,7 +145,7 @@ answers-fault items targets bytes (Err g) ok err f fault = elim err [
   | inr memory ↦ inr (ap (λ (x : TableFault). Err x) memory)
 ]
 
--- what the rows state of all targets makes a table
+-- What the rows state of all targets makes a table.
 pub whole-table : {V : Type 0} (items : V → List ℤ) (targets : List (List ℕ)) (bytes : List ℕ)
     (stated : List (Option ℤ)) (r : Result V TableFault) → length bytes ≤ LONGEST_TABLE
     → HasNoFault targets (records_of bytes)
@@ -172,7 +172,7 @@ missing-fault targets bytes stated (Err f) short clean same none = elim none [
   | inr memory ↦ inr memory
 ]
 
--- bytes are a table or have a fault
+-- Bytes are a table or have a fault.
 abbrev pub TableOrFault : List (List ℕ) → List ℕ → Type 0
 TableOrFault targets bytes = ((directions : List ℤ) × IsTableText targets bytes directions)
     ⊎ ((fault : TableFault) × IsTableFault targets bytes fault)

@@ -14,13 +14,13 @@ use Rattle.direction_table.specs.Faults.{fault_between, row_fault}
 use Rattle.direction_table.specs.Tables.{stated_by}
 use Rattle.direction_table.specs.declared.fault.RowKind.{RowKind}
 
--- the fault at the place where these rows part
+-- The fault at the place where these rows part.
 pub fault_at-seam : (targets : List (List ℕ)) (before rest : List (List (List ℕ)))
     → fault_at targets (before ++ rest) (length before) ≡ fault_between targets before rest
 fault_at-seam targets before rest =
     rw (take-append_seam before rest, drop-append_seam before rest) refl
 
--- one row more without a fault
+-- One row more without a fault.
 pub clean-more : (targets : List (List ℕ)) (all before rest : List (List (List ℕ)))
     (row : List (List ℕ)) → all ≡ before ++ (row ∷ rest)
     → NoFaultBefore targets all (length before) → row_fault targets before row ≡ None
@@ -71,7 +71,7 @@ read-more targets all stated next number row rest read none more = record {
   each = more read.before read.each;
 }
 
--- the first row with a fault
+-- The first row with a fault.
 pub first-here : (targets : List (List ℕ)) (all before rest : List (List (List ℕ)))
     (row : List (List ℕ)) (k : RowKind) → all ≡ before ++ (row ∷ rest)
     → NoFaultBefore targets all (length before) → row_fault targets before row ≡ Some k
@@ -94,7 +94,7 @@ read-fault targets all stated number row rest k read found =
     (first-here targets all read.before rest row k read.whole read.clean
     (found read.before read.each))
 
--- the end of the rows
+-- The end of the rows.
 pub clean-end : (targets : List (List ℕ)) (all before : List (List (List ℕ))) → all ≡ before
     → NoFaultBefore targets all (length before) → HasNoFault targets all
 unfolding fault_between
@@ -116,7 +116,7 @@ read-each targets all stated number read = read.each
     ∙ ap (λ (rows : List (List (List ℕ))). stated_by rows targets) (sym (read.whole
     ∙ append-nil read.before))
 
--- without a byte order mark a text is no longer
+-- Without a byte order mark a text is no longer.
 pub strip-short : (bytes : List ℕ) → length (strip_bom bytes) ≤ length bytes
 unfolding strip_bom
 strip-short [] = omega arith
@@ -128,7 +128,7 @@ strip-short (a ∷ b ∷ c ∷ rest) = by (is_bom a b c)
     by true = omega arith
     by false = omega arith
 
--- what a slice of a vector became, as the vector has it
+-- What a slice of a vector became, as the vector has it.
 pub written-back : {A : Type 0} (xs new : List A) (n : ℕ) → n ≡ length xs → length new ≡ length xs
     → take n (new ++ drop (length new) xs) ≡ new
 written-back xs new n size same =
@@ -139,7 +139,7 @@ none-each : (targets : List (List ℕ)) → replicate (length targets) None ≡ 
 none-each [] = refl
 none-each (target ∷ targets) = ap (λ (rest : List (Option ℤ)). None ∷ rest) (none-each targets)
 
--- before any row nothing is stated
+-- Before any row nothing is stated.
 pub nothing-stated : (targets : List (List ℕ)) (stated : List (Option ℤ))
     → stated ≡ replicate (length targets) None → stated ≡ stated_by [] targets
 nothing-stated targets stated e = e ∙ none-each targets

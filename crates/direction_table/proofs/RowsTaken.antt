@@ -18,7 +18,7 @@ use Rattle.direction_table.specs.declared.fault.RowKind.{RowKind}
 use Rattle.direction_table.specs.declared.fault.RowKind.TheVariants as fault
 use Rattle.direction_table.proofs.TwoColumns.{direction-column, name-column}
 
--- a row has a name where a direction is stated of it, and not where none is
+-- A row has a name where a direction is stated of it, and not where none is.
 pub earlier-some : (rows : List (List (List ℕ))) (name : List ℕ) (v : ℤ)
     → direction_in rows name ≡ Some v → has_name (map name_of rows) name ≡ true
 earlier-some [] name v e = cc e
@@ -43,7 +43,7 @@ earlier-none (row ∷ rows) name e = by (bytes_eq (name_of row) name) e (earlier
     by true q later = cc q
     by false q later = later q
 
--- one row more states nothing of other names
+-- One row more states nothing of other names.
 pub more-other : (rows : List (List (List ℕ))) (row : List (List ℕ)) (name : List ℕ)
     → bytes_eq (name_of row) name ≡ false → direction_in (rows ++ (row ∷ [])) name
     ≡ direction_in rows name
@@ -53,7 +53,7 @@ more-other (first ∷ rows) row name e = ap (λ (o : Option ℤ). if bytes_eq
     (name_of first) name then Some (direction_value (beside_name first)) else o)
     (more-other rows row name e)
 
--- and its own direction of a name that no row before has
+-- And its own direction of a name that no row before has.
 pub more-same : (rows : List (List (List ℕ))) (row : List (List ℕ)) (name : List ℕ)
     → bytes_eq (name_of row) name ≡ true → direction_in rows name ≡ None
     → direction_in (rows ++ (row ∷ [])) name ≡ Some (direction_value (beside_name row))
@@ -78,7 +78,7 @@ pub record Taken (targets : List (List ℕ)) (row : List (List ℕ)) (place : �
   pub inside : place < length targets
   pub name : get_or targets place [] ≡ c.name
 
--- what is kept at the place is what the rows before state of the row's name
+-- What is kept at the place is what the rows before state of the row's name.
 pub kept : (targets : List (List ℕ)) (before : List (List (List ℕ))) (directions : List (Option ℤ))
     (row : List (List ℕ)) (place : ℕ) (c : Fields) (d : Option ℤ)
     → Taken targets row place c → directions ≡ map (direction_in before) targets
@@ -124,7 +124,7 @@ entry-refused targets before row c k columns found =
     ∙ ap (λ (o : Option RowKind). option_or o
     (unless (not (has_name (map name_of before) c.name)) fault.Twice)) found
 
--- the names of two places are not alike
+-- The names of two places are not alike.
 other-name : (targets : List (List ℕ)) (i place : ℕ) → AreTargets targets → i < length targets
     → place < length targets → i ≢ place → get_or targets place [] ≢ get_or targets i []
 other-name targets i place ok inside at other same = elim (cases_lt i place) [
@@ -132,7 +132,7 @@ other-name targets i place ok inside at other same = elim (cases_lt i place) [
   | inr after ↦ ok.different place i [] (omega (arith, after, other)) inside same
 ]
 
--- the directions with that of one more row
+-- The directions with that of one more row.
 pub taken : (targets : List (List ℕ)) (before : List (List (List ℕ)))
     (directions : List (Option ℤ)) (row : List (List ℕ)) (place : ℕ) (c : Fields) (v : ℤ)
     → AreTargets targets → Taken targets row place c
@@ -199,7 +199,7 @@ taken targets before directions row place c v ok t same none value =
           ∙ more-other before row (get_or targets i []) differ)
     ]
 
--- what a refusal that is handed on says
+-- What a refusal that is handed on says.
 pub lifted : {T E : Type 0} (r : Result T E) (P Q : E → Type 0) → IsErrAnd r P
     → ((k : E) → P k → Q k) → IfErr r Q
 lifted (Ok x) P Q h f = tt

@@ -5,7 +5,7 @@ use Rattle.std.specs.Str.Parse.{digits_value}
 use Rattle.direction_table.specs.Gons.{are_digits, fraction_value, is_fraction, is_size, point_of}
 use Rattle.direction_table.specs.Gons.{size_value}
 
--- the parts of a text, with the place of its point
+-- The parts of a text, with the place of its point.
 pub record Parts (bytes front back : List ℕ) (place : ℕ) : Type 0 where
   pub point : place ≡ point_of bytes
   pub before : front ≡ take place bytes
@@ -33,7 +33,7 @@ parts-value bytes front back place p =
     (front-is bytes front back place p)
     ∙ ap (λ b. digits_value 10 front * 10 ^ 9 + fraction_value b) (back-is bytes front back place p)
 
--- the number of both parts
+-- The number of both parts.
 pub size-whole : (bytes front back : List ℕ) (place whole fraction : ℕ)
     → Parts bytes front back place → whole ≡ digits_value 10 front → fraction ≡ fraction_value back
     → whole * 1000000000 + fraction ≡ size_value bytes

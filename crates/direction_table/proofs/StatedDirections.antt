@@ -7,7 +7,7 @@ use Rattle.std.proofs.lemmas.Option.{none-some}
 use Rattle.direction_table.specs.Tables.{IsMissingOrMemory, IsNoneAt}
 use Rattle.direction_table.specs.declared.fault.TableFault.TheVariants.{Missing}
 
--- where the first so many places have directions, one of them is at each
+-- Where the first so many places have directions, one of them is at each.
 pub not-before : (stated : List (Option ℤ)) (items : List ℤ) (place m : ℕ) → place < length stated
     → take place stated ≡ map Some items → m < place → IsNoneAt stated m → ⊥
 not-before stated items place m inside same below none =

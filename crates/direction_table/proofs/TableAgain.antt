@@ -28,7 +28,7 @@ use Rattle.direction_table.proofs.RowsRead.{clean-end, clean-more}
 use Rattle.direction_table.proofs.TableLengths.{IsWritten, table-short}
 use Rattle.direction_table.proofs.WrittenDirections.{text-below, text-form, text-value}
 
--- a text that begins with a name, in quotes or not, has no byte order mark
+-- A text that begins with a name, in quotes or not, has no byte order mark.
 unmarked : (a : ℕ) (text : List ℕ) → a < 128 → strip_bom (a ∷ text) ≡ a ∷ text
 unfolding strip_bom
 unmarked a [] low = refl
@@ -55,7 +55,7 @@ no-mark count [] ok = refl
 no-mark count (row ∷ rest) ok = no-mark-before row.name _ _ _
     (All-head (IsWritten count) row rest ok).name
 
--- so its records are the rows that were written
+-- So its records are the rows that were written.
 pub rows-again : (count : ℕ) (stated : List TargetDirection) → All (IsWritten count) stated
     → records_of (table_text count stated) ≡ map (row_of count) stated
 rows-again count stated ok =
@@ -63,7 +63,7 @@ rows-again count stated ok =
     (map (row_of count) stated) (omega arith)
     ∙ back-entries (row_of count) (λ row. refl) stated)
 
--- whether a name is among others
+-- Whether a name is among others.
 found : (names : List (List ℕ)) (place : ℕ) (name : List ℕ) → place < length names
     → get_or names place [] ≡ name → has_name names name ≡ true
 found names place name inside same = list_any_at (is_named name) names place [] inside
@@ -76,7 +76,7 @@ not-found names name others =
     (bytes_eq (get_or names k d) name) (λ same. others k d below
     ((bytes_eq-Decides (get_or names k d) name).0 same)))
 
--- a row of a target, which no row before it names, has no fault
+-- A row of a target, which no row before it names, has no fault.
 clean-row : (targets : List (List ℕ)) (before : List (List (List ℕ))) (count : ℕ)
     (row : TargetDirection) → AreDecimals count → IsWritten count row
     → has_name targets row.name ≡ true → has_name (map name_of before) row.name ≡ false
@@ -92,7 +92,7 @@ clean-row targets before count row few ok known new =
       new,
     ) refl
 
--- the name after others
+-- The name after others.
 at-seam : (before rest : List (List ℕ)) (name d : List ℕ)
     → get_or (before ++ (name ∷ rest)) (length before) d ≡ name
 at-seam [] rest name d = refl
@@ -120,7 +120,7 @@ next-name targets before rest name ok same =
           ∙ get_or_append_left before (name ∷ rest) d k below ∙ alike ∙ sym (here d)));
     }
 
--- the rows of all targets have no fault
+-- The rows of all targets have no fault.
 clean-from : (targets : List (List ℕ)) (all before : List (List (List ℕ))) (count : ℕ)
     (rest : List TargetDirection) → AreTargets targets → AreDecimals count
     → targets ≡ map name_of before ++ names_of rest → all ≡ before ++ map (row_of count) rest
@@ -140,7 +140,7 @@ clean-from targets all before count (row ∷ rest) ok few names whole written cl
     (All-tail (IsWritten count) row rest written)
     (clean-more targets all before (map (row_of count) rest) (row_of count row) whole clean none)
 
--- a row says nothing of other names
+-- A row says nothing of other names.
 passed-over : (row : List (List ℕ)) (rows : List (List (List ℕ))) (names : List (List ℕ))
     → All (λ name. name_of row ≢ name) names → map (direction_in (row ∷ rows)) names
     ≡ map (direction_in rows) names
@@ -156,7 +156,7 @@ passed-over row rows (name ∷ names) others =
           (λ other. name_of row ≢ other) name names others),
     ) refl
 
--- the rows of targets state their directions
+-- The rows of targets state their directions.
 stated-again : (count : ℕ) (stated : List TargetDirection) → AreDecimals count
     → AllPairs (λ a b. a ≢ b) (names_of stated) → All (IsWritten count) stated
     → map (direction_in (map (row_of count) stated)) (names_of stated)
@@ -173,7 +173,7 @@ stated-again count (row ∷ rest) few different written =
     (All-tail (IsWritten count) row rest written) in
     rw (own, value, others, later) refl
 
--- what is asked of each row
+-- What is asked of each row.
 written : (count : ℕ) (stated : List TargetDirection) → All IsName (names_of stated)
     → All (λ row. IsWhole count row.direction) stated → All (IsWritten count) stated
 written count stated names exact k d below = record {

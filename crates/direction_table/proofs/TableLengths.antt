@@ -16,7 +16,7 @@ pub record IsWritten (count : ℕ) (stated : TargetDirection) : Type 0 where
   pub name : IsName stated.name
   pub exact : IsWhole count stated.direction
 
--- the text of a row of two fields
+-- The text of a row of two fields.
 joined-length : (a b : List ℕ) → length ((a ++ (44 ∷ (b ++ []))) ++ (10 ∷ []))
     ≡ length a + length b + 2
 joined-length a b =

@@ -14,7 +14,7 @@ two (a ∷ []) e = absurd (omega (arith, e))
 two (a ∷ b ∷ []) e = refl
 two (a ∷ b ∷ c ∷ rest) e = absurd (omega (arith, e))
 
--- the columns of a row are its name and what stands beside it
+-- The columns of a row are its name and what stands beside it.
 pub name-column : (row : List (List ℕ)) (c : Fields) → columns_of row ≡ Some c
     → name_of row ≡ c.name
 name-column [] c e = cc e

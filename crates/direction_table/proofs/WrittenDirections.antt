@@ -21,7 +21,7 @@ use Rattle.direction_table.specs.Gons.{is_negative, is_size, point_of, signed, s
 use Rattle.direction_table.specs.Texts.{AreDecimals, IsWhole, decimals_of, direction_text}
 use Rattle.direction_table.proofs.Sizes.{Parts, parts-size, parts-value}
 
--- tests of numbers
+-- Tests of numbers.
 at-most : (n most : ℕ) → n ≤ most → nat_le n most ≡ true
 at-most n most h = grind (arith, nat_tests)
 
@@ -42,7 +42,7 @@ last-value n =
     let value = digit_value_digit (48 + n % 10) (digit-range (48 + n % 10) (last-digit n)) in
     omega (arith, value)
 
--- the decimals: how many, that they are digits, and their number
+-- The decimals: how many, that they are digits, and their number.
 many : (k d : ℕ) → length (decimals_of k d) ≡ k
 many zero d = refl
 many (suc k) d =
@@ -76,7 +76,7 @@ decimals-value (suc k) d h =
     ∙ ap (λ n. (d % 10 ^ 9 / 10 ^ (9 - k)) * 10 + n) (last-value (d / 10 ^ (8 - k)))
     ∙ one-more k d (omega (arith, h))
 
--- a multiple of the step is its gon and its decimals
+-- A multiple of the step is its gon and its decimals.
 whole : (k d : ℕ) → 1 ≤ k → k ≤ 8 → d % 10 ^ (9 - k) ≡ 0
     → d / 10 ^ 9 * 10 ^ 9 + (d % 10 ^ 9 / 10 ^ (9 - k)) * 10 ^ (9 - k) ≡ d
 whole zero d some h e = absurd (omega (arith, some))
@@ -90,7 +90,7 @@ whole (suc (suc (suc (suc (suc (suc (suc zero))))))) d some h e = omega (arith, 
 whole (suc (suc (suc (suc (suc (suc (suc (suc zero)))))))) d some h e = omega (arith, e)
 whole (suc (suc (suc (suc (suc (suc (suc (suc (suc k))))))))) d some h e = absurd (omega (arith, h))
 
--- the point after digits
+-- The point after digits.
 at-point : (front back : List ℕ) → list_all is_ascii_digit front ≡ true
     → position_or_len (λ b. b == 46) (front ++ (46 ∷ back)) ≡ length front
 at-point [] back e = refl
@@ -117,7 +117,7 @@ parts front back e = record {
   after = sym (drop-append_seam front (46 ∷ back));
 }
 
--- digits have no minus before them
+-- Digits have no minus before them.
 no-minus : (front rest : List ℕ) → list_all is_ascii_digit front ≡ true → 1 ≤ length front
     → (unsigned (front ++ rest) ≡ front ++ rest) × (is_negative (front ++ rest) ≡ false)
 no-minus [] rest e some = absurd (omega (arith, some))
@@ -130,7 +130,7 @@ few : (most : ℕ) (ds : List ℕ) → list_all is_ascii_digit ds ≡ true → 1
 few most ds e some short = and_from _ _ (and_from _ _ (at-most 1 (length ds) some)
     (at-most (length ds) most short)) e
 
--- the gon of a direction below a full circle
+-- The gon of a direction below a full circle.
 record Front (w : ℕ) : Type 0 where
   digits : list_all is_ascii_digit (decimal w) ≡ true
   some : 1 ≤ length (decimal w)
@@ -192,7 +192,7 @@ text-value k d few-decimals exact =
     ((no-minus (decimal (d / 10 ^ 9)) (46 ∷ decimals_of k d) f.digits f.some).1)
     ∙ ap pos (unsigned-size k d few-decimals exact)
 
--- at most three digits, a point and eight decimals
+-- At most three digits, a point and eight decimals.
 pub text-length : (k d : ℕ) → AreDecimals k → IsWhole k d → length (direction_text k d) ≤ 12
 text-length k d few-decimals exact =
     let f = front-of (d / 10 ^ 9) (gons-below d exact.0) in

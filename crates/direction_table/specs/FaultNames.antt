@@ -6,7 +6,7 @@ use Rattle.direction_table.specs.declared.fault.TableFault.{TableFault}
 use Rattle.direction_table.specs.declared.fault.TableFault.TheVariants.{TooLong, Row}
 use Rattle.direction_table.specs.declared.fault.TableFault.TheVariants.{Missing, Memory}
 
--- The name of a fault of a row
+-- The name of a fault of a row.
 abbrev pub row_kind_name : RowKind → List ℕ
 row_kind_name row.Fields = codes "Fields"
 row_kind_name row.Name = codes "Name"
@@ -15,7 +15,7 @@ row_kind_name row.Range = codes "Range"
 row_kind_name row.Unknown = codes "Unknown"
 row_kind_name row.Twice = codes "Twice"
 
--- The name of a fault of the table, or of its row, or that memory ran out
+-- The name of a fault of the table, or of its row, or that memory ran out.
 abbrev pub table_fault_name : TableFault → List ℕ
 table_fault_name TooLong = codes "TooLong"
 table_fault_name (Row number kind) = row_kind_name kind

@@ -8,24 +8,24 @@ use Rattle.direction_table.specs.Rows.{Fields, columns_of, has_name, name_of}
 use Rattle.direction_table.specs.declared.fault.RowKind.{RowKind}
 use Rattle.direction_table.specs.declared.fault.RowKind.TheVariants as fault
 
--- a fault, where what is asked for is not so
+-- A fault, where what is asked for is not so.
 abbrev pub unless : Bool → RowKind → Option RowKind
 unless met fault = if met then None else Some fault
 
--- the first fault of a list of tests
+-- The first fault of a list of tests.
 abbrev pub first_fault : List (Option RowKind) → Option RowKind
 first_fault [] = None
 first_fault (test ∷ later) = option_or test (first_fault later)
 
--- what is wrong with a direction: its form, or its range
+-- What is wrong with a direction: its form, or its range.
 abbrev pub direction_fault : List ℕ → Option RowKind
 direction_fault field = first_fault (
     unless (is_direction field) fault.Number
     ∷ unless (is_below_circle field) fault.Range
     ∷ [])
 
--- what is wrong with the columns of a row in themselves, in order: the name, the direction, and
--- whether a target has the name
+-- What is wrong with the columns of a row in themselves, in order: the name, the direction, and
+-- whether a target has the name.
 abbrev pub entry_fault : List (List ℕ) → Fields → Option RowKind
 entry_fault targets c = first_fault (
     unless (is_name c.name) fault.Name
@@ -33,36 +33,36 @@ entry_fault targets c = first_fault (
     ∷ unless (has_name targets c.name) fault.Unknown
     ∷ [])
 
--- the same, and then whether a row before has the name
+-- The same, and then whether a row before has the name.
 abbrev pub columns_fault : List (List ℕ) → List (List ℕ) → Option Fields → Option RowKind
 columns_fault targets earlier None = Some fault.Fields
 columns_fault targets earlier (Some c) =
     option_or (entry_fault targets c) (unless (not (has_name earlier c.name)) fault.Twice)
 
--- the fault of a row, if it has one, by the targets and the rows before it
+-- The fault of a row, if it has one, by the targets and the rows before it.
 unfoldable pub row_fault : List (List ℕ) → List (List (List ℕ)) → List (List ℕ) → Option RowKind
 row_fault targets before row = columns_fault targets (map name_of before) (columns_of row)
 
--- the fault at a place, by the rows before it and those from there on
+-- The fault at a place, by the rows before it and those from there on.
 unfoldable pub fault_between :
     List (List ℕ) → List (List (List ℕ)) → List (List (List ℕ)) → Option RowKind
 fault_between targets before [] = None
 fault_between targets before (row ∷ others) = row_fault targets before row
 
--- the fault at a place of the rows, counted from 0
+-- The fault at a place of the rows, counted from 0.
 abbrev pub fault_at : List (List ℕ) → List (List (List ℕ)) → ℕ → Option RowKind
 fault_at targets rows place = fault_between targets (take place rows) (drop place rows)
 
--- no place before this one has a fault
+-- No place before this one has a fault.
 abbrev pub NoFaultBefore : List (List ℕ) → List (List (List ℕ)) → ℕ → Type 0
 NoFaultBefore targets rows place =
     (earlier : ℕ) → earlier < place → fault_at targets rows earlier ≡ None
 
--- no place has a fault
+-- No place has a fault.
 abbrev pub HasNoFault : List (List ℕ) → List (List (List ℕ)) → Type 0
 HasNoFault targets rows = (place : ℕ) → fault_at targets rows place ≡ None
 
--- a place has this fault, and none before it has one
+-- A place has this fault, and none before it has one.
 pub record IsFirstFaultOfTable (targets : List (List ℕ)) (rows : List (List (List ℕ))) (place : ℕ)
     (kind : RowKind) : Type 0 where
   pub here : fault_at targets rows place ≡ Some kind

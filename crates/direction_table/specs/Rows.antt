@@ -5,37 +5,37 @@ use Rattle.std.specs.Str.{bytes_eq}
 use Rattle.direction_table.specs.Gons.{direction_value}
 use Rattle.direction_table.specs.declared.columns.Columns.{Columns}
 
--- the fields of a row that has two columns
+-- The fields of a row that has two columns.
 pub record Fields : Type 0 where
   pub name : List ℕ
   pub direction : List ℕ
 
--- the columns of a record, where it has two fields
+-- The columns of a record, where it has two fields.
 abbrev pub columns_of : List (List ℕ) → Option Fields
 columns_of (a ∷ b ∷ []) = Some (record { name = a; direction = b })
 columns_of _ = None
 
--- the same, of the columns in memory
+-- The same, of the columns in memory.
 abbrev pub columns_view : Columns → Fields
 columns_view c = record { name = c.name.now; direction = c.direction.now }
 
--- the name of a row
+-- The name of a row.
 abbrev pub name_of : List (List ℕ) → List ℕ
 name_of [] = []
 name_of (name ∷ others) = name
 
--- what stands beside the name: the field of the direction
+-- What stands beside the name: the field of the direction.
 abbrev pub beside_name : List (List ℕ) → List ℕ
 beside_name [] = []
 beside_name (name ∷ []) = []
 beside_name (name ∷ field ∷ others) = field
 
--- whether some of these names is this one
+-- Whether some of these names is this one.
 abbrev pub has_name : List (List ℕ) → List ℕ → Bool
 has_name names name = list_any (λ other. bytes_eq other name) names
 
--- the direction that the first of these rows with a name states, in units of the ninth decimal of a
--- gon; none where no row has this name
+-- The direction that the first of these rows with a name states, in units of the ninth decimal of a
+-- gon; none where no row has this name.
 abbrev pub direction_in : List (List (List ℕ)) → List ℕ → Option ℤ
 direction_in [] name = None
 direction_in (row ∷ rows) name =

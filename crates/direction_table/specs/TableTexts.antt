@@ -4,18 +4,18 @@ use Rattle.sheet_format.specs.Texts.{rows_text}
 use Rattle.direction_table.specs.Texts.{direction_text}
 use Rattle.direction_table.specs.declared.table.TargetDirection.{TargetDirection}
 
--- the row of a target: its name, and its direction with so many decimals
+-- The row of a target: its name, and its direction with so many decimals.
 abbrev pub row_of : ℕ → TargetDirection → List (List ℕ)
 row_of count stated = stated.name ∷ direction_text count stated.direction ∷ []
 
--- the text of a table: the rows of the targets, in their order
+-- The text of a table: the rows of the targets, in their order.
 abbrev pub table_text : ℕ → List TargetDirection → List ℕ
 table_text count stated = rows_text (map (row_of count) stated)
 
--- the names of the targets, in their order
+-- The names of the targets, in their order.
 abbrev pub names_of : List TargetDirection → List (List ℕ)
 names_of stated = map (λ row. row.name) stated
 
--- their directions, as they are read
+-- Their directions, as they are read.
 abbrev pub directions_of : List TargetDirection → List ℤ
 directions_of stated = map (λ row. pos row.direction) stated

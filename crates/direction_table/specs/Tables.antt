@@ -11,7 +11,7 @@ use Rattle.direction_table.specs.declared.fault.TableFault.TheVariants.{TooLong,
 use Rattle.direction_table.specs.declared.fault.TableFault.TheVariants.{Memory}
 use Rattle.direction_table.specs.declared.reading.TheConstants.{LONGEST_TABLE}
 
--- what these rows state of each of the targets: a direction, or none
+-- What these rows state of each of the targets: a direction, or none.
 abbrev pub stated_by : List (List (List ℕ)) → List (List ℕ) → List (Option ℤ)
 stated_by rows targets = map (direction_in rows) targets
 
@@ -23,11 +23,11 @@ pub record IsTableText (targets : List (List ℕ)) (bytes : List ℕ) (direction
   pub faultless : HasNoFault targets (records_of bytes)
   pub stated : stated_by (records_of bytes) targets ≡ map Some directions
 
--- no direction is stated at this place
+-- No direction is stated at this place.
 abbrev pub IsNoneAt : List (Option ℤ) → ℕ → Type 0
 IsNoneAt stated place = slice_index_or stated place None ≡ None
 
--- this is the first place, from 1, at which no direction is stated
+-- This is the first place, from 1, at which no direction is stated.
 abbrev pub IsFirstMissing : List (Option ℤ) → ℕ → Type 0
 IsFirstMissing stated number =
     (place : ℕ) × (number ≡ place + 1) × IsFirstWhere (IsNoneAt stated) (length stated) place
@@ -44,11 +44,11 @@ IsTableFault targets bytes (Missing number) =
     × IsFirstMissing (stated_by (records_of bytes) targets) number
 IsTableFault targets bytes Memory = ⊥
 
--- a refusal is the fault of the bytes, or memory ran out
+-- A refusal is the fault of the bytes, or memory ran out.
 abbrev pub IsFaultOrMemory : List (List ℕ) → List ℕ → TableFault → Type 0
 IsFaultOrMemory targets bytes fault = IsTableFault targets bytes fault ⊎ (fault ≡ Memory)
 
--- a refusal names the first place at which no direction is stated, or memory ran out
+-- A refusal names the first place at which no direction is stated, or memory ran out.
 abbrev pub IsMissingOrMemory : List (Option ℤ) → TableFault → Type 0
 IsMissingOrMemory stated fault =
     ((number : ℕ) × (fault ≡ Missing number) × IsFirstMissing stated number) ⊎ (fault ≡ Memory)

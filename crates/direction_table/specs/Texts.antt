@@ -5,26 +5,26 @@ use Rattle.std.specs.Fmt.{decimal}
 use Rattle.direction_table.specs.declared.decimals.TheConstants.{MOST_WRITTEN}
 use Rattle.direction_table.specs.declared.gon.TheConstants.{CIRCLE}
 
--- the first so many decimals of a direction, each as a digit (the place notation of decimals)
+-- The first so many decimals of a direction, each as a digit (the place notation of decimals).
 abbrev pub decimals_of : ℕ → ℕ → List ℕ
 decimals_of zero direction = []
 decimals_of (suc k) direction =
     decimals_of k direction ++ ((48 + direction / 10 ^ (8 - k) % 10) ∷ [])
 
--- a direction as text: the gon, a point, and so many decimals (profile)
+-- A direction as text: the gon, a point, and so many decimals (profile).
 abbrev pub direction_text : ℕ → ℕ → List ℕ
 direction_text count direction =
     decimal (direction / 10 ^ 9) ++ (46 ∷ decimals_of count direction)
 
--- how many decimals are written: 1 to 8 (profile)
+-- How many decimals are written: 1 to 8 (profile).
 abbrev pub AreDecimals : ℕ → Type 0
 AreDecimals count = (1 ≤ count) × (count ≤ MOST_WRITTEN)
 
--- the step of a number of decimals: one unit of the last of them
+-- The step of a number of decimals: one unit of the last of them.
 abbrev pub step_of : ℕ → ℕ
 step_of count = 10 ^ (9 - count)
 
--- a direction that so many decimals write exactly: below a full circle, and a multiple of their
--- step
+-- A direction that so many decimals write exactly: below a full circle, and a multiple of their
+-- step.
 abbrev pub IsWhole : ℕ → ℕ → Type 0
 IsWhole count direction = (direction < CIRCLE) × (direction % step_of count ≡ 0)

@@ -5,7 +5,7 @@ use Rattle.gsi_file.specs.declared.file_fault.FileKind.TheVariants.{Read, FileTo
 use Rattle.gsi_file.specs.Parts.{ended_lines}
 use Rattle.gsi_file.specs.FileAnswers.{first_break, answers_by, answers_within}
 
--- a broken limit is no failed read
+-- A broken limit is no failed read.
 no_read : (b : Bool) → Some (cond b FileTooLong LineTooLong) ≡ Some Read → ⊥
 no_read true e = cc
 no_read false e = cc
@@ -23,14 +23,14 @@ all_by room bytes true None e = refl
 all_by room bytes false None e = cc
 all_by room bytes fails (Some x) e = absurd (no_read (nat_lt room x) e)
 
--- before a failed read all lines that the bytes end are answered
+-- Before a failed read all lines that the bytes end are answered.
 pub all_answered : (room : ℕ) (bytes : List ℕ) (fails : Bool)
     → (answers_within room bytes fails).last ≡ Some Read
     → (answers_within room bytes fails).lines ≡ ended_lines bytes
 unfolding answers_within
 all_answered room bytes fails e = all_by room bytes fails (first_break room bytes) e
 
--- a failed read comes of a source that fails
+-- A failed read comes of a source that fails.
 pub failing : (room : ℕ) (bytes : List ℕ) (fails : Bool)
     → (answers_within room bytes fails).last ≡ Some Read → fails ≡ true
 unfolding answers_within

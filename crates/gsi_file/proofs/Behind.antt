@@ -70,13 +70,13 @@ slice_range_behind xs a e n le =
 pub range_length : (xs : List ℕ) (a e : ℕ) → length (slice_range xs a e) ≤ e - a
 range_length xs a e = omega (arith, length-take (e - a) (drop a xs))
 
--- the bytes in hand are the first bytes of the room without those before them
+-- The bytes in hand are the first bytes of the room without those before them.
 range_of_take : (xs : List ℕ) (a e : ℕ) → a ≤ e → slice_range xs a e ≡ drop a (take e xs)
 range_of_take xs a e le =
     let whole : a + (e - a) ≡ e = omega arith in
     sym (drop-take a (e - a) xs) ∙ ap (λ k. drop a (take k xs)) whole
 
--- a read behind the first bytes of the room, as one behind those in hand
+-- A read behind the first bytes of the room, as one behind those in hand.
 pub grows_behind : (old new : Option Told) (buf buf' hand : List ℕ) (a e n : ℕ) → a ≤ e
     → e ≤ length buf → slice_range buf a e ≡ hand → Grows old new (take e buf) (take (e + n) buf') n
     → Grows old new hand (slice_range buf' a (e + n)) n
@@ -91,7 +91,7 @@ grows_behind old new buf buf' hand a e n le inside same g = record {
   told = g.told;
 }
 
--- a read, of whatever the source gives after it
+-- A read, of whatever the source gives after it.
 over_known : (new : Option Told) (end after : Told) → new ≡ Some end → MayGive new after
     → after ≡ end
 over_known None end after e may = cc

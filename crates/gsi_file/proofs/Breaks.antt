@@ -11,11 +11,11 @@ use Rattle.gsi_file.specs.FileAnswers.{FileAnswers, IsFirstBreak, is_within, lea
 use Rattle.gsi_file.specs.FileAnswers.{answers_before, answers_of_all, answers_within}
 use Rattle.gsi_file.proofs.Fronts.{shortest_front}
 
--- whether a limit is broken
+-- Whether a limit is broken.
 abbrev pub breaks : ℕ → List ℕ → Bool
 breaks room f = not (is_within room f)
 
--- the answers, by the first bytes that break a limit
+-- The answers, by the first bytes that break a limit.
 abbrev pub answers_by : ℕ → List ℕ → Bool → Option (List ℕ) → FileAnswers
 answers_by room bytes fails (Some front) = record {
   lines = ended_lines (front_of front);
@@ -35,7 +35,7 @@ one_more x xs true o = refl
 one_more x xs false None = refl
 one_more x xs false (Some n) = refl
 
--- the shortest first bytes are the least number of them
+-- The shortest first bytes are the least number of them.
 least_front : (p : List ℕ → Bool) (xs : List ℕ)
     → shortest_front p xs ≡ option_map (λ n. take n xs) (least (λ n. p (take n xs)) (length xs))
 least_front p [] = none_here (p [])
@@ -43,7 +43,7 @@ least_front p (x ∷ xs) =
     ap (λ o. cond (p []) (Some []) (option_map (λ f. x ∷ f) o)) (least_front (λ f. p (x ∷ f)) xs)
     ∙ one_more x xs (p []) (least (λ n. p (x ∷ take n xs)) (length xs))
 
--- a bound of an answer
+-- A bound of an answer.
 abbrev IsAtMost : ℕ → Option ℕ → Type 0
 IsAtMost last None = Unit {0}
 IsAtMost last (Some n) = n ≤ last
@@ -80,7 +80,7 @@ same_by room bytes fails (Some x) h =
       last = Some (if nat_lt room k then FileTooLong else LineTooLong);
     }) (sym count)
 
--- the answers by the first byte that breaks a limit are those by the first bytes that do
+-- The answers by the first byte that breaks a limit are those by the first bytes that do.
 pub same_answers : (room : ℕ) (bytes : List ℕ) (fails : Bool)
     → answers_within room bytes fails ≡ answers_by room bytes fails
     (shortest_front (breaks room) bytes)

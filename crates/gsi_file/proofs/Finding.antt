@@ -23,7 +23,7 @@ none_of : (xs : List ℕ) → length xs ≡ 0 → xs ≡ []
 none_of [] e = refl
 none_of (x ∷ xs) e = absurd (omega arith)
 
--- bytes cut at a place
+-- Bytes cut at a place.
 cut : (h : List ℕ) (line : ℕ) (more : List ℕ) → line < length h
     → h ++ more ≡ take line h ++ (slice_index h line ∷ (drop (line + 1) h ++ more))
 cut h line more lt =
@@ -35,7 +35,7 @@ cut h line more lt =
 taken : (line : ℕ) (h : List ℕ) → line ≤ length h → length (take line h) ≡ line
 taken line h le = omega (arith, length-take line h)
 
--- what every step of the search keeps
+-- What every step of the search keeps.
 pub record Searching (told0 told : Option Told) (room : ℕ) (h0 : List ℕ) (left line : ℕ)
     (h : List ℕ) : Type 0 where
   pub short : line ≤ 1024
@@ -45,7 +45,7 @@ pub record Searching (told0 told : Option Told) (room : ℕ) (h0 : List ℕ) (le
   pub plain : HasNoEnd (take line h)
   pub same : SameAnswers told0 room h0 told left h
 
--- the end of the source
+-- The end of the source.
 at_end : (a b c : Told) (room : ℕ) (h0 : List ℕ) (left line : ℕ) (h h' : List ℕ) → line ≡ length h
     → Searching (Some a) (Some b) room h0 left line h → Grows (Some b) (Some c) h h' 0 →
     answers_in room h0 a ≡ record {
@@ -80,7 +80,7 @@ ends (Some a) (Some b) None room h0 left line h h' e s g = absurd g.told
 ends (Some a) (Some b) (Some c) room h0 left line h h' e s g =
     at_end a b c room h0 left line h h' e s g
 
--- a failed read comes of a source that has broken off
+-- A failed read comes of a source that has broken off.
 pub breaks_off : (told0 told told' : Option Told) (room : ℕ) (h0 : List ℕ) (left line : ℕ)
     (h : List ℕ) → Searching told0 told room h0 left line h → FailsTold told told'
     → BreaksOff told0 told'
@@ -105,7 +105,7 @@ fails (Some a) (Some b) (Some c) room h0 left line h e s f =
     ∙ ap (answers_within left h) f.0.1
     ∙ answers_failed left h plain (omega (arith, s.short)) (omega (arith, s.fits))
 
--- one byte too many in the file
+-- One byte too many in the file.
 pub file_too_long : (told0 told : Option Told) (room : ℕ) (h0 : List ℕ) (left line : ℕ) (h : List ℕ)
     → line < length h → line ≡ left → Searching told0 told room h0 left line h →
     AnswersAre told0 room h0 told (record { lines = []; last = Some FileTooLong })
@@ -117,7 +117,7 @@ file_too_long (Some a) (Some b) room h0 left line h lt e s =
     ∙ answers_long_file left (take line h) (slice_index h line) (drop (line + 1) h ++ b.bytes)
     b.fails s.plain (omega (arith, taken line h s.inside, s.short)) (taken line h s.inside ∙ e)
 
--- of more bytes without an end, the longest line and a byte that doesn't end it
+-- Of more bytes without an end, the longest line and a byte that doesn't end it.
 plain_at : (h : List ℕ) (line : ℕ) → 1024 < line → line ≤ length h → HasNoEnd (take line h)
     → HasNoEnd (take 1024 h) × (is_line_end (slice_index h 1024) ≡ false)
 plain_at h line long inside plain = (
@@ -127,7 +127,7 @@ plain_at h line long inside plain = (
       ∙ plain 1024 0 (omega (arith, taken line h inside)),
 )
 
--- one byte too many in the line
+-- One byte too many in the line.
 pub line_too_long : (told0 told : Option Told) (room : ℕ) (h0 : List ℕ) (left from line : ℕ)
     (h : List ℕ) → 1024 < line → line ≤ left → line ≤ length h → HasNoEnd (take line h)
     → Searching told0 told room h0 left from h →
@@ -142,7 +142,7 @@ line_too_long (Some a) (Some b) room h0 left from line h long fits inside plain 
     ∙ answers_long_line left (take 1024 h) (slice_index h 1024) (drop 1025 h ++ b.bytes) b.fails
     front.0 front.1 full (omega (arith, full))
 
--- a part that ended
+-- A part that ended.
 part_ended : (a b : Told) (room : ℕ) (h0 : List ℕ) (left line : ℕ) (h : List ℕ) → line < length h
     → line < left → is_line_end (slice_index h line) ≡ true
     → Searching (Some a) (Some b) room h0 left line h →
@@ -157,7 +157,7 @@ part_ended a b room h0 left line h lt less end s =
     ∙ ap (λ (n : ℕ). with_line (take line h) (answers_within (left - (n + 1))
     (drop (line + 1) h ++ b.bytes) b.fails)) (taken line h s.inside)
 
--- where it is not blank it is the next line
+-- Where it is not blank it is the next line.
 pub finds : (told0 told : Option Told) (room : ℕ) (h0 : List ℕ) (left line : ℕ) (h : List ℕ)
     → line < length h → line < left → is_line_end (slice_index h line) ≡ true
     → is_line (take line h) ≡ true → Searching told0 told room h0 left line h →
@@ -170,7 +170,7 @@ finds (Some a) (Some b) room h0 left line h lt less end line_there s =
     ∙ ap (λ (t : Bool). record { lines = cond t (take line h ∷ o.lines) o.lines; last = o.last })
     line_there
 
--- where it is blank it is passed over
+-- Where it is blank it is passed over.
 pub passes : (told0 told : Option Told) (room : ℕ) (h0 : List ℕ) (left line : ℕ) (h : List ℕ)
     → line < length h → line < left → is_line_end (slice_index h line) ≡ true
     → is_line (take line h) ≡ false → Searching told0 told room h0 left line h →
@@ -183,7 +183,7 @@ passes (Some a) (Some b) room h0 left line h lt less end line_there s =
     ∙ ap (λ (t : Bool). record { lines = cond t (take line h ∷ o.lines) o.lines; last = o.last })
     line_there
 
--- no byte, so no end
+-- No byte, so no end.
 pub none_plain : (h : List ℕ) → HasNoEnd (take 0 h)
 none_plain h = All-nil (λ b. is_line_end b ≡ false)
 
@@ -217,12 +217,12 @@ past_next_end (Some a) (Some b) room h0 part left line h lt less end begin =
     ∙ ap (λ k. drop k h) (omega arith))
     ∙ ap (λ n. line_before part (answers_in n (drop (line + 2) h) b)) (omega arith)
 
--- a line has a byte
+-- A line has a byte.
 pub some_byte : (line : ℕ) (h : List ℕ) → is_line (take line h) ≡ true → 0 < line
 some_byte zero h e = let f : false ≡ true = e in cc
 some_byte (suc n) h e = omega arith
 
--- the end of the source, by whether the last part is a line
+-- The end of the source, by whether the last part is a line.
 pub ends_by : (told0 told told' : Option Told) (room : ℕ) (h0 : List ℕ) (left line : ℕ)
     (h h' : List ℕ) (n : ℕ) (line_there : Bool) → line ≡ length h → n ≡ 0
     → is_line (take line h') ≡ line_there
@@ -241,7 +241,7 @@ pub grown_length : (told told' : Option Told) (h h' : List ℕ) (n : ℕ) → Gr
     → length h ≤ length h'
 grown_length told told' h h' n g = omega (arith, ap length g.now, length-append h g.given)
 
--- the line found by its end, which is used up with it, and so may be the end behind it
+-- The line found by its end, which is used up with it, and so may be the end behind it.
 pub found_ended : (told0 told : Option Told) (room : ℕ) (h0 : List ℕ) (left line used : ℕ)
     (printable : Bool) (h : List ℕ) → line < length h → line < left → used ≤ length h → used ≤ left
     → is_line_end (slice_index h line) ≡ true → is_line (take line h) ≡ true
@@ -282,7 +282,7 @@ found_ended told0 told room h0 left line used printable h lt less inside fits en
       printable = tested;
     }
 
--- the line found by the end of the source
+-- The line found by the end of the source.
 pub found_at_end : (told0 told told' : Option Told) (room : ℕ) (h0 : List ℕ) (left line : ℕ)
     (h h' : List ℕ) (n : ℕ) → line ≡ length h → n ≡ 0 → is_line (take line h') ≡ true
     → Searching told0 told room h0 left line h → Grows told told' h h' n →

@@ -15,7 +15,7 @@ use Rattle.gsi_file.specs.FileAnswers.{is_within, FileAnswers, answers_within}
 use Rattle.gsi_file.proofs.Breaks.{answers_by, breaks, same_answers}
 use Rattle.gsi_file.proofs.Fronts.{shortest_front, same_first, first_after}
 
--- a line or none before the others
+-- A line or none before the others.
 abbrev pub with_line : List ℕ → FileAnswers → FileAnswers
 with_line part o = record { lines = cond (is_line part) (part ∷ o.lines) o.lines; last = o.last }
 
@@ -42,7 +42,7 @@ front_append [] ys lt = refl
 front_append (x ∷ xs) ys lt = front_cons x (xs ++ ys) (omega (arith, length-append xs ys))
     ∙ ap (λ zs. x ∷ zs) (front_append xs ys lt)
 
--- one part within the limits
+-- One part within the limits.
 pub within_part : (room : ℕ) (front : List ℕ) → HasNoEnd front → length front ≤ 1024
     → length front ≤ room → is_within room front ≡ true
 within_part room front plain short le =
@@ -51,7 +51,7 @@ within_part room front plain short le =
     (slice_split_none is_line_end front plain)
     ∙ both_le (length front) room 1024 le short
 
--- a line within the limits, and other bytes
+-- A line within the limits, and other bytes.
 pub within_line : (room : ℕ) (part : List ℕ) (sep : ℕ) (f : List ℕ) → HasNoEnd part
     → is_line_end sep ≡ true → length part ≤ 1024 → length part < room
     → is_within room (part ++ sep ∷ f) ≡ is_within (room - (length part + 1)) f
@@ -78,7 +78,7 @@ none_broken room front plain short le =
     ∙ ap (λ b. option_map (λ g. front ++ g) (cond (not b) (Some []) None))
     (within_part room front plain short le)
 
--- behind a part and one more byte
+-- Behind a part and one more byte.
 behind : (room : ℕ) (part : List ℕ) (byte : ℕ) (rest : List ℕ) → HasNoEnd part → length part ≤ 1024
     → length part ≤ room → shortest_front (breaks room) (part ++ byte ∷ rest)
     ≡ option_map (λ g. part ++ g) (option_map (λ g. byte ∷ g)
@@ -163,7 +163,7 @@ at_line room part sep rest fails (Some (x ∷ f)) plain end lt some =
     (kind_after (length (part ++ sep ∷ x ∷ f)) (length (x ∷ f)) room (length part)
     (length-append part (sep ∷ x ∷ f)) lt)
 
--- what passes behind a first byte isn't empty
+-- What passes behind a first byte isn't empty.
 not_none : (p : List ℕ → Bool) (xs : List ℕ) → p [] ≡ false → shortest_front p xs ≡ Some [] → ⊥
 not_none p [] h e = let d : None ≡ Some [] = ap (λ b. cond b (Some []) None) (sym h) ∙ e in cc
 not_none p (x ∷ xs) h e = longer (shortest_front (λ f. p (x ∷ f)) xs)
@@ -192,7 +192,7 @@ answers_line room part sep rest fails plain end short lt =
     (omega arith) (omega arith))))
     ∙ ap (with_line part) (sym (same_answers (room - (length part + 1)) rest fails))
 
--- a byte that breaks a limit
+-- A byte that breaks a limit.
 broken : (room : ℕ) (front : List ℕ) (byte : ℕ) (rest : List ℕ) (fails : Bool) → HasNoEnd front
     → length front ≤ 1024 → length front ≤ room → is_within room (front ++ byte ∷ []) ≡ false
     → answers_within room (front ++ byte ∷ rest) fails

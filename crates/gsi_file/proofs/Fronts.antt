@@ -4,7 +4,7 @@ use Rattle.std.proofs.Common.{take, Option, None, Some, refl, ap, ◌∙◌, ari
 use Rattle.std.specs.Option.{option_map}
 use Rattle.std.specs.Prelude.{if◌then◌else◌}
 
--- the shortest first bytes that pass a test
+-- The shortest first bytes that pass a test.
 abbrev pub shortest_front : (List ℕ → Bool) → List ℕ → Option (List ℕ)
 shortest_front p [] = if p [] then Some [] else None
 shortest_front p (x ∷ xs) =
@@ -21,7 +21,7 @@ map_behind : (x : ℕ) (front : List ℕ) (o : Option (List ℕ))
 map_behind x front None = refl
 map_behind x front (Some f) = refl
 
--- tests that agree pass the same first bytes
+-- Tests that agree pass the same first bytes.
 pub same_first : (p q : List ℕ → Bool) (xs : List ℕ) → ((f : List ℕ) → p f ≡ q f)
     → shortest_front p xs ≡ shortest_front q xs
 same_first p q [] h = ap (λ b. cond b (Some []) None) (h [])
@@ -30,7 +30,7 @@ same_first p q (x ∷ xs) h =
     ∙ ap (λ o. cond (q []) (Some []) (option_map (λ f. x ∷ f) o))
     (same_first (λ f. p (x ∷ f)) (λ f. q (x ∷ f)) xs (λ f. h (x ∷ f)))
 
--- behind bytes of which no shorter first bytes pass
+-- Behind bytes of which no shorter first bytes pass.
 pub first_after : (p : List ℕ → Bool) (front rest : List ℕ)
     → ((i : ℕ) → i < length front → p (take i front) ≡ false)
     → shortest_front p (front ++ rest) ≡ option_map (λ f. front ++ f)

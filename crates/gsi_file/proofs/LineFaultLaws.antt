@@ -43,7 +43,7 @@ block_or_kind either l = elim (either l) [
   | inr fault ↦ inr (kind_of fault.0, as_file_fault l fault.0 fault.1)
 ]
 
--- no fault of a line is a failed read
+-- No fault of a line is a failed read.
 pub unread : (old : Bool) (f : LineFault) → failed_at old (kind_of f) ≡ old
 unread old (line.Byte at) = refl
 unread old (line.Word nth) = refl

@@ -6,7 +6,7 @@ use Rattle.gsi_file.specs.declared.file_fault.FileKind.{FileKind}
 use Rattle.gsi_file.specs.declared.file_fault.FileKind.TheVariants.{Read, FileTooLong, LineTooLong}
 use Rattle.gsi_file.specs.declared.file_fault.FileKind.TheVariants.{Byte, Word, FirstWord}
 
--- whether a read has failed after a fault: only `Read` comes of one
+-- Whether a read has failed after a fault: only `Read` comes of one.
 abbrev pub failed_at : Bool → FileKind → Bool
 failed_at old Read = true
 failed_at old FileTooLong = old
@@ -15,12 +15,12 @@ failed_at old (Byte at) = old
 failed_at old (Word nth) = old
 failed_at old FirstWord = old
 
--- the same after any answer
+-- The same after any answer.
 abbrev pub failed_by : {A : Type 0} → Bool → Result A FileKind → Bool
 failed_by old (Ok x) = old
 failed_by old (Err kind) = failed_at old kind
 
--- the same after an answer that names the line
+-- The same after an answer that names the line.
 abbrev pub failed_with : {A : Type 0} → Bool → Result A FileFault → Bool
 failed_with old (Ok x) = old
 failed_with old (Err (At number kind)) = failed_at old kind

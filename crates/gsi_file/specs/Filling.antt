@@ -18,14 +18,14 @@ pub record Grows (old new : Option Told) (hand hand' : List ℕ) (n : ℕ) : Typ
 abbrev pub FailsTold : Option Told → Option Told → Type 0
 FailsTold old new = WhereTold old new (λ o n. HasBrokenOff o × (n ≡ o))
 
--- what reading after the first bytes of a buffer did
+-- What reading after the first bytes of a buffer did.
 abbrev pub ReadsBehind : {E : Type 0} → Option Told → Option Told → ℕ → List ℕ → List ℕ
     → Result ℕ E → Type 0
 ReadsBehind old new held buf buf' r = MatchResult r
     (λ n. Grows old new (take held buf) (take (held + n) buf') n)
     (λ _. (take held buf' ≡ take held buf) × FailsTold old new)
 
--- what reading after the bytes in hand did
+-- What reading after the bytes in hand did.
 abbrev pub Fills : {E : Type 0} → Option Told → Option Told → List ℕ → List ℕ → Result ℕ E → Type 0
 Fills old new hand hand' (Ok n) = Grows old new hand hand' n
 Fills old new hand hand' (Err e) = (hand' ≡ hand) × FailsTold old new

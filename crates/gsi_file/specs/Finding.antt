@@ -8,7 +8,7 @@ use Rattle.gsi_file.specs.declared.search.FoundLine.{FoundLine}
 use Rattle.gsi_file.specs.FileAnswers.{FileAnswers, answers_within, line_before}
 use Rattle.gsi_file.specs.ToCome.{IsRead, only}
 
--- the answers of what is in hand and what the source gives, of which so many bytes may be taken
+-- The answers of what is in hand and what the source gives, of which so many bytes may be taken.
 abbrev pub answers_in : ℕ → List ℕ → Told → FileAnswers
 answers_in room hand told = answers_within room (hand ++ told.bytes) told.fails
 

@@ -11,26 +11,26 @@ is_line_end b = b == 10 || b == 13
 abbrev pub HasNoEnd : List ℕ → Type 0
 HasNoEnd bytes = All (λ b. is_line_end b ≡ false) bytes
 
--- the pieces before, between and after the bytes that end lines
+-- The pieces before, between and after the bytes that end lines.
 abbrev pub parts : List ℕ → List (List ℕ)
 parts bytes = slice_split is_line_end bytes
 
--- whether a part has no byte other than a blank
+-- Whether a part has no byte other than a blank.
 abbrev pub is_blank : List ℕ → Bool
 is_blank part = list_all (λ b. b == 32) part
 
--- whether a part is a line, and numbered: it is not blank
+-- Whether a part is a line, and numbered: it is not blank.
 abbrev pub is_line : List ℕ → Bool
 is_line part = not (is_blank part)
 
--- all but the last
+-- All but the last.
 abbrev pub front_of : {A : Type 0} → List A → List A
 front_of xs = take (length xs - 1) xs
 
--- the lines, of which the first has number 1; the last part may lack a byte that ends it
+-- The lines, of which the first has number 1; the last part may lack a byte that ends it.
 abbrev pub numbered_lines : List ℕ → List (List ℕ)
 numbered_lines bytes = filter is_line (parts bytes)
 
--- the lines that a byte has ended: those of all parts but the last
+-- The lines that a byte has ended: those of all parts but the last.
 abbrev pub ended_lines : List ℕ → List (List ℕ)
 ended_lines bytes = filter is_line (front_of (parts bytes))

@@ -12,8 +12,8 @@ use Rattle.gsi_file.specs.Window.{line_in_window, unused}
 use Rattle.gsi_file.specs.Finding.{answers_in, BreaksOff}
 use Rattle.gsi_file.specs.ToCome.{ToCome, IsRead, only}
 
--- what is to come in a state, of so many bytes that may be taken, with these in hand, of a reader
--- that tells this
+-- What is to come in a state, of so many bytes that may be taken, with these in hand, of a reader
+-- that tells this.
 abbrev pub comes_in : State → ℕ → ℕ → List ℕ → Option Told → ToCome
 comes_in Open count room hand told =
     record { number = count; answers = option_map (answers_in room hand) told }
@@ -21,13 +21,13 @@ comes_in End count room hand told = record { number = count; answers = Some (onl
 comes_in (Failed kind) count room hand told =
     record { number = count; answers = Some (only (Some kind)) }
 
--- whether the end or a fault is settled in a state
+-- Whether the end or a fault is settled in a state.
 abbrev pub settled_in : State → Bool
 settled_in Open = false
 settled_in End = true
 settled_in (Failed kind) = true
 
--- what is to come of lines
+-- What is to come of lines.
 abbrev pub to_come : {R : Type 0} → (R → Option Told) → Lines R → ToCome
 to_come told l = comes_in l.state l.count l.room (unused l.window) (told l.reader)
 
@@ -36,28 +36,28 @@ to_come told l = comes_in l.state l.count l.room (unused l.window) (told l.reade
 abbrev pub gives : {R : Type 0} → Told → R → Option Told
 gives t reader = Some t
 
--- the reader, as it stands
+-- The reader, as it stands.
 abbrev pub reader_of : {R : Type 0} → Lines R → R
 reader_of l = l.reader
 
--- whether the end or a fault is settled
+-- Whether the end or a fault is settled.
 abbrev pub is_settled : {R : Type 0} → Lines R → Bool
 is_settled l = settled_in l.state
 
--- the line that was found
+-- The line that was found.
 abbrev pub line_found : {R : Type 0} → Lines R → List ℕ
 line_found l = line_in_window l.window
 
--- the bytes that were read and not yet given up: the line that was found, the byte that ended it if
--- one did, and those after
+-- The bytes that were read and not yet given up: the line that was found, the byte that ended it if
+-- one did, and those after.
 abbrev pub bytes_in_hand : {R : Type 0} → Lines R → List ℕ
 bytes_in_hand l = l.window.buffer
 
--- how many bytes may still be taken
+-- How many bytes may still be taken.
 abbrev pub bytes_left : {R : Type 0} → Lines R → ℕ
 bytes_left l = l.room
 
--- whether a call gave no line
+-- Whether a call gave no line.
 abbrev pub gives_none : {A E : Type 0} → Result (Option A) E → Bool
 gives_none (Ok (Some x)) = false
 gives_none (Ok None) = true

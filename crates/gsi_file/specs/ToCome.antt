@@ -18,12 +18,12 @@ use Rattle.gsi_file.specs.declared.file_fault.FileFault.TheVariants.{At, Memory}
 use Rattle.gsi_file.specs.declared.bounds.TheConstants.{LONGEST_FILE}
 use Rattle.gsi_file.specs.FileAnswers.{FileAnswers, line_before}
 
--- how many lines came, and the answers still to come, where the reader tells or they are settled
+-- How many lines came, and the answers still to come, where the reader tells or they are settled.
 pub record ToCome : Type 0 where
   pub number : ℕ
   pub answers : Option FileAnswers
 
--- a fault of a line as one of the file
+-- A fault of a line as one of the file.
 abbrev pub kind_of : LineFault → FileKind
 kind_of (line.Byte at) = Byte at
 kind_of (line.Word nth) = Word nth
@@ -47,7 +47,7 @@ IsRead (Byte at) = ⊥
 IsRead (Word nth) = ⊥
 IsRead FirstWord = ⊥
 
--- nothing comes but this, at every call
+-- Nothing comes but this, at every call.
 abbrev pub only : Option FileKind → FileAnswers
 only last = record { lines = []; last = last }
 
@@ -82,8 +82,8 @@ pub record GivesFault (t t' : ToCome) (number : ℕ) (kind : FileKind) : Type 0 
   pub limited : number ≤ LONGEST_FILE
   pub after : t' ≡ record { number = t.number; answers = Some (only (Some kind)) }
 
--- what a call answers, by what was to come before it and is to come after it: never that there was
--- no memory
+-- What a call answers, by what was to come before it and is to come after it: never that there was
+-- no memory.
 abbrev pub Answers : ToCome → Result (Option Line) FileFault → ToCome → Type 0
 Answers t (Ok (Some l)) t' = GivesLine t t' l.number (block_of l.block)
 Answers t (Ok None) t' = GivesEnd t t'

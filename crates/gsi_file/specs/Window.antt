@@ -2,10 +2,10 @@
 use Rattle.std.specs.Prelude.{List, ℕ, take, drop}
 use Rattle.gsi_file.specs.declared.window.Window.{Window}
 
--- the line that was found
+-- The line that was found.
 abbrev pub line_in_window : Window → List ℕ
 line_in_window w = take w.line w.buffer
 
--- the bytes that no line has used up
+-- The bytes that no line has used up.
 abbrev pub unused : Window → List ℕ
 unused w = drop w.used w.buffer

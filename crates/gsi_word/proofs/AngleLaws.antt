@@ -19,7 +19,7 @@ err_ok fault n e = cc
 none_some : (n : ℕ) → ◌≡◌ {A = Option ℕ} None (Some n) → ⊥
 none_some n e = cc
 
--- the three tests before the number
+-- The three tests before the number.
 abbrev chain : Bool → Bool → Bool → Result ℕ AngleFault → Result ℕ AngleFault
 chain gon mode negative number = if not gon then Err WrongUnit
     else (if not mode then Err InputMode else (if negative then Err Sign else number))
@@ -98,5 +98,6 @@ angle_is w units h =
     ∙ ap (λ (t : Bool). chain true true t (angle_within_turn (decimal_number w.content))) h.sign
     ∙ ap angle_within_turn number ∙ turn
 
+-- The tests of an angle give so many units exactly where the word is an angle of so many units.
 pub angle_known : (w : GsiWord) (units : ℕ) → (angle_of w ≡ Ok units) ↔ IsAngle w units
 angle_known w units = (angle_found w units, angle_is w units)

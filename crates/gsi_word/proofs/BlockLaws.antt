@@ -7,6 +7,7 @@ use Rattle.gsi_word.specs.Layout.{word_of, words_from, is_width, HasIndex, IsWor
 use Rattle.gsi_word.specs.Layout.{KeepsWords}
 use Rattle.gsi_word.proofs.RunLaws.{drop_words}
 
+-- The word at a place below the count is read from the bytes at that many words and blanks.
 pub slice_get-words_from : (width count i : ℕ) (bytes : List ℕ) → i < count
     → slice_get (words_from width count bytes) i
     ≡ Some (word_of (take (7 + width) (drop ((8 + width) * i) bytes)))
@@ -18,6 +19,7 @@ slice_get-words_from width (suc n) (suc i) bytes lt =
     slice_get-words_from width n i (drop (8 + width) bytes) (omega arith)
     ∙ ap (λ (r : List ℕ). Some (word_of (take (7 + width) r))) (drop_words width i bytes)
 
+-- At a place from the count on there is no word.
 pub slice_get-words_from_past : (width count i : ℕ) (bytes : List ℕ) → count ≤ i
     → slice_get (words_from width count bytes) i ≡ None
 slice_get-words_from_past width zero i bytes le = refl
@@ -42,10 +44,11 @@ first_index width count bytes kept =
     (kept.each 0 kept.some_word) in
     index_of_take (7 + width) bytes (omega arith) first.digits
 
--- the place of a word as the code computes it
+-- The place of a word as the code computes it.
 word_place : (width i : ℕ) → (7 + width + 1) * i ≡ (8 + width) * i
 word_place width i = let e : 7 + width + 1 ≡ 8 + width = omega arith in ap (λ (k : ℕ). k * i) e
 
+-- The bytes of a word of one of the two widths are a whole word.
 pub whole_word : (width : ℕ) (bytes : List ℕ) → IsTrue (is_width width) → IsWordBytes width bytes
     → IsWholeWord bytes
 whole_word width bytes known h =
@@ -59,7 +62,7 @@ whole_word width bytes known h =
 after_start : (start size : ℕ) → start + size - start ≡ size
 after_start start size = omega arith
 
--- the bytes of a word, as the code takes them and as the definitions do
+-- The bytes of a word, as the code takes them and as the definitions do.
 pub word_span : (width i : ℕ) (bytes : List ℕ)
     → take ((7 + width + 1) * i + (7 + width) - (7 + width + 1) * i)
     (drop ((7 + width + 1) * i) bytes) ≡ take (7 + width) (drop ((8 + width) * i) bytes)

@@ -10,8 +10,8 @@ use Rattle.gsi_word.specs.Words.{GsiWord}
 use Rattle.gsi_word.specs.FoundWords.{words_with, found_among}
 use Rattle.gsi_word.specs.declared.found.Found.TheVariants.{Absent, One, Twice}
 
--- a word of another index
-pub words_with_other : (index : ℕ) (words : List GsiWord) (i : ℕ) (w : GsiWord) → i < length words
+-- A word of another index.
+words_with_other : (index : ℕ) (words : List GsiWord) (i : ℕ) (w : GsiWord) → i < length words
     → slice_get words i ≡ Some w → w.index ≢ index
     → words_with index (take (i + 1) words) ≡ words_with index (take i words)
 words_with_other index words i w lt at ne =
@@ -22,8 +22,8 @@ words_with_other index words i w lt at ne =
     (ne_eqb w.index index ne)
     ∙ append-nil (words_with index (take i words))
 
--- a word of the index
-pub words_with_one : (index : ℕ) (words : List GsiWord) (i : ℕ) (w : GsiWord) → i < length words
+-- A word of the index.
+words_with_one : (index : ℕ) (words : List GsiWord) (i : ℕ) (w : GsiWord) → i < length words
     → slice_get words i ≡ Some w → w.index ≡ index
     → words_with index (take (i + 1) words) ≡ words_with index (take i words) ++ w ∷ []
 words_with_one index words i w lt at e =
@@ -36,6 +36,7 @@ words_with_one index words i w lt at e =
 none_some : (w : GsiWord) → ◌≡◌ {A = Option GsiWord} None (Some w) → ⊥
 none_some w e = cc
 
+-- A place at which a word stands is below their number.
 pub below : (words : List GsiWord) (i : ℕ) (w : GsiWord) → slice_get words i ≡ Some w
     → i < length words
 below words i w at = elim (slice_get_cases words i).1 [
@@ -49,7 +50,7 @@ none_found [] e = refl
 none_found (w ∷ []) e = absurd cc
 none_found (w ∷ v ∷ ws) e = absurd cc
 
--- the first word of the index
+-- The first word of the index.
 pub found_first : (index : ℕ) (words : List GsiWord) (i : ℕ) (w : GsiWord)
     → Absent ≡ found_among (words_with index (take i words)) → slice_get words i ≡ Some w
     → w.index ≡ index → One w ≡ found_among (words_with index (take (i + 1) words))
@@ -65,7 +66,7 @@ twice [] w some = absurd (some refl)
 twice (x ∷ []) w some = refl
 twice (x ∷ y ∷ before) w some = refl
 
--- a further word of the index
+-- A further word of the index.
 pub found_further : (index : ℕ) (words : List GsiWord) (i : ℕ) (w : GsiWord)
     → found_among (words_with index (take i words)) ≢ Absent → slice_get words i ≡ Some w
     → w.index ≡ index → Twice ≡ found_among (words_with index (take (i + 1) words))
@@ -73,7 +74,7 @@ found_further index words i w some at e =
     twice (words_with index (take i words)) w some
     ∙ ap found_among (sym (words_with_one index words i w (below words i w at) at e))
 
--- one word of another index
+-- One word of another index.
 pub found_other : (index : ℕ) (words : List GsiWord) (i : ℕ) (w : GsiWord)
     → slice_get words i ≡ Some w → w.index ≢ index
     → found_among (words_with index (take i words))
@@ -81,11 +82,12 @@ pub found_other : (index : ℕ) (words : List GsiWord) (i : ℕ) (w : GsiWord)
 found_other index words i w at ne = ap found_among
     (sym (words_with_other index words i w (below words i w at) at ne))
 
-pub past : (words : List GsiWord) (i : ℕ) → slice_get words i ≡ None → length words ≤ i
+-- A place at which no word stands is past the last.
+past : (words : List GsiWord) (i : ℕ) → slice_get words i ≡ None → length words ≤ i
 past words i at = elim (slice_get_cases words i).1
     [ inl found ↦ absurd (none_some found.0 (sym at ∙ found.2)) | inr out ↦ out.0 ]
 
--- past the last word
+-- Past the last word.
 pub found_all : (index : ℕ) (words : List GsiWord) (i : ℕ) → slice_get words i ≡ None
     → found_among (words_with index (take i words)) ≡ found_among (words_with index words)
 found_all index words i at = ap (λ (ws : List GsiWord). found_among (words_with index ws))

@@ -17,7 +17,7 @@ use Rattle.gsi_word.proofs.PrintableLaws.{no_printable, printable}
 use Rattle.gsi_word.proofs.RunLaws.{Runs, run_are_words, run_has_fault}
 use Rattle.gsi_word.proofs.WordLaws.{long_of}
 
--- all bytes may stand in a line, or there is a first that may not
+-- All bytes may stand in a line, or there is a first that may not.
 bytes_or_fault : (line : List ℕ) → All IsPrintable line ⊎ ((at : ℕ) × IsByteFault line at)
 bytes_or_fault [] = inl (All-nil IsPrintable)
 bytes_or_fault (b ∷ line) = elim (cases_Bool (is_printable b)) [
@@ -75,7 +75,7 @@ runs_out (suc n) width bytes le = elim (cases_Bool (begins_word width bytes)) [
   | inr stops ↦ record { count = 0; rest = bytes; run = refl; stops = stops }
 ]
 
--- only blanks, or another byte
+-- Only blanks, or another byte.
 blank_or_ink : (bytes : List ℕ) → (bytes ≡ replicate (length bytes) 32) ⊎ Any (λ b. b ≢ 32) bytes
 blank_or_ink [] = inl refl
 blank_or_ink (b ∷ bytes) = elim (cases_Bool (eqb b 32)) [
@@ -126,6 +126,7 @@ printable_line line h = by (is_starred line)
     by true = All-drop IsPrintable 1 line h
     by false = h
 
+-- Each line is a block or has a fault.
 pub block_or_fault : (line : List ℕ) → ((block : GsiBlock) × IsBlock line block)
     ⊎ ((fault : LineFault) × IsLineFault line fault)
 block_or_fault line = elim (bytes_or_fault line) [

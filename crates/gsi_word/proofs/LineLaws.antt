@@ -35,7 +35,7 @@ byte_fault line place lt before wrong =
       fault = wrong;
     }
 
--- what follows the first word
+-- What follows the first word.
 abbrev after : List GsiWord → List ℕ → List ℕ
 after [] tail = tail
 after (v ∷ vs) tail = 32 ∷ (join_with_byte 32 (map spelled (v ∷ vs)) ++ tail)
@@ -93,7 +93,7 @@ one_list width (w ∷ w2 ∷ ws) (v ∷ v2 ∷ vs) m n a b p q e =
     ap (λ (u : GsiWord). u ∷ w2 ∷ ws) o.0 ∙ ap (λ (us : List GsiWord). v ∷ us) t
 
 -- Bytes are one list of words at most.
-pub same_words : (width : ℕ) (bytes : List ℕ) (ws vs : List GsiWord) → AreWords width bytes ws
+same_words : (width : ℕ) (bytes : List ℕ) (ws vs : List GsiWord) → AreWords width bytes ws
     → AreWords width bytes vs → ws ≡ vs
 same_words width bytes ws vs a b = one_list width ws vs a.blanks b.blanks a.each b.each a.some_word
     b.some_word (sym a.text ∙ b.text)
@@ -122,7 +122,7 @@ no_ink m rest e ink =
     ∙ blank_at (m - 1) ink.0 in
     ink.4 (sym ink.3 ∙ get_or_default rest ink.0 ink.1 32 ink.2 ∙ at)
 
--- a word with its blank, and the rest
+-- A word with its blank, and the rest.
 first_followed : (f : GsiWord) (fs : List GsiWord) (rest : List ℕ)
     → flat_map followed (f ∷ fs) ++ rest ≡ spelled f ++ 32 ∷ (flat_map followed fs ++ rest)
 first_followed f fs rest = append_assoc (followed f) (flat_map followed fs) rest

@@ -10,16 +10,16 @@ use Rattle.std.proofs.lemmas.Option.{slice_get-get_or}
 use lib.Lanes.{chunk}
 use Rattle.gsi_word.specs.Names.{name_of, IsNameIn}
 
--- a zero that is not the last byte goes
-pub name_step : (bytes : List ℕ) → 1 < length bytes → get_or bytes 0 0 ≡ 48
+-- A zero that is not the last byte goes.
+name_step : (bytes : List ℕ) → 1 < length bytes → get_or bytes 0 0 ≡ 48
     → name_of (drop 1 bytes) ≡ name_of bytes
 name_step [] lt e = absurd (omega arith)
 name_step (b ∷ []) lt e = absurd (omega arith)
 name_step (b ∷ c ∷ bytes) lt e = ap (λ (t : Bool). if t then name_of (c ∷ bytes) else b ∷ c ∷ bytes)
     (sym (eq-eqb b 48 e))
 
--- where no zero leads, or one byte is left, the content is the name
-pub name_kept : (bytes : List ℕ) → (length bytes ≤ 1) ⊎ (get_or bytes 0 0 ≢ 48)
+-- Where no zero leads, or one byte is left, the content is the name.
+name_kept : (bytes : List ℕ) → (length bytes ≤ 1) ⊎ (get_or bytes 0 0 ≢ 48)
     → bytes ≡ name_of bytes
 name_kept [] h = refl
 name_kept (b ∷ []) h = refl
@@ -27,7 +27,7 @@ name_kept (b ∷ c ∷ bytes) (inl short) = absurd (omega arith)
 name_kept (b ∷ c ∷ bytes) (inr ne) = ap (λ (t : Bool). if t then name_of (c ∷ bytes)
     else b ∷ c ∷ bytes) (sym (ne_eqb b 48 ne))
 
--- a content that begins with zeros
+-- A content that begins with zeros.
 name_after_zeros : (zeros : ℕ) (name : List ℕ) → 0 < length name → (name ≡ 48 ∷ [])
     ⊎ (slice_get name 0 ≢ Some 48) → name ≡ name_of (replicate zeros 48 ++ name)
 name_after_zeros zero name some (inl zero_alone) = ap (λ (r : List ℕ). r) zero_alone
@@ -73,6 +73,7 @@ name_is (b ∷ []) some = record {
 name_is (b ∷ c ∷ bytes) some = more_bytes b c bytes (eqb b 48) refl
     (name_is (c ∷ bytes) (omega arith))
 
+-- The name that a content of some bytes holds is the content without its leading zeros.
 pub name_known : (content name : List ℕ) → 0 < length content
     → IsNameIn content name ↔ (name ≡ name_of content)
 name_known content name some = (
@@ -80,7 +81,7 @@ name_known content name some = (
   (λ e. subst (λ (r : List ℕ). IsNameIn content r) (sym e) (name_is content some)),
 )
 
--- a content begins with no more zeros than it has, and where it begins with none, none goes
+-- A content begins with no more zeros than it has, and where it begins with none, none goes.
 first_kept : (bytes : List ℕ) → (0 ≡ prefix_len (λ b. b == 48) bytes) ⊎ (1 ≡ length bytes)
     → (length bytes ≤ 1) ⊎ (get_or bytes 0 0 ≢ 48)
 first_kept [] h = inl (omega arith)
@@ -97,7 +98,8 @@ first_kept (b ∷ bytes) (inl none) = split (b == 48) refl where
 abbrev zeros : List ℕ → ℕ
 zeros bytes = prefix_len (λ b. b == 48) bytes
 
--- the zeros go that a content begins with, or where it is zeros alone, all but one
+-- Without the zeros that it begins with, or all but one where it is zeros alone, a content is its
+-- name.
 pub name_behind : (n : ℕ) (bytes : List ℕ) → n ≤ zeros bytes → n < length bytes → (n ≡ zeros bytes)
     ⊎ (n + 1 ≡ length bytes) → drop n bytes ≡ name_of bytes
 name_behind zero bytes le lt h = name_kept bytes (first_kept bytes h)
@@ -126,19 +128,20 @@ not_not : (t : Bool) → not (not t) ≡ t
 not_not true = refl
 not_not false = refl
 
--- the bytes of a content that are no other than zeros, in a load of them all
+-- The bytes of a content that are no other than zeros, in a load of them all.
 pub zeros_in_load : (n : ℕ) (bytes : List ℕ) → length bytes ≡ n
     → prefix_len (λ b. not (not (b == 48))) (chunk 0 n bytes) ≡ prefix_len (λ b. b == 48) bytes
 zeros_in_load n bytes e =
     (λ i. prefix_len (λ b. not_not (b == 48) i) (chunk 0 n bytes))
     ∙ ap (λ (xs : List ℕ). prefix_len (λ b. b == 48) xs) (take_all n bytes (omega (arith, e)))
 
--- a content of either width has some byte
+-- A content of either width has some byte.
 pub some_byte : (content : List ℕ) → (length content ≡ 8) ⊎ (length content ≡ 16)
     → 0 < length content
 some_byte content (inl e) = omega (arith, e)
 some_byte content (inr e) = omega (arith, e)
 
+-- A content of 8 or 16 bytes that has not 8 has 16.
 pub long_content : (content : List ℕ) → (length content ≡ 8) ⊎ (length content ≡ 16)
     → (length content ≡ 8 → ⊥) → length content ≡ 16
 long_content content (inl e) other = absurd (other e)

@@ -11,26 +11,31 @@ use Rattle.std.proofs.lemmas.List.Sums.{AllPass-from_list_all, list_all-from_All
 use Rattle.gsi_word.specs.Words.{IsPrintable}
 use Rattle.gsi_word.specs.Layout.{is_printable}
 
+-- A byte that passes the test may stand in a line.
 pub printable : (b : ℕ) → is_printable b ≡ true → IsPrintable b
 printable b h = let p = and_parts _ _ h in (leb-true _ _ p.0, leb-true _ _ p.1)
 
 true_test : (b : ℕ) → IsPrintable b → is_printable b ≡ true
 true_test b h = and_from _ _ (le-leb _ _ h.0) (le-leb _ _ h.1)
 
+-- Bytes that all pass the test may all stand in a line.
 pub printable_from_test : (bytes : List ℕ) → list_all is_printable bytes ≡ true
     → All IsPrintable bytes
 printable_from_test bytes h = All-weaker (λ b. is_printable b ≡ true) IsPrintable printable bytes
     (AllPass-from_list_all is_printable bytes h)
 
+-- Bytes that may all stand in a line all pass the test.
 pub test_from_printable : (bytes : List ℕ) → All IsPrintable bytes
     → list_all is_printable bytes ≡ true
 test_from_printable bytes h = list_all-from_AllPass is_printable bytes
     (All-weaker IsPrintable (λ b. is_printable b ≡ true) true_test bytes h)
 
+-- A byte that fails the test may not stand in a line.
 pub no_printable : (b : ℕ) → is_printable b ≡ false → ¬ IsPrintable b
 no_printable b e h = false≢true (sym e ∙ true_test b h)
 
--- The first n bytes, and those from a place among them or behind them on, are all bytes.
+-- Where the first n bytes and those from a place on may stand in a line, and no byte lies between,
+-- all may.
 pub all_of_both : (bytes : List ℕ) (n from : ℕ) → from ≤ n → All IsPrintable (take n bytes)
     → All IsPrintable (drop from bytes) → All IsPrintable bytes
 all_of_both bytes n from le front rest =
@@ -39,7 +44,7 @@ all_of_both bytes n from le front rest =
     subst (All IsPrintable) (take-append-drop from bytes)
     (All-append IsPrintable (take from bytes) (drop from bytes) before rest)
 
--- whether a byte may not stand in a line
+-- Whether a byte may not stand in a line.
 abbrev pub is_stray : ℕ → Bool
 is_stray b = not (is_printable b)
 
@@ -65,6 +70,6 @@ not_within n m e = by (nat_lt n m) refl e
         some_none k e = cc
     by false past none = ltb-false _ _ past
 
--- without a first byte that may not stand in a line, all may
+-- Without a first byte that may not stand in a line, all may.
 pub no_stray : (bytes : List ℕ) → position is_stray bytes ≡ None → All IsPrintable bytes
 no_stray bytes e = none_past bytes (not_within (position_or_len is_stray bytes) (length bytes) e)

@@ -31,7 +31,7 @@ runs_suc width (suc n) bytes rest run e = (
   runs_suc width n (drop (8 + width) bytes) rest run.1 e,
 )
 
--- one more word
+-- One more word.
 pub runs_more : (width n : ℕ) (bytes rest : List ℕ) → Runs width n bytes rest
     → begins_word width rest ≡ true → Runs width (n + 1) bytes (drop (8 + width) rest)
 runs_more width n bytes rest run e = subst (λ (k : ℕ). Runs width k bytes (drop (8 + width) rest))
@@ -45,13 +45,13 @@ after_blank : (width : ℕ) (bytes : List ℕ) → drop 1 (drop (7 + width) byte
     ≡ drop (8 + width) bytes
 after_blank width bytes = drop-drop 1 (7 + width) bytes ∙ ap (λ (k : ℕ). drop k bytes) (omega arith)
 
--- a word, and what follows it
+-- A word, and what follows it.
 split_front : (width : ℕ) (bytes : List ℕ) → Front width bytes
     → bytes ≡ spelled (word_of (take (7 + width) bytes)) ++ drop (7 + width) bytes
 split_front width bytes f = sym (take-append-drop (7 + width) bytes)
     ∙ ap (λ (w : List ℕ). w ++ drop (7 + width) bytes) f.text
 
--- a word with its blank, and what follows them, where something does
+-- A word with its blank, and what follows them, where something does.
 split_followed : (width : ℕ) (bytes : List ℕ) → Front width bytes
     → 0 < length (drop (8 + width) bytes) → bytes ≡ spelled (word_of (take (7 + width) bytes)) ++ 32
     ∷ drop (8 + width) bytes
@@ -64,14 +64,14 @@ split_followed width bytes f more =
     split_front width bytes f ∙ ap (λ (r : List ℕ). spelled (word_of (take (7 + width) bytes)) ++ r)
     blank
 
--- Where a run goes on, or something stands behind it, something stands behind its first word.
+-- Where a run goes on, or something stands after it, there are bytes at all.
 runs_length : (width n : ℕ) (bytes rest : List ℕ) → Runs width n bytes rest → (0 < n)
     ⊎ (0 < length rest) → 0 < length bytes
 runs_length width zero bytes rest is (inl lt) = absurd (omega arith)
 runs_length width zero bytes rest is (inr lt) = omega (arith, ap length is, lt)
 runs_length width (suc n) bytes rest run some = omega (arith, long_of width bytes run.0)
 
--- what follows the last word: nothing, or a blank and the blanks of the rest
+-- What follows the last word: nothing, or a blank and the blanks of the rest.
 record Ends (bytes rest : List ℕ) : Type 0 where
   pub blanks : ℕ
   pub text : bytes ≡ replicate blanks 32
@@ -115,7 +115,7 @@ run_is_words width (suc n) bytes rest run h blank =
           ∙ sym (append_assoc (spelled w) (32 ∷ rest_text) (replicate tail.blanks 32));
     }
 
--- A run of words with nothing but blanks behind it is all of the bytes.
+-- A run of words with nothing but blanks after it is all of the bytes.
 pub run_are_words : (width n : ℕ) (bytes rest : List ℕ) → Runs width n bytes rest → 0 < n
     → All IsPrintable bytes → rest ≡ replicate (length rest) 32
     → AreWords width bytes (words_from width n bytes)
@@ -124,7 +124,7 @@ run_are_words width (suc n) bytes rest run some h blank =
     run_is_words width n bytes rest run h blank
 
 -- The words of a run, each with its blank, and the rest are the bytes.
-pub record Begun (width n : ℕ) (bytes rest : List ℕ) : Type 0 where
+record Begun (width n : ℕ) (bytes rest : List ℕ) : Type 0 where
   pub each : All (IsWord width) (words_from width n bytes)
   pub text : bytes ≡ flat_map followed (words_from width n bytes) ++ rest
 
@@ -147,11 +147,12 @@ run_begun width (suc n) bytes rest run h (inr some) =
           ∙ sym (append_assoc (followed w) (flat_map followed words) rest);
     }
 
+-- So many words that are read from bytes are so many.
 pub length_words_from : (width n : ℕ) (bytes : List ℕ) → length (words_from width n bytes) ≡ n
 length_words_from width zero bytes = refl
 length_words_from width (suc n) bytes = ap suc (length_words_from width n (drop (8 + width) bytes))
 
--- Behind a run of words stands no word.
+-- Where no word begins after a run of words, the next word is a fault, if it isn't blanks alone.
 pub run_has_fault : (width n : ℕ) (bytes rest : List ℕ) → Runs width n bytes rest
     → All IsPrintable bytes → begins_word width rest ≡ false → (n ≡ 0) ⊎ Any (λ b. b ≢ 32) rest
     → IsWordFault width bytes (n + 1)
@@ -172,7 +173,7 @@ run_has_fault width n bytes rest run h e some =
       ];
     }
 
--- the bytes after some words and their blanks
+-- The bytes after some words and their blanks.
 pub drop_words : (width i : ℕ) (bytes : List ℕ)
     → drop ((8 + width) * i) (drop (8 + width) bytes) ≡ drop ((8 + width) * suc i) bytes
 drop_words width i bytes = drop-drop ((8 + width) * i) (8 + width) bytes

@@ -11,7 +11,7 @@ use Rattle.std.proofs.lemmas.Simd.{run_in_chunk_le, run_in_chunk_fails, run_in_c
 use lib.Lanes.{chunk, mask_l, top}
 use Rattle.gsi_word.specs.Words.{IsPrintable}
 
--- the lane of a byte: its highest bit is set where one of two tests holds
+-- The lane of a byte: its highest bit is set where one of two tests holds.
 abbrev lane : Bool → Bool → ℕ
 lane below above = bit_or (cond below 255 0) (cond above 255 0)
 
@@ -27,13 +27,13 @@ either true above e = inl refl
 either false true e = inr refl
 either false false e = absurd (false≢true e)
 
--- a byte whose lane is not set is printable
+-- A byte whose lane is not set is printable.
 pub printable_where_unset : (b : ℕ) → top 7 (lane (nat_lt b 32) (nat_lt 126 b)) ≡ false
     → IsPrintable b
 printable_where_unset b e = let both = neither (nat_lt b 32) (nat_lt 126 b) e in
     (ltb-false _ _ both.0, ltb-false _ _ both.1)
 
--- a byte whose lane is set is not printable
+-- A byte whose lane is set is not printable.
 pub unprintable_where_set : (b : ℕ) → top 7 (lane (nat_lt b 32) (nat_lt 126 b)) ≡ true
     → ¬ IsPrintable b
 unprintable_where_set b e p = elim (either (nat_lt b 32) (nat_lt 126 b) e) [
@@ -41,7 +41,7 @@ unprintable_where_set b e p = elim (either (nat_lt b 32) (nat_lt 126 b) e) [
   | inr above ↦ let lt = ltb-true _ _ above in omega (arith, lt, p.1)
 ]
 
--- the lanes z of a load, computed by f from its bytes, of which the lowest that is set is sought
+-- The lanes z of a load, computed by f from its bytes, of which the lowest that is set is sought.
 module _ (bytes : List ℕ) (at : ℕ) (room : at + 16 ≤ length bytes) (run : ℕ) (z : List ℕ) (f : ℕ
     → ℕ)
     (found : run ≡ (if mask_l (map (top 7) z) % 2 ^ 64 == 0 then 16
@@ -58,14 +58,17 @@ module _ (bytes : List ℕ) (at : ℕ) (room : at + 16 ≤ length bytes) (run : 
       found ∙ ap (λ (m : ℕ). if m == 0 then 16 else trailing_zeros w64 m) mask
       ∙ first_set_mask_l set load 16 long (omega arith)
 
+  -- The lanes before the first that is set are at most the 16 of the load.
   pub run_is_short : run ≤ 16
   run_is_short = run_in_chunk_le (λ b. top 7 (f b)) bytes at 16 run 0 room counted
 
+  -- The bytes of the lanes before the first that is set are printable.
   pub run_is_printable : ((b : ℕ) → top 7 (f b) ≡ false → IsPrintable b) → (k : ℕ) → at ≤ k
       → k < at + run → IsPrintable (get_or bytes k 0)
   run_is_printable unset k from to = unset (get_or bytes k 0)
       (run_in_chunk_fails (λ b. top 7 (f b)) bytes at 16 run 0 room counted k from to)
 
+  -- Where a lane is set, the byte of the first of them is not printable.
   pub run_ends_at_an_unprintable : ((b : ℕ) → top 7 (f b) ≡ true → ¬ IsPrintable b) → run < 16
       → ¬ IsPrintable (get_or bytes (at + run) 0)
   run_ends_at_an_unprintable set short = set (get_or bytes (at + run) 0)

@@ -16,7 +16,7 @@ use Rattle.gsi_word.specs.Words.{GsiWord, IsPrintable, IsGraphic, IsWord, sign_b
 use Rattle.gsi_word.specs.LineFaults.{EndsWord, BeginsWord}
 use Rattle.gsi_word.specs.Layout.{word_of, begins_word, HasIndex, IsWordBytes}
 
--- the head of a word and what follows
+-- The head of a word and what follows.
 abbrev headed : ℕ → ℕ → ℕ → ℕ → ℕ → ℕ → ℕ → List ℕ → List ℕ
 headed a b i j k m s rest = a ∷ b ∷ i ∷ j ∷ k ∷ m ∷ s ∷ rest
 
@@ -38,8 +38,8 @@ at_head width a b i j k m s rest =
     let e : 7 + width ≡ suc (suc (suc (suc (suc (suc (suc width)))))) = omega arith in
     ap (λ (n : ℕ). get_or (headed a b i j k m s rest) n 0) e
 
--- what the test of a word says of its bytes
-pub record Cells (width a b i j k m s : ℕ) (rest : List ℕ) : Type 0 where
+-- What the test of a word says of its bytes.
+record Cells (width a b i j k m s : ℕ) (rest : List ℕ) : Type 0 where
   pub long : width ≤ length rest
   pub tens : (48 ≤ a) × (a ≤ 57)
   pub ones : (48 ≤ b) × (b ≤ 57)
@@ -133,7 +133,7 @@ ends_of [] h = tt
 ends_of (b ∷ rest) (inl e) = absurd (omega arith)
 ends_of (b ∷ rest) (inr e) = e
 
--- the word of a head and a content
+-- The word of a head and a content.
 record HeadedWord (width a b i j k m s : ℕ) (content : List ℕ) : Type 0 where
   pub word : IsWord width (word_of (headed a b i j k m s content))
   pub text : headed a b i j k m s content ≡ spelled (word_of (headed a b i j k m s content))
@@ -183,6 +183,7 @@ front_of width a b i j k m s rest c h =
       ends = subst (λ (r : List ℕ). EndsWord r) (sym (drop_head width a b i j k m s rest)) at_end;
     }
 
+-- Bytes that pass the test of a word are at least as long as one.
 pub long_of : (width : ℕ) (bytes : List ℕ) → begins_word width bytes ≡ true
     → 7 + width ≤ length bytes
 unfolding begins_word
@@ -243,7 +244,7 @@ four_cells (i ∷ j ∷ []) e = absurd (omega arith)
 four_cells (i ∷ j ∷ k ∷ []) e = absurd (omega arith)
 four_cells (i ∷ j ∷ k ∷ m ∷ n ∷ xs) e = absurd (omega arith)
 
--- the information of a word, byte by byte
+-- The information of a word, byte by byte.
 record Info (w : GsiWord) : Type 0 where
   pub i : ℕ
   pub j : ℕ
@@ -269,7 +270,7 @@ ends_cells width content [] len e = inl (omega (arith, length-append content [])
 ends_cells width content (b ∷ rest) len e = inr (get_or_at content b rest 0 width len ∙ e)
 
 -- A word that ends the bytes or has a blank after it passes the test.
-pub test_of_word : (width : ℕ) (w : GsiWord) (rest : List ℕ) → IsWord width w → EndsWord rest
+test_of_word : (width : ℕ) (w : GsiWord) (rest : List ℕ) → IsWord width w → EndsWord rest
     → begins_word width (spelled w ++ rest) ≡ true
 test_of_word width w rest h ends =
     let c = info_of width w h in
@@ -326,7 +327,7 @@ back_cells width w rest i j k m e len =
     (w.content ++ rest) ∙ drop_at w.content rest width len)
 
 -- The bytes of a word give it back, whatever follows.
-pub word_of_spelled : (width : ℕ) (w : GsiWord) (rest : List ℕ) → IsWord width w
+word_of_spelled : (width : ℕ) (w : GsiWord) (rest : List ℕ) → IsWord width w
     → (word_of (take (7 + width) (spelled w ++ rest)) ≡ w)
     × (drop (7 + width) (spelled w ++ rest) ≡ rest)
 word_of_spelled width w rest h =

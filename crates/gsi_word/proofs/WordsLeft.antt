@@ -5,7 +5,7 @@ use Rattle.std.specs.Prelude.{slice_get}
 use Rattle.std.proofs.lemmas.Option.{get_or_from_slice_get, slice_get_within}
 use Rattle.gsi_word.specs.Words.{GsiWord}
 
--- the word at a place is the first of those from there on
+-- The word at a place is the first of those from there on.
 pub first_left : (words : List GsiWord) (place : ℕ) (w : GsiWord) → slice_get words place ≡ Some w
     → drop place words ≡ w ∷ drop (place + 1) words
 first_left words place w at =

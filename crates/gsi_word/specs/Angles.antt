@@ -10,27 +10,27 @@ use Rattle.gsi_word.specs.declared.angle.AngleFault.TheVariants.{Unit as WrongUn
 use Rattle.gsi_word.specs.declared.angle.AngleFault.TheVariants.{Digits, Range}
 use Rattle.gsi_word.specs.Words.{GsiWord}
 
--- the number that decimal digits write
+-- The number that decimal digits write.
 abbrev pub decimal_value : List ℕ → ℕ
 decimal_value digits = fold (λ n b. 10 * n + (b - 48)) 0 digits
 
--- the number that bytes write, where all are digits
+-- The number that bytes write, where all are digits.
 abbrev pub decimal_number : List ℕ → Option ℕ
 decimal_number bytes = if list_all is_ascii_digit bytes then Some (decimal_value bytes) else None
 
--- whether this byte, the fourth of the information, is `2`, for gon with five decimals
+-- Whether this byte, the fourth of the information, is `2`, for gon with five decimals.
 abbrev pub is_gon : ℕ → Bool
 is_gon b = b == 50
 
--- whether this byte, the third of the information, is `.`, `0`, `2` or `3`
+-- Whether this byte, the third of the information, is `.`, `0`, `2` or `3`.
 abbrev pub is_input_mode : ℕ → Bool
 is_input_mode b = (b == 46 || b == 48) || (b == 50 || b == 51)
 
--- the last unit before a full turn of 400 gon
+-- The last unit before a full turn of 400 gon.
 abbrev pub last_unit : ℕ
 last_unit = 39999999
 
--- a number of units as an angle: below a full turn
+-- A number of units as an angle: below a full turn.
 abbrev pub angle_within_turn : Option ℕ → Result ℕ AngleFault
 angle_within_turn None = Err Digits
 angle_within_turn (Some units) = if nat_le units last_unit then Ok units else Err Range

@@ -6,10 +6,10 @@ use Rattle.gsi_word.specs.Words.{GsiWord}
 use Rattle.gsi_word.specs.Blocks.{GsiBlock}
 use Rattle.gsi_word.specs.Layout.{words_from}
 
--- the width and the words of a block
+-- The width and the words of a block.
 abbrev pub block_of : Block → GsiBlock
 block_of b = record { width = b.width; words = words_from b.width b.count b.bytes.now }
 
--- the words that are still to come
+-- The words that are still to come.
 abbrev pub words_left : Words → List GsiWord
 words_left w = drop w.place (block_of w.block).words

@@ -14,11 +14,11 @@ pub record GsiBlock : Type 0 where
 abbrev pub is_starred : List ℕ → Bool
 is_starred line = starts_with nat_eq line (codes "*")
 
--- how many bytes the content of each word of a line has
+-- How many bytes the content of each word of a line has.
 abbrev pub width_of : List ℕ → ℕ
 width_of line = if is_starred line then 16 else 8
 
--- the bytes of a line in which its words stand: all, or those after the `*`
+-- The bytes of a line in which its words stand: all, or those after the `*`.
 abbrev pub word_bytes : List ℕ → List ℕ
 word_bytes line = if is_starred line then drop 1 line else line
 

@@ -4,7 +4,7 @@ use Rattle.gsi_word.specs.declared.angle.AngleFault.{AngleFault}
 use Rattle.gsi_word.specs.declared.angle.AngleFault.TheVariants.{Unit, InputMode, Sign}
 use Rattle.gsi_word.specs.declared.angle.AngleFault.TheVariants.{Digits, Range}
 
--- The name of a fault of an angle
+-- The name of a fault of an angle.
 abbrev pub angle_fault_name : AngleFault → List ℕ
 angle_fault_name Unit = codes "Unit"
 angle_fault_name InputMode = codes "InputMode"

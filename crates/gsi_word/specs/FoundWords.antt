@@ -4,27 +4,27 @@ use Rattle.gsi_word.specs.declared.found.Found.{Found}
 use Rattle.gsi_word.specs.declared.found.Found.TheVariants.{Absent, One, Twice}
 use Rattle.gsi_word.specs.Words.{GsiWord}
 
--- the words of this index, in order
+-- The words of this index, in order.
 abbrev pub words_with : ℕ → List GsiWord → List GsiWord
 words_with index words = filter (λ w. w.index == index) words
 
--- none, the only one, or more than one
+-- None, the only one, or more than one.
 abbrev pub found_among : List GsiWord → Found
 found_among [] = Absent
 found_among (w ∷ []) = One w
 found_among (w ∷ v ∷ ws) = Twice
 
--- what is found of an index among words: no word, the only one, or more than one
+-- What is found of an index among words: no word, the only one, or more than one.
 abbrev pub found : ℕ → List GsiWord → Found
 found index words = found_among (words_with index words)
 
--- whether no word was found
+-- Whether no word was found.
 abbrev pub is_absent : Found → Bool
 is_absent Absent = true
 is_absent (One w) = false
 is_absent Twice = false
 
--- whether two words or more were found
+-- Whether two words or more were found.
 abbrev pub is_twice : Found → Bool
 is_twice Absent = false
 is_twice (One w) = false

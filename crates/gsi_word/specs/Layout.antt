@@ -7,7 +7,7 @@ use Rattle.std.specs.Int.{is_in_range}
 use Rattle.std.specs.List.{list_any}
 use Rattle.gsi_word.specs.Words.{GsiWord, IsWord}
 
--- the word that these bytes are
+-- The word that these bytes are.
 abbrev pub word_of : List ℕ → GsiWord
 word_of bytes = record {
   index = 10 * (slice_index bytes 0 - 48) + (slice_index bytes 1 - 48);
@@ -16,11 +16,11 @@ word_of bytes = record {
   content = drop 7 bytes;
 }
 
--- whether a byte may stand in a line
+-- Whether a byte may stand in a line.
 abbrev pub is_printable : ℕ → Bool
 is_printable b = is_in_range 32 126 b
 
--- whether printable bytes begin with a word of this width that ends them or has a blank after it
+-- Whether printable bytes begin with a word of this width that ends them or has a blank after it.
 unfoldable pub begins_word : ℕ → List ℕ → Bool
 begins_word width bytes =
     nat_le (7 + width) (length bytes)
@@ -29,13 +29,13 @@ begins_word width bytes =
     && ((slice_index bytes 6 == 43 || slice_index bytes 6 == 45)
     && (length bytes == 7 + width || slice_index bytes (7 + width) == 32)))))
 
--- the first words of some bytes, each with its blank
+-- The first words of some bytes, each with its blank.
 abbrev pub words_from : ℕ → ℕ → List ℕ → List GsiWord
 words_from width zero bytes = []
 words_from width (suc n) bytes =
     word_of (take (7 + width) bytes) ∷ words_from width n (drop (8 + width) bytes)
 
--- GSI-8 or GSI-16
+-- GSI-8 or GSI-16.
 abbrev pub is_width : ℕ → Bool
 is_width width = width == 8 || width == 16
 

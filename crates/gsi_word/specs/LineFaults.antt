@@ -30,7 +30,7 @@ pub record BeginsWord (width : ℕ) (bytes : List ℕ) : Type 0 where
   pub ends : EndsWord rest
   pub text : bytes ≡ spelled word ++ rest
 
--- a word and the blank after it
+-- A word and the blank after it.
 abbrev pub followed : GsiWord → List ℕ
 followed w = spelled w ++ 32 ∷ []
 

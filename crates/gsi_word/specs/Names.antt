@@ -3,7 +3,7 @@
 use Rattle.std.specs.Prelude.{◌≡◌, ◌≢◌, ◌==◌, ℕ, ◌<◌, List, [], ◌∷◌, ◌++◌, length, replicate}
 use Rattle.std.specs.Prelude.{if◌then◌else◌, Some, slice_get, ◌⊎◌}
 
--- the content without the zeros before it, at least one byte kept
+-- The content without the zeros before it, at least one byte kept.
 abbrev pub name_of : List ℕ → List ℕ
 name_of [] = []
 name_of (b ∷ []) = b ∷ []

@@ -4,7 +4,7 @@ use Rattle.gsi_word.specs.declared.shape.Shape.{Shape}
 use Rattle.gsi_word.specs.Blocks.{GsiBlock, word_bytes, IsBlock}
 use Rattle.gsi_word.specs.Layout.{words_from, KeepsWords}
 
--- the width and the words of a line of this shape
+-- The width and the words of a line of this shape.
 abbrev pub shaped : Shape → List ℕ → GsiBlock
 shaped s line = record { width = s.width; words = words_from s.width s.count (word_bytes line) }
 

@@ -9,11 +9,11 @@ pub record GsiWord : Type 0 where
   pub negative : Bool
   pub content : List ℕ
 
--- a byte that may stand in a line: a blank or a visible character of ASCII
+-- A byte that may stand in a line: a blank or a visible character of ASCII.
 abbrev pub IsPrintable : ℕ → Type 0
 IsPrintable b = (32 ≤ b) × (b ≤ 126)
 
--- a byte that may stand in the information of a word: a visible character of ASCII
+-- A byte that may stand in the information of a word: a visible character of ASCII.
 abbrev pub IsGraphic : ℕ → Type 0
 IsGraphic b = (33 ≤ b) × (b ≤ 126)
 
@@ -26,7 +26,7 @@ pub record IsWord (width : ℕ) (w : GsiWord) : Type 0 where
   pub content_length : length w.content ≡ width
   pub content : All IsPrintable w.content
 
--- `-` or `+`
+-- `-` or `+`.
 abbrev pub sign_byte : Bool → ℕ
 sign_byte negative = if negative then 45 else 43
 

@@ -10,7 +10,7 @@ use Rattle.adjust_kernel.proofs.VerdictLaws.{only_one_verdict, matches_where_acc
 use Rattle.adjust_kernel.proofs.VerdictSquares.{tells_of_squares}
 use Rattle.adjust_kernel.proofs.verdict.check_with.Goals as goal
 
--- what is accepted is of the station
+-- What is accepted is of the station.
 matches_on_ok : (station : StationValue) (sheet : SheetValue) (limit : Option ℕ)
     (result : Result Accepted KernelFault) → IsVerdict station sheet limit result
     → OnOk result (Matches station sheet)
