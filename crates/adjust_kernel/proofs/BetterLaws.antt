@@ -120,7 +120,8 @@ module _ (c other : Choice) (p : TurnedObservation → Bool)
         +ℤ pos m *ℤ squared S)
         ∙ left_over m (sum_of_squares c observations) S
 
-    pub moved_is_better : 1 ≤ c.denominator → S ≢ pos 0 → HasBetter c observations
+    -- Where the sum of some residuals is not 0, some choice has a smaller sum of squares.
+    moved_is_better : 1 ≤ c.denominator → S ≢ pos 0 → HasBetter c observations
     moved_is_better h k =
         let some : 1 ≤ m = some_pass m refl in
         let more = product_positive c.denominator m h some in
@@ -151,6 +152,7 @@ at_set m d b a o y s =
     same_value (num (pos m) ⊗ num a ⊖ (num (pos m) ⊗ num o ⊕ x) ⊖ num (pos (d * m)) ⊗ num y)
     (num (pos m) ⊗ (num a ⊖ num o ⊖ num (pos d) ⊗ num y) ⊖ x) (omega arith)
 
+-- Where the residuals of a target do not add to 0, some choice has a smaller sum of squares.
 pub target_sum_has_better : (c : Choice) (observations : List TurnedObservation) (t : ℕ)
     → 1 ≤ c.denominator
     → target_sum c observations t ≢ pos 0 → HasBetter c observations
@@ -167,6 +169,7 @@ target_sum_has_better c observations t h k =
     at_target n c.denominator (p r) (c.direction r.target) (c.orientation r.set) (unrolled r) s)
     h k
 
+-- Where the residuals of a set do not add to 0, some choice has a smaller sum of squares.
 pub set_sum_has_better : (c : Choice) (observations : List TurnedObservation) (t : ℕ)
     → 1 ≤ c.denominator
     → set_sum c observations t ≢ pos 0 → HasBetter c observations

@@ -68,6 +68,7 @@ module _ {X : Type 0} (d e limit : ℕ) (v w : X → ℤ) (xs : List X)
       (within_more (limit * d) (LARGEST_RESIDUAL_LIMIT * d) (v x)
       (mul-le-mul limit_in (omega arith)) h)) xs limited)
 
+  -- Where the other sum of squares is not larger, no residual changes by more than the bound.
   pub changes_in : (pos (d * d) *ℤ int_sum_by (λ x. squared (w x)) xs)
       ≤ℤ (pos (e * e) *ℤ int_sum_by (λ x. squared (v x)) xs)
       → AllByRecursion (λ x. IsWithin (pos (MOST_CHANGE * (d * e))) (pos d *ℤ w x -ℤ pos e *ℤ v x))

@@ -1,7 +1,6 @@
 -- Lists that agree at each place, or differ at a first one.
-use Rattle.std.proofs.Common.{◌≡◌, ◌≢◌, ℕ, suc, zero, ◌+◌, ◌≤◌, ◌<◌, List, [], ◌∷◌, length, take}
+use Rattle.std.proofs.Common.{◌≡◌, ◌≢◌, ℕ, suc, zero, ◌≤◌, ◌<◌, List, [], ◌∷◌, length, take}
 use Rattle.std.proofs.Common.{get_or, Option, Some, None, MatchOption, arith, ap, refl, sym, ◌∙◌}
-use Rattle.std.proofs.Common.{add-one}
 use Rattle.std.specs.Prelude.{IfNone, IfSome}
 use Rattle.std.specs.List.{slice_get}
 use Rattle.std.proofs.lemmas.List.{take_all}
@@ -21,10 +20,6 @@ module _ {X : Type 0} where
       let g : x ≡ y = cc in
       let h : take i xs ≡ take i ys = cc in
       λ j. g j ∷ agree_suc xs ys i h f j
-
-  pub agree_more : (xs ys : List X) (i : ℕ) → take i xs ≡ take i ys
-      → slice_get xs i ≡ slice_get ys i → take (i + 1) xs ≡ take (i + 1) ys
-  agree_more xs ys i e f = rw (add-one i) (agree_suc xs ys i e f)
 
   agree_to : (xs ys : List X) (n : ℕ) → ((k : ℕ) → k < n → slice_get xs k ≡ slice_get ys k)
       → take n xs ≡ take n ys

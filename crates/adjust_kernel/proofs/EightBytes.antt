@@ -9,15 +9,17 @@ use Rattle.std.proofs.lemmas.List.{length-drop}
 use lib.Lanes.{number_l, digits_l}
 use Rattle.adjust_kernel.specs.Names.{padded}
 
+-- Each of these numbers is a byte.
 abbrev pub AreBytes : List ℕ → Type 0
 AreBytes bytes = AllByRecursion (λ b. b < 256) bytes
 
 -- The number of some bytes.
-abbrev pub number : List ℕ → ℕ
+abbrev number : List ℕ → ℕ
 number [] = 0
 number (b ∷ bytes) = number bytes * 256 + b
 
-pub number_read : (bytes : List ℕ) → length bytes ≡ 8 → from_le_bytes w64 bytes ≡ number bytes
+-- Eight bytes that are read as one number give their number.
+number_read : (bytes : List ℕ) → length bytes ≡ 8 → from_le_bytes w64 bytes ≡ number bytes
 number_read [] e = absurd (omega (arith, e))
 number_read (a ∷ []) e = absurd (omega (arith, e))
 number_read (a ∷ b ∷ []) e = absurd (omega (arith, e))

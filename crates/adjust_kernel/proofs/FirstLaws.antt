@@ -87,14 +87,17 @@ none_or_first P holds (suc count) = by (none_or_first P holds count) (holds coun
   by (inl none) (yes p) = inr (count, record { inside = omega arith; here = p; before = none })
   by (inl none) (no f) = inl (last none f)
 
+-- What a test decides holds or does not.
 pub dec_by : {P : Type 0} (b : Bool) → Decides b P → Dec P
 dec_by true d = yes (d.0 refl)
 dec_by false d = no (λ p. let e : false ≡ true = d.1 p in cc)
 
+-- Where it is known whether a thing holds, it is known whether its denial does.
 pub dec_not : {P : Type 0} → Dec P → Dec (P → ⊥)
 dec_not (yes p) = no (λ f. f p)
 dec_not (no f) = yes f
 
+-- Where it is known whether a thing holds, it holds if its denial does not.
 pub by_not_not : {P : Type 0} → Dec P → ((P → ⊥) → ⊥) → P
 by_not_not (yes p) h = p
 by_not_not (no f) h = absurd (h f)

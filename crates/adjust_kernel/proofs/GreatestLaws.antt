@@ -24,10 +24,11 @@ within_size m (negsuc n) h = let le : suc n ≤ m = omega (arith, h) in
     record { low = omega (arith, ints); high = omega (arith, ints) }
 
 -- The greatest size of a residual, observation by observation.
-abbrev pub greatest_from : Choice → ℕ → List TurnedObservation → ℕ
+abbrev greatest_from : Choice → ℕ → List TurnedObservation → ℕ
 greatest_from c known observations =
     fold (λ g r. max g (unsigned_abs (residual c r))) known observations
 
+-- The greatest size of a residual of these observations, or 0 where there are none.
 abbrev pub greatest_size : Choice → List TurnedObservation → ℕ
 greatest_size c observations = greatest_from c 0 observations
 

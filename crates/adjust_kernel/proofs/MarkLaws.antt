@@ -19,17 +19,18 @@ use Rattle.adjust_kernel.specs.TurnedObservations.{TurnedObservation}
 use Rattle.adjust_kernel.specs.Stations.{IsObs, EachSetObserved, EachTargetObserved}
 use Rattle.adjust_kernel.proofs.ReachLaws.{AllWithin}
 
--- What follows where a test passed, and where it did not.
+-- What follows from what holds where a test passed holds there too.
 pub on_true : {P Q : Type 0} (b : Bool) → (P → Q) → OnTrue b P → OnTrue b Q
 on_true true f p = f p
 on_true false f p = p
 
+-- What follows from what holds where a test failed holds there too.
 pub on_false : {P Q : Type 0} (b : Bool) → (P → Q) → OnFalse b P → OnFalse b Q
 on_false true f p = p
 on_false false f p = f p
 
 -- No observation stands between the two parts.
-abbrev pub AllObsWithin : (ℕ → Bool) → (ℕ → Bool) → List Obs → Type 0
+abbrev AllObsWithin : (ℕ → Bool) → (ℕ → Bool) → List Obs → Type 0
 AllObsWithin part_of_set part_of_target obs =
     AllByRecursion (λ o. part_of_set o.set ≡ part_of_target o.target) obs
 
@@ -103,6 +104,7 @@ module _ (sets targets : ℕ) (obs : List Obs) where
     pub fewer : OnTrue any (count_by not marks < count_by not before)
     pub alike : OnFalse any (All (AreAlike marks sets) (take n obs))
 
+  -- Before its first observation a sweep has marked nothing.
   pub none_swept : (marks : List Bool) → IsSwept marks marks false 0
   none_swept marks = record {
     spread = λ s. s;
@@ -119,6 +121,7 @@ module _ (sets targets : ℕ) (obs : List Obs) where
     pub only : (k : ℕ) → mark marks k ≡ true → (i : ℕ) × (o : Obs) × (i < length obs)
         × (get_or obs i o ≡ o) × ((o.set ≡ k) ⊎ (sets + o.target ≡ k))
 
+  -- Before any observation none of the 140 places is marked.
   pub none_seen : AreSeen (replicate 140 false) 0
   none_seen = record {
     long = length-replicate 140 false;
@@ -229,6 +232,7 @@ module _ (sets targets : ℕ) (obs : List Obs) (placed : All (IsObs sets targets
         (mark_after (set marks o.set true) (sets + o.target) k target_in e);
   }
 
+  -- With the marks of its set and target, one more observation is seen.
   pub seen_more : (marks : List Bool) (i : ℕ) (d : Obs) → i < length obs → sets + targets ≤ 140
       → AreSeen sets targets obs marks i
       → AreSeen sets targets obs (set (set marks (get_or obs i d).set true)

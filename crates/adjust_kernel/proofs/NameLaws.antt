@@ -11,6 +11,8 @@ use Rattle.std.proofs.lemmas.Slice.Eq.{bytes_eq-Decides, slice_eq-Decides}
 use Rattle.adjust_kernel.specs.Names.{IsName, IsPrintable, padded}
 use lib.Pointwise.{pointwise}
 
+-- Where sixteen kept bytes are a name and zeros, the first of them, as many as the name is long,
+-- are the name.
 pub made : (bytes kept : List ℕ) → kept ≡ bytes ++ drop (length bytes) (replicate 16 0)
     → IsName bytes → (kept ≡ padded (take (length bytes) kept))
     × (length bytes ≡ length (take (length bytes) kept)) × IsName (take (length bytes) kept)
@@ -37,6 +39,7 @@ kept_alike (x ∷ xs) (y ∷ ys) n m px py e =
     ap (λ (b : ℕ). b ∷ xs) (ap (λ (l : List ℕ). get_or l 0 0) e)
     ∙ ap (λ (l : List ℕ). y ∷ l) (kept_alike xs ys n m px.1 py.1 (ap (drop 1) e))
 
+-- The kept bytes of two names are alike exactly where the names are.
 pub same_kept : (xs ys kept other : List ℕ) (r : Bool) → r ≡ pointwise nat_eq kept other
     → kept ≡ padded xs → other ≡ padded ys → IsName xs → IsName ys → r ≡ bytes_eq xs ys
 same_kept xs ys kept other r e a b valid valid_other =

@@ -11,6 +11,7 @@ pub record IsPlaced (sets targets : ℕ) (observation : TurnedObservation) : Typ
   pub set_in : observation.set < sets
   pub target_in : observation.target < targets
 
+-- With the full turns of as many rows there are as many observations as before.
 pub length-turned_by_rows : (obs : List Obs) (rows : List Row) → length obs ≡ length rows
     → length (turned_by_rows obs rows) ≡ length obs
 length-turned_by_rows [] rows e = refl
@@ -18,6 +19,7 @@ length-turned_by_rows (o ∷ obs) [] e = cc
 length-turned_by_rows (o ∷ obs) (r ∷ rows) e =
     ap suc (length-turned_by_rows obs rows (omega (arith, e)))
 
+-- The observation at a place has the full turns of the row at that place.
 pub get_or-turned_by_rows : (obs : List Obs) (rows : List Row) (n : ℕ) (o : Obs) (r : Row)
     (d : TurnedObservation) → length obs ≡ length rows → n < length obs
     → get_or (turned_by_rows obs rows) n d ≡ turned_by (get_or obs n o) (get_or rows n r).turn

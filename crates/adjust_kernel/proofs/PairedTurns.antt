@@ -15,6 +15,7 @@ use Rattle.adjust_kernel.proofs.ReachLaws.{AllWithin}
 abbrev pub Pair : Type 0
 Pair = TurnedObservation × ℤ
 
+-- Each observation with the number of turns at its place, up to where the shorter list ends.
 abbrev pub paired : List TurnedObservation → List ℤ → List Pair
 paired [] turns = []
 paired (r ∷ observations) [] = []
@@ -28,6 +29,7 @@ retuned x = record x.0 { turn = x.1 }
 abbrev pub difference : Pair → TurnedObservation
 difference x = record x.0 { turn = x.1 -ℤ x.0.turn }
 
+-- The sum of squares with the observations' own turns, as a sum over the pairs.
 pub own_squares : (c : Choice) (observations : List TurnedObservation) (turns : List ℤ)
     → length turns ≡ length observations → sum_of_squares c observations
     ≡ int_sum_by (λ (x : Pair). squared (residual c x.0)) (paired observations turns)
@@ -36,6 +38,7 @@ own_squares c (r ∷ observations) [] e = absurd (omega arith)
 own_squares c (r ∷ observations) (k ∷ turns) e = ap (λ z. squared (residual c r) +ℤ z)
     (own_squares c observations turns (omega arith))
 
+-- The sum of squares with the other turns, as a sum over the pairs.
 pub other_squares : (c : Choice) (observations : List TurnedObservation) (turns : List ℤ)
     → sum_of_squares c (with_turns observations turns)
     ≡ int_sum_by (λ (x : Pair). squared (residual c (retuned x))) (paired observations turns)
@@ -44,6 +47,7 @@ other_squares c (r ∷ observations) [] = refl
 other_squares c (r ∷ observations) (k ∷ turns) = ap
     (λ z. squared (residual c (record r { turn = k })) +ℤ z) (other_squares c observations turns)
 
+-- There are no more pairs than observations.
 pub length-paired : (observations : List TurnedObservation) (turns : List ℤ)
     → length (paired observations turns) ≤ length observations
 length-paired [] turns = omega arith
@@ -51,6 +55,7 @@ length-paired (r ∷ observations) [] = omega arith
 length-paired (r ∷ observations) (k ∷ turns) = let e = length-paired observations turns in
     omega arith
 
+-- What holds of each observation holds of that of each pair.
 pub paired-all : (P : TurnedObservation → Type 0) (observations : List TurnedObservation)
     (turns : List ℤ)
     → AllByRecursion P observations
@@ -59,6 +64,7 @@ paired-all P [] turns h = tt
 paired-all P (r ∷ observations) [] h = tt
 paired-all P (r ∷ observations) (k ∷ turns) h = (h.0, paired-all P observations turns h.1)
 
+-- What holds of each pair's observation with the difference of its turns holds of all of these.
 pub differences-all : (P : TurnedObservation → Type 0) (xs : List Pair)
     → AllByRecursion (λ (x : Pair). P (difference x)) xs → AllByRecursion P (map difference xs)
 differences-all P [] h = tt
@@ -73,6 +79,8 @@ differences-within p q (r ∷ observations) [] e h = absurd (omega arith)
 differences-within p q (r ∷ observations) (k ∷ turns) e h =
     (h.0, differences-within p q observations turns (omega arith) h.1)
 
+-- Where the observations with the differences of their turns leave two parts, so do the
+-- observations.
 pub differences-divided : (sets targets : ℕ) (observations : List TurnedObservation)
     (turns : List ℤ)
     → length turns ≡ length observations

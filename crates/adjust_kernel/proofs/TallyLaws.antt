@@ -9,7 +9,7 @@ use Rattle.std.proofs.lemmas.List.{map-append, get_or-set_same, get_or-set_other
 use Rattle.std.proofs.lemmas.List.{get_or-replicate, take_more}
 use Rattle.std.proofs.lemmas.List.Elements.{All-set, All-weaker, All-replicate}
 use Rattle.adjust_kernel.specs.declared.tally.Added.{Added}
-use Rattle.adjust_kernel.specs.Sums.{int_sum_by, int_sum_where}
+use Rattle.adjust_kernel.specs.Sums.{int_sum_where}
 use Rattle.adjust_kernel.specs.Within.{IsWithin}
 use Rattle.adjust_kernel.specs.Tallies.{AreSumsOf, added_for_target, added_for_set, added_of}
 use Rattle.adjust_kernel.specs.Tallies.{all_added}
@@ -47,6 +47,7 @@ one_more key f sums l x count inside h k below = by (ℕ_discrete k (key x))
         (sym (ne_eqb (key x) k (λ e. n (sym e))))
         ∙ sym (int_sum_by-push (λ a. cond (eqb (key a) k) (f a) (pos 0)) l x)
 
+-- With a residual added to its target's sum and its set's, the sums are those of one more residual.
 pub keeps_sums : (targets sets : List ℤ) (taken : ℕ) (l : List Added) (x : Added)
     → length targets ≡ 100 → length sets ≡ 40 → x.target < 100 → x.set < 40
     → AreSumsOf l targets sets taken
@@ -81,6 +82,7 @@ pub zeros_within : (n : ℕ) → All (IsWithin (pos 0)) (replicate n (pos 0))
 zeros_within n = All-replicate (IsWithin (pos 0)) n (pos 0)
     (record { low = omega (arith, ints); high = omega (arith, ints) })
 
+-- Zeros are the sums of no residuals.
 pub zeros_are_sums : AreSumsOf [] (replicate 100 (pos 0)) (replicate 40 (pos 0)) 0
 zeros_are_sums = record {
   number = refl;

@@ -237,6 +237,7 @@ taken_up e v a o k mt ms =
     (omega arith)
 
 module _ (other : Choice) (of_target of_set : ℕ → ℤ) where
+  -- The other choice with whole turns taken off its directions and orientations.
   abbrev pub taken : Choice
   taken = record {
     denominator = other.denominator;
@@ -244,6 +245,7 @@ module _ (other : Choice) (of_target of_set : ℕ → ℤ) where
     orientation = λ s. other.orientation s -ℤ pos (other.denominator * TURN) *ℤ of_set s;
   }
 
+  -- Its sum of squares is that of the other choice with these turns added to the observations.
   pub taken_squares : (observations : List TurnedObservation)
       → sum_of_squares taken observations ≡ sum_of_squares other
       (with_turns observations
@@ -253,6 +255,7 @@ module _ (other : Choice) (of_target of_set : ℕ → ℤ) where
       (taken_up other.denominator r.value (other.direction r.target) (other.orientation r.set)
       r.turn (of_target r.target) (of_set r.set) i) +ℤ taken_squares observations i
 
+-- What is accepted under a residual limit has the least sum of squares over all full turns.
 pub limited_is_least_over_turns : (limit sets targets : ℕ) (c : Choice)
     (observations : List TurnedObservation)
     → IsAcceptedUnder limit sets targets c observations → IsLeastOverTurns c observations
@@ -269,6 +272,8 @@ limited_is_least_over_turns limit sets targets c observations a other turns long
     omega (arith, ints))
     (λ le. le)
 
+-- Where a sheet is accepted under a residual limit, other full turns reach the same sum only by
+-- turning targets and sets as a whole.
 pub limited_equal_only_turned : (limit sets targets : ℕ) (c : Choice)
     (observations : List TurnedObservation)
     → IsAcceptedUnder limit sets targets c observations → OnlyTurnedWhole c observations

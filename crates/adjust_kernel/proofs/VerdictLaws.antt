@@ -387,6 +387,8 @@ module _ (station : StationValue) (sheet : SheetValue) where
           (clear (Residual 0) (omega arith)) (omega (arith, long, some)) in
           (Ok accepted, verdict)
 
+  -- The first target whose residuals do not add to 0 is the fault, where the sheet is of the
+  -- station.
   pub target_sum_fault : (n : ℕ) → Matches station sheet
       → IsFirstWhere
       (λ t. target_sum (choice_stated_by sheet) (observations station sheet) t ≢ pos 0)
@@ -394,6 +396,7 @@ module _ (station : StationValue) (sheet : SheetValue) where
   target_sum_fault n matches first limit = refused limit (TargetSum (n + 1)) (n, refl, first)
       (kept matches limit)
 
+  -- The first set whose residuals do not add to 0 is the fault, where the targets add up.
   pub set_sum_fault : (n : ℕ) → Matches station sheet → TargetsAddUp station sheet
       → IsFirstWhere (λ s. set_sum (choice_stated_by sheet) (observations station sheet) s ≢ pos 0)
       (length station.sets) n → IsFault station sheet (SetSum (n + 1))
@@ -403,6 +406,7 @@ module _ (station : StationValue) (sheet : SheetValue) where
         clear (TargetSum m) h = targets
         clear other h = kept matches limit other (omega arith)
 
+  -- Where targets and sets add up, but are in two parts, the fault is that they are not connected.
   pub connection_fault : Matches station sheet → TargetsAddUp station sheet
       → SetsAddUp station sheet → IsDivided (length station.sets) (length station.targets)
       (observations station sheet) → IsFault station sheet NotConnected
@@ -413,6 +417,8 @@ module _ (station : StationValue) (sheet : SheetValue) where
         clear (SetSum m) h = sets
         clear other h = kept matches limit other (omega arith)
 
+  -- The first residual above the limit is the fault, where all that is looked for before it is as
+  -- it has to be.
   pub residual_fault : (most n : ℕ) → Matches station sheet → TargetsAddUp station sheet
       → SetsAddUp station sheet → HoldsTogether station sheet
       → IsFirstWhere (IsAbove most (choice_stated_by sheet) (observations station sheet))

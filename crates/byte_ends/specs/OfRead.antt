@@ -1,4 +1,4 @@
--- The reader behind an `OfRead`, and what is known of it.
+-- The reader that an `OfRead` asks, and what is known of it.
 use Rattle.std.specs.Prelude.{ℕ, Bool, true, false, ◌==◌, not, ◌&&◌, Option, Some, None, Result, Ok}
 use Rattle.std.specs.Prelude.{Err, if◌then◌else◌}
 use Rattle.byte_ends.specs.declared.of_read.OfRead.{OfRead}

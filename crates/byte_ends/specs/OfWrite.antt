@@ -1,4 +1,4 @@
--- The writer behind an `OfWrite`.
+-- The writer that an `OfWrite` hands on to.
 use Rattle.std.specs.Prelude.{Bool}
 use Rattle.byte_ends.specs.declared.of_write.OfWrite.{OfWrite}
 

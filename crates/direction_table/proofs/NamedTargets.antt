@@ -11,6 +11,7 @@ use Rattle.std.proofs.lemmas.List.Sums.{fails_before_first}
 use Rattle.std.proofs.lemmas.Slice.Eq.{bytes_eq-Decides}
 use Rattle.direction_table.specs.Rows.{has_name}
 
+-- Whether a target has this name.
 abbrev pub is_named : List ℕ → List ℕ → Bool
 is_named name target = bytes_eq target name
 
@@ -26,6 +27,7 @@ none-passes p names e = by (nat_lt (position_or_len p names) (length names)) ref
         list_any_none p names (λ k d below. fails_before_first p names k d
         (omega (arith, past, below)))
 
+-- The target at the place that the search finds has the name.
 pub named-name : (targets : List (List ℕ)) (name : List ℕ) (o : Option ℕ)
     → o ≡ position (is_named name) targets → IfSome o (λ place. get_or targets place [] ≡ name)
 named-name targets name None e = tt
@@ -33,6 +35,7 @@ named-name targets name (Some place) e =
     let found = position-Some (is_named name) targets place [] (sym e) in
     (bytes_eq-Decides (get_or targets place []) name).0 found.1
 
+-- Where the search finds a place, some target has the name.
 pub named-some : (targets : List (List ℕ)) (name : List ℕ) (o : Option ℕ)
     → o ≡ position (is_named name) targets → OnSome o (has_name targets name ≡ true)
 named-some targets name None e = tt
@@ -40,6 +43,7 @@ named-some targets name (Some place) e =
     let found = position-Some (is_named name) targets place [] (sym e) in
     list_any_at (is_named name) targets place [] found.0 found.1
 
+-- Where the search finds none, no target has the name.
 pub named-none : (targets : List (List ℕ)) (name : List ℕ) (o : Option ℕ)
     → o ≡ position (is_named name) targets → IfNone o (has_name targets name ≡ false)
 named-none targets name None e = none-passes (is_named name) targets (sym e)

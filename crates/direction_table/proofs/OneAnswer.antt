@@ -30,6 +30,7 @@ same-directions (x ∷ xs) (y ∷ ys) e =
     let rest : map Some xs ≡ map Some ys = cc e in
     rw (first, same-directions xs ys rest) refl
 
+-- Bytes are a table of one list of directions at most.
 pub one-table : (targets : List (List ℕ)) (bytes : List ℕ) (a b : List ℤ)
     → IsTableText targets bytes a → IsTableText targets bytes b → a ≡ b
 one-table targets bytes a b s t = same-directions a b (sym s.stated ∙ t.stated)
@@ -51,6 +52,7 @@ not-missing stated directions place same inside none =
     ))
     )
 
+-- Bytes that are a table have no fault.
 pub never-both : (targets : List (List ℕ)) (bytes : List ℕ) (directions : List ℤ)
     (fault : TableFault) → IsTableText targets bytes directions → IsTableFault targets bytes fault
     → ⊥
@@ -89,6 +91,7 @@ same-kind targets rows p q j k one two same =
     let both : Some j ≡ Some k = sym one.here ∙ ap (fault_at targets rows) same ∙ two.here in
     cc both
 
+-- Bytes have one fault at most.
 pub one-fault : (targets : List (List ℕ)) (bytes : List ℕ) (f g : TableFault)
     → IsTableFault targets bytes f → IsTableFault targets bytes g → f ≡ g
 one-fault targets bytes TooLong TooLong a b = refl
@@ -134,6 +137,8 @@ answers-table items targets bytes (Err f) ok err directions text = elim err [
   | inr memory ↦ memory
 ]
 
+-- Where the bytes have a fault, an answer that is right about them is that fault, or that memory
+-- ran out.
 pub answers-fault : {V : Type 0} (items : V → List ℤ) (targets : List (List ℕ)) (bytes : List ℕ)
     (r : Result V TableFault) → IfOk r (λ v. IsTableText targets bytes (items v))
     → IfErr r (IsFaultOrMemory targets bytes)
@@ -158,6 +163,8 @@ whole-table items targets bytes stated (Ok v) short clean same all = record {
 }
 whole-table items targets bytes stated (Err f) short clean same all = tt
 
+-- A refusal that is right about the first missing direction is right about bytes that are short and
+-- without a fault in a row.
 pub missing-fault : {V : Type 0} (targets : List (List ℕ)) (bytes : List ℕ)
     (stated : List (Option ℤ)) (r : Result V TableFault) → length bytes ≤ LONGEST_TABLE
     → HasNoFault targets (records_of bytes)
@@ -252,6 +259,7 @@ decided-rows targets bytes short before (row ∷ rest) whole clean =
       ),
     )
 
+-- Bytes are a table of the targets or have a fault.
 pub table-or-fault : (targets : List (List ℕ)) (bytes : List ℕ) → TableOrFault targets bytes
 table-or-fault targets bytes = elim (cases_lt LONGEST_TABLE (length bytes)) [
   | inl long ↦ inr (TooLong, long)

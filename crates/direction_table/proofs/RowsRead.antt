@@ -15,7 +15,7 @@ use Rattle.direction_table.specs.Tables.{stated_by}
 use Rattle.direction_table.specs.declared.fault.RowKind.{RowKind}
 
 -- The fault at the place where these rows part.
-pub fault_at-seam : (targets : List (List ℕ)) (before rest : List (List (List ℕ)))
+fault_at-seam : (targets : List (List ℕ)) (before rest : List (List (List ℕ)))
     → fault_at targets (before ++ rest) (length before) ≡ fault_between targets before rest
 fault_at-seam targets before rest =
     rw (take-append_seam before rest, drop-append_seam before rest) refl
@@ -44,6 +44,7 @@ pub record HasRead (targets : List (List ℕ)) (all : List (List (List ℕ)))
   pub clean : NoFaultBefore targets all (length before)
   pub each : stated ≡ stated_by before targets
 
+-- Before the first row none was read, and all are left.
 pub read-begin : (targets : List (List ℕ)) (all : List (List (List ℕ))) (stated : List (Option ℤ))
     → stated ≡ stated_by [] targets → HasRead targets all stated 0 all
 read-begin targets all stated none = record {
@@ -54,6 +55,7 @@ read-begin targets all stated none = record {
   each = none;
 }
 
+-- A row without a fault is read, and those after it are left.
 pub read-more : (targets : List (List ℕ)) (all : List (List (List ℕ)))
     (stated next : List (Option ℤ)) (number : ℕ) (row : List (List ℕ))
     (rest : List (List (List ℕ))) → HasRead targets all stated number (row ∷ rest)
@@ -83,6 +85,7 @@ first-here targets all before rest row k whole clean found = record {
   before = clean;
 }
 
+-- The fault of the next row is the first of the table, at the number of the rows before it.
 pub read-fault : (targets : List (List ℕ)) (all : List (List (List ℕ))) (stated : List (Option ℤ))
     (number : ℕ) (row : List (List ℕ)) (rest : List (List (List ℕ))) (k : RowKind)
     → HasRead targets all stated number (row ∷ rest)
@@ -105,11 +108,13 @@ clean-end targets all before whole none place = elim (cases_lt place (length bef
       rw (take_all place all long, drop_all place all long) refl
 ]
 
+-- Where no row is left, none has a fault.
 pub read-clean : (targets : List (List ℕ)) (all : List (List (List ℕ))) (stated : List (Option ℤ))
     (number : ℕ) → HasRead targets all stated number [] → HasNoFault targets all
 read-clean targets all stated number read = clean-end targets all read.before (read.whole
     ∙ append-nil read.before) read.clean
 
+-- Where no row is left, what is stated is what all rows state of the targets.
 pub read-each : (targets : List (List ℕ)) (all : List (List (List ℕ))) (stated : List (Option ℤ))
     (number : ℕ) → HasRead targets all stated number [] → stated ≡ stated_by all targets
 read-each targets all stated number read = read.each

@@ -18,8 +18,8 @@ use Rattle.direction_table.specs.declared.fault.RowKind.{RowKind}
 use Rattle.direction_table.specs.declared.fault.RowKind.TheVariants as fault
 use Rattle.direction_table.proofs.TwoColumns.{direction-column, name-column}
 
--- A row has a name where a direction is stated of it, and not where none is.
-pub earlier-some : (rows : List (List (List ℕ))) (name : List ℕ) (v : ℤ)
+-- Where the rows state a direction of a name, one of them has the name.
+earlier-some : (rows : List (List (List ℕ))) (name : List ℕ) (v : ℤ)
     → direction_in rows name ≡ Some v → has_name (map name_of rows) name ≡ true
 earlier-some [] name v e = cc e
 earlier-some (row ∷ rows) name v e = by (bytes_eq (name_of row) name) e (earlier-some rows name v)
@@ -31,7 +31,8 @@ earlier-some (row ∷ rows) name v e = by (bytes_eq (name_of row) name) e (earli
     by true q later = refl
     by false q later = later q
 
-pub earlier-none : (rows : List (List (List ℕ))) (name : List ℕ) → direction_in rows name ≡ None
+-- Where the rows state no direction of a name, none of them has the name.
+earlier-none : (rows : List (List (List ℕ))) (name : List ℕ) → direction_in rows name ≡ None
     → has_name (map name_of rows) name ≡ false
 earlier-none [] name e = refl
 earlier-none (row ∷ rows) name e = by (bytes_eq (name_of row) name) e (earlier-none rows name)
@@ -43,8 +44,8 @@ earlier-none (row ∷ rows) name e = by (bytes_eq (name_of row) name) e (earlier
     by true q later = cc q
     by false q later = later q
 
--- One row more states nothing of other names.
-pub more-other : (rows : List (List (List ℕ))) (row : List (List ℕ)) (name : List ℕ)
+-- A row states nothing of other names.
+more-other : (rows : List (List (List ℕ))) (row : List (List ℕ)) (name : List ℕ)
     → bytes_eq (name_of row) name ≡ false → direction_in (rows ++ (row ∷ [])) name
     ≡ direction_in rows name
 more-other [] row name e = ap (λ (b : Bool). if b then Some
@@ -53,8 +54,8 @@ more-other (first ∷ rows) row name e = ap (λ (o : Option ℤ). if bytes_eq
     (name_of first) name then Some (direction_value (beside_name first)) else o)
     (more-other rows row name e)
 
--- And its own direction of a name that no row before has.
-pub more-same : (rows : List (List (List ℕ))) (row : List (List ℕ)) (name : List ℕ)
+-- A row states its own direction of its name, where no row before has that name.
+more-same : (rows : List (List (List ℕ))) (row : List (List ℕ)) (name : List ℕ)
     → bytes_eq (name_of row) name ≡ true → direction_in rows name ≡ None
     → direction_in (rows ++ (row ∷ [])) name ≡ Some (direction_value (beside_name row))
 more-same [] row name e none = ap (λ (b : Bool). if b then Some
@@ -88,6 +89,7 @@ kept targets before directions row place c d t same =
     ∙ get_or-map (direction_in before) targets place [] d t.inside
     ∙ ap (direction_in before) t.name
 
+-- A row that is right in itself, but whose name a row before has, is the second of one target.
 pub twice : (targets : List (List ℕ)) (before : List (List (List ℕ))) (row : List (List ℕ))
     (place : ℕ) (c : Fields) (v : ℤ)
     → Taken targets row place c → entry_fault targets c ≡ None
@@ -99,6 +101,7 @@ twice targets before row place c v t clean there =
     (unless (not (has_name (map name_of before) c.name)) fault.Twice)) clean
     ∙ ap (λ (b : Bool). unless (not b) fault.Twice) (earlier-some before c.name v there)
 
+-- A row that is right in itself and whose name no row before has is without a fault.
 pub faultless : (targets : List (List ℕ)) (before : List (List (List ℕ))) (row : List (List ℕ))
     (place : ℕ) (c : Fields)
     → Taken targets row place c → entry_fault targets c ≡ None → direction_in before c.name ≡ None
@@ -110,11 +113,13 @@ faultless targets before row place c t clean none =
     (unless (not (has_name (map name_of before) c.name)) fault.Twice)) clean
     ∙ ap (λ (b : Bool). unless (not b) fault.Twice) (earlier-none before c.name none)
 
+-- A row that has not two columns has that fault.
 pub columns-refused : (targets : List (List ℕ)) (before : List (List (List ℕ)))
     (row : List (List ℕ)) → columns_of row ≡ None → row_fault targets before row ≡ Some fault.Fields
 unfolding row_fault
 columns-refused targets before row none = ap (columns_fault targets (map name_of before)) none
 
+-- The fault of a row's columns in themselves is the fault of the row.
 pub entry-refused : (targets : List (List ℕ)) (before : List (List (List ℕ))) (row : List (List ℕ))
     (c : Fields) (k : RowKind) → columns_of row ≡ Some c → entry_fault targets c ≡ Some k
     → row_fault targets before row ≡ Some k
@@ -199,20 +204,23 @@ taken targets before directions row place c v ok t same none value =
           ∙ more-other before row (get_or targets i []) differ)
     ]
 
--- What a refusal that is handed on says.
+-- What an error is handed on with says what follows from what was known of it.
 pub lifted : {T E : Type 0} (r : Result T E) (P Q : E → Type 0) → IsErrAnd r P
     → ((k : E) → P k → Q k) → IfErr r Q
 lifted (Ok x) P Q h f = tt
 lifted (Err k) P Q h f = f k h
 
+-- Where a direction is said to be there, there is one.
 pub some-there : (o : Option ℤ) → is_some o ≡ true → (v : ℤ) × (o ≡ Some v)
 some-there None e = cc e
 some-there (Some v) e = (v, refl)
 
+-- Where no direction is said to be there, there is none.
 pub none-there : (o : Option ℤ) → is_some o ≡ false → o ≡ None
 none-there None e = refl
 none-there (Some v) e = cc e
 
+-- The same, in the cases of an answer that is known to be an error.
 pub lifted-cases : {T E : Type 0} (r : Result T E) (P Q : E → Type 0) (R : T → Type 0)
     → IsErr r × IsErrAnd r P → ((k : E) → P k → Q k) → MatchResult r R Q
 lifted-cases (Ok x) P Q R h f = cc (h.0)

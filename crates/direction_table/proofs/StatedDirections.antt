@@ -21,6 +21,7 @@ not-before stated items place m inside same below none =
     ∙ get_or-map Some items m (pos 0) None (omega (arith, size, below))
     )
 
+-- Where all before a place is stated, but nothing at it, that target is the first that is missing.
 pub missing : (stated : List (Option ℤ)) (items : List ℤ) (place : ℕ) → place < length stated
     → take place stated ≡ map Some items → get_or stated place None ≡ None
     → IsMissingOrMemory stated (Missing (place + 1))
@@ -39,6 +40,8 @@ missing stated items place inside same none =
       ),
     )
 
+-- With the direction of one more target, the first directions are those that are stated of that
+-- many.
 pub one-more : (stated : List (Option ℤ)) (items : List ℤ) (place : ℕ) (direction : ℤ)
     → place < length stated → take place stated ≡ map Some items
     → get_or stated place None ≡ Some direction

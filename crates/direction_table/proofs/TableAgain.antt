@@ -56,7 +56,7 @@ no-mark count (row ∷ rest) ok = no-mark-before row.name _ _ _
     (All-head (IsWritten count) row rest ok).name
 
 -- So its records are the rows that were written.
-pub rows-again : (count : ℕ) (stated : List TargetDirection) → All (IsWritten count) stated
+rows-again : (count : ℕ) (stated : List TargetDirection) → All (IsWritten count) stated
     → records_of (table_text count stated) ≡ map (row_of count) stated
 rows-again count stated ok =
     rw (no-mark count stated ok) (records-written (length (table_text count stated) + 1)
@@ -187,6 +187,8 @@ written count stated names exact k d below = record {
   exact = exact k d below;
 }
 
+-- The text of a table of all targets, in whole steps of its decimals, is a table of them and of
+-- their directions.
 pub table-again : (targets : List (List ℕ)) (count : ℕ) (stated : List TargetDirection)
     → AreTargets targets → names_of stated ≡ targets → AreDecimals count
     → All (λ row. IsWhole count row.direction) stated

@@ -41,6 +41,7 @@ row-short count few stated ok =
       text-length count stated.direction few ok.exact,
     )
 
+-- The text of a table of at most as many targets as a station has is not too long for a table.
 pub table-short : (count : ℕ) (stated : List TargetDirection) → length stated ≤ MOST_TARGETS
     → AreDecimals count → All (IsWritten count) stated
     → length (table_text count stated) ≤ LONGEST_TABLE

@@ -4,6 +4,7 @@ use Rattle.csv.specs.Records.{field_at}
 use Rattle.sheet_format.proofs.FiveColumns.{at}
 use Rattle.direction_table.specs.Rows.{Fields, beside_name, columns_of, name_of}
 
+-- A row of two fields has them as its columns, the name and then the direction.
 pub two : (fs : List (List ℕ)) → length fs ≡ 2 → columns_of fs ≡ Some (record {
   name = at fs 0;
   direction = at fs 1;
@@ -22,6 +23,7 @@ name-column (a ∷ []) c e = cc e
 name-column (a ∷ b ∷ []) c e = cc e
 name-column (a ∷ b ∷ x ∷ rest) c e = cc e
 
+-- What stands beside the name of a row of two columns is its direction.
 pub direction-column : (row : List (List ℕ)) (c : Fields) → columns_of row ≡ Some c
     → beside_name row ≡ c.direction
 direction-column [] c e = cc e

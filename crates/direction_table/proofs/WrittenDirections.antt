@@ -150,6 +150,7 @@ front-of w h =
 gons-below : (d : ℕ) → d < 400000000000 → d / 10 ^ 9 < 400
 gons-below d h = omega (arith, h)
 
+-- The text of a direction in whole steps of its decimals has the form of a direction.
 pub text-form : (k d : ℕ) → AreDecimals k → IsWhole k d → is_direction (direction_text k d) ≡ true
 text-form k d few-decimals exact =
     let f = front-of (d / 10 ^ 9) (gons-below d exact.0) in
@@ -178,12 +179,14 @@ unsigned-size k d few-decimals exact =
     ap size_value ((no-minus (decimal (d / 10 ^ 9)) (46 ∷ decimals_of k d) f.digits f.some).0)
     ∙ text-size k d few-decimals exact
 
+-- The text of a direction below a full circle states one below a full circle.
 pub text-below : (k d : ℕ) → AreDecimals k → IsWhole k d → is_below_circle (direction_text k d)
     ≡ true
 text-below k d few-decimals exact =
     ap (λ n. nat_lt n 400000000000) (unsigned-size k d few-decimals exact)
     ∙ below d 400000000000 exact.0
 
+-- The text of a direction in whole steps of its decimals is read as that direction.
 pub text-value : (k d : ℕ) → AreDecimals k → IsWhole k d → direction_value (direction_text k d)
     ≡ pos d
 text-value k d few-decimals exact =

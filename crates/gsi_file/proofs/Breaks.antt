@@ -110,6 +110,7 @@ least_none p (suc last) none =
     ∙ ap (option_map (λ n. suc n)) (least_none (λ n. p (suc n)) last
     (λ n le. none (suc n) (omega arith)))
 
+-- Where this byte is the first to break a limit, the answers are those before it.
 pub broken_limit : (room : ℕ) (bytes : List ℕ) (fails : Bool) (x : ℕ) → IsFirstBreak room bytes x
     → answers_within room bytes fails ≡ answers_before room bytes x
 unfolding answers_within
@@ -117,6 +118,7 @@ broken_limit room bytes fails x h =
     ap (spec.answers_by room bytes fails) (least_is (λ n. breaks room (take n bytes)) (length bytes)
     x h.inside (ap not h.breaks) (λ n lt. ap not (h.before n lt)))
 
+-- Where no first bytes break a limit, the answers are those of all bytes.
 pub no_broken_limit : (room : ℕ) (bytes : List ℕ) (fails : Bool)
     → ((n : ℕ) → n ≤ length bytes → is_within room (take n bytes) ≡ true)
     → answers_within room bytes fails ≡ answers_of_all bytes fails

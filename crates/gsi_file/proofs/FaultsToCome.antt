@@ -21,6 +21,7 @@ next_at_fault before after room line used room' hand hand' true kind e fault =
 next_at_fault before after room line used room' hand hand' false kind e fault =
     inr (take line hand', _, ap (λ (a : FileAnswers). a.lines) e, fault)
 
+-- The fault of a line that was found is what comes next, at the number of that line.
 pub fault_to_come : (state : State) (count room room' : ℕ) (hand hand' rest : List ℕ)
     (before after : Told) (f : FoundLine) (kind : FileKind)
     → settled_in state ≡ false → count + 1 ≤ LONGEST_FILE

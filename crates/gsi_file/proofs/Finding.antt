@@ -68,7 +68,8 @@ at_end a b c room h0 left line h h' e s g =
     ∙ ap (λ (zs : List ℕ). record { lines = cond (is_line zs) (zs ∷ []) []; last = None })
     (sym (ap (take line) kept ∙ whole))
 
-pub ends : (told0 told told' : Option Told) (room : ℕ) (h0 : List ℕ) (left line : ℕ) (h h' : List ℕ)
+-- At the end of the source the answers are the last part, where it is a line, and then the end.
+ends : (told0 told told' : Option Told) (room : ℕ) (h0 : List ℕ) (left line : ℕ) (h h' : List ℕ)
     → line ≡ length h → Searching told0 told room h0 left line h → Grows told told' h h' 0 →
     AnswersAre told0 room h0 told' (record {
       lines = cond (is_line (take line h')) (take line h' ∷ []) [];
@@ -90,6 +91,7 @@ breaks_off (Some a) (Some b) None room h0 left line h s f = absurd f
 breaks_off (Some a) (Some b) (Some c) room h0 left line h s f =
     subst (λ (t : Told). HasBrokenOff t) (sym f.1) f.0
 
+-- Where the source fails while a line is looked for, the answers are that failed read alone.
 pub fails : (told0 told told' : Option Told) (room : ℕ) (h0 : List ℕ) (left line : ℕ) (h : List ℕ)
     → line ≡ length h → Searching told0 told room h0 left line h → FailsTold told told' →
     AnswersAre told0 room h0 told' (record { lines = []; last = Some Read })
@@ -158,7 +160,7 @@ part_ended a b room h0 left line h lt less end s =
     (drop (line + 1) h ++ b.bytes) b.fails)) (taken line h s.inside)
 
 -- Where it is not blank it is the next line.
-pub finds : (told0 told : Option Told) (room : ℕ) (h0 : List ℕ) (left line : ℕ) (h : List ℕ)
+finds : (told0 told : Option Told) (room : ℕ) (h0 : List ℕ) (left line : ℕ) (h : List ℕ)
     → line < length h → line < left → is_line_end (slice_index h line) ≡ true
     → is_line (take line h) ≡ true → Searching told0 told room h0 left line h →
     AnswersBegin told0 room h0 told (take line h) (left - (line + 1)) (drop (line + 1) h)
@@ -187,7 +189,7 @@ passes (Some a) (Some b) room h0 left line h lt less end line_there s =
 pub none_plain : (h : List ℕ) → HasNoEnd (take 0 h)
 none_plain h = All-nil (λ b. is_line_end b ≡ false)
 
--- An end behind an end stands after an empty part, which is passed over.
+-- An end right after an end stands after an empty part, which is passed over.
 past_next_end : (told0 told : Option Told) (room : ℕ) (h0 part : List ℕ) (left line : ℕ)
     (h : List ℕ) → line + 1 < length h → line + 1 < left
     → is_line_end (slice_index h (line + 1)) ≡ true →
@@ -218,7 +220,7 @@ past_next_end (Some a) (Some b) room h0 part left line h lt less end begin =
     ∙ ap (λ n. line_before part (answers_in n (drop (line + 2) h) b)) (omega arith)
 
 -- A line has a byte.
-pub some_byte : (line : ℕ) (h : List ℕ) → is_line (take line h) ≡ true → 0 < line
+some_byte : (line : ℕ) (h : List ℕ) → is_line (take line h) ≡ true → 0 < line
 some_byte zero h e = let f : false ≡ true = e in cc
 some_byte (suc n) h e = omega arith
 
@@ -237,11 +239,12 @@ ends_by told0 told told' room h0 left line h h' n line_there e z i s g =
     (ends told0 told told' room h0 left line h h' e s
     (subst (λ (k : ℕ). Grows told told' h h' k) z g))
 
-pub grown_length : (told told' : Option Told) (h h' : List ℕ) (n : ℕ) → Grows told told' h h' n
+-- A read leaves no fewer bytes in hand than before.
+grown_length : (told told' : Option Told) (h h' : List ℕ) (n : ℕ) → Grows told told' h h' n
     → length h ≤ length h'
 grown_length told told' h h' n g = omega (arith, ap length g.now, length-append h g.given)
 
--- The line found by its end, which is used up with it, and so may be the end behind it.
+-- The line found by its end, which is used up with it, and so may be the end right after it.
 pub found_ended : (told0 told : Option Told) (room : ℕ) (h0 : List ℕ) (left line used : ℕ)
     (printable : Bool) (h : List ℕ) → line < length h → line < left → used ≤ length h → used ≤ left
     → is_line_end (slice_index h line) ≡ true → is_line (take line h) ≡ true

@@ -37,13 +37,14 @@ front_cons x [] lt = absurd (omega arith)
 front_cons x (y ∷ ys) lt = let e : suc (suc (length ys)) - 1 ≡ suc (suc (length ys) - 1) =
     omega arith in ap (λ k. take k (x ∷ y ∷ ys)) e
 
-pub front_append : (xs ys : List ℕ) → 0 < length ys → front_of (xs ++ ys) ≡ xs ++ front_of ys
+-- All but the last of two lists in a row are the first list and all but the last of the second.
+front_append : (xs ys : List ℕ) → 0 < length ys → front_of (xs ++ ys) ≡ xs ++ front_of ys
 front_append [] ys lt = refl
 front_append (x ∷ xs) ys lt = front_cons x (xs ++ ys) (omega (arith, length-append xs ys))
     ∙ ap (λ zs. x ∷ zs) (front_append xs ys lt)
 
 -- One part within the limits.
-pub within_part : (room : ℕ) (front : List ℕ) → HasNoEnd front → length front ≤ 1024
+within_part : (room : ℕ) (front : List ℕ) → HasNoEnd front → length front ≤ 1024
     → length front ≤ room → is_within room front ≡ true
 within_part room front plain short le =
     ap (λ (ps : List (List ℕ)). nat_le (length front) room
@@ -52,7 +53,7 @@ within_part room front plain short le =
     ∙ both_le (length front) room 1024 le short
 
 -- A line within the limits, and other bytes.
-pub within_line : (room : ℕ) (part : List ℕ) (sep : ℕ) (f : List ℕ) → HasNoEnd part
+within_line : (room : ℕ) (part : List ℕ) (sep : ℕ) (f : List ℕ) → HasNoEnd part
     → is_line_end sep ≡ true → length part ≤ 1024 → length part < room
     → is_within room (part ++ sep ∷ f) ≡ is_within (room - (length part + 1)) f
 within_line room part sep f plain end short lt =
@@ -78,7 +79,7 @@ none_broken room front plain short le =
     ∙ ap (λ b. option_map (λ g. front ++ g) (cond (not b) (Some []) None))
     (within_part room front plain short le)
 
--- Behind a part and one more byte.
+-- After a part and one more byte, the limit is first broken where it is with both before it.
 behind : (room : ℕ) (part : List ℕ) (byte : ℕ) (rest : List ℕ) → HasNoEnd part → length part ≤ 1024
     → length part ≤ room → shortest_front (breaks room) (part ++ byte ∷ rest)
     ≡ option_map (λ g. part ++ g) (option_map (λ g. byte ∷ g)
@@ -112,6 +113,7 @@ line_ended part sep rest plain end =
     (slice_split_at is_line_end part sep rest plain end)
     ∙ ap (filter is_line) (front_cons part (parts rest) (some_part rest))
 
+-- At the end a part within the limits is answered, where it is a line, and no fault.
 pub answers_end : (room : ℕ) (front : List ℕ) → HasNoEnd front → length front ≤ 1024
     → length front ≤ room → answers_within room front false
     ≡ record { lines = cond (is_line front) (front ∷ []) []; last = None }
@@ -121,6 +123,7 @@ answers_end room front plain short le =
     ∙ ap (λ (ps : List (List ℕ)). record { lines = filter is_line ps; last = None })
     (slice_split_none is_line_end front plain)
 
+-- Where the source fails within a part, the answer is the failed read alone.
 pub answers_failed : (room : ℕ) (front : List ℕ) → HasNoEnd front → length front ≤ 1024
     → length front ≤ room → answers_within room front true ≡ record { lines = []; last = Some Read }
 answers_failed room front plain short le =
@@ -163,7 +166,7 @@ at_line room part sep rest fails (Some (x ∷ f)) plain end lt some =
     (kind_after (length (part ++ sep ∷ x ∷ f)) (length (x ∷ f)) room (length part)
     (length-append part (sep ∷ x ∷ f)) lt)
 
--- What passes behind a first byte isn't empty.
+-- What passes after a first byte isn't empty.
 not_none : (p : List ℕ → Bool) (xs : List ℕ) → p [] ≡ false → shortest_front p xs ≡ Some [] → ⊥
 not_none p [] h e = let d : None ≡ Some [] = ap (λ b. cond b (Some []) None) (sym h) ∙ e in cc
 not_none p (x ∷ xs) h e = longer (shortest_front (λ f. p (x ∷ f)) xs)
@@ -174,6 +177,8 @@ not_none p (x ∷ xs) h e = longer (shortest_front (λ f. p (x ∷ f)) xs)
     longer None e = cc
     longer (Some f) e = cc
 
+-- A part within the limits that a byte ended is answered first, where it is a line, and then what
+-- follows.
 pub answers_line : (room : ℕ) (part : List ℕ) (sep : ℕ) (rest : List ℕ) (fails : Bool)
     → HasNoEnd part → is_line_end sep ≡ true → length part ≤ 1024 → length part < room
     → answers_within room (part ++ sep ∷ rest) fails
@@ -223,6 +228,7 @@ broken room front byte rest fails plain short le bad =
 over_room : (n m room : ℕ) (b : Bool) → m ≡ n + 1 → n ≡ room → (nat_le m room && b) ≡ false
 over_room n m room b e f = grind (arith, nat_tests)
 
+-- Where a part takes all that may be taken and a byte follows, the file is too long.
 pub answers_long_file : (room : ℕ) (front : List ℕ) (byte : ℕ) (rest : List ℕ) (fails : Bool)
     → HasNoEnd front → length front ≤ 1024 → length front ≡ room
     → answers_within room (front ++ byte ∷ rest) fails
@@ -241,6 +247,7 @@ answers_long_file room front byte rest fails plain short e =
 over_line : (m : ℕ) (a : Bool) → m ≡ 1025 → (a && (nat_le m 1024 && true)) ≡ false
 over_line m a e = grind (arith, nat_tests)
 
+-- Where 1024 bytes without an end are followed by a byte that ends no line, the line is too long.
 pub answers_long_line : (room : ℕ) (front : List ℕ) (byte : ℕ) (rest : List ℕ) (fails : Bool)
     → HasNoEnd front → is_line_end byte ≡ false → length front ≡ 1024 → length front < room
     → answers_within room (front ++ byte ∷ rest) fails

@@ -1,4 +1,4 @@
--- The shortest first bytes that pass a test, behind bytes that don't.
+-- The shortest first bytes that pass a test, after bytes that don't.
 use Rattle.std.proofs.Common.{◌≡◌, ℕ, suc, ◌<◌, Bool, false, cond, List, [], ◌∷◌, ◌++◌, length}
 use Rattle.std.proofs.Common.{take, Option, None, Some, refl, ap, ◌∙◌, arith}
 use Rattle.std.specs.Option.{option_map}
@@ -30,7 +30,7 @@ same_first p q (x ∷ xs) h =
     ∙ ap (λ o. cond (q []) (Some []) (option_map (λ f. x ∷ f) o))
     (same_first (λ f. p (x ∷ f)) (λ f. q (x ∷ f)) xs (λ f. h (x ∷ f)))
 
--- Behind bytes of which no shorter first bytes pass.
+-- After bytes of which no shorter first bytes pass, the shortest that pass begin with them all.
 pub first_after : (p : List ℕ → Bool) (front rest : List ℕ)
     → ((i : ℕ) → i < length front → p (take i front) ≡ false)
     → shortest_front p (front ++ rest) ≡ option_map (λ f. front ++ f)

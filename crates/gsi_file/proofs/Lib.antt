@@ -1,5 +1,5 @@
 pub mod LineEnds
-pub mod Behind
+pub mod ReadsAfter
 pub mod Fronts
 pub mod Breaks
 pub mod FirstBytes

@@ -10,6 +10,7 @@ use Rattle.gsi_file.specs.declared.file_fault.FileKind.{FileKind}
 use Rattle.gsi_file.specs.declared.file_fault.FileKind.TheVariants.{Read, FileTooLong, LineTooLong}
 use Rattle.gsi_file.specs.declared.file_fault.FileKind.TheVariants.{Byte, Word, FirstWord}
 
+-- The fault of a line is one of the file, of its own kind.
 pub as_file_fault : (l : List ℕ) (f : LineFault) → IsLineFault l f → IsFileFault l (kind_of f)
 as_file_fault l (line.Byte at) h = h
 as_file_fault l (line.Word nth) h = h
@@ -24,6 +25,7 @@ as_line_fault l (Byte at) h = (line.Byte at, h, refl)
 as_line_fault l (Word nth) h = (line.Word nth, h, refl)
 as_line_fault l FirstWord h = (line.FirstWord, h, refl)
 
+-- Where a line has one fault at most, it gives one fault of the file at most.
 pub one_kind : ((l : List ℕ) (a b : LineFault) → IsLineFault l a → IsLineFault l b → a ≡ b)
     → (l : List ℕ) (a b : FileKind) → IsFileFault l a → IsFileFault l b → a ≡ b
 one_kind one l a b h k =
@@ -31,10 +33,12 @@ one_kind one l a b h k =
     let y = as_line_fault l b k in
     x.2 ∙ ap kind_of (one l x.0 y.0 x.1 y.1) ∙ sym y.2
 
+-- Where no block has a fault, no line that gives a fault of the file is a block.
 pub no_kind : ((l : List ℕ) (b : GsiBlock) (a : LineFault) → IsBlock l b → ¬ IsLineFault l a)
     → (l : List ℕ) (a : FileKind) (b : GsiBlock) → IsFileFault l a → ¬ IsBlock l b
 no_kind none l a b h k = let x = as_line_fault l a h in none l b x.0 k x.1
 
+-- Where each line is a block or has a fault, each is a block or gives a fault of the file.
 pub block_or_kind : ((l : List ℕ) → ((b : GsiBlock) × IsBlock l b)
     ⊎ ((a : LineFault) × IsLineFault l a))
     → (l : List ℕ) → ((b : GsiBlock) × IsBlock l b) ⊎ ((kind : FileKind) × IsFileFault l kind)

@@ -1,5 +1,5 @@
 use Rattle.std.proofs.Common.{ℕ, Some, take, arith, length-take, length-drop}
-use Rattle.gsi_file.proofs.Behind.{reads_as, reads_behind}
+use Rattle.gsi_file.proofs.ReadsAfter.{reads_as, reads_behind}
 use Rattle.gsi_file.proofs.buffer.read_behind.Goals as goal
 
 pub returns-clause-read : goal.returns-clause-read

@@ -1,5 +1,5 @@
 use Rattle.std.proofs.Common.{◌≤◌, ◌+◌, length, drop, ◌∙◌, ap, arith}
-use Rattle.gsi_file.proofs.Behind.{slice_range_behind, range_length}
+use Rattle.gsi_file.proofs.ReadsAfter.{slice_range_behind, range_length}
 use Rattle.gsi_file.proofs.buffer.Buffer.drop_front.Goals as goal
 
 pub returns : goal.returns

@@ -1,5 +1,5 @@
 use Rattle.std.proofs.Common.{◌∙◌, ap, Some, slice_range, arith}
-use Rattle.gsi_file.proofs.Behind.{grows_behind}
+use Rattle.gsi_file.proofs.ReadsAfter.{grows_behind}
 use Rattle.gsi_file.proofs.buffer.Buffer.fill.Goals as goal
 
 pub returns-clause-fills : goal.returns-clause-fills

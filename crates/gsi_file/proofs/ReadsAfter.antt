@@ -1,4 +1,4 @@
--- A read behind the first bytes of a buffer.
+-- A read after the first bytes of a buffer.
 use Rattle.std.proofs.Common.{◌≡◌, ℕ, suc, ◌+◌, ◌-◌, ◌<◌, ◌≤◌, List, [], ◌∷◌, ◌++◌, length, take}
 use Rattle.std.proofs.Common.{drop, Option, None, Some, Result, Ok, Err, slice_range, MatchResult}
 use Rattle.std.proofs.Common.{refl, sym, ap, subst, ◌∙◌, arith, length-take, drop-drop}
@@ -39,6 +39,8 @@ fails_told (Some old) (Some new) mid e some h =
       same,
     )
 
+-- A read into the room after the first bytes of a buffer appends what was given to them, or failed
+-- and left them.
 pub reads_behind : (old new : Option Told) (pre mid post : List ℕ) (held : ℕ) (r : Result ℕ Failed)
     → length pre ≡ held → 0 < length mid → IfOk r (λ n. n ≤ length mid) → Reads old new r mid →
     MatchResult r (λ n. Grows old new pre (take (held + n) (pre ++ (mid ++ post))) n)
@@ -59,6 +61,7 @@ reads_behind old new pre mid post held (Err e') e some le h =
         let s : k ≡ suc (length xs) = omega arith in
         ap (λ j. take j (x ∷ (xs ++ ys))) s ∙ ap (λ zs. x ∷ zs) (take_whole xs ys (length xs) refl)
 
+-- A range that begins n bytes later is the range without its first n bytes.
 pub slice_range_behind : (xs : List ℕ) (a e n : ℕ) → a + n ≤ e
     → slice_range xs (a + n) e ≡ drop n (slice_range xs a e)
 slice_range_behind xs a e n le =
@@ -67,6 +70,7 @@ slice_range_behind xs a e n le =
     ∙ sym (drop-take n (e - (a + n)) (drop a xs))
     ∙ ap (λ k. drop n (take k (drop a xs))) whole
 
+-- A range has at most as many bytes as lie between its two ends.
 pub range_length : (xs : List ℕ) (a e : ℕ) → length (slice_range xs a e) ≤ e - a
 range_length xs a e = omega (arith, length-take (e - a) (drop a xs))
 
@@ -76,7 +80,7 @@ range_of_take xs a e le =
     let whole : a + (e - a) ≡ e = omega arith in
     sym (drop-take a (e - a) xs) ∙ ap (λ k. drop a (take k xs)) whole
 
--- A read behind the first bytes of the room, as one behind those in hand.
+-- A read after the first bytes of the room, as one after those in hand.
 pub grows_behind : (old new : Option Told) (buf buf' hand : List ℕ) (a e n : ℕ) → a ≤ e
     → e ≤ length buf → slice_range buf a e ≡ hand → Grows old new (take e buf) (take (e + n) buf') n
     → Grows old new hand (slice_range buf' a (e + n)) n
@@ -91,7 +95,7 @@ grows_behind old new buf buf' hand a e n le inside same g = record {
   told = g.told;
 }
 
--- A read, of whatever the source gives after it.
+-- A source that has told its end gives that after the read.
 over_known : (new : Option Told) (end after : Told) → new ≡ Some end → MayGive new after
     → after ≡ end
 over_known None end after e may = cc
@@ -103,6 +107,7 @@ over_known (Some t) end after e may = may ∙ some_is e
 no_bytes : (n : ℕ) (buf : List ℕ) → take n buf ≡ [] → 0 < length buf → n ≡ 0
 no_bytes n buf e some = omega (arith, ap length e, length-take n buf)
 
+-- Whatever a source gives after a read that told nothing, the read is one of a source that told it.
 pub reads_as : (old new : Option Told) (buf : List ℕ) (r : Result ℕ Failed) → Reads old new r buf
     → TellsOver new r (length buf) → Through old new (λ o n. AfterRead o n r buf)
 reads_as None new buf (Ok n) h over after may = (
