@@ -24,8 +24,7 @@ none_pass key f n (x ∷ xs) h k le =
     apart : (a k n : ℕ) → a ≡ k → a < n → n ≤ k → ⊥
     apart a k n e l m = omega arith
 
--- Where the elements have keys below n and the sum over each key below n is 0, the sum over any key
--- is.
+-- Where all keys are below n and the sum over each of them is 0, the sum over any key is 0.
 pub all_vanish : {X : Type 0} (key : X → ℕ) (f : X → ℤ) (n : ℕ) (xs : List X)
     → AllByRecursion (λ x. key x < n) xs → ((k : ℕ) → k < n
     → int_sum_where (λ x. eqb (key x) k) f xs ≡ pos 0) → (k : ℕ)

@@ -53,7 +53,7 @@ module _ {X : Type 0} where
       → slice_get xs n ≢ slice_get ys n → IsFirstDifference xs ys n
   differ_at xs ys n h d = record { before = agree_to xs ys n h; differ = d }
 
-  -- One list has ended where the other has not.
+  -- Where one list has ended and the other has not, they differ.
   pub ended_first : (xs ys : List X) (n : ℕ) → X → length xs ≤ n → n < length ys
       → slice_get xs n ≢ slice_get ys n
   ended_first xs ys n d a b e = let f : None ≡ Some (get_or ys n d) = sym (slice_get_past xs n a)

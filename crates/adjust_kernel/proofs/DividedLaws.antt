@@ -73,8 +73,7 @@ module _ (sets targets : ℕ) (c : Choice) (observations : List TurnedObservatio
   different true e = moves false (ap (λ b. lift b false) e) d.second_part
   different false e = moves true (ap (λ b. lift b true) e) d.first_part
 
-  -- Where the observations leave two parts, another choice with the first direction 0 has the same
-  -- sum.
+  -- Where two parts are left, another choice with first direction 0 has the same sum.
   pub divided_has_another : HasAnother sets targets c observations
   divided_has_another = record {
     other = turned;

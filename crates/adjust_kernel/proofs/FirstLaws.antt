@@ -34,7 +34,7 @@ module _ {X : Type 0} (xs ys : List X) where
   one_difference m n f g = same_place m n (not_earlier_difference m n f g)
       (not_earlier_difference n m g f)
 
-  -- The same lists have none.
+  -- Lists that are the same have no first difference.
   pub no_difference : xs ≡ ys → (n : ℕ) → IsFirstDifference xs ys n → ⊥
   no_difference e n f = f.differ (ap (λ zs. slice_get zs n) e)
 

@@ -11,7 +11,7 @@ use Rattle.adjust_kernel.specs.Residuals.{Choice, residual}
 use Rattle.adjust_kernel.specs.Within.{IsWithin}
 use Rattle.adjust_kernel.specs.Greatest.{IsGreatest}
 
--- The size of a number within a bound.
+-- A number within a bound has at most that size.
 pub size_within : (m : ℕ) (z : ℤ) → IsWithin (pos m) z → unsigned_abs z ≤ m
 size_within m (pos n) h = omega (arith, ints)
 size_within m (negsuc n) h = omega (arith, ints)
@@ -73,7 +73,7 @@ module _ (c : Choice) where
         by size (inl e) (yes le) = inl (omega (arith, e, le))
         by size (inl e) (no f) = inr (0, r, omega arith, refl, ap pos (omega (arith, e, f)))
 
-  -- Of some observations, this is the greatest.
+  -- Where something was observed, the greatest size is the greatest of the residuals.
   pub greatest_is : (observations : List TurnedObservation) → 1 ≤ length observations
       → IsGreatest c observations (pos (greatest_size c observations))
   greatest_is [] h = absurd (omega arith)

@@ -156,7 +156,7 @@ module _ (sets targets : ℕ) (obs : List Obs) (placed : All (IsObs sets targets
           ∙ s.one_part p q u r.set j.1)
           open_end.joined
 
-  -- One more observation.
+  -- A sweep with one observation more has carried a mark along it, or left the marks as they were.
   pub swept_more : (before marks new : List Bool) (any carried : Bool) (i : ℕ) (d : Obs)
       → i < length obs
       → OnTrue carried ((n : ℕ) × IsOpenEnd marks sets (get_or obs i d) n
@@ -262,7 +262,7 @@ module _ (sets targets : ℕ) (obs : List Obs) (placed : All (IsObs sets targets
         (i, o, inside, at, ⊎_elim (λ e. absurd (omega arith)) (λ e. omega arith) ends),
   )
 
-  -- Where a node isn't, its set or target wasn't.
+  -- Where one of the sets and targets is not marked, not each of them was observed.
   pub some_unobserved : (marks : List Bool) → AreSeen sets targets obs marks (length obs) → (n : ℕ)
       → n < sets + targets → mark marks n ≡ false → EachSetObserved sets obs
       × EachTargetObserved targets obs → ⊥

@@ -11,8 +11,7 @@ use Rattle.std.proofs.lemmas.Slice.Eq.{bytes_eq-Decides, slice_eq-Decides}
 use Rattle.adjust_kernel.specs.Names.{IsName, IsPrintable, padded}
 use lib.Pointwise.{pointwise}
 
--- Where sixteen kept bytes are a name and zeros, the first of them, as many as the name is long,
--- are the name.
+-- Sixteen kept bytes that are a name and then zeros are that name as it is kept.
 pub made : (bytes kept : List ℕ) → kept ≡ bytes ++ drop (length bytes) (replicate 16 0)
     → IsName bytes → (kept ≡ padded (take (length bytes) kept))
     × (length bytes ≡ length (take (length bytes) kept)) × IsName (take (length bytes) kept)

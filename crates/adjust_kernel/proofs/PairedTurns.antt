@@ -79,8 +79,7 @@ differences-within p q (r ∷ observations) [] e h = absurd (omega arith)
 differences-within p q (r ∷ observations) (k ∷ turns) e h =
     (h.0, differences-within p q observations turns (omega arith) h.1)
 
--- Where the observations with the differences of their turns leave two parts, so do the
--- observations.
+-- Where the observations with the turns' differences leave two parts, so do the observations.
 pub differences-divided : (sets targets : ℕ) (observations : List TurnedObservation)
     (turns : List ℤ)
     → length turns ≡ length observations
@@ -99,7 +98,7 @@ differences-divided sets targets observations turns e d = record {
     between : TurnedObservation → Type 0
     between r = d.part_of_set r.set ≡ d.part_of_target r.target
 
--- Turns that are given by each observation.
+-- Where each pair has the turns that its observation gives, all turns are those.
 pub turns_by : (f : TurnedObservation → ℤ) (observations : List TurnedObservation) (turns : List ℤ)
     → length turns ≡ length observations
     → AllByRecursion (λ (x : Pair). x.1 ≡ f x.0) (paired observations turns)

@@ -77,7 +77,7 @@ still_within m n sums i z inside w all =
     more y v = let a = v.low in let b = v.high in
         record { low = omega (arith, ints); high = omega (arith, ints) }
 
--- Nothing was added yet.
+-- Before anything was added each sum is 0.
 pub zeros_within : (n : ℕ) → All (IsWithin (pos 0)) (replicate n (pos 0))
 zeros_within n = All-replicate (IsWithin (pos 0)) n (pos 0)
     (record { low = omega (arith, ints); high = omega (arith, ints) })
@@ -90,7 +90,7 @@ zeros_are_sums = record {
   of_sets = λ s below. get_or-replicate 40 s (pos 0) (pos 0) below;
 }
 
--- What one more row adds.
+-- One more row adds its residual, for its target and its set.
 pub all_added-more : (c : Choice) (obs : List Obs) (rows : List Row) (n : ℕ) (o : Obs) (r : Row)
     (z : ℤ) → length obs ≡ length rows → n < length obs
     → ((d : TurnedObservation) → z ≡ residual c (get_or (turned_by_rows obs rows) n d))

@@ -272,8 +272,7 @@ limited_is_least_over_turns limit sets targets c observations a other turns long
     omega (arith, ints))
     (λ le. le)
 
--- Where a sheet is accepted under a residual limit, other full turns reach the same sum only by
--- turning targets and sets as a whole.
+-- Under a residual limit, other full turns with the same sum only turn targets and sets as a whole.
 pub limited_equal_only_turned : (limit sets targets : ℕ) (c : Choice)
     (observations : List TurnedObservation)
     → IsAcceptedUnder limit sets targets c observations → OnlyTurnedWhole c observations

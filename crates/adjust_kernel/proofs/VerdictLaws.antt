@@ -227,14 +227,14 @@ module _ (station : StationValue) (sheet : SheetValue) where
     by (inl clear) = clear
     by (inr (found, same, stands)) = absurd (none found same stands)
 
-  -- What holds of an accepted sheet.
+  -- Where a sheet is accepted, no fault of any kind stands.
   pub clear_where_accepted : (limit : Option ℕ) (accepted : Accepted)
       → IsVerdict station sheet limit (Ok accepted) → (fault : KernelFault)
       → IsClearOf station sheet limit fault
   clear_where_accepted limit accepted v fault =
       clear_where_none_stands limit fault (λ other same. v.0 other)
 
-  -- What holds of a refused sheet.
+  -- Where a sheet is refused, no fault stands that is looked for before the one reported.
   pub clear_where_refused : (limit : Option ℕ) (fault : KernelFault)
       → IsVerdict station sheet limit (Err fault) → (other : KernelFault)
       → order_of other < order_of fault → IsClearOf station sheet limit other
@@ -273,7 +273,7 @@ module _ (station : StationValue) (sheet : SheetValue) where
   kept matches limit Datum h = matches.datum
   kept matches limit fault h = absurd (omega arith)
 
-  -- The verdict where all is as it has to be.
+  -- Where all is as it has to be, what is said of an accepted sheet is the verdict.
   pub accepted_verdict : (limit : Option ℕ) (accepted : Accepted) → Matches station sheet
       → TargetsAddUp station sheet → SetsAddUp station sheet → HoldsTogether station sheet
       → IfSome limit (KeepsLimit station sheet)
@@ -417,8 +417,8 @@ module _ (station : StationValue) (sheet : SheetValue) where
         clear (SetSum m) h = sets
         clear other h = kept matches limit other (omega arith)
 
-  -- The first residual above the limit is the fault, where all that is looked for before it is as
-  -- it has to be.
+  -- The first residual above the limit is the fault, where all looked for before is as it has to
+  -- be.
   pub residual_fault : (most n : ℕ) → Matches station sheet → TargetsAddUp station sheet
       → SetsAddUp station sheet → HoldsTogether station sheet
       → IsFirstWhere (IsAbove most (choice_stated_by sheet) (observations station sheet))

@@ -6,7 +6,7 @@ use Rattle.std.proofs.Math.Seq.{take-add}
 use Rattle.std.specs.Io.KnownBytes.{Appends}
 use Rattle.byte_ends.specs.Sink.{handed_on_after}
 
--- Appended by pieces.
+-- What appends one piece and then another appends both.
 pub appends_then : (old now new : Option (List ℕ)) (a b c : List ℕ) → Appends old now a
     → Appends now new b → a ++ b ≡ c → Appends old new c
 appends_then None now new a b c p q e = tt
@@ -15,13 +15,13 @@ appends_then (Some xs) (Some ys) None a b c p q e = absurd q
 appends_then (Some xs) (Some ys) (Some zs) a b c p q e = q ∙ ap (λ (r : List ℕ). r ++ b) p
     ∙ append_assoc xs a b ∙ ap (λ (r : List ℕ). xs ++ r) e
 
--- The bytes up to a place, and then some of the rest.
+-- The bytes up to a place and then n of the rest are the bytes up to n places further on.
 pub take_piece : (k n : ℕ) (xs : List ℕ) → take k xs ++ take n (take (length xs - k) (drop k xs))
     ≡ take (k + n) xs
 take_piece k n xs = ap (λ (r : List ℕ). take k xs ++ take n r) (take_rest xs k)
     ∙ sym (take-add k n xs)
 
--- Taken by pieces.
+-- Whether all is handed on after two pieces were taken is the same as after both at once.
 pub handed_on_then : (old : Bool) (k n : ℕ) → handed_on_after (handed_on_after old k) n
     ≡ handed_on_after old (k + n)
 handed_on_then old zero n = let e : n ≡ 0 + n = omega arith in ap (handed_on_after old) e

@@ -7,7 +7,7 @@ use Rattle.std.specs.Str.Parse.{digits_value}
 use Rattle.std.proofs.lemmas.Str.Parse.{digits_value_short}
 use Rattle.sheet_format.proofs.CanonicalDecimals.{numerals}
 
--- The number of at most nine digits.
+-- A number of at most nine digits is below 10^9.
 pub few-digits : (digits : List ℕ) (read : Option ℕ)
     → IfSome read (λ number. number ≡ digits_value 10 digits)
     → OnSome read (list_all is_ascii_digit digits ≡ true) → length digits ≤ 9

@@ -17,8 +17,7 @@ pub record NextRow {R : Type 0} (rem : R → Option (List ℕ)) (a b : Reader R)
   pub well : ends_at_end b.state ≡ false
   pub shorter : length left < length y
 
--- A read that gave a row took it from the front of the text that was left, and leaves a shorter
--- one.
+-- A read that gave a row took it from the front of the text, and leaves a shorter one.
 pub next-row : {R : Type 0} (rem : R → Option (List ℕ)) (a b : Reader R) (row : List (List ℕ))
     (y : List ℕ) (n : ℕ) → a.config ≡ default_config → source_of rem a ≡ Some y
     → ReadRecord rem a b true row

@@ -137,8 +137,7 @@ answers-table items targets bytes (Err f) ok err directions text = elim err [
   | inr memory ↦ memory
 ]
 
--- Where the bytes have a fault, an answer that is right about them is that fault, or that memory
--- ran out.
+-- Where the bytes have a fault, a right answer is that fault, or that memory ran out.
 pub answers-fault : {V : Type 0} (items : V → List ℤ) (targets : List (List ℕ)) (bytes : List ℕ)
     (r : Result V TableFault) → IfOk r (λ v. IsTableText targets bytes (items v))
     → IfErr r (IsFaultOrMemory targets bytes)
@@ -150,7 +149,7 @@ answers-fault items targets bytes (Err g) ok err f fault = elim err [
   | inr memory ↦ inr (ap (λ (x : TableFault). Err x) memory)
 ]
 
--- What the rows state of all targets makes a table.
+-- Where no row has a fault and all targets have directions, the bytes are a table of these.
 pub whole-table : {V : Type 0} (items : V → List ℤ) (targets : List (List ℕ)) (bytes : List ℕ)
     (stated : List (Option ℤ)) (r : Result V TableFault) → length bytes ≤ LONGEST_TABLE
     → HasNoFault targets (records_of bytes)
@@ -163,8 +162,7 @@ whole-table items targets bytes stated (Ok v) short clean same all = record {
 }
 whole-table items targets bytes stated (Err f) short clean same all = tt
 
--- A refusal that is right about the first missing direction is right about bytes that are short and
--- without a fault in a row.
+-- Where no row has a fault, the first target that is missing is the fault of the bytes.
 pub missing-fault : {V : Type 0} (targets : List (List ℕ)) (bytes : List ℕ)
     (stated : List (Option ℤ)) (r : Result V TableFault) → length bytes ≤ LONGEST_TABLE
     → HasNoFault targets (records_of bytes)

@@ -20,7 +20,7 @@ fault_at-seam : (targets : List (List ℕ)) (before rest : List (List (List ℕ)
 fault_at-seam targets before rest =
     rw (take-append_seam before rest, drop-append_seam before rest) refl
 
--- One row more without a fault.
+-- Where no row before has a fault, and this one has none, none of that many has.
 pub clean-more : (targets : List (List ℕ)) (all before rest : List (List (List ℕ)))
     (row : List (List ℕ)) → all ≡ before ++ (row ∷ rest)
     → NoFaultBefore targets all (length before) → row_fault targets before row ≡ None
@@ -73,7 +73,7 @@ read-more targets all stated next number row rest read none more = record {
   each = more read.before read.each;
 }
 
--- The first row with a fault.
+-- Where no row before has a fault, and this one has, it is the first of the table.
 pub first-here : (targets : List (List ℕ)) (all before rest : List (List (List ℕ)))
     (row : List (List ℕ)) (k : RowKind) → all ≡ before ++ (row ∷ rest)
     → NoFaultBefore targets all (length before) → row_fault targets before row ≡ Some k
@@ -97,7 +97,7 @@ read-fault targets all stated number row rest k read found =
     (first-here targets all read.before rest row k read.whole read.clean
     (found read.before read.each))
 
--- The end of the rows.
+-- Where no row before the end has a fault, no row has.
 pub clean-end : (targets : List (List ℕ)) (all before : List (List (List ℕ))) → all ≡ before
     → NoFaultBefore targets all (length before) → HasNoFault targets all
 unfolding fault_between

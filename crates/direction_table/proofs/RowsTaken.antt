@@ -137,7 +137,7 @@ other-name targets i place ok inside at other same = elim (cases_lt i place) [
   | inr after ↦ ok.different place i [] (omega (arith, after, other)) inside same
 ]
 
--- The directions with that of one more row.
+-- A row's direction, put at the place of its target, makes what the rows with that one state.
 pub taken : (targets : List (List ℕ)) (before : List (List (List ℕ)))
     (directions : List (Option ℤ)) (row : List (List ℕ)) (place : ℕ) (c : Fields) (v : ℤ)
     → AreTargets targets → Taken targets row place c

@@ -19,8 +19,7 @@ back-is : (bytes front back : List ℕ) (place : ℕ) → Parts bytes front back
     → drop (point_of bytes) bytes ≡ back
 back-is bytes front back place p = sym (p.after ∙ ap (λ n. drop n bytes) p.point)
 
--- A number is well formed exactly where its parts are: 1 to 3 digits, and nothing or a point and 1
--- to 9 digits.
+-- A number has its form exactly where both its parts have theirs.
 pub parts-size : (bytes front back : List ℕ) (place : ℕ) → Parts bytes front back place
     → is_size bytes ≡ (are_digits 3 front && is_fraction back)
 parts-size bytes front back place p =
@@ -28,8 +27,7 @@ parts-size bytes front back place p =
     (front-is bytes front back place p)
     ∙ ap (λ b. are_digits 3 front && is_fraction b) (back-is bytes front back place p)
 
--- The number of a text is that of its digits before the point, in units of the ninth decimal, and
--- that of its fraction.
+-- A number is that of the part before its point, and the fraction from the point on.
 pub parts-value : (bytes front back : List ℕ) (place : ℕ) → Parts bytes front back place
     → size_value bytes ≡ digits_value 10 front * 10 ^ 9 + fraction_value back
 parts-value bytes front back place p =
@@ -37,7 +35,7 @@ parts-value bytes front back place p =
     (front-is bytes front back place p)
     ∙ ap (λ b. digits_value 10 front * 10 ^ 9 + fraction_value b) (back-is bytes front back place p)
 
--- The number of both parts.
+-- The whole gon, as units of the ninth decimal, and the fraction make the number.
 pub size-whole : (bytes front back : List ℕ) (place whole fraction : ℕ)
     → Parts bytes front back place → whole ≡ digits_value 10 front → fraction ≡ fraction_value back
     → whole * 1000000000 + fraction ≡ size_value bytes
@@ -45,19 +43,19 @@ size-whole bytes front back place whole fraction p w f =
     ap (λ n. n * 1000000000 + fraction) w ∙ ap (λ n. digits_value 10 front * 1000000000 + n) f
     ∙ sym (parts-value bytes front back place p)
 
--- Where both parts are well formed, so is the number.
+-- Where both parts have their form, so has the number.
 pub size-both : (bytes front back : List ℕ) (place : ℕ) → Parts bytes front back place
     → are_digits 3 front ≡ true → is_fraction back ≡ true → is_size bytes ≡ true
 size-both bytes front back place p w f = parts-size bytes front back place p
     ∙ ap (λ b. b && is_fraction back) w ∙ f
 
--- Where the part before the point is not 1 to 3 digits, the number is not well formed.
+-- Where the part before the point is not 1 to 3 digits, the number has not its form.
 pub size-no-whole : (bytes front back : List ℕ) (place : ℕ) → Parts bytes front back place
     → are_digits 3 front ≡ false → is_size bytes ≡ false
 size-no-whole bytes front back place p w = parts-size bytes front back place p
     ∙ ap (λ b. b && is_fraction back) w
 
--- Where the part from the point on is not well formed, neither is the number.
+-- Where the part from the point on has not its form, neither has the number.
 pub size-no-fraction : (bytes front back : List ℕ) (place : ℕ) → Parts bytes front back place
     → are_digits 3 front ≡ true → is_fraction back ≡ false → is_size bytes ≡ false
 size-no-fraction bytes front back place p w f = parts-size bytes front back place p

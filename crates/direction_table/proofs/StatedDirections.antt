@@ -40,8 +40,7 @@ missing stated items place inside same none =
       ),
     )
 
--- With the direction of one more target, the first directions are those that are stated of that
--- many.
+-- With one more target's direction, the list has what is stated of that many.
 pub one-more : (stated : List (Option ℤ)) (items : List ℤ) (place : ℕ) (direction : ℤ)
     → place < length stated → take place stated ≡ map Some items
     → get_or stated place None ≡ Some direction

@@ -187,8 +187,7 @@ written count stated names exact k d below = record {
   exact = exact k d below;
 }
 
--- The text of a table of all targets, in whole steps of its decimals, is a table of them and of
--- their directions.
+-- The text of a table of all targets is a table of them and of their directions.
 pub table-again : (targets : List (List ℕ)) (count : ℕ) (stated : List TargetDirection)
     → AreTargets targets → names_of stated ≡ targets → AreDecimals count
     → All (λ row. IsWhole count row.direction) stated

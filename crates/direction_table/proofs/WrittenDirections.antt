@@ -195,7 +195,7 @@ text-value k d few-decimals exact =
     ((no-minus (decimal (d / 10 ^ 9)) (46 ∷ decimals_of k d) f.digits f.some).1)
     ∙ ap pos (unsigned-size k d few-decimals exact)
 
--- At most three digits, a point and eight decimals.
+-- The text of a direction has at most 12 bytes: three digits, a point and eight decimals.
 pub text-length : (k d : ℕ) → AreDecimals k → IsWhole k d → length (direction_text k d) ≤ 12
 text-length k d few-decimals exact =
     let f = front-of (d / 10 ^ 9) (gons-below d exact.0) in

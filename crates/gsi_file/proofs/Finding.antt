@@ -107,7 +107,7 @@ fails (Some a) (Some b) (Some c) room h0 left line h e s f =
     ∙ ap (answers_within left h) f.0.1
     ∙ answers_failed left h plain (omega (arith, s.short)) (omega (arith, s.fits))
 
--- One byte too many in the file.
+-- Where a byte stands past all that may be taken, the answer is that the file is too long.
 pub file_too_long : (told0 told : Option Told) (room : ℕ) (h0 : List ℕ) (left line : ℕ) (h : List ℕ)
     → line < length h → line ≡ left → Searching told0 told room h0 left line h →
     AnswersAre told0 room h0 told (record { lines = []; last = Some FileTooLong })
@@ -129,7 +129,7 @@ plain_at h line long inside plain = (
       ∙ plain 1024 0 (omega (arith, taken line h inside)),
 )
 
--- One byte too many in the line.
+-- Where more than 1024 bytes stand without an end, the answer is that the line is too long.
 pub line_too_long : (told0 told : Option Told) (room : ℕ) (h0 : List ℕ) (left from line : ℕ)
     (h : List ℕ) → 1024 < line → line ≤ left → line ≤ length h → HasNoEnd (take line h)
     → Searching told0 told room h0 left from h →
@@ -172,7 +172,7 @@ finds (Some a) (Some b) room h0 left line h lt less end line_there s =
     ∙ ap (λ (t : Bool). record { lines = cond t (take line h ∷ o.lines) o.lines; last = o.last })
     line_there
 
--- Where it is blank it is passed over.
+-- A part that ended and is blank is passed over: the answers to come stay the same.
 pub passes : (told0 told : Option Told) (room : ℕ) (h0 : List ℕ) (left line : ℕ) (h : List ℕ)
     → line < length h → line < left → is_line_end (slice_index h line) ≡ true
     → is_line (take line h) ≡ false → Searching told0 told room h0 left line h →
@@ -185,7 +185,7 @@ passes (Some a) (Some b) room h0 left line h lt less end line_there s =
     ∙ ap (λ (t : Bool). record { lines = cond t (take line h ∷ o.lines) o.lines; last = o.last })
     line_there
 
--- No byte, so no end.
+-- Among no bytes none ends a line.
 pub none_plain : (h : List ℕ) → HasNoEnd (take 0 h)
 none_plain h = All-nil (λ b. is_line_end b ≡ false)
 
@@ -224,7 +224,7 @@ some_byte : (line : ℕ) (h : List ℕ) → is_line (take line h) ≡ true → 0
 some_byte zero h e = let f : false ≡ true = e in cc
 some_byte (suc n) h e = omega arith
 
--- The end of the source, by whether the last part is a line.
+-- At the end of the source the answers are the last part, where it is a line, and no fault.
 pub ends_by : (told0 told told' : Option Told) (room : ℕ) (h0 : List ℕ) (left line : ℕ)
     (h h' : List ℕ) (n : ℕ) (line_there : Bool) → line ≡ length h → n ≡ 0
     → is_line (take line h') ≡ line_there
@@ -285,7 +285,7 @@ found_ended told0 told room h0 left line used printable h lt less inside fits en
       printable = tested;
     }
 
--- The line found by the end of the source.
+-- A last part that the end of the source ends is found where it is a line, and is the last.
 pub found_at_end : (told0 told told' : Option Told) (room : ℕ) (h0 : List ℕ) (left line : ℕ)
     (h h' : List ℕ) (n : ℕ) → line ≡ length h → n ≡ 0 → is_line (take line h') ≡ true
     → Searching told0 told room h0 left line h → Grows told told' h h' n →

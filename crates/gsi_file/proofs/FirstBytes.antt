@@ -15,7 +15,7 @@ use Rattle.gsi_file.specs.FileAnswers.{is_within, FileAnswers, answers_within}
 use Rattle.gsi_file.proofs.Breaks.{answers_by, breaks, same_answers}
 use Rattle.gsi_file.proofs.Fronts.{shortest_front, same_first, first_after}
 
--- A line or none before the others.
+-- A part, where it is a line, and then the other answers.
 abbrev pub with_line : List ℕ → FileAnswers → FileAnswers
 with_line part o = record { lines = cond (is_line part) (part ∷ o.lines) o.lines; last = o.last }
 
@@ -177,8 +177,7 @@ not_none p (x ∷ xs) h e = longer (shortest_front (λ f. p (x ∷ f)) xs)
     longer None e = cc
     longer (Some f) e = cc
 
--- A part within the limits that a byte ended is answered first, where it is a line, and then what
--- follows.
+-- A part within the limits that a byte ended is answered first, where it is a line.
 pub answers_line : (room : ℕ) (part : List ℕ) (sep : ℕ) (rest : List ℕ) (fails : Bool)
     → HasNoEnd part → is_line_end sep ≡ true → length part ≤ 1024 → length part < room
     → answers_within room (part ++ sep ∷ rest) fails

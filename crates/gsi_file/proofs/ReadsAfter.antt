@@ -39,8 +39,7 @@ fails_told (Some old) (Some new) mid e some h =
       same,
     )
 
--- A read into the room after the first bytes of a buffer appends what was given to them, or failed
--- and left them.
+-- A read into the room after a buffer's first bytes appends what it gave, or failed and left them.
 pub reads_behind : (old new : Option Told) (pre mid post : List ℕ) (held : ℕ) (r : Result ℕ Failed)
     → length pre ≡ held → 0 < length mid → IfOk r (λ n. n ≤ length mid) → Reads old new r mid →
     MatchResult r (λ n. Grows old new pre (take (held + n) (pre ++ (mid ++ post))) n)

@@ -50,7 +50,7 @@ none_found [] e = refl
 none_found (w ∷ []) e = absurd cc
 none_found (w ∷ v ∷ ws) e = absurd cc
 
--- The first word of the index.
+-- Where no word before has the index, and this one has, it is the one that was found.
 pub found_first : (index : ℕ) (words : List GsiWord) (i : ℕ) (w : GsiWord)
     → Absent ≡ found_among (words_with index (take i words)) → slice_get words i ≡ Some w
     → w.index ≡ index → One w ≡ found_among (words_with index (take (i + 1) words))
@@ -66,7 +66,7 @@ twice [] w some = absurd (some refl)
 twice (x ∷ []) w some = refl
 twice (x ∷ y ∷ before) w some = refl
 
--- A further word of the index.
+-- Where a word before has the index, and this one too, it was found twice.
 pub found_further : (index : ℕ) (words : List GsiWord) (i : ℕ) (w : GsiWord)
     → found_among (words_with index (take i words)) ≢ Absent → slice_get words i ≡ Some w
     → w.index ≡ index → Twice ≡ found_among (words_with index (take (i + 1) words))
@@ -74,7 +74,7 @@ found_further index words i w some at e =
     twice (words_with index (take i words)) w some
     ∙ ap found_among (sym (words_with_one index words i w (below words i w at) at e))
 
--- One word of another index.
+-- A word of another index leaves what was found as it is.
 pub found_other : (index : ℕ) (words : List GsiWord) (i : ℕ) (w : GsiWord)
     → slice_get words i ≡ Some w → w.index ≢ index
     → found_among (words_with index (take i words))
@@ -87,7 +87,7 @@ past : (words : List GsiWord) (i : ℕ) → slice_get words i ≡ None → lengt
 past words i at = elim (slice_get_cases words i).1
     [ inl found ↦ absurd (none_some found.0 (sym at ∙ found.2)) | inr out ↦ out.0 ]
 
--- Past the last word.
+-- Past the last word, what was found is what is found among all words.
 pub found_all : (index : ℕ) (words : List GsiWord) (i : ℕ) → slice_get words i ≡ None
     → found_among (words_with index (take i words)) ≡ found_among (words_with index words)
 found_all index words i at = ap (λ (ws : List GsiWord). found_among (words_with index ws))

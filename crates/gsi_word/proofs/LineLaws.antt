@@ -17,7 +17,7 @@ use Rattle.gsi_word.specs.declared.line_fault.LineFault.{LineFault}
 use Rattle.gsi_word.specs.declared.line_fault.LineFault.TheVariants.{Byte, Word, FirstWord}
 use Rattle.gsi_word.proofs.WordLaws.{one_word, spelled_printable}
 
--- The first byte that may not stand in a line.
+-- A byte that may not stand in a line, after bytes that all may, is the fault of the line.
 pub byte_fault : (line : List ℕ) (place : ℕ) → place < length line
     → ((k : ℕ) → k < place → IsPrintable (get_or line k 0)) → ¬ IsPrintable (get_or line place 0)
     → IsByteFault line (place + 1)

@@ -98,8 +98,7 @@ first_kept (b ∷ bytes) (inl none) = split (b == 48) refl where
 abbrev zeros : List ℕ → ℕ
 zeros bytes = prefix_len (λ b. b == 48) bytes
 
--- Without the zeros that it begins with, or all but one where it is zeros alone, a content is its
--- name.
+-- Without the zeros before it a content is its name; of zeros alone the last one stays.
 pub name_behind : (n : ℕ) (bytes : List ℕ) → n ≤ zeros bytes → n < length bytes → (n ≡ zeros bytes)
     ⊎ (n + 1 ≡ length bytes) → drop n bytes ≡ name_of bytes
 name_behind zero bytes le lt h = name_kept bytes (first_kept bytes h)

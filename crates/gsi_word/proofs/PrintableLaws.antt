@@ -34,8 +34,7 @@ test_from_printable bytes h = list_all-from_AllPass is_printable bytes
 pub no_printable : (b : ℕ) → is_printable b ≡ false → ¬ IsPrintable b
 no_printable b e h = false≢true (sym e ∙ true_test b h)
 
--- Where the first n bytes and those from a place on may stand in a line, and no byte lies between,
--- all may.
+-- Where the first n bytes are printable, and those from a place among them or right after, all are.
 pub all_of_both : (bytes : List ℕ) (n from : ℕ) → from ≤ n → All IsPrintable (take n bytes)
     → All IsPrintable (drop from bytes) → All IsPrintable bytes
 all_of_both bytes n from le front rest =

@@ -31,7 +31,7 @@ runs_suc width (suc n) bytes rest run e = (
   runs_suc width n (drop (8 + width) bytes) rest run.1 e,
 )
 
--- One more word.
+-- A run that a word follows is a run of one word more.
 pub runs_more : (width n : ℕ) (bytes rest : List ℕ) → Runs width n bytes rest
     → begins_word width rest ≡ true → Runs width (n + 1) bytes (drop (8 + width) rest)
 runs_more width n bytes rest run e = subst (λ (k : ℕ). Runs width k bytes (drop (8 + width) rest))
@@ -173,7 +173,7 @@ run_has_fault width n bytes rest run h e some =
       ];
     }
 
--- The bytes after some words and their blanks.
+-- The bytes after a word and its blank, and after more of them, are those after one word more.
 pub drop_words : (width i : ℕ) (bytes : List ℕ)
     → drop ((8 + width) * i) (drop (8 + width) bytes) ≡ drop ((8 + width) * suc i) bytes
 drop_words width i bytes = drop-drop ((8 + width) * i) (8 + width) bytes
