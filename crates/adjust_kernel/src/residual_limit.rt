@@ -94,15 +94,3 @@ pub fn first_above_limit(sheet: &Sheet, obs: &[Obs], limit: u32) -> Option<usize
     }
     None
 }
-
-#[cfg(test)]
-mod tests {
-    use super::*;
-
-    #[test]
-    fn a_limit_is_at_most_2000_half_units(rt: HostRuntime) {
-        assert!(rt; ResidualLimit::new(2_001).is_none());
-        let limit = ResidualLimit::new(2_000).expect(&rt, "a limit");
-        assert_eq!(rt; limit.half_units(), 2_000);
-    }
-}

@@ -210,6 +210,3 @@ fn are_rows(rows: &[Row]) -> bool
 {
     !rows.is_empty() && rows.len() <= MOST_ROWS && rows.iter().all(is_row)
 }
-
-#[cfg(test)]
-mod tests;

@@ -153,6 +153,3 @@ fn are_different_numbers(numbers: &[u16]) -> bool
     }
     true
 }
-
-#[cfg(test)]
-mod tests;

@@ -53,6 +53,3 @@ pub trait Tally: Drop {
         requires { set < MOST_SETS }
         ensures { (l : List Added) → StandsFor self.now l → result ≡ added_for_set l set };
 }
-
-#[cfg(test)]
-mod tests;

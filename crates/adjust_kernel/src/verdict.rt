@@ -159,6 +159,3 @@ fn acceptance(station: &Station, sheet: &Sheet, greatest_residual: i128) -> Acce
         denominator: sheet.denominator(),
     }
 }
-
-#[cfg(test)]
-mod tests;

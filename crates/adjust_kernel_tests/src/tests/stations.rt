@@ -1,4 +1,6 @@
-use super::*;
+//! The rules that a station keeps.
+
+use adjust_kernel::{Name, Obs, Station};
 use std::alloc::Global;
 use std::process::Abort;
 use std::test::Fail;

@@ -1,9 +1,8 @@
+//! The two tallies of the kernel, and one that gets no memory.
+
 ghost use Rattle.std.specs.Prelude.{◌≡◌};
 
-use crate::bounds::MOST_ROWS;
-use crate::running::Running;
-use crate::scan::Scan;
-use crate::tally::Tally;
+use adjust_kernel::{MOST_ROWS, Running, Scan, Tally};
 use std::alloc::Global;
 use std::process::Abort;
 use std::test::Fail;

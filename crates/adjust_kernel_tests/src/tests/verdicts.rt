@@ -2,20 +2,10 @@
 
 ghost use Rattle.std.specs.Prelude.{◌<◌};
 
-use super::{check, check_with};
-use crate::accepted::Accepted;
-use crate::kernel_fault::KernelFault;
-use crate::laws;
-use crate::name::Name;
-use crate::obs::Obs;
-use crate::out_of_memory::OutOfMemory;
-use crate::residual::residual_of;
-use crate::residual_limit::ResidualLimit;
-use crate::row::{Direction, Orientation, Row};
-use crate::running::Running;
-use crate::scan::Scan;
-use crate::sheet::Sheet;
-use crate::station::Station;
+use adjust_kernel::{
+    Accepted, Direction, KernelFault, Name, Obs, Orientation, OutOfMemory, ResidualLimit, Row,
+    Running, Scan, Sheet, Station, check, check_with, laws, residual_of,
+};
 use std::alloc::Global;
 use std::process::Abort;
 use std::test::Fail;

@@ -1,4 +1,6 @@
-use super::*;
+//! The limits that a sheet keeps.
+
+use adjust_kernel::{Direction, Name, Orientation, Row, Sheet};
 use std::alloc::Global;
 use std::process::Abort;
 use std::test::Fail;
