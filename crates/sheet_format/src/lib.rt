@@ -43,6 +43,3 @@ pub use fault::{RowKind, SheetFault, WriteFault};
 pub use number::{SHORT, of_digits};
 pub use reading::{LONGEST_SHEET, read_sheet};
 pub use writing::write_sheet;
-
-#[cfg(test)]
-mod tests;

@@ -10,9 +10,9 @@
 
 use super::worked::changed;
 use super::{SHEET, answer_of, expect_same};
-use crate::{SheetFault, WriteFault, read_sheet, write_sheet};
 use adjust_kernel::Sheet;
 use byte_ends::Held;
+use sheet_format::{SheetFault, WriteFault, read_sheet, write_sheet};
 use std::alloc::Global;
 use std::process::Abort;
 use std::test::Fail;

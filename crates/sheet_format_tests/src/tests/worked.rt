@@ -2,7 +2,7 @@
 //! answer, in which `read` stands for the sheet.
 
 use super::{SHEET, answer_of, expect_answer, expect_same, push_line};
-use crate::read_sheet;
+use sheet_format::read_sheet;
 use std::alloc::{AllocError, Global};
 use std::process::Abort;
 use std::test::Fail;

@@ -6,9 +6,9 @@ mod memory;
 mod sizes;
 mod worked;
 
-use crate::{LONGEST_SHEET, SheetFault, WriteFault, read_sheet, write_sheet};
 use adjust_kernel::Sheet;
 use byte_ends::{Failed, Held, Sink};
+use sheet_format::{LONGEST_SHEET, SheetFault, WriteFault, read_sheet, write_sheet};
 use std::alloc::{AllocError, Global};
 use std::process::Abort;
 use std::test::Fail;

@@ -1,11 +1,11 @@
 //! Sheets of all sizes, with ample memory: none is refused for want of it.
 
 use super::{SHEET, answer_of, expect_answer, expect_same, written};
-use crate::{LONGEST_SHEET, read_sheet};
 use adjust_kernel::{
     Direction, LARGEST_SET_NUMBER, LARGEST_TURN, LONGEST_NAME, MOST_ROWS, MOST_SETS, MOST_TARGETS,
     Name, Orientation, Row, Sheet, TURN,
 };
+use sheet_format::{LONGEST_SHEET, read_sheet};
 use std::alloc::{AllocError, Global};
 use std::process::Abort;
 use std::test::Fail;

@@ -1,7 +1,7 @@
 //! The texts of the faults.
 
 use super::{expect_same, push_line};
-use crate::{RowKind, SheetFault, WriteFault};
+use sheet_format::{RowKind, SheetFault, WriteFault};
 use std::test::Fail;
 
 const FAULTS: &str = "\
