@@ -2,7 +2,7 @@
 //! none is made. No clause says either, since a growth may always fail.
 
 use super::{hoard, new_book, numbered, take};
-use crate::{Book, Faces, Stations};
+use station_book::{Book, Faces, Stations};
 use std::alloc::Global;
 use std::process::Abort;
 
