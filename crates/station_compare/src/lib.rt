@@ -21,6 +21,3 @@ pub use directions::{directions_text, write_directions};
 pub use fault::CompareFault;
 pub use refused::refusal_line;
 pub use runs::{run_compare, run_directions};
-
-#[cfg(test)]
-mod tests;

@@ -2,13 +2,15 @@
 
 mod ends;
 
-use crate::{Agreement, CompareFault, agreement_line, compare_bytes, refusal_line, run_compare};
 use adjust_kernel::{KernelFault, Name};
 use byte_ends::{Held, Script};
 use direction_table::{RowKind, TableFault};
 use stated_directions::AdjustFault;
 use station_book::Limits;
 use station_check::Fault;
+use station_compare::{
+    Agreement, CompareFault, agreement_line, compare_bytes, refusal_line, run_compare,
+};
 use std::alloc::Global;
 use std::process::Abort;
 use std::test::Fail;

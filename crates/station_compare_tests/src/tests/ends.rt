@@ -1,9 +1,9 @@
 //! Readers that fail or end once and writers that fail once, and go on after, at both commands.
 
 use super::{S1, limits};
-use crate::{run_compare, run_directions};
 use byte_ends::{Held, OfRead, OfWrite, Script, Sink, Source};
 use direction_table::Decimals;
+use station_compare::{run_compare, run_directions};
 use std::alloc::Global;
 use std::io::{self, Error, ErrorKind, Read, Write};
 use std::process::Abort;
