@@ -22,6 +22,3 @@ pub use gon::CIRCLE;
 pub use reading::{LONGEST_TABLE, read_table};
 pub use table::{TargetDirection, table_text};
 pub use text::push_direction;
-
-#[cfg(test)]
-mod tests;

@@ -8,8 +8,8 @@
 //! refusing.
 
 use super::{are_read, stated_of, station_of};
-use crate::{Decimals, RowKind, TableFault, TargetDirection, read_table, table_text};
 use adjust_kernel::Station;
+use direction_table::{Decimals, RowKind, TableFault, TargetDirection, read_table, table_text};
 use std::alloc::{AllocError, Global};
 use std::process::Abort;
 use std::test::Fail;

@@ -3,10 +3,11 @@
 
 mod memory;
 
-use crate::{
-    Decimals, RowKind, TableFault, TargetDirection, push_direction, read_table, table_text,
-};
 use adjust_kernel::{Name, Obs, Station};
+use direction_table::{
+    Decimals, LONGEST_TABLE, RowKind, TableFault, TargetDirection, push_direction, read_table,
+    table_text,
+};
 use std::alloc::Global;
 use std::process::Abort;
 use std::test::Fail;
@@ -133,7 +134,7 @@ fn a_fault_is_told_in_words(rt: HostRuntime) -> Result<(), Fail> {
 
 #[test]
 fn a_table_of_too_many_bytes_is_refused(rt: HostRuntime) -> Result<(), Fail> {
-    let mut text = vec![in rt.alloc(); b'\n'; crate::LONGEST_TABLE]?;
+    let mut text = vec![in rt.alloc(); b'\n'; LONGEST_TABLE]?;
     let found = answer_of(&rt, rt.alloc(), &text)?;
     assert_eq!(rt; found.as_str(), "Missing(1)");
     text.push(b'\n')?;
