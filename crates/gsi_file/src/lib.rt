@@ -19,8 +19,6 @@ mod line_end;
 mod lines;
 mod out_of_memory;
 mod search;
-#[cfg(test)]
-mod tests;
 mod window;
 
 pub use bounds::{LONGEST_FILE, LONGEST_LINE};

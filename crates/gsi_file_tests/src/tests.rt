@@ -4,8 +4,8 @@
 
 ghost use Rattle.std.specs.Prelude.{◌<◌};
 
-use crate::{FileFault, FileKind, LONGEST_FILE, LONGEST_LINE, Lines, OutOfMemory, laws};
 use byte_ends::{OfRead, Script, Source};
+use gsi_file::{FileFault, FileKind, LONGEST_FILE, LONGEST_LINE, Lines, OutOfMemory, laws};
 use gsi_word::{LineFault, read_block};
 use std::alloc::Global;
 use std::io::{self, Error, ErrorKind, Read};
