@@ -19,8 +19,6 @@ mod line_fault;
 mod printable;
 mod shape;
 pub mod steps;
-#[cfg(test)]
-mod tests;
 mod word;
 mod words;
 mod zeros;

@@ -1,7 +1,7 @@
 //! Worked lines, words, names and angles.
 
-use crate::steps::{LANES, printable_run};
-use crate::{
+use gsi_word::steps::{LANES, printable_run};
+use gsi_word::{
     AngleFault, CODE_INFORMATION, CODE_NUMBER, Found, HORIZONTAL_DIRECTION, LineFault,
     POINT_NUMBER, VERTICAL_ANGLE, Word, decimal_number, laws, read_block,
 };
