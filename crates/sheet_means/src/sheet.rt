@@ -68,6 +68,3 @@ pub fn means(alloc: Global, station: &Station) -> Result<Sheet, MeansFault>
     let orientations = orientations_of(alloc, station, &rows, rest)?;
     Ok(sheet_of(station, directions, orientations, rows))
 }
-
-#[cfg(test)]
-mod tests;

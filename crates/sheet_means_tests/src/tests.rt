@@ -1,8 +1,7 @@
 //! Stations worked by hand, each with its sheet of means.
 
-use super::means;
-use crate::fault::MeansFault;
 use adjust_kernel::{LARGEST_SET_NUMBER, LONGEST_NAME, Name, Obs, Sheet, Station, check};
+use sheet_means::{MeansFault, means};
 use std::alloc::Global;
 use std::process::Abort;
 use std::test::Fail;
