@@ -7,14 +7,13 @@ ghost use Rattle.std.specs.Prelude.{◌≡◌, ◌<◌, ℕ, List, length, drop,
 ghost use Rattle.std.specs.Str.{bytes_eq};
 ghost use Rattle.adjust_kernel.specs.Names.{IsName, padded};
 
+mod eight;
+
+use self::eight::{EIGHT, end_of_eight};
 use crate::bounds::LONGEST_NAME;
 use std::fmt;
 use std::hash::{Hash, Hasher};
 use std::marker::Model;
-use std::simd::prelude::*;
-
-/// How many bytes are moved as one number.
-const EIGHT: usize = 8;
 
 /// The first byte that a name may hold, a blank.
 pub const FIRST_PRINTABLE: u8 = 0x20;
@@ -143,18 +142,6 @@ impl fmt::Display for Name {
     fn fmt<W: fmt::Write>(&self, f: &mut fmt::Formatter<W>) -> fmt::Result {
         f.pad(std::str::from_utf8(self.bytes()).map_err(|_| fmt::Error)?)
     }
-}
-
-/// The last of eight bytes, from this place on, and then zeros. The first byte is the lowest of a
-/// number, so a shift takes off those before the place.
-fn end_of_eight(bytes: &[u8], from: usize) -> [u8; LONGEST_NAME]
-    requires eight { length bytes.now ≡ 8 }
-    requires inside { from < 8 }
-    ensures { result ≡ padded (drop from bytes.now) }
-{
-    let number = u64::from_le_bytes(u8x8::from_slice(bytes).to_array());
-    let last = number >> (8 * from as u32);
-    u64x2::from_array([last, 0]).to_le_bytes().to_array()
 }
 
 /// Whether these are the bytes of a name.

@@ -94,14 +94,14 @@ impl Sheet {
             ≡ self }
         ensures valid { IsSheet self }
     {
-        let sheet = self;
-        (
-            sheet.name,
-            sheet.denominator,
-            sheet.directions,
-            sheet.orientations,
-            sheet.rows,
-        )
+        let Sheet {
+            name,
+            denominator,
+            directions,
+            orientations,
+            rows,
+        } = self;
+        (name, denominator, directions, orientations, rows)
     }
 
     /// The station's name.

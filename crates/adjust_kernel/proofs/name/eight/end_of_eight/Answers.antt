@@ -3,7 +3,7 @@ use Rattle.std.specs.Int.{from_le_bytes, w64}
 use Rattle.std.proofs.lemmas.List.{take_all}
 use Rattle.std.proofs.lemmas.List.Elements.{All-from_get_or, recursion_from_All}
 use Rattle.adjust_kernel.proofs.EightBytes.{AreBytes, moved}
-use Rattle.adjust_kernel.proofs.name.end_of_eight.Goals as goal
+use Rattle.adjust_kernel.proofs.name.eight.end_of_eight.Goals as goal
 
 pub returns : goal.returns
 returns c =
