@@ -52,10 +52,13 @@ fn read_rows(alloc: Global, targets: &[Name], bytes: &[u8]) -> Result<Vec<Option
         stated.items ≡ stated_by (records_of bytes.now) targets.now) }
     ensures fault { IfErr result (IsFaultOrMemory targets.now bytes.now) }
 {
+    let mut unread = bytes;
+    // By reference, so that this reader has a type of its own: with one type for tables and sheets,
+    // a call for each row is left in the loop of a sheet's rows.
     let mut reader = ReaderBuilder::new()
         .has_headers(false)
         .flexible(true)
-        .from_reader(alloc, bytes);
+        .from_reader(alloc, &mut unread);
     let mut stated = vec![in alloc; None; targets.len()]?;
     let mut row = ByteRecord::new(alloc);
     let mut number: u32 = 0;

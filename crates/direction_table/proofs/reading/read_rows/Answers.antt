@@ -1,5 +1,5 @@
-use Rattle.std.proofs.Common.{◌∙◌, ◌+◌, ◌∷◌, Bor, List, ℕ, Some, None, refl, rules, subst, sym, ap}
-use Rattle.std.proofs.Common.{inl, inr, arith, length}
+use Rattle.std.proofs.Common.{◌∙◌, ◌+◌, ◌∷◌, Bor, MutBor, List, ℕ, Some, None, refl, rules}
+use Rattle.std.proofs.Common.{ap, arith, inl, inr, length, subst, sym}
 use Rattle.std.proofs.lemmas.List.{length-replicate}
 use Rattle.csv.specs.Reading.{default_config, records_from, strip_bom}
 use Rattle.csv.specs.Records.{fields_of}
@@ -41,7 +41,8 @@ rows-preserved c =
     let got = rw c.if-not-found.false at (c.in-Ok.ensures.reads trim ready) in
     let row = fields_of c.read_byte_record.new.row in
     let next =
-    next-row (λ (b : Bor (List ℕ)). Some b.now) c.rows.reader c.read_byte_record.new.self row y
+    next-row (λ (b : MutBor (Bor (List ℕ))). Some b.now.now)
+        c.rows.reader c.read_byte_record.new.self row y
     n config source got well room in
     let rest = records_from default_config next.fuel c.read_byte_record.new.self.state next.left in
     let here = subst (HasRead c.args.targets.now
@@ -76,7 +77,8 @@ returns-then-not-found-clause-faultless c =
     let (trim, ready, config, well, y, source, n, room, read, flexible, left, size) =
     c.rows.invariant in
     let got = rw c.if-not-found.true at (c.in-Ok.ensures.reads trim ready) in
-    let end = rows-end (λ (b : Bor (List ℕ)). Some b.now) c.rows.reader c.read_byte_record.new.self
+    let end = rows-end (λ (b : MutBor (Bor (List ℕ))). Some b.now.now)
+        c.rows.reader c.read_byte_record.new.self
     (fields_of c.read_byte_record.new.row) default_config y config source got in
     let here = subst (HasRead c.args.targets.now
     (records_of c.args.bytes.now) c.rows.stated.items c.rows.number)
@@ -89,7 +91,8 @@ returns-then-not-found-clause-stated c =
     let (trim, ready, config, well, y, source, n, room, read, flexible, left, size) =
     c.rows.invariant in
     let got = rw c.if-not-found.true at (c.in-Ok.ensures.reads trim ready) in
-    let end = rows-end (λ (b : Bor (List ℕ)). Some b.now) c.rows.reader c.read_byte_record.new.self
+    let end = rows-end (λ (b : MutBor (Bor (List ℕ))). Some b.now.now)
+        c.rows.reader c.read_byte_record.new.self
     (fields_of c.read_byte_record.new.row) default_config y config source got in
     let here = subst (HasRead c.args.targets.now
     (records_of c.args.bytes.now) c.rows.stated.items c.rows.number)
@@ -111,7 +114,8 @@ returns-in-Err-clause-fault c =
     let got = rw c.if-not-found.false at (c.in-Ok.ensures.reads trim ready) in
     let row = fields_of c.read_byte_record.new.row in
     let next =
-    next-row (λ (b : Bor (List ℕ)). Some b.now) c.rows.reader c.read_byte_record.new.self row y
+    next-row (λ (b : MutBor (Bor (List ℕ))). Some b.now.now)
+        c.rows.reader c.read_byte_record.new.self row y
     n config source got well room in
     let rest = records_from default_config next.fuel c.read_byte_record.new.self.state next.left in
     let here = subst (HasRead c.args.targets.now
@@ -133,7 +137,8 @@ rows-smaller c =
     c.rows.invariant in
     let got = rw c.if-not-found.false at (c.in-Ok.ensures.reads trim ready) in
     let next =
-    next-row (λ (b : Bor (List ℕ)). Some b.now) c.rows.reader c.read_byte_record.new.self
+    next-row (λ (b : MutBor (Bor (List ℕ))). Some b.now.now)
+        c.rows.reader c.read_byte_record.new.self
     (fields_of c.read_byte_record.new.row) y n config source got well room in
     let shorter = next.shorter in
     omega (arith, left, shorter)

@@ -10,7 +10,7 @@ use Rattle.direction_table.proofs.reading.read_rows.Given as goal
 abbrev pub invariant-rows : goal.invariant-rows
 invariant-rows l = (l.reader.trim ≡ trim.None) × Ready l.reader × (l.reader.config ≡ default_config)
     × (ends_at_end l.reader.state ≡ false)
-    × (y : List ℕ) × (source_of (λ s. Some s.now) l.reader ≡ Some y)
+    × (y : List ℕ) × (source_of (λ s. Some s.now.now) l.reader ≡ Some y)
     × (n : ℕ) × (length y < n)
     × HasRead l.targets (records_of l.fn.bytes) l.stated.items l.number
     (records_from default_config n l.reader.state y)
