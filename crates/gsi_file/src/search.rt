@@ -12,7 +12,7 @@ ghost use Rattle.gsi_file.specs.Finding.{Finds};
 use crate::bounds::LONGEST_LINE;
 use crate::buffer::Buffer;
 use crate::file_fault::FileKind;
-use crate::line_end::LineEnd;
+use crate::line_end::{LineEnd, is_blank, line_end, next_line_start};
 use byte_ends::Source;
 
 /// A numbered line at the front of what is in hand.
@@ -82,30 +82,33 @@ pub(crate) fn find_line<R: Source>(
     ensures failed { R.failed reader.new ≡ failed_by (R.failed reader.old) result }
 {
     let mut left = room;
-    let mut line = 0;
+    let mut searched = 0;
     'search: loop {
+        // No byte past the longest line, nor past the file's limit, is looked at.
         let seen = buffer.len().min(left).min(LONGEST_LINE + 1);
-        let end = buffer.line_end(line, seen);
-        line = end.place;
-        if line < seen {
-            if !buffer.is_blank(line) {
-                return Ok(Some(ended(end, buffer.next_line_start(line, seen), left)));
+        let end = line_end(buffer.bytes(), searched, seen);
+        searched = end.place;
+        if searched < seen {
+            if !is_blank(buffer.front(searched)) {
+                let used = next_line_start(buffer.bytes(), searched, seen);
+                return Ok(Some(ended(end, used, left)));
             }
-            buffer.drop_front(line + 1);
-            left -= line + 1;
-            line = 0;
+            buffer.drop_front(searched + 1);
+            left -= searched + 1;
+            searched = 0;
             continue;
         }
-        if line > LONGEST_LINE {
+        if searched > LONGEST_LINE {
             return Err(FileKind::LineTooLong);
         }
-        if line < buffer.len() {
+        // The file's limit alone leaves bytes in hand that are not looked at.
+        if searched < buffer.len() {
             return Err(FileKind::FileTooLong);
         }
         match buffer.fill(reader) {
             Ok(0) => {
-                if !buffer.is_blank(line) {
-                    return Ok(Some(at_end(line)));
+                if !is_blank(buffer.front(searched)) {
+                    return Ok(Some(at_end(searched)));
                 }
                 return Ok(None);
             }

@@ -1,6 +1,7 @@
 use Rattle.std.proofs.Common.{ap, not, false, Some, sym, subst, ◌∙◌, arith}
 use Rattle.gsi_file.specs.declared.search.FoundLine.{FoundLine}
 use Rattle.gsi_file.specs.Finding.{HasFound}
+use Rattle.gsi_file.specs.Parts.{is_blank}
 use Rattle.gsi_file.proofs.Finding.{Searching, breaks_off, fails, file_too_long, line_too_long}
 use Rattle.gsi_file.proofs.Finding.{found_ended, found_at_end, passes, ends_by, none_plain}
 use Rattle.gsi_file.proofs.search.find_line.Goals as goal
@@ -16,17 +17,19 @@ returns-then-not-is_blank-clause-finds g c =
       inside = omega arith;
       fits = omega arith;
       most = c.search.invariant.searching.most;
-      plain = c.line_end-end.ensures.plain;
+      plain = rw c.bytes.ensures at c.line_end-end.ensures.plain;
       same = c.search.invariant.searching.same;
     } in
     subst (λ (f : FoundLine). HasFound (told c.args.reader.now) (told c.search.reader) c.args.room
     c.args.buffer.now h f) (sym c.ended.ensures)
-    (found_ended _ _ _ _ c.search.left line c.next_line_start.result c.line_end-end.result.printable
-    h (omega arith) (omega arith) (omega (arith, c.next_line_start.ensures.within))
-    (omega (arith, c.next_line_start.ensures.within))
-    (c.line_end-end.ensures.end c.if-line-seen.true)
-    (ap not (sym c.is_blank.ensures ∙ c.if-not-is_blank.true))
-    c.line_end-end.ensures.printable c.next_line_start.ensures.next s)
+    (found_ended _ _ _ _ c.search.left line c.next_line_start-used.result
+    c.line_end-end.result.printable
+    h (omega arith) (omega arith) (omega (arith, c.next_line_start-used.ensures.within))
+    (omega (arith, c.next_line_start-used.ensures.within))
+    (rw c.bytes.ensures at (c.line_end-end.ensures.end c.if-searched-seen.true))
+    (ap not (sym (c.is_blank.ensures ∙ ap is_blank c.front.ensures) ∙ c.if-not-is_blank.true))
+    (rw c.bytes.ensures at c.line_end-end.ensures.printable)
+    (rw c.bytes-then-not-is_blank.ensures at c.next_line_start-used.ensures.next) s)
 
 pub returns-then-not-is_blank-clause-through : goal.returns-then-not-is_blank-clause-through
 returns-then-not-is_blank-clause-through g c after may =
@@ -40,24 +43,26 @@ returns-then-not-is_blank-clause-through g c after may =
       inside = omega arith;
       fits = omega arith;
       most = c.search.invariant.searching.most;
-      plain = c.line_end-end.ensures.plain;
+      plain = rw c.bytes.ensures at c.line_end-end.ensures.plain;
       same = y.2;
     } in (
       y.0,
       y.1,
       subst (λ (f : FoundLine). HasFound (Some y.0) (Some after) c.args.room c.args.buffer.now h f)
           (sym c.ended.ensures)
-          (found_ended _ _ _ _ c.search.left line c.next_line_start.result
+          (found_ended _ _ _ _ c.search.left line c.next_line_start-used.result
           c.line_end-end.result.printable h (omega arith) (omega arith)
-          (omega (arith, c.next_line_start.ensures.within))
-          (omega (arith, c.next_line_start.ensures.within))
-          (c.line_end-end.ensures.end c.if-line-seen.true) (ap not (sym c.is_blank.ensures
-          ∙ c.if-not-is_blank.true)) c.line_end-end.ensures.printable c.next_line_start.ensures.next
+          (omega (arith, c.next_line_start-used.ensures.within))
+          (omega (arith, c.next_line_start-used.ensures.within))
+          (rw c.bytes.ensures at (c.line_end-end.ensures.end c.if-searched-seen.true))
+          (ap not (sym (c.is_blank.ensures ∙ ap is_blank c.front.ensures)
+          ∙ c.if-not-is_blank.true)) (rw c.bytes.ensures at c.line_end-end.ensures.printable)
+          (rw c.bytes-then-not-is_blank.ensures at c.next_line_start-used.ensures.next)
           s),
     )
 
-pub search-preserved-then-line-seen : goal.search-preserved-then-line-seen
-search-preserved-then-line-seen g c =
+pub search-preserved-then-searched-seen : goal.search-preserved-then-searched-seen
+search-preserved-then-searched-seen g c =
     let told = g.R.Source.told in
     let line = c.line_end-end.result.place in
     let h = c.search.buffer in
@@ -67,7 +72,7 @@ search-preserved-then-line-seen g c =
       inside = omega arith;
       fits = omega arith;
       most = c.search.invariant.searching.most;
-      plain = c.line_end-end.ensures.plain;
+      plain = rw c.bytes.ensures at c.line_end-end.ensures.plain;
       same = c.search.invariant.searching.same;
     } in
     let h' = c.drop_front.new.self in
@@ -79,8 +84,9 @@ search-preserved-then-line-seen g c =
         most = omega (arith, c.search.invariant.searching.most);
         plain = none_plain h';
         same = rw c.drop_front.ensures (passes _ _ _ _ c.search.left line h (omega arith)
-            (omega arith) (c.line_end-end.ensures.end c.if-line-seen.true)
-            (ap not (sym c.is_blank.ensures
+            (omega arith)
+            (rw c.bytes.ensures at (c.line_end-end.ensures.end c.if-searched-seen.true))
+            (ap not (sym (c.is_blank.ensures ∙ ap is_blank c.front.ensures)
             ∙ c.if-not-is_blank.false)) s);
       };
       through = λ after may.
@@ -91,34 +97,37 @@ search-preserved-then-line-seen g c =
             inside = omega arith;
             fits = omega arith;
             most = c.search.invariant.searching.most;
-            plain = c.line_end-end.ensures.plain;
+            plain = rw c.bytes.ensures at c.line_end-end.ensures.plain;
             same = y.2;
           } in (
             y.0,
             y.1,
             rw c.drop_front.ensures (passes (Some y.0) (Some after) _ _ c.search.left line
-                h (omega arith) (omega arith) (c.line_end-end.ensures.end c.if-line-seen.true)
-                (ap not (sym c.is_blank.ensures ∙ c.if-not-is_blank.false)) t),
+                h (omega arith) (omega arith)
+                (rw c.bytes.ensures at (c.line_end-end.ensures.end c.if-searched-seen.true))
+                (ap not (sym (c.is_blank.ensures ∙ ap is_blank c.front.ensures)
+                ∙ c.if-not-is_blank.false)) t),
           );
       unfailed = c.search.invariant.unfailed;
     }
 
-pub returns-then-line-gt-LONGEST_LINE-clause-finds :
-    goal.returns-then-line-gt-LONGEST_LINE-clause-finds
-returns-then-line-gt-LONGEST_LINE-clause-finds g c = (
-  line_too_long _ _ _ _ c.search.left c.search.line c.line_end-end.result.place c.search.buffer
-      c.if-line-gt-LONGEST_LINE.true (omega arith) (omega arith) c.line_end-end.ensures.plain
+pub returns-then-searched-gt-LONGEST_LINE-clause-finds :
+    goal.returns-then-searched-gt-LONGEST_LINE-clause-finds
+returns-then-searched-gt-LONGEST_LINE-clause-finds g c = (
+  line_too_long _ _ _ _ c.search.left c.search.searched c.line_end-end.result.place c.search.buffer
+      c.if-searched-gt-LONGEST_LINE.true (omega arith) (omega arith)
+      (rw c.bytes.ensures at c.line_end-end.ensures.plain)
       c.search.invariant.searching,
   λ other. absurd other,
 )
 
-pub returns-then-line-gt-LONGEST_LINE-clause-through :
-    goal.returns-then-line-gt-LONGEST_LINE-clause-through
-returns-then-line-gt-LONGEST_LINE-clause-through g c after may =
+pub returns-then-searched-gt-LONGEST_LINE-clause-through :
+    goal.returns-then-searched-gt-LONGEST_LINE-clause-through
+returns-then-searched-gt-LONGEST_LINE-clause-through g c after may =
     let before = c.search.invariant.searching in
     let y = c.search.invariant.through after may in
     let s : Searching (Some y.0) (Some after) c.args.room c.args.buffer.now c.search.left
-    c.search.line c.search.buffer = record {
+    c.search.searched c.search.buffer = record {
       short = before.short;
       inside = before.inside;
       fits = before.fits;
@@ -129,15 +138,15 @@ returns-then-line-gt-LONGEST_LINE-clause-through g c after may =
       y.0,
       y.1,
       (
-        line_too_long _ _ _ _ c.search.left c.search.line c.line_end-end.result.place
-            c.search.buffer c.if-line-gt-LONGEST_LINE.true (omega arith) (omega arith)
-            c.line_end-end.ensures.plain s,
+        line_too_long _ _ _ _ c.search.left c.search.searched c.line_end-end.result.place
+            c.search.buffer c.if-searched-gt-LONGEST_LINE.true (omega arith) (omega arith)
+            (rw c.bytes.ensures at c.line_end-end.ensures.plain) s,
         λ other. absurd other,
       ),
     )
 
-pub returns-then-line-len-clause-finds : goal.returns-then-line-len-clause-finds
-returns-then-line-len-clause-finds g c =
+pub returns-then-searched-len-clause-finds : goal.returns-then-searched-len-clause-finds
+returns-then-searched-len-clause-finds g c =
     let told = g.R.Source.told in
     let line = c.line_end-end.result.place in
     let h = c.search.buffer in
@@ -147,15 +156,15 @@ returns-then-line-len-clause-finds g c =
       inside = omega arith;
       fits = omega arith;
       most = c.search.invariant.searching.most;
-      plain = c.line_end-end.ensures.plain;
+      plain = rw c.bytes.ensures at c.line_end-end.ensures.plain;
       same = c.search.invariant.searching.same;
     } in (
       file_too_long _ _ _ _ c.search.left line h (omega arith) (omega arith) s,
       λ other. absurd other,
     )
 
-pub returns-then-line-len-clause-through : goal.returns-then-line-len-clause-through
-returns-then-line-len-clause-through g c after may =
+pub returns-then-searched-len-clause-through : goal.returns-then-searched-len-clause-through
+returns-then-searched-len-clause-through g c after may =
     let told = g.R.Source.told in
     let line = c.line_end-end.result.place in
     let h = c.search.buffer in
@@ -166,7 +175,7 @@ returns-then-line-len-clause-through g c after may =
       inside = omega arith;
       fits = omega arith;
       most = c.search.invariant.searching.most;
-      plain = c.line_end-end.ensures.plain;
+      plain = rw c.bytes.ensures at c.line_end-end.ensures.plain;
       same = y.2;
     } in (
       y.0,
@@ -188,14 +197,15 @@ returns-then-not-is_blank-2-clause-finds g c =
       inside = omega arith;
       fits = omega arith;
       most = c.search.invariant.searching.most;
-      plain = c.line_end-end.ensures.plain;
+      plain = rw c.bytes.ensures at c.line_end-end.ensures.plain;
       same = c.search.invariant.searching.same;
     } in
     subst (λ (f : FoundLine). HasFound (told c.args.reader.now) (told c.fill.new.from) c.args.room
     c.args.buffer.now c.fill.new.self f) (sym c.at_end.ensures)
     (found_at_end (told c.args.reader.now) (told c.search.reader) (told c.fill.new.from) _ _
     c.search.left line h c.fill.new.self c.in-Ok-eq0.field-0 (omega arith)
-    c.in-Ok-eq0.field-0-test (ap not (sym c.is_blank-in-Ok-eq0.ensures ∙ c.if-not-is_blank-2.true))
+    c.in-Ok-eq0.field-0-test (ap not (sym (c.is_blank-in-Ok-eq0.ensures
+    ∙ ap is_blank c.front-in-Ok-eq0.ensures) ∙ c.if-not-is_blank-2.true))
     s
     c.in-Ok-eq0.ensures.fills)
 
@@ -212,7 +222,7 @@ returns-then-not-is_blank-2-clause-through g c after may =
       inside = omega arith;
       fits = omega arith;
       most = c.search.invariant.searching.most;
-      plain = c.line_end-end.ensures.plain;
+      plain = rw c.bytes.ensures at c.line_end-end.ensures.plain;
       same = y.2;
     } in (
       y.0,
@@ -221,7 +231,8 @@ returns-then-not-is_blank-2-clause-through g c after may =
           c.fill.new.self f) (sym c.at_end.ensures)
           (found_at_end (Some y.0) (Some x.0) (Some after) _ _ c.search.left line h c.fill.new.self
           c.in-Ok-eq0.field-0 (omega arith) c.in-Ok-eq0.field-0-test
-          (ap not (sym c.is_blank-in-Ok-eq0.ensures ∙ c.if-not-is_blank-2.true)) s x.2),
+          (ap not (sym (c.is_blank-in-Ok-eq0.ensures ∙ ap is_blank c.front-in-Ok-eq0.ensures)
+          ∙ c.if-not-is_blank-2.true)) s x.2),
     )
 
 pub returns-in-Ok-eq0-clause-finds : goal.returns-in-Ok-eq0-clause-finds
@@ -235,12 +246,13 @@ returns-in-Ok-eq0-clause-finds g c =
       inside = omega arith;
       fits = omega arith;
       most = c.search.invariant.searching.most;
-      plain = c.line_end-end.ensures.plain;
+      plain = rw c.bytes.ensures at c.line_end-end.ensures.plain;
       same = c.search.invariant.searching.same;
     } in
     ends_by (told c.args.reader.now) (told c.search.reader) (told c.fill.new.from) _ _ c.search.left
     line h c.fill.new.self c.in-Ok-eq0.field-0 false (omega arith) c.in-Ok-eq0.field-0-test
-    (ap not (sym c.is_blank-in-Ok-eq0.ensures ∙ c.if-not-is_blank-2.false)) s
+    (ap not (sym (c.is_blank-in-Ok-eq0.ensures ∙ ap is_blank c.front-in-Ok-eq0.ensures)
+    ∙ c.if-not-is_blank-2.false)) s
     c.in-Ok-eq0.ensures.fills
 
 pub returns-in-Ok-eq0-clause-through : goal.returns-in-Ok-eq0-clause-through
@@ -256,14 +268,15 @@ returns-in-Ok-eq0-clause-through g c after may =
       inside = omega arith;
       fits = omega arith;
       most = c.search.invariant.searching.most;
-      plain = c.line_end-end.ensures.plain;
+      plain = rw c.bytes.ensures at c.line_end-end.ensures.plain;
       same = y.2;
     } in (
       y.0,
       y.1,
       ends_by (Some y.0) (Some x.0) (Some after) _ _ c.search.left line h c.fill.new.self
           c.in-Ok-eq0.field-0 false (omega arith) c.in-Ok-eq0.field-0-test
-          (ap not (sym c.is_blank-in-Ok-eq0.ensures ∙ c.if-not-is_blank-2.false)) s x.2,
+          (ap not (sym (c.is_blank-in-Ok-eq0.ensures ∙ ap is_blank c.front-in-Ok-eq0.ensures)
+          ∙ c.if-not-is_blank-2.false)) s x.2,
     )
 
 pub returns-in-Err-clause-finds : goal.returns-in-Err-clause-finds
@@ -277,7 +290,7 @@ returns-in-Err-clause-finds g c =
       inside = omega arith;
       fits = omega arith;
       most = c.search.invariant.searching.most;
-      plain = c.line_end-end.ensures.plain;
+      plain = rw c.bytes.ensures at c.line_end-end.ensures.plain;
       same = c.search.invariant.searching.same;
     } in (
       fails (told c.args.reader.now) (told c.search.reader) (told c.fill.new.from) _ _ c.search.left
@@ -299,7 +312,7 @@ returns-in-Err-clause-through g c after may =
       inside = omega arith;
       fits = omega arith;
       most = c.search.invariant.searching.most;
-      plain = c.line_end-end.ensures.plain;
+      plain = rw c.bytes.ensures at c.line_end-end.ensures.plain;
       same = y.2;
     } in (
       y.0,

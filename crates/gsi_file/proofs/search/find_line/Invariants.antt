@@ -7,7 +7,7 @@ use Rattle.gsi_file.proofs.search.find_line.Given as goal
 abbrev pub invariant-search : goal.invariant-search
 invariant-search g l = record {
   searching : Searching (g.R.Source.told l.fn.reader) (g.R.Source.told l.reader) l.fn.room
-      l.fn.buffer l.left l.line l.buffer;
+      l.fn.buffer l.left l.searched l.buffer;
   through : Through (g.R.Source.told l.fn.reader) (g.R.Source.told l.reader)
       (λ before after. SameAnswers (Some before) l.fn.room l.fn.buffer (Some after) l.left
       l.buffer);
@@ -15,4 +15,4 @@ invariant-search g l = record {
 }
 
 abbrev pub decreases-search : goal.decreases-search
-decreases-search g l = 2 * (l.left - l.line) + (1 - (length l.buffer - l.line))
+decreases-search g l = 2 * (l.left - l.searched) + (1 - (length l.buffer - l.searched))
