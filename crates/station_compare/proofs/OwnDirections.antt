@@ -14,9 +14,8 @@ use Rattle.byte_ends.specs.Input.{Input, Ended, RanPast, input_within}
 use Rattle.byte_ends.specs.Source.{Told}
 use Rattle.direction_table.proofs.LawLemmas.{never_both, one_table}
 use Rattle.direction_table.specs.TableTexts.{directions_of}
-use Rattle.direction_table.specs.Tables.{IsTableFault, IsTableText}
+use Rattle.direction_table.specs.Tables.{IsTableText}
 use Rattle.direction_table.specs.Texts.{step_of}
-use Rattle.direction_table.specs.declared.fault.TableFault.{TableFault}
 use Rattle.direction_table.specs.declared.reading.TheConstants.{LONGEST_TABLE}
 use Rattle.direction_table.specs.declared.table.TargetDirection.{TargetDirection}
 use Rattle.gsi_file.specs.FileAnswers.{FileAnswers}
@@ -24,7 +23,7 @@ use Rattle.sheet_apart.specs.Apart.{stated_by}
 use Rattle.stated_directions.proofs.LawLemmas.{rounded}
 use Rattle.stated_directions.proofs.TiesLaws.{measured_is_tied}
 use Rattle.stated_directions.specs.Faults.{IsAdjustFault}
-use Rattle.stated_directions.specs.Told.{AreTold, IsTold, as_stated}
+use Rattle.stated_directions.specs.Told.{IsTold}
 use Rattle.stated_directions.specs.declared.fault.AdjustFault.{AdjustFault}
 use Rattle.stated_directions.specs.declared.fault.AdjustFault.TheVariants as adjust
 use Rattle.station_book.specs.Limits.{AreLimits, FaceLimits}

@@ -15,7 +15,6 @@ use byte_ends::{Source, read_whole};
 use direction_table::{LONGEST_TABLE, read_table};
 use stated_directions::apart_from_least;
 use station_book::Limits;
-use station_check::laws::are_limits;
 use station_check::{Fault, stations_of_file};
 use std::alloc::Global;
 
@@ -52,7 +51,7 @@ pub fn compare_bytes<R: Source, Q: Source>(
         (Q.failed table.old) (Q.failed table.new) }
 {
     // The promise rests on laws of limits that were made.
-    are_limits(limits);
+    limits.recall();
     let stations = stations_of_file(alloc, gsi, limits)?;
     let Some(surveyed) = stations.get(name) else {
         return Err(CompareFault::File(Fault::NoStation));

@@ -14,7 +14,6 @@ use byte_ends::{Sink, Source};
 use direction_table::{Decimals, TargetDirection, table_text};
 use stated_directions::rounded_directions;
 use station_book::Limits;
-use station_check::laws::are_limits;
 use station_check::{Fault, stations_of_file, write_whole};
 use std::alloc::{AllocError, Global};
 
@@ -41,7 +40,7 @@ pub fn directions_text<R: Source>(
         (HasNoDirections limits file name.now)) }
 {
     // The promise rests on laws of limits that were made.
-    are_limits(limits);
+    limits.recall();
     let stations = stations_of_file(alloc, gsi, limits)?;
     let Some(surveyed) = stations.get(name) else {
         return Err(CompareFault::File(Fault::NoStation));

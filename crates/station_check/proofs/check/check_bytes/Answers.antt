@@ -28,7 +28,7 @@ returns g c =
           (λ (stated : Told).
           KeepsPromise c.args.limits c.args.residual (file_answers gsi) stated answer)
           c.check_sheet.ensures.checks
-          (λ stated checked. promise_by_sheet c.args.limits c.are_limits.ensures
+          (λ stated checked. promise_by_sheet c.args.limits c.recall.ensures
           c.args.residual (file_answers gsi) stated stations answer s of_sheet checked));
       of_check = of_check answer of_sheet;
       unread = asked answer _ _ of_sheet;
@@ -51,7 +51,7 @@ returns-in_err-stations g c =
           (λ gsi s. anything_came _
           (λ (stated : Told).
           KeepsPromise c.args.limits c.args.residual (file_answers gsi) stated (Err fault))
-          (λ stated. promise_by_file c.args.limits c.are_limits.ensures
+          (λ stated. promise_by_file c.args.limits c.recall.ensures
           c.args.residual (file_answers gsi) stated fault of_file s));
       of_check = file_of_check fault of_file;
       unread = unasked fault sheet;

@@ -40,7 +40,7 @@ returns-clause-compares g c =
     (λ stated by_input.
     compares_by_table c.args.limits
     (file_answers gsi) stated c.args.name.now c.args.within its answer
-    ((station_of_file c.args.limits (file_answers gsi) c.args.name.now its c.are_limits.ensures).0
+    ((station_of_file c.args.limits (file_answers gsi) c.args.name.now its c.recall.ensures).0
     (record {
       stations = stations;
       survey = survey;

@@ -26,7 +26,7 @@ returns g c =
     (λ gsi survey.
     tells_by_station (λ text. text.items) c.args.limits
     (file_answers gsi) c.args.name.now c.args.decimals its answer
-    ((station_of_file c.args.limits (file_answers gsi) c.args.name.now its c.are_limits.ensures).0
+    ((station_of_file c.args.limits (file_answers gsi) c.args.name.now its c.recall.ensures).0
     (record {
       stations = stations;
       survey = survey;
