@@ -4,6 +4,7 @@ ghost use Rattle.std.specs.Prelude.{◌≡◌, ◌≤◌, ◌<◌, ◌+◌, ◌+
 ghost use Rattle.std.specs.Vec.{vec_capacity};
 ghost use Rattle.std.specs.List.{list_any, list_all};
 ghost use Rattle.std.specs.Option.{option_to_list};
+ghost use Rattle.adjust_kernel.specs.declared.bounds.TheConstants.{MOST_TARGETS};
 ghost use Rattle.station_book.specs.Faults.{first_of};
 ghost use Rattle.station_book.specs.Slots.{face_reading, with_face_reading, empty_slot, slot_faults, pair_fault, closing_faults, is_unread, is_single, IsKeptSlot, obs_at, obs_of, faces_at, faces_of};
 ghost use Rattle.station_book.specs.TwoFaces.{AreOnCircle};
@@ -165,7 +166,7 @@ pub(crate) fn push_pairs(
     obs: &mut Vec<Obs>,
     faces: &mut Vec<Faces>,
 ) -> Result<(), AllocError>
-    requires few { length slots.now ≤ 100 }
+    requires few { length slots.now ≤ MOST_TARGETS }
     requires angles { All IsKeptSlot slots.now }
     ensures obs { OnOk result (obs.new.items ≡ obs.old.items ++ obs_of set slots.now) }
     ensures faces { OnOk result (faces.new.items ≡ faces.old.items ++ faces_of slots.now) }

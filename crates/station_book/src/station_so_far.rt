@@ -4,6 +4,7 @@ ghost use Rattle.std.specs.Prelude.{◌≡◌, ◌<◌, None, length, IfOk, IfEr
 ghost use Rattle.std.specs.List.{list_any};
 ghost use Rattle.adjust_kernel.specs.Names.{IsName};
 ghost use Rattle.adjust_kernel.specs.Sheets.{IsSetNumber};
+ghost use Rattle.adjust_kernel.specs.declared.bounds.TheConstants.{MOST_SETS};
 ghost use Rattle.station_book.specs.StationStates.{survey_of, more_set_faults};
 ghost use Rattle.std.specs.Str.{bytes_eq};
 ghost use Rattle.station_book.specs.Faults.{first_of, when};
@@ -93,7 +94,7 @@ impl StationSoFar {
 
     /// Adds a set.
     pub(crate) fn add_set(&mut self, number: u16) -> Result<(), AllocError>
-        requires room { length self.old.sets < 40 }
+        requires room { length self.old.sets < MOST_SETS }
         requires may_end { MayEnd self.old }
         requires new { list_any (λ m. m == number) self.old.sets ≡ false }
         requires number { IsSetNumber number }

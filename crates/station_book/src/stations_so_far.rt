@@ -4,6 +4,7 @@ ghost use Rattle.std.specs.Prelude.{◌≡◌, ◌<◌, ◌≤◌, ◌+◌, ◌+
 ghost use Rattle.std.specs.List.{list_any};
 ghost use Rattle.std.specs.Str.{bytes_eq};
 ghost use Rattle.adjust_kernel.specs.Sheets.{IsSetNumber};
+ghost use Rattle.adjust_kernel.specs.declared.bounds.TheConstants.{MOST_SETS};
 ghost use Rattle.station_book.specs.StationStates.{none_so_far, surveys_of, with_station, LastMayEnd, first_set_faults, last_of, change_last, is_known, more_set_faults};
 ghost use Rattle.station_book.specs.Faults.{first_of};
 ghost use Rattle.station_book.specs.Slots.{closing_faults};
@@ -99,7 +100,7 @@ impl StationsSoFar {
     /// A further set of the last station.
     fn add_set(&mut self, number: u16) -> Result<(), AllocError>
         requires some { 0 < length self.old }
-        requires room { length (last_of self.old).sets < 40 }
+        requires room { length (last_of self.old).sets < MOST_SETS }
         requires may_end { MayEnd (last_of self.old) }
         requires new { list_any (λ m. m == number) (last_of self.old).sets ≡ false }
         requires number { IsSetNumber number }
