@@ -25,16 +25,12 @@ pub(crate) enum Role {
 fn code_role(name: &[u8]) -> Role
     ensures { result ≡ code_role name.now }
 {
-    if name == b"10".as_slice() {
-        return Role::Station;
+    match name {
+        b"10" => Role::Station,
+        b"20" => Role::Set,
+        b"30" => Role::Close,
+        _ => Role::Other,
     }
-    if name == b"20".as_slice() {
-        return Role::Set;
-    }
-    if name == b"30".as_slice() {
-        return Role::Close;
-    }
-    Role::Other
 }
 
 /// What a block is.
