@@ -1,9 +1,9 @@
 -- What a book computes of two readings within the limits is their 2c, their 2i and their two-face
 -- direction.
-use Rattle.std.proofs.Common.{◌≡◌, ℕ, ◌+◌, ◌-◌, ◌*◌, ◌/◌, ◌%◌, ◌<◌, Bool, true, false, ltb, ◌&&◌, ◌||◌, refl, inl, inr, ◌⊎◌, arith}
+use Rattle.std.proofs.Common.{◌≡◌, ℕ, ◌+◌, ◌-◌, ◌*◌, ◌/◌, ◌%◌, ◌<◌, false, ltb, ◌&&◌, ◌||◌, inl, inr, ◌⊎◌, arith}
 use Rattle.std.specs.Prelude.{ℤ, pos, ◌+ℤ◌, ◌-ℤ◌, ◌*ℤ◌}
 use Rattle.std.proofs.lemmas.Int.{ints}
-use Rattle.std.proofs.lemmas.Bool.{and_cases, ltb-false}
+use Rattle.std.proofs.lemmas.Bool.{and_cases, ltb-false, or_parts}
 use Rattle.station_book.specs.TwoFaces.{Angles, IsAtMost, AreCongruent, AreNear, AreOnCircle, IsTwoC, IsTwoI, IsTwoFace}
 use Rattle.station_book.specs.Faults.{has_no_two_c, has_no_two_i}
 use Rattle.station_book.specs.Pairs.{half_turned, two_c, two_i, direction}
@@ -42,14 +42,10 @@ within_i : (limit a b : ℕ)
     → (ltb (40_000_000 + limit) (a + b) || ltb ((a + b) + limit) 40_000_000) ≡ false
     → IsAtMost limit (pos (a + b) -ℤ pos 40_000_000)
 within_i limit a b e =
-    let parts = neither (ltb (40_000_000 + limit) (a + b)) (ltb ((a + b) + limit) 40_000_000) e in
+    let parts = or_parts (ltb (40_000_000 + limit) (a + b)) (ltb ((a + b) + limit) 40_000_000) e in
     let high = ltb-false (40_000_000 + limit) (a + b) parts.0 in
     let low = ltb-false ((a + b) + limit) 40_000_000 parts.1 in
     record { low = omega (arith, ints); high = omega (arith, ints) }
-  where
-    neither : (x y : Bool) → (x || y) ≡ false → (x ≡ false) × (y ≡ false)
-    neither true y f = cc
-    neither false y f = (refl, f)
 
 sum_i : (a b : ℕ) → pos (a + b) -ℤ pos 40_000_000 ≡ pos a +ℤ pos b -ℤ pos 40_000_000
 sum_i a b = omega (arith, ints)
