@@ -70,9 +70,8 @@ later_faults limits targets rs b =
     (angles_of (reading_in (other_face (face b)) (target b) rs)))
 
 two_faces : (f s : Bool) → not (f || s) ≡ is_none (cond f (Some One) (cond s (Some Two) None))
-two_faces true s = refl
 two_faces false true = refl
-two_faces false false = refl
+two_faces f s = refl
 
 unclear_as : (b : GsiBlock)
     → not (is_of_face One b || is_of_face Two b) ≡ is_none (said.face_of ((angles b).zenith))

@@ -63,19 +63,17 @@ known_names : (past : History) (name : List ℕ) (sts : List Place) (es : Statio
     → AreStates past sts es
     → list_any (λ st. same_name (name_at st) (Some name)) sts ≡ list_any (λ e. bytes_eq name e.0) es
 known_names past name [] [] h = refl
-known_names past name [] (e ∷ es) h = absurd h
-known_names past name (st ∷ sts) [] h = absurd h
 known_names past name (st ∷ sts) (e ∷ es) h =
     λ i. (ap (λ n. same_name n (Some name))
     (kept_name st (sets_of st past) (station_readings st past) e h.0)
     ∙ same_bytes e.0 name) i || known_names past name sts es h.1 i
+known_names past name sts es h = absurd h
 
 one_each : (past : History) (sts : List Place) (es : StationStates) → AreStates past sts es
     → length sts ≡ length es
 one_each past [] [] h = refl
-one_each past [] (e ∷ es) h = absurd h
-one_each past (st ∷ sts) [] h = absurd h
 one_each past (st ∷ sts) (e ∷ es) h = ap suc (one_each past sts es h.1)
+one_each past sts es h = absurd h
 
 -- as many stations have sets as are kept
 count_stations : (so_far : StationStates) (past : History) → AreStates past
@@ -132,16 +130,14 @@ tests outside unnumbered had same many most =
 first_set_tests : (had many : Bool)
     → first_of (when had kinds.StationTwice ∷ when many kinds.TooManyStations ∷ []) ≡ first_of
     (tests false false had false many false)
-first_set_tests true many = refl
 first_set_tests false true = refl
-first_set_tests false false = refl
+first_set_tests had many = refl
 
 more_set_tests : (same most : Bool)
     → first_of (when same kinds.SetTwice ∷ when most kinds.TooManySets ∷ []) ≡ first_of
     (tests false false false same false most)
-more_set_tests true most = refl
 more_set_tests false true = refl
-more_set_tests false false = refl
+more_set_tests same most = refl
 
 abbrev opening_tests : Option ℕ → History → List (Option BookKind)
 opening_tests n past =

@@ -32,19 +32,17 @@ use Rattle.indexmap.proofs.ReorderLemmas.{map-reverse}
 zip_append : {A B : Type 0} (R : A → B → Type 0) (xs zs : List A) (ys ws : List B) → AllZip R xs ys
     → AllZip R zs ws → AllZip R (xs ++ zs) (ys ++ ws)
 zip_append R [] zs [] ws h k = k
-zip_append R [] zs (y ∷ ys) ws h k = absurd h
-zip_append R (x ∷ xs) zs [] ws h k = absurd h
 zip_append R (x ∷ xs) zs (y ∷ ys) ws h k = (h.0, zip_append R xs zs ys ws h.1 k)
+zip_append R xs zs ys ws h k = absurd h
 
 zip_reverse : {A B : Type 0} (R : A → B → Type 0) (xs : List A) (ys : List B) → AllZip R xs ys
     → AllZip R (reverse xs) (reverse ys)
 zip_reverse R [] [] h = tt
-zip_reverse R [] (y ∷ ys) h = absurd h
-zip_reverse R (x ∷ xs) [] h = absurd h
 zip_reverse R (x ∷ xs) (y ∷ ys) h =
     subst (λ l. AllZip R l (reverse (y ∷ ys))) (sym (reverse-append (x ∷ []) xs))
     (subst (λ l. AllZip R (reverse xs ++ x ∷ []) l) (sym (reverse-append (y ∷ []) ys))
     (zip_append R (reverse xs) (x ∷ []) (reverse ys) (y ∷ []) (zip_reverse R xs ys h.1) (h.0, tt)))
+zip_reverse R xs ys h = absurd h
 
 module _ (limits : FaceLimits) where
   -- both readings of a target, where it has both
@@ -65,8 +63,7 @@ module _ (limits : FaceLimits) where
     },
     h,
   )
-  one_observed s n (Some a) None cs os w h = h
-  one_observed s n None p cs os w h = h
+  one_observed s n o p cs os w h = h
 
   set_observed : (s n : ℕ) (targets : List (List ℕ)) (rs : List Place) → AllWithin limits rs
       → AllZip (IsObserved limits)
@@ -88,8 +85,7 @@ module _ (limits : FaceLimits) where
         },
         h,
       )
-  one_compared s n (Some a) None cs fs w h = h
-  one_compared s n None p cs fs w h = h
+  one_compared s n o p cs fs w h = h
 
   set_compared : (s n : ℕ) (targets : List (List ℕ)) (rs : List Place) → AllWithin limits rs
       → AllZip (HasFaces limits)
@@ -176,11 +172,9 @@ module _ (limits : FaceLimits) where
   all_surveyed : (h : History) → IsWithoutFault limits h
       → (sts : List Place) (ss : List SurveyedStation) → AreComputed h sts ss
       → AllZip (IsSurveyed limits h) sts ss
-  all_surveyed h clean [] [] c = tt
-  all_surveyed h clean [] (s ∷ ss) c = absurd c
-  all_surveyed h clean (st ∷ sts) [] c = absurd c
   all_surveyed h clean (st ∷ sts) (s ∷ ss) c =
       (surveyed h clean st s c.0, all_surveyed h clean sts ss c.1)
+  all_surveyed h clean sts ss c = c
 
   pub are_stations : (h : History) (ss : List SurveyedStation) → IsWithoutFault limits h
       → AreComputed h (stations_in h) (reverse ss) → AreStations limits h ss

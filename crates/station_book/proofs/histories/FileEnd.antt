@@ -132,10 +132,9 @@ AreComputed h (st ∷ sts) (s ∷ ss) = IsComputed st (sets_of st h) (station_re
 
 answers : (h : History) (sts : List Place) (es : StationStates) → AreStates h sts es
     → AreComputed h sts (map survey_of es)
-answers h [] [] k = tt
-answers h [] (e ∷ es) k = k
-answers h (st ∷ sts) [] k = k
+answers h [] [] k = k
 answers h (st ∷ sts) (e ∷ es) k = (survey_is h st e k.0, answers h sts es k.1)
+answers h sts es k = k
 
 -- THE LAW of the answer: what is kept gives the stations of the blocks
 pub same_stations : (k : State) (past : History) → StandsFor k.limits k past

@@ -12,13 +12,12 @@ use Rattle.station_book.proofs.two_faces.OnePair.{one_two_c, one_two_i, one_two_
 one_zip : {A B : Type 0} (R : A → B → Type 0) → ((x : A) (y z : B) → R x y → R x z → y ≡ z)
     → (xs : List A) (ys zs : List B) → AllZip R xs ys → AllZip R xs zs → ys ≡ zs
 one_zip R f [] [] [] h k = refl
-one_zip R f [] [] (z ∷ zs) h k = absurd k
 one_zip R f [] (y ∷ ys) zs h k = absurd h
 one_zip R f (x ∷ xs) [] zs h k = absurd h
-one_zip R f (x ∷ xs) (y ∷ ys) [] h k = absurd k
 one_zip R f (x ∷ xs) (y ∷ ys) (z ∷ zs) h k =
     let first = f x y z h.0 k.0 in
     let rest = one_zip R f xs ys zs h.1 k.1 in cc
+one_zip R f xs ys zs h k = absurd k
 
 one_observation : (limits : FaceLimits) → AreLimits limits → (c : Pair) (a b : Obs)
     → IsObserved limits c a → IsObserved limits c b → a ≡ b
@@ -40,12 +39,11 @@ one_faces limits small c a b h k =
 
 all_some : (xs ys : List ℕ) → map Some xs ≡ map Some ys → xs ≡ ys
 all_some [] [] e = refl
-all_some [] (y ∷ ys) e = cc
-all_some (x ∷ xs) [] e = cc
 all_some (x ∷ xs) (y ∷ ys) e =
     let tails : map Some xs ≡ map Some ys = cc in
     let rest = all_some xs ys tails in
     let heads : x ≡ y = cc in cc
+all_some xs ys e = cc
 
 one_station : (limits : FaceLimits) → AreLimits limits
     → (h : History) (st : Place) (a b : SurveyedStation) → IsSurveyed limits h st a

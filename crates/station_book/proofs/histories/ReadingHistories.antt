@@ -3,7 +3,7 @@ use Rattle.std.proofs.Common.{◌≡◌, ◌≢◌, ℕ, zero, suc, ◌+◌, ◌
 use Rattle.std.specs.List.{AllByRecursion, enumerate_from, filter_map}
 use Rattle.std.specs.Str.{bytes_eq}
 use Rattle.std.proofs.lemmas.Bool.{cases_Bool, false≢true, cases_eq, cases_lt, or_parts, false_from_ne_true}
-use Rattle.std.proofs.lemmas.List.{length-set, ext_get_or, get_or-set_same, get_or-set_other, map-append}
+use Rattle.std.proofs.lemmas.List.{length-map, length-set, ext_get_or, get_or-set_same, get_or-set_other, map-append}
 use Rattle.std.proofs.lemmas.List.Elements.{filter_map-append}
 use Rattle.std.proofs.lemmas.List.Folds.{list_any_at, list_any-append}
 use Rattle.std.proofs.lemmas.List.Quantifiers.{all_pairs_push, position-Some}
@@ -169,11 +169,6 @@ slot_get [] rs k d lt = absurd (omega arith)
 slot_get (t ∷ ts) rs zero d lt = refl
 slot_get (t ∷ ts) rs (suc k) d lt = slot_get ts rs k d (omega arith)
 
-length_slots : (targets : List (List ℕ)) (rs : List Place)
-    → length (slots_of targets rs) ≡ length targets
-length_slots [] rs = refl
-length_slots (t ∷ ts) rs = ap suc (length_slots ts rs)
-
 -- a further reading of the target at place i
 existing : (targets : List (List ℕ)) (i : ℕ) (f : Face) (v : Angles) (r : Place) (rs : List Place)
     → i < length targets → get_or targets i [] ≡ target_at r → AllPairs (λ a b. a ≢ b) targets
@@ -184,17 +179,17 @@ existing : (targets : List (List ℕ)) (i : ℕ) (f : Face) (v : Angles) (r : Pl
 existing targets i f v r rs inside here different s g n = ext_get_or empty_slot
     (set (slots_of targets rs) i new) (slots_of targets (r ∷ rs)) same_length
     (λ k lt. at k (let l = length-set
-    (slots_of targets rs) i new in let m = length_slots targets rs in omega (arith, l, m, lt))
+    (slots_of targets rs) i new in let m = length-map targets (slot_of rs) in omega (arith, l, m, lt))
     (cases_eq k i)) where
       new : Slot
       new = with_face_reading f v (slot_at (slots_of targets rs) i)
 
       same_length : length (set (slots_of targets rs) i new) ≡ length (slots_of targets (r ∷ rs))
-      same_length = length-set (slots_of targets rs) i new ∙ length_slots targets rs
-          ∙ sym (length_slots targets (r ∷ rs))
+      same_length = length-set (slots_of targets rs) i new ∙ length-map targets (slot_of rs)
+          ∙ sym (length-map targets (slot_of (r ∷ rs)))
 
       inside_slots : i < length (slots_of targets rs)
-      inside_slots = let m = length_slots targets rs in omega (arith, m)
+      inside_slots = let m = length-map targets (slot_of rs) in omega (arith, m)
 
       own : new ≡ slot_at (slots_of targets (r ∷ rs)) i
       own = ap (with_face_reading f v) (slot_get targets rs i [] inside)

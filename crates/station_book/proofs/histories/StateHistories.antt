@@ -104,14 +104,12 @@ stays st e b past sets readings h = rw (sets, readings) h
 pub older_stay : (sts : List Place) (es : StationStates) (b : GsiBlock) (past : History)
     → AllBefore (station past) sts → AreStates past sts es
     → AreStates (b ∷ past) sts es
-older_stay [] [] b past all h = tt
-older_stay [] (e ∷ es) b past all h = h
-older_stay (st ∷ sts) [] b past all h = h
 older_stay (st ∷ sts) (e ∷ es) b past all h = (
   stays st e b past (belonging-older opens_station is_set st b past all.0)
       (belonging-older opens_station is_reading st b past all.0) h.0,
   older_stay sts es b past all.1 h.1,
 )
+older_stay sts es b past all h = h
 
 -- The sets of the open station, where a set is open: the open one and those before it.
 pub record HasOpenSet (past : History) : Type 0 where
@@ -181,14 +179,12 @@ idle p kind owner b past e = rw e
 all_idle : (sts : List Place) (es : StationStates) (b : GsiBlock) (past : History)
     → opens_set b ≡ false → is_reading (b ∷ past) ≡ false → AreStates past sts es
     → AreStates (b ∷ past) sts es
-all_idle [] [] b past n r h = tt
-all_idle [] (e ∷ es) b past n r h = h
-all_idle (st ∷ sts) [] b past n r h = h
 all_idle (st ∷ sts) (e ∷ es) b past n r h = (
   stays st e b past (idle opens_station is_set st b past n)
       (idle opens_station is_reading st b past r) h.0,
   all_idle sts es b past n r h.1,
 )
+all_idle sts es b past n r h = h
 
 same_stations : (b : GsiBlock) (past : History) → opens_set b ≡ false
     → stations_in (b ∷ past) ≡ stations_in past

@@ -2,7 +2,7 @@
 use Rattle.std.proofs.Common.{◌≡◌, ℕ, ◌+◌, Bool, true, false, cond, not, ltb, ◌&&◌, ◌||◌, List, [], ◌∷◌, Option, Some, None, is_none, Result, Ok, Err, refl, sym, ap, ◌∙◌, subst, arith, unwrap_or}
 use Rattle.gsi_word.specs.Names.{name_of}
 use Rattle.gsi_word.specs.declared.found.Found.{Found}
-use Rattle.gsi_word.specs.declared.found.Found.TheVariants.{Absent, One, Twice}
+use Rattle.gsi_word.specs.declared.found.Found.TheVariants.{One}
 use Rattle.station_book.specs.declared.face.Face.{Face}
 use Rattle.station_book.specs.declared.face.Face.TheVariants as faces
 use Rattle.station_book.specs.declared.fault.BookKind.{BookKind}
@@ -83,18 +83,13 @@ then_second (Some x) p e = cc
 name_found_in : (f : Found)
     → first_of (when (is_twice f) (kinds.WordTwice 42) ∷ when (is_absent f) kinds.StationName ∷ [])
     ≡ None → (name : List ℕ) × (name_found f ≡ Some name)
-name_found_in Absent e = absurd cc
 name_found_in (One w) e = (name_of w.content, refl)
-name_found_in Twice e = absurd cc
+name_found_in f e = absurd cc
 
 name_of_station : (b : GsiBlock) → first_of (station_faults b) ≡ None
     → (name : List ℕ) × (named b ≡ Some name)
 unfolding has_two lacks named
 name_of_station b e = name_found_in (found 42 b) e
-
-is_set_block : (b : GsiBlock) → role_of b ≡ roles.Set
-    → (opens_station b ≡ false) × (opens_set b ≡ true)
-is_set_block b e = (ap is_station e, ap is_set_code e)
 
 -- a further set of the last station
 further_taken : (so_far : StationStates) (b : GsiBlock) (past : History) (n : ℕ)
@@ -103,11 +98,10 @@ further_taken : (so_far : StationStates) (b : GsiBlock) (past : History) (n : �
     (stations_in past) so_far
     → AreStates (b ∷ past) (stations_in (b ∷ past)) (change_last (with_set n) so_far)
 further_taken so_far b past n r e some h =
-    let k = is_set_block b r in
     let x = newest_there so_far past some h in
     subst (λ (s : StationStates). AreStates (b ∷ past) (stations_in (b ∷ past))
     (change_last (with_set n) s)) (sym x.is)
-    (states_further x.newest x.older b past n k.0 k.1 some e
+    (states_further x.newest x.older b past n (ap is_station r) (ap is_set_code r) some e
     (subst (λ (s : StationStates). AreStates past (stations_in past) s) x.is h))
 
 -- a block of code 20
@@ -116,17 +110,12 @@ pub set_taken : (so_far : StationStates) (b : GsiBlock) (past : History) (stage 
     → role_of b ≡ roles.Set → number b ≡ n → states.opening_fault stage so_far n ≡ None
     → IsStage stage past → AreStates past (stations_in past) so_far
     → AreStates (b ∷ past) (stations_in (b ∷ past)) (states.opened stage n so_far)
-set_taken so_far b past Outside n r e f g h = absurd cc
-set_taken so_far b past (Station name) None r e f g h = absurd cc
-set_taken so_far b past (Station name)
-    (Some n) r e f g h = let k = is_set_block b r in states_first so_far b past name n k.0 k.1 g.2
-    g.1
-    e h
-set_taken so_far b past BetweenSets None r e f g h = absurd cc
+set_taken so_far b past (Station name) (Some n) r e f g h =
+    states_first so_far b past name n (ap is_station r) (ap is_set_code r) g.2 g.1 e h
 set_taken so_far b past BetweenSets (Some n) r e f g h = further_taken so_far b past n r e g.0 h
-set_taken so_far b past InSet None r e f g h = absurd cc
-set_taken so_far b past InSet (Some n) r e f g h = further_taken so_far b past n r e
-    (open_has_set past g) h
+set_taken so_far b past InSet (Some n) r e f g h =
+    further_taken so_far b past n r e (open_has_set past g) h
+set_taken so_far b past stage n r e f g h = absurd cc
 
 -- what a measurement that was read says
 pub record WasRead (b : GsiBlock) (s : Reading) : Type 0 where
@@ -137,9 +126,8 @@ pub record WasRead (b : GsiBlock) (s : Reading) : Type 0 where
 read_cases : (absent : Bool) (fault : Option BookKind) (s t : Reading)
     → cond absent (Ok None) (said.unless_fault fault s) ≡ Ok (Some t)
     → (absent ≡ false) × (fault ≡ None) × (s ≡ t)
-read_cases true fault s t e = absurd cc
 read_cases false None s t e = (refl, refl, cc)
-read_cases false (Some k) s t e = absurd cc
+read_cases absent fault s t e = absurd cc
 
 pub was_read : (b : GsiBlock) (s : Reading) → said.read b ≡ Ok (Some s) → WasRead b s
 was_read b s e = let p = read_cases (lacks 21 b) (first_of (said.own_faults b))

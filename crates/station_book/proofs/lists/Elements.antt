@@ -206,8 +206,7 @@ module _ {X Y : Type 0} where
 
   pub zip_right : (R : X → Y → Type 0) (xs : List X) (ys : List Y) → AllZip R xs ys → (x : X)
       → In x xs → (y : Y) × In y ys × R x y
-  zip_right R [] [] zip x h = absurd h
-  zip_right R [] (y ∷ ys) zip x h = absurd zip
+  zip_right R [] ys zip x h = absurd h
   zip_right R (z ∷ zs) [] zip x h = absurd zip
   zip_right R (z ∷ zs) (y ∷ ys) zip x (inl e) =
       (y, inl refl, subst (λ (w : X). R w y) (sym e) zip.0)
@@ -216,9 +215,8 @@ module _ {X Y : Type 0} where
 
   pub zip_left : (R : X → Y → Type 0) (xs : List X) (ys : List Y) → AllZip R xs ys → (y : Y)
       → In y ys → (x : X) × In x xs × R x y
-  zip_left R [] [] zip y h = absurd h
+  zip_left R xs [] zip y h = absurd h
   zip_left R [] (z ∷ zs) zip y h = absurd zip
-  zip_left R (x ∷ xs) [] zip y h = absurd zip
   zip_left R (x ∷ xs) (z ∷ zs) zip y (inl e) = (x, inl refl, subst (λ (w : Y). R x w) (sym e) zip.0)
   zip_left R (x ∷ xs) (z ∷ zs) zip y (inr h) = let r = zip_left R xs zs zip.1 y h in
       (r.0, inr r.1, r.2)

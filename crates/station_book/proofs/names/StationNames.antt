@@ -99,23 +99,19 @@ apart_from : (limits : FaceLimits) (h : History) (st : Place) (s : SurveyedStati
     → IsSurveyed limits h st s → AllByRecursion (AreApart st) sts
     → AllZip (IsSurveyed limits h) sts ss → AllByRecursion (HaveTwoNames s) ss
 apart_from limits h st s [] [] own all zip = tt
-apart_from limits h st s [] (y ∷ ys) own all zip = absurd zip
-apart_from limits h st s (x ∷ xs) [] own all zip = absurd zip
-apart_from limits h st s (x ∷ xs) (y ∷ ys) own all zip =
-    (λ e. different e, apart_from limits h st s xs ys own all.1 zip.1)
-  where
-    different : s.station.name ≡ y.station.name → ⊥
-    different e =
-        false≢true (sym all.0 ∙ (λ i. same_name (own.name i) (zip.0.name i))
-        ∙ (bytes_eq-Decides s.station.name y.station.name).1 e)
+apart_from limits h st s (x ∷ xs) (y ∷ ys) own all zip = (
+  λ e. false≢true (sym all.0 ∙ (λ i. same_name (own.name i) (zip.0.name i))
+      ∙ (bytes_eq-Decides s.station.name y.station.name).1 e),
+  apart_from limits h st s xs ys own all.1 zip.1,
+)
+apart_from limits h st s xs ys own all zip = absurd zip
 
 two_names : (limits : FaceLimits) (h : History) (sts : List Place) (ss : List SurveyedStation)
     → Pairwise AreApart sts → AllZip (IsSurveyed limits h) sts ss → Pairwise HaveTwoNames ss
 two_names limits h [] [] pairs zip = tt
-two_names limits h [] (y ∷ ys) pairs zip = absurd zip
-two_names limits h (x ∷ xs) [] pairs zip = absurd zip
 two_names limits h (x ∷ xs) (y ∷ ys) pairs zip =
     (apart_from limits h x y xs ys zip.0 pairs.0 zip.1, two_names limits h xs ys pairs.1 zip.1)
+two_names limits h xs ys pairs zip = absurd zip
 
 pub all_pairs : {X : Type 0} (R : X → X → Type 0) (xs : List X) → Pairwise R xs → AllPairs R xs
 all_pairs R [] pairs = λ i j d before inside. absurd (omega arith)

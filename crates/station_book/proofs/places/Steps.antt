@@ -72,10 +72,7 @@ direction_opens_nothing b e = by (role_of b)
       by : (r : Role) → is_measurement r ≡ true
           → (is_station r || (is_set_code r || is_close r)) ≡ false
       by roles.Measurement t = refl
-      by roles.Station t = cc
-      by roles.Set t = cc
-      by roles.Close t = cc
-      by roles.Other t = refl
+      by r t = cc
 
 pub opens_no_station : (b : GsiBlock) → is_opening b ≡ false → opens_station b ≡ false
 opens_no_station b e = (or_parts (opens_station b) _ e).0
@@ -88,20 +85,14 @@ pub set_role : (b : GsiBlock) → opens_set b ≡ true → role_of b ≡ roles.S
 set_role b e = by (role_of b) e where
   by : (r : Role) → is_set_code r ≡ true → r ≡ roles.Set
   by roles.Set t = refl
-  by roles.Station t = cc
-  by roles.Close t = cc
-  by roles.Measurement t = cc
-  by roles.Other t = cc
+  by r t = cc
 
 pub measurement_role : (b : GsiBlock) → has_direction b ≡ true → role_of b ≡ roles.Measurement
 measurement_role b e = by (role_of b)
     (and_parts (is_measurement (role_of b)) (not (lacks 21 b)) e).0 where
       by : (r : Role) → is_measurement r ≡ true → r ≡ roles.Measurement
       by roles.Measurement t = refl
-      by roles.Station t = cc
-      by roles.Set t = cc
-      by roles.Close t = cc
-      by roles.Other t = cc
+      by r t = cc
 
 pub no_station_at_set : (b : GsiBlock) → opens_set b ≡ true → opens_station b ≡ false
 no_station_at_set b e = ap is_station (set_role b e)
@@ -109,8 +100,5 @@ no_station_at_set b e = ap is_station (set_role b e)
 pub no_set_at_station : (b : GsiBlock) → opens_station b ≡ true → opens_set b ≡ false
 no_set_at_station b e = by (role_of b) e where
   by : (r : Role) → is_station r ≡ true → is_set_code r ≡ false
-  by roles.Station t = refl
   by roles.Set t = cc
-  by roles.Close t = refl
-  by roles.Measurement t = refl
-  by roles.Other t = refl
+  by r t = refl

@@ -1,5 +1,5 @@
 -- At a station of a file without fault no set and target is listed twice.
-use Rattle.std.proofs.Common.{◌≡◌, ◌≢◌, ℕ, ◌+◌, ◌<◌, ◌≤◌, false, ◌&&◌, eqb, List, [], ◌∷◌, ◌++◌, length, map, filter, reverse, Option, Some, None, refl, sym, ap, ◌∙◌, inl, inr, ◌⊎◌, subst, arith}
+use Rattle.std.proofs.Common.{◌≡◌, ◌≢◌, ℕ, ◌+◌, ◌<◌, ◌≤◌, false, ◌&&◌, eqb, List, [], ◌∷◌, ◌++◌, length, map, filter, reverse, Option, Some, refl, sym, ap, ◌∙◌, inl, inr, ◌⊎◌, subst, arith}
 use Rattle.std.specs.List.{AllPairs, AllByRecursion, AllZip, Contains, enumerate_from, filter_map, flat_map, cons_option}
 use Rattle.std.proofs.lemmas.Bool.{cases_Bool, and_parts, eqb-true, eq-eqb, false≢true}
 use Rattle.std.proofs.lemmas.List.{reverse-append, length-map}
@@ -11,7 +11,7 @@ use Rattle.station_book.specs.Blocks.{opens_set, number}
 use Rattle.station_book.specs.Places.{History, Place, places, number_at, before, station, is_same, is_set, target_at, sets_of, station_readings, readings_of, targets_of, reading_in}
 use Rattle.station_book.specs.Faults.{same_number, angles_at, open_sets, IsWithoutFault}
 use Rattle.station_book.specs.Stations.{Pair, SurveyedStation, pair_of, pairs_in, IsObserved, IsSurveyed, AreStations, stations_of, pairs_of}
-use Rattle.station_book.proofs.lists.Elements.{In, in_contains, zip_left}
+use Rattle.station_book.proofs.lists.Elements.{all_from, in_contains, zip_left}
 use Rattle.station_book.proofs.readings.CleanBlocks.{clean_set}
 use Rattle.station_book.proofs.names.StationNames.{Pairwise, all_reverse, pairwise_snoc, each_false, all_pairs}
 use Rattle.station_book.proofs.places.FilePlaces.{OfFile, station_placed}
@@ -77,8 +77,7 @@ by_target i n (t ∷ ts) rs = split (reading_in One t rs) (reading_in Two t rs)
         ),
         ((refl, omega arith), all_weaker (InSet i (n + 1)) (InSet i n) weaker rest ih.1),
       )
-      split (Some a) None ih = (ih.0, all_weaker (InSet i (n + 1)) (InSet i n) weaker rest ih.1)
-      split None b ih = (ih.0, all_weaker (InSet i (n + 1)) (InSet i n) weaker rest ih.1)
+      split a b ih = (ih.0, all_weaker (InSet i (n + 1)) (InSet i n) weaker rest ih.1)
 
 by_set : (h : History) (st : Place) (n : ℕ) (sets : List Place) →
     Pairwise Before (flat_map (λ s. pairs_in s.0 (targets_of st h) (readings_of s.1 h))
@@ -139,24 +138,22 @@ apart_from : (x : Place) (n : ℕ) (xs : List Place) (ns : List ℕ) → number_
     → AllByRecursion (λ y. same_number (number_at x) (number_at y) ≡ false) xs
     → AllByRecursion (λ m. n ≢ m) ns
 apart_from x n [] [] ex e all = tt
-apart_from x n [] (m ∷ ns) ex e all = cc
-apart_from x n (y ∷ ys) [] ex e all = cc
 apart_from x n (y ∷ ys) (m ∷ ns) ex e all =
     let head : number_at y ≡ Some m = cc in
     let tail : map number_at ys ≡ map (λ m. Some m) ns = cc in
     (apart_numbers x y n m ex head all.0, apart_from x n ys ns ex tail all.1)
+apart_from x n ys ns ex e all = cc
 
 different_numbers : (xs : List Place) (ns : List ℕ)
     → map number_at xs ≡ map (λ m. Some m) ns
     → Pairwise (λ a b. same_number (number_at a) (number_at b) ≡ false) xs
     → Pairwise (λ a b. a ≢ b) ns
 different_numbers [] [] e pairs = tt
-different_numbers [] (n ∷ ns) e pairs = cc
-different_numbers (x ∷ xs) [] e pairs = cc
 different_numbers (x ∷ xs) (n ∷ ns) e pairs =
     let head : number_at x ≡ Some n = cc in
     let tail : map number_at xs ≡ map (λ m. Some m) ns = cc in
     (apart_from x n xs ns head tail pairs.0, different_numbers xs ns tail pairs.1)
+different_numbers xs ns e pairs = cc
 
 -- So of two observations in order, the set or the target differs.
 abbrev pub AreTwo : Key → Key → Type 0
@@ -188,29 +185,22 @@ two_from : (limits : FaceLimits) (sets : List ℕ) (targets : List (List ℕ)) (
     → AllZip (IsObserved limits) cs os
     → AllByRecursion (AreTwo (key_of_obs sets targets o)) (map (key_of_obs sets targets) os)
 two_from limits sets targets c o [] [] lists before inside own zip = tt
-two_from limits sets targets c o [] (p ∷ os) lists before inside own zip = absurd zip
-two_from limits sets targets c o (d ∷ cs) [] lists before inside own zip = absurd zip
 two_from limits sets targets c o (d ∷ cs) (p ∷ os) lists before inside own zip = (
   are_two limits sets targets c d o p lists before.0 inside.0 own zip.0,
   two_from limits sets targets c o cs os lists before.1 inside.1 own zip.1,
 )
+two_from limits sets targets c o cs os lists before inside own zip = absurd zip
 
 all_two : (limits : FaceLimits) (sets : List ℕ) (targets : List (List ℕ)) (cs : List Pair)
     (os : List Obs) → AreLists sets targets
     → Pairwise Before cs → AllByRecursion (Inside sets targets) cs
     → AllZip (IsObserved limits) cs os → Pairwise AreTwo (map (key_of_obs sets targets) os)
 all_two limits sets targets [] [] lists pairs inside zip = tt
-all_two limits sets targets [] (o ∷ os) lists pairs inside zip = absurd zip
-all_two limits sets targets (c ∷ cs) [] lists pairs inside zip = absurd zip
 all_two limits sets targets (c ∷ cs) (o ∷ os) lists pairs inside zip = (
   two_from limits sets targets c o cs os lists pairs.0 inside.1 zip.0 zip.1,
   all_two limits sets targets cs os lists pairs.1 inside.1 zip.1,
 )
-
-all_of : {X : Type 0} (P : X → Type 0) (xs : List X) → ((x : X) → In x xs → P x)
-    → AllByRecursion P xs
-all_of P [] each = tt
-all_of P (x ∷ xs) each = (each x (inl refl), all_of P xs (λ y k. each y (inr k)))
+all_two limits sets targets cs os lists pairs inside zip = absurd zip
 
 once : (limits : FaceLimits) (h : History) (st : Place) (s : SurveyedStation)
     → IsWithoutFault limits h → OfFile h st → IsSurveyed limits h st s
@@ -234,7 +224,7 @@ once limits h st s clean placed surveyed =
         ∙ ap length surveyed.sets ∙ length-map s.station.sets (λ (n : ℕ). Some n)
 
     inside : AllByRecursion (Inside s.station.sets s.station.targets) (pairs_of st h)
-    inside = all_of (Inside s.station.sets s.station.targets) (pairs_of st h) (λ c k.
+    inside = all_from (Inside s.station.sets s.station.targets) (pairs_of st h) (λ c k.
         let p = readings_of_pair h st c placed k in (
           (let l = p.set_place.inside in omega (arith, sets_long)),
           subst (λ (ts : List (List ℕ)). c.target < length ts)

@@ -112,8 +112,7 @@ pair_parts : (s t : ℕ) (one two : Option Place) (c : Pair) → pair_of s t one
     → IsPairOf s t one two c
 pair_parts s t (Some a)
     (Some b) c e = record { first = a; second = b; one_is = refl; two_is = refl; pair = (cc) }
-pair_parts s t (Some a) None c e = cc
-pair_parts s t None two c e = cc
+pair_parts s t one two c e = cc
 
 -- the readings of a pair
 pub record HasItsReadings (h : History) (st : Place) (c : Pair) : Type 0 where

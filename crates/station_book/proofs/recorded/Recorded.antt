@@ -276,11 +276,11 @@ with_faces : (limits : FaceLimits) (h : History) (st : Place) (s : SurveyedStati
     → ((c : Pair) → In c cs → In c (pairs_of st h)) → AllZip (IsObserved limits) cs os
     → AllZip (HasFaces limits) cs fs → AllZip (IsRecordedWith limits h s.station.name)
     (map (key_of_obs s.station.sets s.station.targets) os) fs
-with_faces limits h st s placed surveyed [] [] [] inside one two = tt
-with_faces limits h st s placed surveyed [] [] (f ∷ fs) inside one two = absurd two
 with_faces limits h st s placed surveyed [] (o ∷ os) fs inside one two = absurd one
 with_faces limits h st s placed surveyed (c ∷ cs) [] fs inside one two = absurd one
-with_faces limits h st s placed surveyed (c ∷ cs) (o ∷ os) [] inside one two = absurd two
+with_faces limits h st s placed surveyed [] [] [] inside one two = two
+with_faces limits h st s placed surveyed [] [] (f ∷ fs) inside one two = two
+with_faces limits h st s placed surveyed (c ∷ cs) (o ∷ os) [] inside one two = two
 with_faces limits h st s placed surveyed (c ∷ cs) (o ∷ os) (f ∷ fs) inside one two = (
   head (readings_of_pair h st c placed (inside c (inl refl))),
   with_faces limits h st s placed surveyed cs os fs (λ d k. inside d (inr k)) one.1 two.1,

@@ -108,9 +108,8 @@ other_in_open past r listed clean = elim
 
 first_left : {X : Type 0} (xs ys : List (Option X)) → first_of (xs ++ ys) ≡ None
     → first_of xs ≡ None
-first_left [] ys e = refl
 first_left (None ∷ xs) ys e = first_left xs ys e
-first_left (Some x ∷ xs) ys e = cc
+first_left xs ys e = cc
 
 -- where a block of code 10, 20 or 30 has no fault the set that was open may end
 pub may_end : (limits : FaceLimits) (past : History) (b : GsiBlock) → is_opening b ≡ true
@@ -122,8 +121,7 @@ may_end limits past b o clean = by (role_of b) o clean where
   by roles.Station t e = first_left (end_faults past) (station_faults b) e
   by roles.Set t e = first_left (end_faults past) (set_faults past b) e
   by roles.Close t e = e
-  by roles.Measurement t e = cc
-  by roles.Other t e = cc
+  by r t e = cc
 
 -- a reading is of the open set, or has one of the other face
 open_or_paired : (limits : FaceLimits) (h : History) (r : Place) → IsWithoutFault limits h

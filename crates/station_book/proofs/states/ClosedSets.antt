@@ -45,8 +45,7 @@ cons_of set m top (Some a) (Some b) rest le all =
       below = omega arith;
       value = direction_below a b;
     }) (from_lower set m top rest all)
-cons_of set m top (Some a) None rest le all = from_lower set m top rest all
-cons_of set m top None b rest le all = from_lower set m top rest all
+cons_of set m top a b rest le all = from_lower set m top rest all
 
 -- what the slots give is of their set and targets
 all_of : (set m top : ℕ) (slots : List Slot) → m + length slots ≡ top
@@ -63,8 +62,7 @@ cons_pairs set m top (Some a) (Some b) rest all pairs =
     pairs_cons IsBefore o rest
     (All-weaker (IsOf set (m + 1) top) (IsBefore o)
     (λ p h. inr (sym h.of_set, (let f = h.from in omega (arith, f)))) rest all) pairs
-cons_pairs set m top (Some a) None rest all pairs = pairs
-cons_pairs set m top None b rest all pairs = pairs
+cons_pairs set m top a b rest all pairs = pairs
 
 -- in the order of the targets
 in_order : (set m top : ℕ) (slots : List Slot) → m + length slots ≡ top
@@ -87,12 +85,11 @@ record IsAt (set target : ℕ) (o : Obs) : Type 0 where
 both_read : (set m : ℕ) (a b : Option Angles) (rest : List Obs) → (is_none a && is_none b) ≡ false
     → ((is_some a && is_none b) || (is_none a && is_some b)) ≡ false
     → Any (IsAt set m) (cons_option (observation_of set m a b) rest)
-both_read set m None None rest e f = cc
-both_read set m None (Some b) rest e f = cc
-both_read set m (Some a) None rest e f = cc
 both_read set m (Some a) (Some b) rest e f = any_head (IsAt set m)
     (record { set = set; target = m; value = direction a b }) rest
     (record { of_set = refl; of_target = refl })
+both_read set m None None rest e f = cc
+both_read set m a b rest e f = cc
 
 -- where no target has one face alone, a target that was read is observed
 read_is_observed : (set m t : ℕ) (slots : List Slot) → t < length slots

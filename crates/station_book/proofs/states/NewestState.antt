@@ -9,6 +9,7 @@ use Rattle.std.proofs.Math.Seq.{get_or-append_seam}
 use Rattle.std.proofs.lemmas.List.{length-append, map-append, reverse-append, reverse-reverse}
 use Rattle.std.proofs.lemmas.List.Elements.{All-append, All-cons, All-nil}
 use Rattle.std.proofs.lemmas.List.Folds.{list_any-append}
+use Rattle.std.proofs.lemmas.Map.Entries.{length-values_of}
 use Rattle.std.proofs.lemmas.Option.{get_or_from_slice_get}
 use Rattle.indexmap.specs.IndexMap.{insert_entry}
 use Rattle.indexmap.specs.Layout.{set_value_at}
@@ -28,9 +29,7 @@ some_newest (e ∷ older) some = record { newest = e; older = older; is = refl }
 
 pub or_turned : (a b : Bool) → (a || (b || false)) ≡ (b || a)
 or_turned true true = refl
-or_turned true false = refl
-or_turned false true = refl
-or_turned false false = refl
+or_turned a b = refl
 
 module _ {V : Type 0} where
   set_last : (es : List (List ℕ × V)) (x : List ℕ × V) (w : V)
@@ -65,15 +64,11 @@ module _ {V : Type 0} where
       → reverse es ≡ x ∷ older → slice_get (values_of es) (length es - 1) ≡ Some v → v ≡ x.1
   last_value_is es older x v is at =
       let size : length (reverse older) ≡ length (values_of (reverse older)) = sym
-      (length_values (reverse older)) in
+      (length-values_of (reverse older)) in
       sym (get_or_from_slice_get (values_of es) (length es - 1) v x.1 at)
       ∙ (λ i. get_or (values_of (placed_last es older x is i)) (last_place es older x is i) x.1)
       ∙ (λ i. get_or (map-append (λ (e : List ℕ × V). e.1) (reverse older) (x ∷ []) i) (size i) x.1)
       ∙ get_or-append_seam (values_of (reverse older)) x.1 [] x.1
-    where
-      length_values : (es : List (List ℕ × V)) → length (values_of es) ≡ length es
-      length_values [] = refl
-      length_values (e ∷ es) = ap suc (length_values es)
 
   any_reverse : (p : List ℕ × V → Bool) (es : List (List ℕ × V))
       → list_any p (reverse es) ≡ list_any p es

@@ -67,8 +67,7 @@ one_more : (set n : ℕ) (a b : Option Angles) (os : List Obs) (fs : List Faces)
     → length fs ≡ length os
     → length (cons_option (compared a b) fs) ≡ length (cons_option (observation_of set n a b) os)
 one_more set n (Some a) (Some b) os fs e = ap suc e
-one_more set n (Some a) None os fs e = e
-one_more set n None b os fs e = e
+one_more set n a b os fs e = e
 
 from_place : (set n : ℕ) (slots : List Slot)
     → length (faces_of slots) ≡ length (filter_map (obs_at set) (enumerate_from n slots))

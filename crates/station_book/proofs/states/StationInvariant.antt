@@ -1,6 +1,6 @@
 -- What always holds of what is kept of a station still holds after a set and after a reading; and
 -- once the last set may end, it is a station of the kernel.
-use Rattle.std.proofs.Common.{◌≡◌, ◌≢◌, ℕ, ◌+◌, ◌-◌, ◌<◌, ◌≤◌, Bool, true, false, eqb, Result, Err, List, [], ◌∷◌, ◌++◌, length, get_or, set, replicate, All, Any, Option, Some, None, is_none, inl, inr, ◌⊎◌, refl, sym, ap, ◌∙◌, subst, arith}
+use Rattle.std.proofs.Common.{◌≡◌, ◌≢◌, ℕ, ◌+◌, ◌-◌, ◌<◌, ◌≤◌, Bool, false, eqb, Result, Err, List, [], ◌∷◌, ◌++◌, length, get_or, set, replicate, All, Any, Option, Some, None, is_none, inl, inr, ◌⊎◌, refl, sym, ap, ◌∙◌, subst, arith}
 use Rattle.std.specs.List.{list_any, list_all}
 use Rattle.std.specs.Str.{bytes_eq}
 use Rattle.std.proofs.lemmas.Bool.{cases_lt, cases_eq, false≢true, eq-eqb, and_right}
@@ -39,9 +39,8 @@ state_of_parts t sets obs faces =
 
 none_when : (a b : Bool) → first_of (when a kinds.EmptySet ∷ when b kinds.OneFace ∷ []) ≡ None
     → (a ≡ false) × (b ≡ false)
-none_when true b e = cc
-none_when false true e = cc
 none_when false false e = (refl, refl)
+none_when a b e = cc
 
 -- the targets of what is kept
 abbrev pub targets_of : StationState → TargetsValue

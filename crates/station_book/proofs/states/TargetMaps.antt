@@ -1,10 +1,11 @@
 -- The targets of a station, by the map that keeps them.
-use Rattle.std.proofs.Common.{◌≡◌, ℕ, zero, suc, cond, List, [], ◌∷◌, ◌++◌, length, position, slice_set, get_or, ◌+◌, ◌<◌, ◌≤◌, Some, None, is_some, Result, Ok, IfOk, inl, inr, refl, sym, ap, ◌∙◌, subst, arith}
+use Rattle.std.proofs.Common.{◌≡◌, ℕ, suc, cond, List, [], ◌∷◌, ◌++◌, length, position, slice_set, get_or, ◌+◌, ◌<◌, ◌≤◌, Some, None, is_some, Result, Ok, IfOk, inl, inr, refl, sym, ap, ◌∙◌, subst, arith}
 use Rattle.std.specs.List.{position_or_len}
 use Rattle.std.specs.Map.{keys_of, values_of, lookup}
 use Rattle.std.proofs.lemmas.Bool.{cases_Bool, cases_eq, le-ltb, lt-ltb}
 use Rattle.std.proofs.lemmas.Grind.{get_or-set_at}
 use Rattle.std.proofs.lemmas.List.{get_or-set_other}
+use Rattle.std.proofs.lemmas.Map.Entries.{length-values_of}
 use Rattle.indexmap.specs.IndexMap.{insert_entry}
 use Rattle.indexmap.specs.Layout.{set_value_at}
 use Rattle.station_book.specs.StationState.{place_of}
@@ -34,19 +35,13 @@ module _ {V : Type 0} where
 
   pub same_keys : (es : List (List ℕ × V)) (i : ℕ) (w : V)
       → keys_of (set_value_at es i w) ≡ keys_of es
-  same_keys [] i w = refl
-  same_keys (e ∷ es) zero w = refl
   same_keys (e ∷ es) (suc i) w = ap (λ ks. e.0 ∷ ks) (same_keys es i w)
+  same_keys es i w = refl
 
   pub set_value : (es : List (List ℕ × V)) (i : ℕ) (w : V)
       → values_of (set_value_at es i w) ≡ slice_set (values_of es) i w
-  set_value [] i w = refl
-  set_value (e ∷ es) zero w = refl
   set_value (e ∷ es) (suc i) w = ap (λ vs. e.1 ∷ vs) (set_value es i w)
-
-  pub length_values : (es : List (List ℕ × V)) → length (values_of es) ≡ length es
-  length_values [] = refl
-  length_values (e ∷ es) = ap suc (length_values es)
+  set_value es i w = refl
 
   -- one value more is this one
   pub emptied : (es : List (List ℕ × V)) (i k : ℕ) (w d : V) → i < length es → k < i + 1
@@ -55,7 +50,7 @@ module _ {V : Type 0} where
   emptied es i k w d inside lt before is =
       ap (λ (vs : List V). get_or vs k d) (set_value es i w) ∙ elim (cases_eq k i) [
         | inl same ↦ get_or-set_at (values_of es) i k w d same
-            (let l = length_values es in omega (arith, inside, l)) ∙ is
+            (let l = length-values_of es in omega (arith, inside, l)) ∙ is
         | inr differ ↦ get_or-set_other (values_of es) i k w d differ
             ∙ before k (omega (arith, lt, differ))
       ]

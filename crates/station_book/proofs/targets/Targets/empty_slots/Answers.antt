@@ -3,7 +3,8 @@ use Rattle.std.specs.Map.{values_of}
 use Rattle.std.proofs.lemmas.List.{ext_get_or, get_or-replicate, length-replicate}
 use Rattle.indexmap.specs.Layout.{length-set_value_at}
 use Rattle.station_book.specs.Slots.{empty_slot}
-use Rattle.station_book.proofs.states.TargetMaps.{same_keys, length_values, emptied}
+use Rattle.std.proofs.lemmas.Map.Entries.{length-values_of}
+use Rattle.station_book.proofs.states.TargetMaps.{same_keys, emptied}
 use Rattle.station_book.proofs.targets.Targets.empty_slots.Goals as goal
 
 pub slots-preserved : goal.slots-preserved
@@ -29,7 +30,7 @@ returns-clause-slots c =
     let n = length c.args.self.now.slots in
     let same = c.slots.invariant.size in
     let whole = c.slots.invariant.whole in
-    let values = length_values es in
+    let values = length-values_of es in
     let size = length-replicate n empty_slot in
     ext_get_or empty_slot (values_of es) (replicate n empty_slot)
     (omega (arith, same, whole, values, size))
