@@ -9,7 +9,7 @@ use Rattle.station_book.proofs.lists.Elements.{In, in_contains, contains_in}
 use Rattle.station_book.proofs.readings.FaceReadings.{none_or_some}
 
 -- each block is without fault
-pub clean_at : (limits : FaceLimits) (h : History) (b : GsiBlock) (past : History)
+clean_at : (limits : FaceLimits) (h : History) (b : GsiBlock) (past : History)
     → IsWithoutFault limits h → In (b ∷ past) (places h)
     → (fault_after limits past b ≡ None) × IsWithoutFault limits past
 clean_at limits [] b past clean placed = absurd placed
@@ -18,7 +18,7 @@ clean_at limits (c ∷ rest) b past clean (inl e) =
 clean_at limits (c ∷ rest) b past clean (inr placed) = clean_at limits rest b past clean.1 placed
 
 -- of two places of a file one is before the other
-pub in_order : (h : History) (a b : Place) → In a (places h) → In b (places h)
+in_order : (h : History) (a b : Place) → In a (places h) → In b (places h)
     → (a ≡ b) ⊎ (In a (places (before b)) ⊎ In b (places (before a)))
 in_order [] a b pa pb = absurd pa
 in_order (c ∷ past) a b (inl ea) (inl eb) = inl (ea ∙ sym eb)

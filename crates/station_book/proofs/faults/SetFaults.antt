@@ -32,7 +32,7 @@ use Rattle.station_book.proofs.faults.FaultOrder.{first_append}
 use Rattle.station_book.proofs.states.NewestState.{or_turned}
 
 -- In a file without fault a set has a station.
-pub set_has_station : (limits : FaceLimits) (past : History) → IsWithoutFault limits past
+set_has_station : (limits : FaceLimits) (past : History) → IsWithoutFault limits past
     → is_empty (open_sets past) ≡ false → is_empty (station past) ≡ false
 set_has_station limits [] w e = absurd (false≢true (sym e))
 set_has_station limits (b ∷ past) w e = elim (cases_Bool (opens_station b)) [

@@ -20,11 +20,11 @@ use Rattle.station_book.proofs.places.Owners.{length-last, belonging-more, belon
 use Rattle.station_book.proofs.places.Steps.{no_set_at_station, no_station_at_set, direction_opens_nothing, opens_no_station, is_open-opening, is_open-other, sets-station, sets-more, sets-other, same_station, opens_no_set}
 
 -- These places are all before this one.
-abbrev pub AllBefore : Place → List Place → Type 0
+abbrev AllBefore : Place → List Place → Type 0
 AllBefore place sts = AllByRecursion (λ st. length st < length place) sts
 
 -- no reading: all slots are empty
-pub no_readings : (targets : List (List ℕ))
+no_readings : (targets : List (List ℕ))
     → slots_of targets [] ≡ replicate (length targets) empty_slot
 no_readings [] = refl
 no_readings (t ∷ ts) = ap (λ ss. empty_slot ∷ ss) (no_readings ts)
@@ -35,7 +35,7 @@ length_numbers (s ∷ older) = let l = length-append (numbers_in older)
     (number_at s ∷ []) in let m = length_numbers older in omega (arith, l, m)
 
 -- after the first set
-pub first_state : (st set : Place) (name : List ℕ) (n : ℕ) → name_at st ≡ Some name
+first_state : (st set : Place) (name : List ℕ) (n : ℕ) → name_at st ≡ Some name
     → number_at set ≡ Some n → IsStateOf st set [] [] name (begun n)
 first_state st set name n named_so numbered = record {
   named_so = named_so;
@@ -47,7 +47,7 @@ first_state st set name n named_so numbered = record {
 }
 
 -- after a further set
-pub set_state : (st set newest : Place) (older readings : List Place) (name : List ℕ) (n : ℕ)
+set_state : (st set newest : Place) (older readings : List Place) (name : List ℕ) (n : ℕ)
     (e : StationState) → number_at set ≡ Some n → in_set set readings ≡ []
     → IsStateOf st newest older readings name e
     → IsStateOf st set (newest ∷ older) readings name (with_set n e)
@@ -101,7 +101,7 @@ stays : (st : Place) (e : List ℕ × StationState) (b : GsiBlock) (past : Histo
 stays st e b past sets readings h = rw (sets, readings) h
 
 -- Whatever block comes, what is kept of the stations before the open one stays as it is.
-pub older_stay : (sts : List Place) (es : StationStates) (b : GsiBlock) (past : History)
+older_stay : (sts : List Place) (es : StationStates) (b : GsiBlock) (past : History)
     → AllBefore (station past) sts → AreStates past sts es
     → AreStates (b ∷ past) sts es
 older_stay (st ∷ sts) (e ∷ es) b past all h = (
@@ -152,7 +152,7 @@ pub open_has_set : (past : History) → is_open past ≡ true → is_empty (open
 open_has_set past e = ap is_empty (open_set past e).sets
 
 -- A station without a set has no reading.
-pub no_set_no_reading : (past : History) → open_sets past ≡ []
+no_set_no_reading : (past : History) → open_sets past ≡ []
     → station_readings (station past) past ≡ []
 no_set_no_reading [] e = refl
 no_set_no_reading (b ∷ past) e = elim (cases_Bool (opens_station b)) [
@@ -200,7 +200,7 @@ states_idle s b past n r h = subst (λ (sts : List Place). AreStates (b ∷ past
     (sym (same_stations b past n)) (all_idle (stations_in past) s b past n r h)
 
 -- the stations with sets: those before the open one, and the open one where it has a set
-pub record HasOpenLast (past : History) : Type 0 where
+record HasOpenLast (past : History) : Type 0 where
   pub rest : List Place
   pub some_set : is_empty (open_sets past) ≡ false
   pub stations : stations_in past ≡ station past ∷ rest
@@ -213,14 +213,14 @@ below_new n past [] le all = tt
 below_new n past (x ∷ xs) le all =
     ((let a = all.0 in omega (arith, a, le)), below_new n past xs le all.1)
 
-abbrev pub Parted : History → Type 0
-Parted past = ((open_sets past ≡ []) × AllBefore (station past) (stations_in past))
+abbrev AreInOrder : History → Type 0
+AreInOrder past = ((open_sets past ≡ []) × AllBefore (station past) (stations_in past))
     ⊎ HasOpenLast past
 
 -- The stations stand in order.
-pub parted : (past : History) → Parted past
-parted [] = inl (refl, tt)
-parted (b ∷ past) = elim (cases_Bool (opens_station b)) [
+in_order : (past : History) → AreInOrder past
+in_order [] = inl (refl, tt)
+in_order (b ∷ past) = elim (cases_Bool (opens_station b)) [
   | inl s ↦
       let here : station (b ∷ past) ≡ b ∷ past = rw s in
       let all = below_new (length past) past (first_sets past) (length-last opens_station past)
@@ -236,7 +236,7 @@ parted (b ∷ past) = elim (cases_Bool (opens_station b)) [
       let st = sym (same_station b past s) in
       let moved = λ (sts : List Place) (all : AllBefore (station past) sts).
       subst (λ (o : Place). AllBefore o sts) st all in
-      elim (parted past) [
+      elim (in_order past) [
         | inl h ↦ elim (cases_Bool (opens_set b)) [
           | inl n ↦ inr (record {
             rest = stations_in past;
@@ -268,15 +268,15 @@ parted (b ∷ past) = elim (cases_Bool (opens_station b)) [
       ]
 ]
 
-pub set_is_no_reading : (b : GsiBlock) (past : History) → opens_set b ≡ true
+set_is_no_reading : (b : GsiBlock) (past : History) → opens_set b ≡ true
     → is_reading (b ∷ past) ≡ false
 set_is_no_reading b past n = and_left (has_direction b) (is_open past)
     (false_from_ne_true (has_direction b) (λ s. false≢true
     (sym (or_parts _ _ (or_parts _ _ (direction_opens_nothing b s)).1).0 ∙ n)))
 
 -- Where the open station has a set, it is the last one that has.
-pub open_last : (past : History) → is_empty (open_sets past) ≡ false → HasOpenLast past
-open_last past some = elim (parted past) [
+open_last : (past : History) → is_empty (open_sets past) ≡ false → HasOpenLast past
+open_last past some = elim (in_order past) [
   | inl p ↦ absurd (false≢true (sym some ∙ ap is_empty p.0))
   | inr p ↦ p
 ]
@@ -299,7 +299,7 @@ states_first so_far b past name n s set none named_so numbered h =
         (cond v ((b ∷ past) ∷ first_sets past) (first_sets past))) (λ i. set i && is_empty (none i))
 
     older : AllBefore (station past) (stations_in past)
-    older = elim (parted past) [
+    older = elim (in_order past) [
       | inl p ↦ p.1
       | inr p ↦ absurd (false≢true (sym p.some_set ∙ ap is_empty none))
     ]

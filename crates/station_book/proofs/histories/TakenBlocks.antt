@@ -33,7 +33,7 @@ use Rattle.station_book.proofs.histories.StateHistories.{states_idle, states_fir
 use Rattle.std.proofs.lemmas.Bool.{and_right}
 
 -- what a role says of the tests
-pub direction_as : (b : GsiBlock) (r : Role) → role_of b ≡ r
+direction_as : (b : GsiBlock) (r : Role) → role_of b ≡ r
     → has_direction b ≡ (is_measurement r && not (lacks 21 b))
 direction_as b r e = ap (λ q. is_measurement q && not (lacks 21 b)) e
 
@@ -75,7 +75,7 @@ stage_closes BetweenSets b past s n o h =
 stage_closes InSet b past s n o h =
     (ap is_empty (sets-other b past s n) ∙ open_has_set past h, is_open-opening b past o ∙ n)
 
-pub then_second : {X : Type 0} (o p : Option X) → then_fault o p ≡ None → p ≡ None
+then_second : {X : Type 0} (o p : Option X) → then_fault o p ≡ None → p ≡ None
 then_second None p e = e
 then_second (Some x) p e = cc
 
@@ -105,7 +105,7 @@ further_taken so_far b past n r e some h =
     (subst (λ (s : StationStates). AreStates past (stations_in past) s) x.is h))
 
 -- a block of code 20
-pub set_taken : (so_far : StationStates) (b : GsiBlock) (past : History) (stage : Stage)
+set_taken : (so_far : StationStates) (b : GsiBlock) (past : History) (stage : Stage)
     (n : Option ℕ)
     → role_of b ≡ roles.Set → number b ≡ n → states.opening_fault stage so_far n ≡ None
     → IsStage stage past → AreStates past (stations_in past) so_far
@@ -118,7 +118,7 @@ set_taken so_far b past InSet (Some n) r e f g h =
 set_taken so_far b past stage n r e f g h = absurd cc
 
 -- what a measurement that was read says
-pub record WasRead (b : GsiBlock) (s : Reading) : Type 0 where
+record WasRead (b : GsiBlock) (s : Reading) : Type 0 where
   pub directed : lacks 21 b ≡ false
   pub clean : first_of (said.own_faults b) ≡ None
   pub is : said.reading b ≡ s
@@ -129,7 +129,7 @@ read_cases : (absent : Bool) (fault : Option BookKind) (s t : Reading)
 read_cases false None s t e = (refl, refl, cc)
 read_cases absent fault s t e = absurd cc
 
-pub was_read : (b : GsiBlock) (s : Reading) → said.read b ≡ Ok (Some s) → WasRead b s
+was_read : (b : GsiBlock) (s : Reading) → said.read b ≡ Ok (Some s) → WasRead b s
 was_read b s e = let p = read_cases (lacks 21 b) (first_of (said.own_faults b))
     (said.reading b) s e in record { directed = p.0; clean = p.1; is = p.2 }
 
@@ -218,7 +218,7 @@ closed_no_reading : (b : GsiBlock) (past : History) → is_open past ≡ false
 closed_no_reading b past e = and_right (has_direction b) (is_open past) e
 
 -- a measurement
-pub measurement_taken : (limits : FaceLimits) (so_far : StationStates) (stage : Stage)
+measurement_taken : (limits : FaceLimits) (so_far : StationStates) (stage : Stage)
     (b : GsiBlock)
     (past : History) → role_of b ≡ roles.Measurement
     → cond (states.has_open_set stage) (states.measured limits so_far (said.read b)) None ≡ None

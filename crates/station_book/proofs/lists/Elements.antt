@@ -83,7 +83,7 @@ module _ {X : Type 0} where
   in_right x [] ys h = h
   in_right x (y ∷ xs) ys h = inr (in_right x xs ys h)
 
-  pub of_append : (x : X) (xs ys : List X) → In x (xs ++ ys) → In x xs ⊎ In x ys
+  of_append : (x : X) (xs ys : List X) → In x (xs ++ ys) → In x xs ⊎ In x ys
   of_append x [] ys h = inr h
   of_append x (y ∷ xs) ys (inl h) = inl (inl h)
   of_append x (y ∷ xs) ys (inr h) = elim (of_append x xs ys h) [

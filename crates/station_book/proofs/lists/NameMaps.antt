@@ -35,7 +35,7 @@ names_by_bytes a b = same_test (name_eq a b) (bytes_eq a b)
     (λ t. (bytes_eq-Decides a b).1 (name_eq-same a b t))
     (λ t. same-name_eq a b ((bytes_eq-Decides a b).0 t))
 
-pub known_by_bytes : {V : Type 0} (name : List ℕ) (es : List (List ℕ × V))
+known_by_bytes : {V : Type 0} (name : List ℕ) (es : List (List ℕ × V))
     → list_any (λ e. name_eq name e.0) es ≡ list_any (λ e. bytes_eq name e.0) es
 known_by_bytes name [] = refl
 known_by_bytes name (e ∷ es) = λ i. names_by_bytes name e.0 i || known_by_bytes name es i

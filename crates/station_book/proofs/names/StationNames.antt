@@ -26,7 +26,7 @@ module _ {X : Type 0} where
   Pairwise R [] = Unit {0}
   Pairwise R (x ∷ xs) = AllByRecursion (R x) xs × Pairwise R xs
 
-  pub all_snoc : (P : X → Type 0) (xs : List X) (z : X) → AllByRecursion P xs → P z
+  all_snoc : (P : X → Type 0) (xs : List X) (z : X) → AllByRecursion P xs → P z
       → AllByRecursion P (xs ++ z ∷ [])
   all_snoc P [] z all h = (h, tt)
   all_snoc P (x ∷ xs) z all h = (all.0, all_snoc P xs z all.1 h)
@@ -49,7 +49,7 @@ module _ {X : Type 0} where
   each_false p (x ∷ xs) e =
       let parts = or_parts (p x) (list_any p xs) e in (parts.0, each_false p xs parts.1)
 
-pub all_map : {X Y : Type 0} (P : Y → Type 0) (f : X → Y) (xs : List X)
+all_map : {X Y : Type 0} (P : Y → Type 0) (f : X → Y) (xs : List X)
     → AllByRecursion (λ x. P (f x)) xs → AllByRecursion P (map f xs)
 all_map P f [] all = tt
 all_map P f (x ∷ xs) all = (all.0, all_map P f xs all.1)
@@ -91,7 +91,7 @@ apart limits (b ∷ past) clean =
     ]
 
 -- Stations that were surveyed at such places have different names.
-abbrev pub HaveTwoNames : SurveyedStation → SurveyedStation → Type 0
+abbrev HaveTwoNames : SurveyedStation → SurveyedStation → Type 0
 HaveTwoNames a b = a.station.name ≢ b.station.name
 
 apart_from : (limits : FaceLimits) (h : History) (st : Place) (s : SurveyedStation)
@@ -118,7 +118,7 @@ all_pairs R [] pairs = λ i j d before inside. absurd (omega arith)
 all_pairs R (x ∷ xs) pairs = AllPairs-cons R x xs (All-from_recursion (R x) xs pairs.0)
     (all_pairs R xs pairs.1)
 
-pub different_stations : (limits : FaceLimits) (h : History) (stations : List SurveyedStation)
+different_stations : (limits : FaceLimits) (h : History) (stations : List SurveyedStation)
     → IsWithoutFault limits h → AreStations limits h stations → Pairwise HaveTwoNames stations
 unfolding AreStations
 different_stations limits h stations clean are =

@@ -16,7 +16,7 @@ use Rattle.station_book.proofs.names.StationNames.{Pairwise, AreApart}
 use Rattle.station_book.proofs.readings.OneReading.{length_place}
 
 -- two places of one file that are as long are one
-pub same_place : (h : History) (a b : Place) → In a (places h) → In b (places h)
+same_place : (h : History) (a b : Place) → In a (places h) → In b (places h)
     → length a ≡ length b → a ≡ b
 same_place [] a b pa pb e = absurd pa
 same_place (c ∷ past) a b (inl ea) (inl eb) e = ea ∙ sym eb
@@ -56,7 +56,7 @@ last_placed p (b ∷ past) = elim (cases_Bool (p b)) [
       (elim (last_placed p past) [ inl e ↦ inl e | inr k ↦ inr (inr k) ])
 ]
 
-pub before_placed : (h : History) (r q : Place) → In r (places h) → In q (places (before r))
+before_placed : (h : History) (r q : Place) → In r (places h) → In q (places (before r))
     → In q (places h)
 before_placed [] r q placed k = absurd placed
 before_placed (b ∷ past) r q (inl e) k = inr (subst (λ (x : Place). In q (places (before x))) e k)
@@ -71,7 +71,7 @@ owner_placed p h r placed = elim (last_placed p (before r)) [
 ]
 
 -- the station of an open set is the station
-pub station_of_set : (past : History) → is_open past ≡ true
+station_of_set : (past : History) → is_open past ≡ true
     → station (before (opening past)) ≡ station past
 station_of_set [] e = cc
 station_of_set (b ∷ past) e = elim (cases_Bool (is_opening b)) [

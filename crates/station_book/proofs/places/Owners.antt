@@ -13,12 +13,12 @@ length-last p (b ∷ past) = elim (cases_Bool (p b)) [
   | inr f ↦ rw f (let h = length-last p past in omega (arith, h))
 ]
 
-pub skip : {X : Type 0} (test : X → Bool) (x : X) (xs : List X) → test x ≡ false
+skip : {X : Type 0} (test : X → Bool) (x : X) (xs : List X) → test x ≡ false
     → filter test (x ∷ xs) ≡ filter test xs
 skip test x xs e = rw e
 
 -- nothing belongs to a place that is still to come
-pub none_later : (p : GsiBlock → Bool) (kind : Place → Bool) (owner : Place) (past : History)
+none_later : (p : GsiBlock → Bool) (kind : Place → Bool) (owner : Place) (past : History)
     → length past ≤ length owner → belonging p kind owner past ≡ []
 none_later p kind owner [] le = refl
 none_later p kind owner (b ∷ past) le = skip
@@ -52,7 +52,7 @@ belonging-same p kind b past e k =
     ap (λ v. belonging p kind (cond v (b ∷ past) (last p past)) (b ∷ past)) e ∙ rw k
 
 -- what belongs to another owner stays
-pub belonging-other : (p : GsiBlock → Bool) (kind : Place → Bool) (owner : Place) (b : GsiBlock)
+belonging-other : (p : GsiBlock → Bool) (kind : Place → Bool) (owner : Place) (b : GsiBlock)
     (past : History) → is_same (last p past) owner ≡ false
     → belonging p kind owner (b ∷ past) ≡ belonging p kind owner past
 belonging-other p kind owner b past e = skip
@@ -60,7 +60,7 @@ belonging-other p kind owner b past e = skip
     (and_right (kind (b ∷ past)) _ e)
 
 -- the last owner only moves on
-pub last_grows : (p : GsiBlock → Bool) (b : GsiBlock) (past : History)
+last_grows : (p : GsiBlock → Bool) (b : GsiBlock) (past : History)
     → length (last p past) ≤ length (last p (b ∷ past))
 last_grows p b past = elim (cases_Bool (p b)) [
   | inl t ↦ rw t (let h = length-last p past in omega (arith, h))

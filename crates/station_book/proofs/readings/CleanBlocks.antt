@@ -52,7 +52,7 @@ kept_more names name (r ∷ rs) k = (
   kept_more names name rs k.1,
 )
 
-pub face_is : (b : GsiBlock) → (is_of_face One b || is_of_face Two b) ≡ true
+face_is : (b : GsiBlock) → (is_of_face One b || is_of_face Two b) ≡ true
     → is_of_face (face b) b ≡ true
 face_is b e = elim (cases_Bool (is_of_face Two b)) [
   | inl h ↦ rw h h

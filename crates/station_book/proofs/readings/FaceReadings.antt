@@ -46,7 +46,7 @@ pub one_face : (b : GsiBlock) → is_of_face One b ≡ true → is_of_face Two b
 unfolding is_of_face angles
 one_face b e = below_half (angles b).zenith e
 
-pub cases_face : (f : Face) → (f ≡ One) ⊎ (f ≡ Two)
+cases_face : (f : Face) → (f ≡ One) ⊎ (f ≡ Two)
 cases_face One = inl refl
 cases_face Two = inr refl
 

@@ -33,7 +33,7 @@ none_there None e = refl
 none_there (Some r) e = cc
 
 -- a reading without fault is the first of its set, target and face
-pub first_time : (limits : FaceLimits) (past : History) (b : GsiBlock) (set : Place) (name : List ℕ)
+first_time : (limits : FaceLimits) (past : History) (b : GsiBlock) (set : Place) (name : List ℕ)
     (f : Face) (q : Place)
     → fault_after limits past b ≡ None → IsOf set name f (b ∷ past) → In q (places past)
     → IsOf set name f q → ⊥

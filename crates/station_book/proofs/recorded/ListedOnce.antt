@@ -156,7 +156,7 @@ different_numbers (x ∷ xs) (n ∷ ns) e pairs =
 different_numbers xs ns e pairs = cc
 
 -- So of two observations in order, the set or the target differs.
-abbrev pub AreTwo : Key → Key → Type 0
+abbrev AreTwo : Key → Key → Type 0
 AreTwo a b = a.set ≡ b.set → a.target ≢ b.target
 
 record AreLists (sets : List ℕ) (targets : List (List ℕ)) : Type 0 where

@@ -24,7 +24,7 @@ pub record IsRead (h : History) (st set : Place) (name : List ℕ) (f : Face)
   pub is : IsOf set name f r
 
 -- what is found among the readings of a set is such a reading
-pub reading_found : (h : History) (st set : Place) (name : List ℕ) (f : Face) (r : Place)
+reading_found : (h : History) (st set : Place) (name : List ℕ) (f : Face) (r : Place)
     → OfFile h set → station (before set) ≡ st
     → reading_in f name (readings_of set h) ≡ Some r → IsRead h st set name f r
 reading_found h st set name f r set_placed set_station e =
@@ -59,7 +59,7 @@ of_station_readings h st set name f r read =
     (eq-eqb (length (station (before r))) (length st) (ap length read.of_station)))
 
 -- and in a file without fault each such reading is found
-pub reading_listed : (limits : FaceLimits) (h : History) (st set : Place) (name : List ℕ) (f : Face)
+reading_listed : (limits : FaceLimits) (h : History) (st set : Place) (name : List ℕ) (f : Face)
     (r : Place) → IsWithoutFault limits h → OfFile h set → IsRead h st set name f r
     → reading_in f name (readings_of set h) ≡ Some r
 reading_listed limits h st set name f r clean set_placed read = split

@@ -18,7 +18,7 @@ use Rattle.station_book.proofs.states.NewestState.{all_in_map}
 use Rattle.std.proofs.lemmas.Bool.{or_from, false_from_ne_true}
 
 -- what a station gives, by its name
-abbrev pub surveyed : List ℕ × StationState → List ℕ × SurveyedStation
+abbrev surveyed : List ℕ × StationState → List ℕ × SurveyedStation
 surveyed e = (e.0, survey_of e)
 
 -- of these stations some are closed, and the rest may be

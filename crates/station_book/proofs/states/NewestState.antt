@@ -23,7 +23,7 @@ pub record HasNewest (s : StationStates) : Type 0 where
   pub older : StationStates
   pub is : s ≡ newest ∷ older
 
-pub some_newest : (s : StationStates) → 0 < length s → HasNewest s
+some_newest : (s : StationStates) → 0 < length s → HasNewest s
 some_newest [] some = absurd (omega (arith, some))
 some_newest (e ∷ older) some = record { newest = e; older = older; is = refl }
 
@@ -52,7 +52,7 @@ module _ {V : Type 0} where
       omega (arith, l, m)
 
   -- the newest changed
-  pub changed_newest : (es older : List (List ℕ × V)) (x : List ℕ × V) (w : V)
+  changed_newest : (es older : List (List ℕ × V)) (x : List ℕ × V) (w : V)
       → reverse es ≡ x ∷ older → reverse (set_value_at es (length es - 1) w) ≡ (x.0, w) ∷ older
   changed_newest es older x w is =
       (λ i. reverse (set_value_at (placed_last es older x is i) (last_place es older x is i) w))
@@ -60,7 +60,7 @@ module _ {V : Type 0} where
       ∙ ap (λ r. (x.0, w) ∷ r) (reverse-reverse older)
 
   -- what the map has in its last place is the newest
-  pub last_value_is : (es older : List (List ℕ × V)) (x : List ℕ × V) (v : V)
+  last_value_is : (es older : List (List ℕ × V)) (x : List ℕ × V) (v : V)
       → reverse es ≡ x ∷ older → slice_get (values_of es) (length es - 1) ≡ Some v → v ≡ x.1
   last_value_is es older x v is at =
       let size : length (reverse older) ≡ length (values_of (reverse older)) = sym

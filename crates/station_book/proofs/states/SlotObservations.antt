@@ -23,7 +23,7 @@ one None = refl
 one (Some x) = refl
 
 -- one slot more
-pub obs_more : (set : ℕ) (slots : List Slot) (i : ℕ) (d : Slot) → i < length slots
+obs_more : (set : ℕ) (slots : List Slot) (i : ℕ) (d : Slot) → i < length slots
     → obs_of set (take (i + 1) slots) ≡ obs_of set (take i slots) ++ option_to_list
     (obs_at set (i, get_or slots i d))
 obs_more set slots i d lt =
@@ -36,7 +36,7 @@ obs_more set slots i d lt =
     ∙ ap (λ (k : ℕ). obs_of set (take i slots) ++ cons_option (obs_at set (k, get_or slots i d)) [])
     n ∙ ap (λ xs. obs_of set (take i slots) ++ xs) (one (obs_at set (i, get_or slots i d)))
 
-pub faces_more : (slots : List Slot) (i : ℕ) (d : Slot) → i < length slots
+faces_more : (slots : List Slot) (i : ℕ) (d : Slot) → i < length slots
     → faces_of (take (i + 1) slots) ≡ faces_of (take i slots) ++ option_to_list
     (faces_at (get_or slots i d))
 faces_more slots i d lt = ap faces_of (take_more slots i d lt)

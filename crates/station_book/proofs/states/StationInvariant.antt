@@ -43,14 +43,14 @@ none_when false false e = (refl, refl)
 none_when a b e = cc
 
 -- the targets of what is kept
-abbrev pub targets_of : StationState → TargetsValue
+abbrev targets_of : StationState → TargetsValue
 targets_of e = record { names = e.targets; slots = e.slots }
 
 length_one : {X : Type 0} (xs : List X) (x : X) → length (xs ++ x ∷ []) ≡ length xs + 1
 length_one xs x = length-append xs (x ∷ [])
 
 -- the observations once the last set has ended
-pub closed_obs : (e : StationState) → IsStationState e → MayEnd e
+closed_obs : (e : StationState) → IsStationState e → MayEnd e
     → AreObs (length e.sets) (length e.targets) (closed e).obs
 closed_obs e h may =
     let tests = none_when (list_all is_unread e.slots) (list_any is_single e.slots) may in
@@ -101,7 +101,7 @@ absent_number n sets e k d lt = λ same. false≢true (sym e
     ∙ list_any_at (λ m. eqb m n) sets k d lt (eq-eqb (get_or sets k d) n same))
 
 -- after a set
-pub set_is_state : (n : ℕ) (e : StationState) → IsStationState e → MayEnd e
+set_is_state : (n : ℕ) (e : StationState) → IsStationState e → MayEnd e
     → list_any (λ m. eqb m n) e.sets ≡ false → length e.sets < 40 → IsSetNumber n
     → IsStationState (with_set n e)
 set_is_state n e h may new few number = record {
@@ -148,7 +148,7 @@ kept_reading One v s lt h = (lt, h.1)
 kept_reading Two v s lt h = (h.0, lt)
 
 -- after a further reading of a target
-pub reading_is_state : (s : Reading) (e : StationState) (i : ℕ) → IsStationState e
+reading_is_state : (s : Reading) (e : StationState) (i : ℕ) → IsStationState e
     → i < length e.slots
     → AreOnCircle s.angles → IsStationState (with_reading_at s e (Some i))
 reading_is_state s e i h inside low = record {
@@ -198,7 +198,7 @@ absent_name name targets e k d lt = λ same. false≢true (sym e
     ((bytes_eq-Decides (get_or targets k d) name).1 same))
 
 -- after the first reading of a target
-pub target_is_state : (s : Reading) (e : StationState) → IsStationState e
+target_is_state : (s : Reading) (e : StationState) → IsStationState e
     → list_any (λ t. bytes_eq t s.target) e.targets ≡ false → length e.targets < 100
     → IsName s.target → AreOnCircle s.angles → IsStationState (with_reading_at s e None)
 target_is_state s e h new few named low = record {
