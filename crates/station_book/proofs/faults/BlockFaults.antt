@@ -34,12 +34,13 @@ own_fault k b past h = by (role_of b) where
   by roles.Measurement = same_measurement_fault k b past h
   by roles.Other = refl
 
+-- The same, under the limits with which the book stands for the blocks.
 pub same_fault : (limits : FaceLimits) (k : states.State) (b : GsiBlock) (past : History)
     → StandsFor limits k past → states.fault_of k b ≡ fault_after limits past b
 same_fault limits k b past h = own_fault k b past (at_own limits k past h)
     ∙ ap (λ (l : FaceLimits). fault_after l past b) h.limited
 
--- the clauses of `take`, by the blocks
+-- Where `take` succeeds, the block has no fault after the blocks before it.
 pub take_clean : {X E : Type 0} (k : states.State) (b : GsiBlock) (r : Result X E)
     → OnOk r (states.fault_of k b ≡ None)
     → OnOk r ((limits : FaceLimits) (h : History) → StandsFor limits k h
@@ -47,6 +48,7 @@ pub take_clean : {X E : Type 0} (k : states.State) (b : GsiBlock) (r : Result X 
 take_clean k b (Ok x) clean = λ limits h it. sym (same_fault limits k b h it) ∙ clean
 take_clean k b (Err e) clean = clean
 
+-- Where `take` succeeds, what is kept stands for the blocks with this one.
 pub take_taken : {X E : Type 0} (k new : states.State) (b : GsiBlock) (r : Result X E)
     → OnOk r (states.fault_of k b ≡ None) → OnOk r (new ≡ states.after b k)
     → OnOk r ((limits : FaceLimits) (h : History) → StandsFor limits k h
@@ -59,6 +61,7 @@ take_taken k new b (Ok x) clean same = λ limits h it.
     (sym (own_fault k b h own) ∙ clean) own))
 take_taken k new b (Err e) clean same = same
 
+-- Where `take` refuses, its error explains the fault of the block, or that memory was wanted.
 pub take_fault : {X : Type 0} (k : states.State) (b : GsiBlock) (r : Result X BookFault)
     → IfErr r (ExplainsFault (k.taken + 1) (states.fault_of k b))
     → IfErr r (WantsOnlyAt (opens_set b))

@@ -28,6 +28,7 @@ in_order (c ∷ past) a b (inr pa) (inl eb) = inr
     (inl (subst (λ (p : Place). In a (places (before p))) (sym eb) pa))
 in_order (c ∷ past) a b (inr pa) (inr pb) = in_order past a b pa pb
 
+-- No block of a file has a fault, or some block has the first one.
 pub fault_or_none : (limits : FaceLimits) (h : History)
     → IsWithoutFault limits h
     ⊎ ((past : History) × (b : GsiBlock) × (kind : BookKind) × IsFaultOfBlock limits h past b kind)
@@ -68,11 +69,13 @@ not_clean limits h later past b kind f clean placed =
     let none = (clean_at limits later b past clean placed).0 in
     let bad : Some kind ≡ None = sym f.fault ∙ none in cc
 
+-- In a file without fault no block has the first one.
 pub no_first_fault : (limits : FaceLimits) (h past : History) (b : GsiBlock) (kind : BookKind)
     → IsWithoutFault limits h → ¬ IsFaultOfBlock limits h past b kind
 no_first_fault limits h past b kind clean f = not_clean limits h h past b kind f clean
     (in_contains (b ∷ past) (places h) f.placed)
 
+-- The first fault is that of one block, and of one kind.
 pub one_first_fault : (limits : FaceLimits) (h past older : History) (b c : GsiBlock)
     (kind other : BookKind)
     → IsFaultOfBlock limits h past b kind → IsFaultOfBlock limits h older c other

@@ -176,6 +176,7 @@ module _ (limits : FaceLimits) where
       (surveyed h clean st s c.0, all_surveyed h clean sts ss c.1)
   all_surveyed h clean sts ss c = c
 
+  -- What is computed of the stations of a file without fault are its stations.
   pub are_stations : (h : History) (ss : List SurveyedStation) → IsWithoutFault limits h
       → AreComputed h (stations_in h) (reverse ss) → AreStations limits h ss
   unfolding AreStations
@@ -204,13 +205,14 @@ end_same : (limits : FaceLimits) (k : State) (h : History) → StandsFor limits 
     → ending k.stage k.stations ≡ fault_at_end h
 end_same limits k h it = same_end k h (at_own limits k h it)
 
--- the clauses of `finish`, by the blocks
+-- Where `finish` succeeds, the end of the file has no fault.
 pub end_clean : {X E : Type 0} (k : State) (r : Result X E) → OnOk r
     (ending k.stage k.stations ≡ None)
     → OnOk r ((limits : FaceLimits) (h : History) → StandsFor limits k h → fault_at_end h ≡ None)
 end_clean k (Ok x) clean = λ limits h it. sym (end_same limits k h it) ∙ clean
 end_clean k (Err e) clean = clean
 
+-- Where `finish` succeeds, it answers the stations of the blocks.
 pub end_stations : {E : Type 0} (k : State) (r : Result (List SurveyedStation) E)
     → IfOk r (λ s. s ≡ surveys_of k.stations)
     → IfOk r (λ s. (limits : FaceLimits) (h : History) → StandsFor limits k h
@@ -220,6 +222,7 @@ end_stations k (Ok s) same = λ limits h it. are_stations limits h s it.clean
     (same_stations k h (at_own limits k h it)))
 end_stations k (Err e) same = same
 
+-- Where `finish` fails, its error explains the fault of the end, or that memory was wanted.
 pub end_fault : {X : Type 0} (k : State) (r : Result X BookFault)
     → IfErr r (ExplainsFault (k.taken + 1) (ending k.stage k.stations))
     → IfErr r (λ e. (limits : FaceLimits) (h : History) → StandsFor limits k h → ExplainsEnd h e)

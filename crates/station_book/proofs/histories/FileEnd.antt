@@ -28,6 +28,7 @@ use Rattle.station_book.proofs.histories.StateHistories.{open_set, open_has_set,
 use Rattle.indexmap.proofs.ReorderLemmas.{map-reverse}
 use Rattle.std.proofs.lemmas.Bool.{and_left, and_right}
 
+-- There are angles exactly where there is a reading.
 pub some_angles : (o : Option Place) → is_some (angles_of o) ≡ is_some o
 some_angles None = refl
 some_angles (Some p) = refl

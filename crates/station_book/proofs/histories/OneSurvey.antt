@@ -64,6 +64,7 @@ one_station limits small h st a b p q =
       faces = faces i;
     }
 
+-- The blocks of a file have one list of stations.
 pub one_survey : (limits : FaceLimits) (h : History) (a b : List SurveyedStation) → AreLimits limits
     → AreStations limits h a → AreStations limits h b → a ≡ b
 unfolding AreStations

@@ -84,6 +84,7 @@ no_reading_of name (r ∷ rs) e = elim (cases_Bool (is_among (targets_in rs) (ta
       ((or_parts (bytes_eq (target_at r) name) false p.1).0, no_reading_of name rs p.0)
 ]
 
+-- What holds of each element of a list holds of each that a filter keeps.
 pub all_filter : {X : Type 0} (P : X → Type 0) (p : X → Bool) (xs : List X) → AllByRecursion P xs
     → AllByRecursion P (filter p xs)
 all_filter P p [] all = tt
@@ -163,6 +164,7 @@ faces_new targets name readings (s ∷ older) all =
     ∙ ap (λ os. faces_in targets readings older ++ os)
     (faces_empty (slots_of targets (in_set s readings)))
 
+-- The slot at a place is that of the target at this place.
 pub slot_get : (targets : List (List ℕ)) (rs : List Place) (k : ℕ) (d : List ℕ) → k < length targets
     → slot_at (slots_of targets rs) k ≡ slot_of rs (get_or targets k d)
 slot_get [] rs k d lt = absurd (omega arith)
@@ -178,9 +180,8 @@ existing : (targets : List (List ℕ)) (i : ℕ) (f : Face) (v : Angles) (r : Pl
     ≡ slots_of targets (r ∷ rs)
 existing targets i f v r rs inside here different s g n = ext_get_or empty_slot
     (set (slots_of targets rs) i new) (slots_of targets (r ∷ rs)) same_length
-    (λ k lt. at k (let l = length-set
-    (slots_of targets rs) i new in let m = length-map targets (slot_of rs) in omega (arith, l, m, lt))
-    (cases_eq k i)) where
+    (λ k lt. at k (let l = length-set (slots_of targets rs) i new in
+    let m = length-map targets (slot_of rs) in omega (arith, l, m, lt)) (cases_eq k i)) where
       new : Slot
       new = with_face_reading f v (slot_at (slots_of targets rs) i)
 

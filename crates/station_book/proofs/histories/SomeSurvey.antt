@@ -28,6 +28,7 @@ state_of limits (b ∷ past) w =
     take_taken {X = ℕ} {E = ℕ} k (after b k) b (Ok 0)
     (same_fault limits k b past s ∙ w.0) refl limits past s
 
+-- Blocks without a fault have their stations: those of the book that took them.
 pub some_survey : (limits : FaceLimits) (h : History) → AreLimits limits → IsWithoutFault limits h
     → (stations : List SurveyedStation) × AreStations limits h stations
 some_survey limits h valid w =

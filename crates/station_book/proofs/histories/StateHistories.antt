@@ -29,6 +29,7 @@ no_readings : (targets : List (List ℕ))
 no_readings [] = refl
 no_readings (t ∷ ts) = ap (λ ss. empty_slot ∷ ss) (no_readings ts)
 
+-- There are as many numbers as sets.
 pub length_numbers : (sets : List Place) → length (numbers_in sets) ≡ length sets
 length_numbers [] = refl
 length_numbers (s ∷ older) = let l = length-append (numbers_in older)
@@ -122,6 +123,7 @@ places_below : (past : History) (n : ℕ) → length past ≤ n
 places_below [] n le = tt
 places_below (b ∷ past) n le = (omega arith, places_below past n (omega arith))
 
+-- Where a set is open, it is the newest set of the open station.
 pub open_set : (past : History) → is_open past ≡ true → HasOpenSet past
 open_set [] e = cc
 open_set (b ∷ past) e = elim (cases_Bool (is_opening b)) [

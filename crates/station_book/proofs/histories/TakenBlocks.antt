@@ -140,11 +140,13 @@ none_cases true fault s e = refl
 none_cases false None s e = absurd cc
 none_cases false (Some k) s e = absurd cc
 
+-- A block is of face I exactly where its zenith angle is above 0 and below half a circle.
 pub first_face : (b : GsiBlock)
     → is_of_face faces.One b ≡ (ltb 0 ((angles b).zenith) && ltb ((angles b).zenith) 20_000_000)
 unfolding is_of_face
 first_face b = refl
 
+-- A block is of face II exactly where its zenith angle is between half a circle and a circle.
 pub second_face : (b : GsiBlock)
     → is_of_face faces.Two b ≡ (ltb 20_000_000 ((angles b).zenith) && ltb
     ((angles b).zenith) 40_000_000)

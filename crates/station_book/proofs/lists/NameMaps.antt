@@ -15,6 +15,7 @@ use Rattle.station_book.proofs.lists.Elements.{same_test}
 abbrev pub name_eq : List ℕ → List ℕ → Bool
 name_eq a b = bytes_eq (padded a) (padded b) && eqb (length a) (length b)
 
+-- Names that are `==` are one name.
 pub name_eq-same : (a b : List ℕ) → name_eq a b ≡ true → a ≡ b
 name_eq-same a b e =
     let (cells, lengths) = and_parts (bytes_eq (padded a) (padded b))
@@ -24,6 +25,7 @@ name_eq-same a b e =
     sym (take-append_seam a _) ∙ ap (take (length a)) whole ∙ ap (λ (k : ℕ). take k (padded b)) n
     ∙ take-append_seam b _
 
+-- One name is `==` to itself.
 pub same-name_eq : (a b : List ℕ) → a ≡ b → name_eq a b ≡ true
 same-name_eq a b e = and_from (bytes_eq (padded a) (padded b)) (eqb (length a) (length b))
     ((bytes_eq-Decides (padded a) (padded b)).1 (ap padded e))
@@ -54,6 +56,7 @@ pub inserted : {V : Type 0} (es : List (List ℕ × V)) (name : List ℕ) (s : V
     → insert_entry name_eq es name s ≡ es ++ (name, s) ∷ []
 inserted es name s out = insert-new name_eq es name s (known_by_bytes name es ∙ out)
 
+-- What follows from what is said of an error is said of it.
 pub if_err : {X E : Type 0} {P Q : E → Type 0} (r : Result X E) → ((e : E) → P e → Q e) → IfErr r P
     → IfErr r Q
 if_err (Ok x) f h = h

@@ -19,6 +19,7 @@ IsThere targets i =
     ((x : List ℕ) × (i < length targets) × (slice_get targets i ≡ Some x)
     × (get_or targets i x ≡ x)) ⊎ ((length targets ≤ i) × (slice_get targets i ≡ None))
 
+-- Of different names, the place at which one stands is the place that is found for it.
 pub placed : (name : List ℕ) (targets : List (List ℕ)) (i : ℕ) → AllPairs (λ a b. a ≢ b) targets
     → is_named name (slice_get targets i) ≡ true → Some i ≡ place_of name targets
 placed name targets i different e = split (slice_get_cases targets i).1 where

@@ -31,18 +31,21 @@ module _ {X : Type 0} where
   all_snoc P [] z all h = (h, tt)
   all_snoc P (x ∷ xs) z all h = (all.0, all_snoc P xs z all.1 h)
 
+  -- What holds of each element of a list holds of each of its reverse.
   pub all_reverse : (P : X → Type 0) (xs : List X) → AllByRecursion P xs
       → AllByRecursion P (reverse xs)
   all_reverse P [] all = tt
   all_reverse P (x ∷ xs) all = subst (AllByRecursion P) (sym (reverse-append (x ∷ []) xs))
       (all_snoc P (reverse xs) x (all_reverse P xs all.1) all.0)
 
+  -- A new last element, of which R holds with each other, may join.
   pub pairwise_snoc : (R : X → X → Type 0) (xs : List X) (z : X) → Pairwise R xs
       → AllByRecursion (λ x. R x z) xs → Pairwise R (xs ++ z ∷ [])
   pairwise_snoc R [] z pairs all = (tt, tt)
   pairwise_snoc R (x ∷ xs) z pairs all =
       (all_snoc (R x) xs z pairs.0 all.0, pairwise_snoc R xs z pairs.1 all.1)
 
+  -- Where a test finds no element, each fails it.
   pub each_false : (p : X → Bool) (xs : List X) → list_any p xs ≡ false
       → AllByRecursion (λ x. p x ≡ false) xs
   each_false p [] e = tt
@@ -62,6 +65,7 @@ empty_list : {X : Type 0} (xs : List X) → is_empty xs ≡ true → xs ≡ []
 empty_list [] e = refl
 empty_list (x ∷ xs) e = cc
 
+-- The stations of a file without fault have different names.
 pub apart : (limits : FaceLimits) (h : History) → IsWithoutFault limits h
     → Pairwise AreApart (stations_of h)
 apart limits [] clean = tt
@@ -113,6 +117,7 @@ two_names limits h (x ∷ xs) (y ∷ ys) pairs zip =
     (apart_from limits h x y xs ys zip.0 pairs.0 zip.1, two_names limits h xs ys pairs.1 zip.1)
 two_names limits h xs ys pairs zip = absurd zip
 
+-- What holds of each element with each later one holds of each two.
 pub all_pairs : {X : Type 0} (R : X → X → Type 0) (xs : List X) → Pairwise R xs → AllPairs R xs
 all_pairs R [] pairs = λ i j d before inside. absurd (omega arith)
 all_pairs R (x ∷ xs) pairs = AllPairs-cons R x xs (All-from_recursion (R x) xs pairs.0)
@@ -124,6 +129,7 @@ unfolding AreStations
 different_stations limits h stations clean are =
     two_names limits h (stations_of h) stations (apart limits h clean) are
 
+-- No two stations of a file without fault have one name.
 pub different_names : (limits : FaceLimits) (h : History) (stations : List SurveyedStation)
     → IsWithoutFault limits h → AreStations limits h stations → AllPairs HaveTwoNames stations
 different_names limits h stations clean are =
@@ -143,6 +149,7 @@ named_only name s (x ∷ xs) pairs (inr later) e = elim (cases_Bool (bytes_eq x.
   | inr f ↦ rw f (named_only name s xs pairs.1 later e)
 ]
 
+-- The station that is found by a name is the one station that has this name.
 pub its_station : (limits : FaceLimits) (h : History) (stations : List SurveyedStation)
     (name : List ℕ) (s : SurveyedStation) → IsWithoutFault limits h → AreStations limits h stations
     → (station_named name stations ≡ Some s) ↔ (Contains stations s × (s.station.name ≡ name))

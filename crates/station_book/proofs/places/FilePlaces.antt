@@ -37,6 +37,7 @@ some_block (c ∷ past) a (inr placed) = some_block past a placed
 abbrev pub OfFile : History → Place → Type 0
 OfFile h a = (a ≡ []) ⊎ In a (places h)
 
+-- Two places of the file, or no place, that are as long are one.
 pub same_of_file : (h : History) (a b : Place) → OfFile h a → OfFile h b → length a ≡ length b
     → a ≡ b
 same_of_file h a b (inl x) (inl y) e = x ∙ sym y
@@ -46,6 +47,7 @@ same_of_file h a b (inr p) (inl y) e =
     let l : length b ≡ 0 = ap length y in let m = some_block h a p in absurd (omega arith)
 same_of_file h a b (inr p) (inr q) e = same_place h a b p q e
 
+-- The last block of a kind is a place of the file, or no place.
 pub last_placed : (p : GsiBlock → Bool) (past : History) → OfFile past (last p past)
 last_placed p [] = inl refl
 last_placed p (b ∷ past) = elim (cases_Bool (p b)) [
@@ -88,6 +90,7 @@ pub record HasItsSet (h : History) (r : Place) : Type 0 where
   pub is_set : is_set (opening (before r)) ≡ true
   pub of_station : station (before (opening (before r))) ≡ station (before r)
 
+-- The set of a reading is the one that is open there.
 pub set_of_reading : (h : History) (r : Place) → In r (places h) → is_reading r ≡ true
     → HasItsSet h r
 set_of_reading h r placed reading =
@@ -173,6 +176,7 @@ pub record IsStationOfSet (h : History) (st : Place) : Type 0 where
   pub is_set : is_set set ≡ true
   pub of_station : station (before set) ≡ st
 
+-- A station that is listed has a set in the file.
 pub listed_station : (h : History) (st : Place) → In st (stations_of h) → IsStationOfSet h st
 listed_station h st listed =
     let q = of_map (λ s. station (before s)) st (reverse (first_sets h)) listed in
@@ -187,6 +191,7 @@ listed_station h st listed =
       of_station = q.2;
     }
 
+-- A station that is listed is a place of the file, or no place.
 pub station_placed : (h : History) (st : Place) → In st (stations_of h) → OfFile h st
 station_placed h st listed =
     let l = listed_station h st listed in

@@ -9,6 +9,7 @@ use Rattle.station_book.specs.Faults.{open_sets, had_sets, same_name, name_at}
 use Rattle.station_book.proofs.places.Owners.{belonging-fresh, belonging-same}
 use Rattle.station_book.proofs.lists.Elements.{In, any_from, any_to, same_test, of_filter}
 
+-- Where the first of two tests passes and both together fail, the second fails.
 pub right_false : (a b : Bool) → a ≡ true → (a && b) ≡ false → b ≡ false
 right_false true b e f = f
 right_false false b e f = cc

@@ -24,11 +24,12 @@ all_none [] e = tt
 all_none (None ∷ rest) e = (refl, all_none rest e)
 all_none (Some x ∷ rest) e = cc
 
+-- Where no fault comes of a test, it fails.
 pub none_when : (b : Bool) (k : BookKind) → when b k ≡ None → b ≡ false
 none_when true k e = cc
 none_when false k e = refl
 
--- a listed name stays listed, and a new one is
+-- A name that is listed stays listed.
 pub among_more : (names : List (List ℕ)) (name other : List ℕ) → is_among names other ≡ true
     → is_among (with_new names name) other ≡ true
 among_more names name other e = elim (cases_Bool (is_among names name)) [
@@ -37,6 +38,7 @@ among_more names name other e = elim (cases_Bool (is_among names name)) [
       any_from (λ m. bytes_eq m other) n (names ++ name ∷ []) (in_left n names (name ∷ []) h) t)
 ]
 
+-- A name that was added is listed.
 pub among_new : (names : List (List ℕ)) (name : List ℕ) → is_among (with_new names name) name ≡ true
 among_new names name = elim (cases_Bool (is_among names name)) [
   | inl v ↦ rw v v
@@ -68,6 +70,7 @@ pub record IsCleanSet (past : History) (b : GsiBlock) : Type 0 where
   pub first_time : had_sets past ≡ false
   pub new_number : has_set_number (number b) past ≡ false
 
+-- A block of code 20 without fault is at a station, and its number is new there.
 pub clean_set : (limits : FaceLimits) (past : History) (b : GsiBlock) → opens_set b ≡ true
     → fault_after limits past b ≡ None → IsCleanSet past b
 unfolding fault_after
@@ -87,6 +90,7 @@ pub record IsCleanReading (limits : FaceLimits) (past : History) (b : GsiBlock) 
   pub two_c : is_beyond (has_no_two_c limits.two_c) b past ≡ false
   pub two_i : is_beyond (has_no_two_i limits.two_i) b past ≡ false
 
+-- A reading without fault has a face, is its target's first there, and is within the limits.
 pub clean_reading : (limits : FaceLimits) (past : History) (b : GsiBlock)
     → is_reading (b ∷ past) ≡ true → fault_after limits past b ≡ None → IsCleanReading limits past b
 unfolding fault_after

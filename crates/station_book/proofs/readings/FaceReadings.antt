@@ -18,9 +18,11 @@ pub record Slot : Type 0 where
   pub first : Option Place
   pub second : Option Place
 
+-- the readings of a target
 abbrev pub slot : List Place → List ℕ → Slot
 slot rs name = record { first = reading_in One name rs; second = reading_in Two name rs }
 
+-- those of each of these targets
 abbrev pub slots : List (List ℕ) → List Place → List Slot
 slots targets rs = map (slot rs) targets
 
@@ -42,6 +44,7 @@ below_half z e = elim (cases_Bool (ltb 20_000_000 z)) [
   | inr f ↦ and_left (ltb 20_000_000 z) (ltb z 40_000_000) f
 ]
 
+-- A block of face I is not of face II.
 pub one_face : (b : GsiBlock) → is_of_face One b ≡ true → is_of_face Two b ≡ false
 unfolding is_of_face angles
 one_face b e = below_half (angles b).zenith e
@@ -55,10 +58,12 @@ pub face_of : (f : Face) (b : GsiBlock) → is_of_face f b ≡ true → face b �
 face_of One b e = ap (λ v. cond v Two One) (one_face b e)
 face_of Two b e = ap (λ v. cond v Two One) e
 
+-- An option has nothing or something.
 pub none_or_some : {X : Type 0} (o : Option X) → (o ≡ None) ⊎ ((x : X) × (o ≡ Some x))
 none_or_some None = inl refl
 none_or_some (Some x) = inr (x, refl)
 
+-- Where a reading of a target and face is listed, one is found.
 pub some_there : (f : Face) (name : List ℕ) (r : Place) (rs : List Place) → In r rs
     → target_at r ≡ name → passes_at (is_of_face f) r ≡ true → is_some (reading_in f name rs) ≡ true
 some_there f name r rs h e g = elim (none_or_some (reading_in f name rs)) [

@@ -53,6 +53,7 @@ first_time limits past b set name f q clean new placed old =
     (ap (λ v. passes_at (is_of_face v) q) faced ∙ old.of_face))
     (none_there (reading_in (face b) (target b) (open_readings past)) free)
 
+-- In a file without fault two places of one set, target and face are one.
 pub one_place : (limits : FaceLimits) (h : History) (set : Place) (name : List ℕ) (f : Face)
     (a b : Place) → IsWithoutFault limits h → In a (places h) → In b (places h) → IsOf set name f a
     → IsOf set name f b → a ≡ b
@@ -65,6 +66,7 @@ one_place limits (c ∷ past) set name f a b clean (inr pa) (inl eb) ia ib =
 one_place limits (c ∷ past) set name f a b clean (inr pa) (inr pb) ia ib =
     one_place limits past set name f a b clean.1 pa pb ia ib
 
+-- A reading of a station, set, target and face is of this set, target and face.
 pub is_of : (h : History) (station : List ℕ) (set : Place) (name : List ℕ) (f : Face) (r : Place)
     → IsReadingOf h station set name f r → IsOf set name f r
 is_of h station set name f r is = record {
@@ -74,6 +76,7 @@ is_of h station set name f r is = record {
   of_face = is.of_face;
 }
 
+-- A file without fault has at most one reading of a set, target and face.
 pub one_reading : (limits : FaceLimits) (h : History) (station : List ℕ) (set : Place)
     (name : List ℕ) (f : Face) (a b : Place)
     → IsWithoutFault limits h → IsReadingOf h station set name f a

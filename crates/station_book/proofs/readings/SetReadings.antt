@@ -21,6 +21,7 @@ pub found_here : (f : Face) (r : Place) (name : List ℕ) (rs : List Place)
     → reading_in f name (r ∷ rs) ≡ Some r
 found_here f r name rs e g = rw (e, g)
 
+-- A reading of the other face changes nothing in this one.
 pub found_not : (f : Face) (r : Place) (name : List ℕ) (rs : List Place)
     → passes_at (is_of_face f) r ≡ false → reading_in f name (r ∷ rs) ≡ reading_in f name rs
 found_not f r name rs g = rw (and_right (bytes_eq (target_at r) name) _ g)

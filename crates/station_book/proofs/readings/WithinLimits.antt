@@ -50,6 +50,7 @@ pub angles_on_circle : (b : GsiBlock) → AreOnCircle (angles b)
 unfolding angles
 angles_on_circle b = record { hz = found_below (found 21 b); zenith = found_below (found 22 b) }
 
+-- What is read at a place is on the circle.
 pub place_on_circle : (r : Place) → AreOnCircle (angles_at r)
 place_on_circle [] = record { hz = omega arith; zenith = omega arith }
 place_on_circle (b ∷ past) = angles_on_circle b
@@ -75,11 +76,13 @@ two_c_turned limit a b ha hb t = true_from_ne_false (has_no_two_c limit b a) (λ
           (40_000_000 - limit) f in omega arith
     ])
 
+-- The fault of 2c is the same whichever reading comes first.
 pub two_c_any_order : (limit : ℕ) (a b : Angles) → AreOnCircle a → AreOnCircle b
     → has_no_two_c limit a b ≡ has_no_two_c limit b a
 two_c_any_order limit a b ha hb = same_test (has_no_two_c limit a b) (has_no_two_c limit b a)
     (two_c_turned limit a b ha hb) (two_c_turned limit b a hb ha)
 
+-- The fault of 2i is the same whichever reading comes first.
 pub two_i_any_order : (limit : ℕ) (a b : Angles) → has_no_two_i limit a b ≡ has_no_two_i limit b a
 unfolding has_no_two_i
 two_i_any_order limit a b i = ltb (40_000_000 + limit) (add_comm a.zenith b.zenith i)
@@ -149,6 +152,7 @@ one_more limits past b clean ih name x y ex ey = elim (cases_Bool (bytes_eq (tar
       ]
 ]
 
+-- In a file without fault two readings of a set and target are within the limits.
 pub within_limits : (limits : FaceLimits) (h : History) (st set : Place) → IsWithoutFault limits h
     → AllWithin limits (in_set set (station_readings st h))
 within_limits limits [] st set w = λ name a b e f. absurd cc

@@ -231,6 +231,7 @@ once limits h st s clean placed surveyed =
               (sym surveyed.targets) p.name_place.inside,
         ))
 
+-- No set and target of a station is listed twice.
 pub listed_once : (limits : FaceLimits) (h : History) (stations : List SurveyedStation)
     (s : SurveyedStation) → IsWithoutFault limits h → AreStations limits h stations
     → Contains stations s → AllPairs AreTwo (observed s.station)

@@ -50,6 +50,7 @@ reading_found h st set name f r set_placed set_station e =
       };
     }
 
+-- Such a reading is one of its station.
 pub of_station_readings : (h : History) (st set : Place) (name : List ℕ) (f : Face) (r : Place)
     → IsRead h st set name f r → In r (station_readings st h)
 of_station_readings h st set name f r read =
@@ -164,6 +165,7 @@ pair_at h st c e t st_placed e_in t_in j =
           second_is = sym (ap (λ (c : Pair). c.second) j.pair);
         }
 
+-- A pair of a station has its readings.
 pub readings_of_pair : (h : History) (st : Place) (c : Pair) → OfFile h st → In c (pairs_of st h)
     → HasItsReadings h st c
 readings_of_pair h st c st_placed listed =

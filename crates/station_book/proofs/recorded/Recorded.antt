@@ -221,6 +221,7 @@ observed_key limits h st s k small clean listed surveyed r =
         (one_two_face limits.two_c small.two_c (angles_at r.first)
         (angles_at r.second) pair.obs.value k.value pair.direction r.direction)
 
+-- A direction is listed at a station exactly where the file recorded it there.
 pub recorded : (limits : FaceLimits) (h : History) (stations : List SurveyedStation)
     (s : SurveyedStation) (k : Key)
     → AreLimits limits → IsWithoutFault limits h → AreStations limits h stations

@@ -54,6 +54,7 @@ pub record IsOpenReading (past : History) (r : Place) : Type 0 where
   pub reading : is_reading r ≡ true
   pub of_set : opening (before r) ≡ opening past
 
+-- What is listed as a reading of the open set is one.
 pub open_reading : (past : History) (r : Place) → In r (open_readings past) → IsOpenReading past r
 open_reading past r listed =
     let own = of_filter (λ place. is_reading place && is_same (last is_opening (before place))
@@ -281,6 +282,7 @@ whole_or_fault limits h = split (fault_or_none limits h) (fault_at_end h) refl w
   split (inl clean) (Some kind) e = inr (length h + 1, kind, inr (clean, e, refl))
   split (inr f) o e = inr (length f.0 + 1, f.2, inl (f.0, f.1, f.3, refl))
 
+-- A whole file has no fault.
 pub whole_has_none : (limits : FaceLimits) (h : History) (number : ℕ) (kind : BookKind)
     → IsWholeFile limits h → ¬ IsBookFault limits h number kind
 whole_has_none limits h number kind whole
@@ -288,6 +290,7 @@ whole_has_none limits h number kind whole
 whole_has_none limits h number kind whole (inr f) = let bad : Some kind ≡ None = sym f.1
     ∙ whole.ending in cc
 
+-- A file has at most one first fault, of one number and one kind.
 pub one_file_fault : (limits : FaceLimits) (h : History) (m n : ℕ) (kind other : BookKind)
     → IsBookFault limits h m kind → IsBookFault limits h n other → (m ≡ n) × (kind ≡ other)
 one_file_fault limits h m n kind other (inl f) (inl g) =

@@ -97,6 +97,7 @@ module _ (es : List (List ℕ × StationState)) (closed : List (List ℕ × Surv
             (All-nil (λ c. IsName c.0 × (c.0 ≡ c.1.station.name))));
       })
 
+  -- The same, where a map takes it in.
   pub next_inserted : (s : SurveyedStation) (more : List (List ℕ × SurveyedStation))
       → s ≡ survey_of x → IsName s.station.name → more ≡ insert_entry name_eq closed x.0 s
       → IsClosing es more later

@@ -1,5 +1,4 @@
--- The newest of the stations that are kept: their map has the oldest first, the
--- states the newest.
+-- The newest of the stations that are kept: their map has the oldest first, the states the newest.
 use Rattle.std.proofs.Common.{◌≡◌, ℕ, suc, ◌-◌, ◌<◌, Bool, true, false, ◌||◌, List, [], ◌∷◌, ◌++◌, length, reverse, get_or, All, Some, refl, sym, ap, ◌∙◌, subst, arith}
 use Rattle.std.specs.Prelude.{slice_get}
 use Rattle.std.specs.List.{list_any}
@@ -27,6 +26,7 @@ some_newest : (s : StationStates) → 0 < length s → HasNewest s
 some_newest [] some = absurd (omega (arith, some))
 some_newest (e ∷ older) some = record { newest = e; older = older; is = refl }
 
+-- Two tests give the same whichever comes first.
 pub or_turned : (a b : Bool) → (a || (b || false)) ≡ (b || a)
 or_turned true true = refl
 or_turned a b = refl
@@ -114,13 +114,14 @@ module _ (es s : StationStates) (size : ℕ) (sized : size ≡ length es) (view 
   changed w = ap (λ (k : ℕ). reverse (set_value_at es (k - 1) w)) sized
       ∙ changed_newest es n.older n.newest w (view ∙ n.is)
 
-  -- the states whose last one is changed, and those whose last one is written back
+  -- Where the last value is changed, the newest of the states is.
   pub changed_last : (f : StationState → StationState) (w : StationState) → w ≡ f (last_of s)
       → reverse (set_value_at es (size - 1) w) ≡ change_last f s
   changed_last f w is =
       changed w ∙ ap (λ (v : StationState). (n.newest.0, v) ∷ n.older)
       (is ∙ ap (λ (t : StationStates). f (last_of t)) n.is) ∙ ap (change_last f) (sym n.is)
 
+  -- Where the last value is written back, the states stay as they are.
   pub unchanged_last : (w : StationState) → w ≡ last_of s
       → reverse (set_value_at es (size - 1) w) ≡ s
   unchanged_last w is =
@@ -137,6 +138,7 @@ pub all_may : (s : StationStates) → LastMayEnd s → OlderMayEnd s → All (λ
 all_may [] last older = All-nil (λ e. MayEnd e.1)
 all_may (e ∷ es) last older = All-cons (λ e. MayEnd e.1) e es last older
 
+-- Where the newest in the map may end too, all may.
 pub all_in_map : (es : List (List ℕ × StationState)) → LastMayEnd (reverse es)
     → OlderMayEnd (reverse es) → All (λ e. MayEnd e.1) es
 all_in_map es last older = subst (All (λ e. MayEnd e.1)) (reverse-reverse es)

@@ -10,6 +10,7 @@ use Rattle.station_book.specs.declared.faces.Faces.{Faces}
 use Rattle.station_book.specs.TwoFaces.{Angles}
 use Rattle.station_book.specs.Slots.{observation_of, compared, obs_at, obs_of, faces_at, faces_of}
 
+-- Places go on from the first of two lists to the second.
 pub enumerate-append : {X : Type 0} (n : ℕ) (xs ys : List X)
     → enumerate_from n (xs ++ ys) ≡ enumerate_from n xs ++ enumerate_from (n + length xs) ys
 enumerate-append n [] ys = let e : n ≡ n + 0 = omega arith in ap (λ (k : ℕ). enumerate_from k ys) e
@@ -43,7 +44,7 @@ faces_more slots i d lt = ap faces_of (take_more slots i d lt)
     ∙ filter_map-append faces_at (take i slots) (get_or slots i d ∷ [])
     ∙ ap (λ xs. faces_of (take i slots) ++ xs) (one (faces_at (get_or slots i d)))
 
--- the observations pushed so far, and those of the slot at i
+-- The observations pushed so far, and that of the slot at i, are those up to it.
 pub pushed_obs : (set : ℕ) (slots : List Slot) (i : ℕ) (d : Slot) (old so_far new : List Obs)
     → i < length slots → so_far ≡ old ++ obs_of set (take i slots)
     → new ≡ so_far ++ option_to_list (obs_at set (i, get_or slots i d))
@@ -54,6 +55,7 @@ pushed_obs set slots i d old so_far new lt e f =
     (option_to_list (obs_at set (i, get_or slots i d)))
     ∙ ap (λ xs. old ++ xs) (sym (obs_more set slots i d lt))
 
+-- The face differences pushed so far, and those of the slot at i, are those up to it.
 pub pushed_faces : (slots : List Slot) (i : ℕ) (d : Slot) (old so_far new : List Faces)
     → i < length slots → so_far ≡ old ++ faces_of (take i slots)
     → new ≡ so_far ++ option_to_list (faces_at (get_or slots i d))

@@ -190,6 +190,7 @@ reading_is_state s e i h inside low = record {
       ∙ read_now s.face s.angles (slot_at e.slots i))
   by t (inr r) (inr c) = inr (ap is_unread (get_or-set_other e.slots i t new empty_slot c) ∙ r)
 
+-- A name that is not listed is at no place of the list.
 pub absent_name : (name : List ℕ) (targets : List (List ℕ))
     → list_any (λ t. bytes_eq t name) targets ≡ false → (k : ℕ) (d : List ℕ) → k < length targets
     → get_or targets k d ≢ name
@@ -279,6 +280,7 @@ read_kept s e old t i new was names slots is h inside low =
     same : new ≡ with_face_reading s.face s.angles (slot_at e.slots i)
     same = is ∙ ap (λ (w : TargetsValue). with_face_reading s.face s.angles (slot_at w.slots i)) was
 
+-- What always holds of a station holds after a set, as the code notes it.
 pub set_kept : (n : ℕ) (e : StationState) (targets : List (List ℕ)) (slots : List Slot)
     (sets : List ℕ) (obs : List Obs) (faces : List Faces) → targets ≡ e.targets
     → slots ≡ replicate (length e.slots) empty_slot → sets ≡ e.sets ++ n ∷ []

@@ -33,11 +33,13 @@ module _ {V : Type 0} where
       → insert_entry name_eq es name v ≡ es ++ (name, v) ∷ []
   added name v es none = inserted es name v (sym (found_known name es) ∙ ap is_some none)
 
+  -- The keys stay where a value is changed.
   pub same_keys : (es : List (List ℕ × V)) (i : ℕ) (w : V)
       → keys_of (set_value_at es i w) ≡ keys_of es
   same_keys (e ∷ es) (suc i) w = ap (λ ks. e.0 ∷ ks) (same_keys es i w)
   same_keys es i w = refl
 
+  -- Where a value is changed in a map, it is changed among the values.
   pub set_value : (es : List (List ℕ × V)) (i : ℕ) (w : V)
       → values_of (set_value_at es i w) ≡ slice_set (values_of es) i w
   set_value (e ∷ es) (suc i) w = ap (λ vs. e.1 ∷ vs) (set_value es i w)
@@ -70,5 +72,6 @@ module _ {V : Type 0} where
       sym (ap (λ v. cond v (Some (position_or_len (name_eq name) (keys_of es))) None)
       (le-ltb _ _ (none_before name es e))) ∙ found_place name (keys_of es)
 
+-- What is said of a success holds of its value.
 pub of_ok : {X E : Type 0} (P : X → Type 0) (r : Result X E) (x : X) → r ≡ Ok x → IfOk r P → P x
 of_ok P r x e h = subst (λ s. IfOk s P) e h

@@ -30,6 +30,7 @@ congruent_c f s hf hs = record {
   equal = omega (arith, ints);
 }
 
+-- Of two readings without a fault of 2c, what is computed is their 2c.
 pub computed_two_c : (limit : ℕ) (a b : Angles) → AreOnCircle a → AreOnCircle b
     → has_no_two_c limit a b ≡ false → IsTwoC limit a b (two_c a b)
 unfolding has_no_two_c
@@ -50,6 +51,7 @@ within_i limit a b e =
 sum_i : (a b : ℕ) → pos (a + b) -ℤ pos 40_000_000 ≡ pos a +ℤ pos b -ℤ pos 40_000_000
 sum_i a b = omega (arith, ints)
 
+-- Of two readings without a fault of 2i, what is computed is their 2i.
 pub computed_two_i : (limit : ℕ) (a b : Angles) → has_no_two_i limit a b ≡ false
     → IsTwoI limit a b (two_i a b)
 unfolding has_no_two_i
@@ -75,6 +77,7 @@ beside limit f h w =
       within = record { low = omega (arith, ints); high = omega (arith, ints) };
     }
 
+-- Of two readings without a fault of 2c, what is computed is their two-face direction.
 pub computed_direction : (limit : ℕ) (a b : Angles) → AreOnCircle a → AreOnCircle b
     → has_no_two_c limit a b ≡ false → IsTwoFace limit a b (direction a b)
 computed_direction limit a b ha hb e =

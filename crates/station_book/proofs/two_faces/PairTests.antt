@@ -1,5 +1,4 @@
--- The tests on two readings say whether there is a 2c, and whether there is a 2i; where there is a
--- 2c there is a two-face direction.
+-- The tests on two readings say whether they have a 2c, and whether they have a 2i.
 use Rattle.std.proofs.Common.{◌≡◌, ◌↔◌, ℕ, ◌+◌, ◌-◌, ◌%◌, ◌≤◌, true, false, ltb, inl, inr, ◌⊎◌, arith, ◌||◌, subst}
 use Rattle.std.specs.Prelude.{ℤ, pos, ◌-ℤ◌, ◌+ℤ◌}
 use Rattle.std.proofs.lemmas.Int.{ints}
@@ -21,7 +20,7 @@ no_two_c limit a b small ha hb e d t =
     let q = t.congruent.equal in let l = t.within.low in let h = t.within.high in
     omega (arith, ints)
 
--- two readings without the fault of 2c have a 2c: what is computed of them is one
+-- Two readings without a fault of 2c have a 2c: the one that is computed.
 pub a_two_c : (limit : ℕ) (a b : Angles) → AreOnCircle a → AreOnCircle b
     → has_no_two_c limit a b ≡ false → (d : ℤ) × IsTwoC limit a b d
 a_two_c limit a b ha hb e = (two_c a b, computed_two_c limit a b ha hb e)
@@ -44,11 +43,12 @@ unfolding has_no_two_i
 no_two_i limit a b e d t = two_i_beyond limit a.zenith b.zenith e
     (subst (IsAtMost limit) t.equal t.within)
 
--- two readings without the fault of 2i have a 2i
+-- Two readings without a fault of 2i have a 2i: the one that is computed.
 pub a_two_i : (limit : ℕ) (a b : Angles) → has_no_two_i limit a b ≡ false
     → (e : ℤ) × IsTwoI limit a b e
 a_two_i limit a b e = (two_i a b, computed_two_i limit a b e)
 
+-- Two readings have the fault of 2c exactly where they have no 2c within the limit.
 pub two_c_missing : (limits : FaceLimits) (a b : Angles) → AreLimits limits → AreOnCircle a
     → AreOnCircle b
     → (has_no_two_c limits.two_c a b ≡ true) ↔ ((d : ℤ) → ¬ IsTwoC limits.two_c a b d)
@@ -62,6 +62,7 @@ two_c_missing limits a b small ha hb = (
   back (inr f) none = let some = a_two_c limits.two_c a b ha hb f in absurd
       (none some.0 some.1)
 
+-- Two readings have the fault of 2i exactly where they have no 2i within the limit.
 pub two_i_missing : (limits : FaceLimits) (a b : Angles)
     → (has_no_two_i limits.two_i a b ≡ true) ↔ ((e : ℤ) → ¬ IsTwoI limits.two_i a b e)
 two_i_missing limits a b =
