@@ -16,6 +16,3 @@ mod rounded;
 pub use compare::apart_from_least;
 pub use fault::AdjustFault;
 pub use rounded::rounded_directions;
-
-#[cfg(test)]
-mod tests;

@@ -1,8 +1,8 @@
 //! Stated directions of stations worked by hand, and where memory is refused.
 
-use crate::{AdjustFault, apart_from_least, rounded_directions};
 use adjust_kernel::{KernelFault, LARGEST_RESIDUAL_LIMIT, Name, Obs, ResidualLimit, Station};
 use sheet_apart::CIRCLE;
+use stated_directions::{AdjustFault, apart_from_least, rounded_directions};
 use std::alloc::Global;
 use std::process::Abort;
 use std::test::Fail;
