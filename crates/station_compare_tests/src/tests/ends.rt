@@ -156,52 +156,84 @@ impl Write for Resumes {
     }
 }
 
+/// A run printed its text alone, or else this refusal alone, and its status says which.
+fn expect_answer(
+    rt: &impl Abort,
+    command: Command,
+    status: u8,
+    out: &Held,
+    err: &Held,
+    refused: &[u8],
+) {
+    let is_refused = !refused.is_empty();
+    let printed: &[u8] = if is_refused { b"" } else { command.text() };
+    assert_eq!(rt; out.bytes(), printed, "{command:?}");
+    assert_eq!(rt; err.bytes(), refused, "{command:?}");
+    assert_eq!(rt; status, u8::from(is_refused), "{command:?}");
+}
+
+/// A run over this field file and the table answers so, and does not read on after the file.
+fn expect_of_field_file(
+    rt: &impl Abort,
+    alloc: Global,
+    command: Command,
+    text: &[u8],
+    fails: bool,
+) -> Result<(), Fail> {
+    let mut reader = Recovers::new(text, fails);
+    let mut table = Script::new(TABLE, AMPLE, false);
+    let mut out = Held::new(alloc, AMPLE, AMPLE, false)?;
+    let mut err = Held::new(alloc, AMPLE, AMPLE, false)?;
+    let gsi = OfRead::new(&mut reader);
+    let status = command.run(rt, alloc, gsi, &mut table, &mut out, &mut err);
+    let refused: &[u8] = if fails {
+        b"refused: block 13: Read\n"
+    } else {
+        b""
+    };
+    expect_answer(rt, command, status, &out, &err, refused);
+    assert_eq!(rt; reader.asked_on, 0, "{command:?}");
+    Ok(())
+}
+
+/// A run over S1 and this table answers so, and does not read on after the table.
+fn expect_of_table(
+    rt: &impl Abort,
+    alloc: Global,
+    command: Command,
+    text: &[u8],
+    fails: bool,
+) -> Result<(), Fail> {
+    let mut reader = Recovers::new(text, fails);
+    let mut table = OfRead::new(&mut reader);
+    let mut out = Held::new(alloc, AMPLE, AMPLE, false)?;
+    let mut err = Held::new(alloc, AMPLE, AMPLE, false)?;
+    let gsi = Script::new(S1, AMPLE, false);
+    let status = command.run(rt, alloc, gsi, &mut table, &mut out, &mut err);
+    drop(table);
+    let refused: &[u8] = if fails && matches!(command, Command::Compare) {
+        b"refused: table: Read\n"
+    } else {
+        b""
+    };
+    expect_answer(rt, command, status, &out, &err, refused);
+    assert_eq!(rt; reader.asked_on, 0, "{command:?}");
+    Ok(())
+}
+
 #[test]
 fn a_run_over_a_reader_that_broke_off_or_ended_does_not_read_on(
     rt: HostRuntime,
 ) -> Result<(), Fail> {
     let alloc = rt.alloc();
     let blank_lines = "\n".repeat(alloc, 9_000)?;
-    for command in [Command::Compare, Command::Directions] {
-        for blank in [b"".as_slice(), blank_lines.as_bytes()] {
+    for blank in [b"".as_slice(), blank_lines.as_bytes()] {
+        let file = [S1, blank].concat(alloc)?;
+        let table = [TABLE, blank].concat(alloc)?;
+        for command in [Command::Compare, Command::Directions] {
             for fails in [false, true] {
-                let text = [S1, blank].concat(alloc)?;
-                let mut reader = Recovers::new(text.as_slice(), fails);
-                let mut table = Script::new(TABLE, AMPLE, false);
-                let mut out = Held::new(alloc, AMPLE, AMPLE, false).map_err(|_| "no memory")?;
-                let mut err = Held::new(alloc, AMPLE, AMPLE, false).map_err(|_| "no memory")?;
-                let gsi = OfRead::new(&mut reader);
-                let status = command.run(&rt, alloc, gsi, &mut table, &mut out, &mut err);
-                let printed: &[u8] = if fails { b"" } else { command.text() };
-                let refused: &[u8] = if fails {
-                    b"refused: block 13: Read\n"
-                } else {
-                    b""
-                };
-                assert_eq!(rt; out.bytes(), printed, "{command:?}");
-                assert_eq!(rt; err.bytes(), refused, "{command:?}");
-                assert_eq!(rt; status, u8::from(fails), "{command:?}");
-                assert_eq!(rt; reader.asked_on, 0, "{command:?}");
-
-                let text = [TABLE, blank].concat(alloc)?;
-                let mut reader = Recovers::new(text.as_slice(), fails);
-                let mut table = OfRead::new(&mut reader);
-                let mut out = Held::new(alloc, AMPLE, AMPLE, false).map_err(|_| "no memory")?;
-                let mut err = Held::new(alloc, AMPLE, AMPLE, false).map_err(|_| "no memory")?;
-                let gsi = Script::new(S1, AMPLE, false);
-                let status = command.run(&rt, alloc, gsi, &mut table, &mut out, &mut err);
-                drop(table);
-                let is_refused = fails && matches!(command, Command::Compare);
-                let printed: &[u8] = if is_refused { b"" } else { command.text() };
-                let refused: &[u8] = if is_refused {
-                    b"refused: table: Read\n"
-                } else {
-                    b""
-                };
-                assert_eq!(rt; out.bytes(), printed, "{command:?}");
-                assert_eq!(rt; err.bytes(), refused, "{command:?}");
-                assert_eq!(rt; status, u8::from(is_refused), "{command:?}");
-                assert_eq!(rt; reader.asked_on, 0, "{command:?}");
+                expect_of_field_file(&rt, alloc, command, &file, fails)?;
+                expect_of_table(&rt, alloc, command, &table, fails)?;
             }
         }
     }
