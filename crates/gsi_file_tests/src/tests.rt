@@ -327,6 +327,28 @@ fn judged(bytes: &[u8], fails: bool) -> (&[u8], Option<FileKind>) {
     }
 }
 
+/// Compares the answer after a line with that of a part that isn't blank: the number of the line
+/// that is answered, if both are not the same fault.
+fn compare_line(
+    rt: &impl Abort,
+    lines: &mut Lines<Script<'_>>,
+    part: &[u8],
+    number: u32,
+) -> Option<u32> {
+    match (read_block(part), lines.next()) {
+        (Ok(want), Ok(Some(line))) => {
+            assert_eq!(rt; line.block.width(), want.width());
+            assert_eq!(rt; line.block.len(), want.len());
+            Some(line.number)
+        }
+        (Err(fault), Err(FileFault::At(_, kind))) => {
+            assert!(rt; is_same(kind, fault));
+            None
+        }
+        _ => panic!(rt; "the answers differ after line {number}"),
+    }
+}
+
 /// Compares lines with those of a plain program that sees the whole list of bytes.
 fn compare(rt: &impl Abort, mut lines: Lines<Script<'_>>, bytes: &[u8], fails: bool) {
     let (whole, last) = judged(bytes, fails);
@@ -337,17 +359,9 @@ fn compare(rt: &impl Abort, mut lines: Lines<Script<'_>>, bytes: &[u8], fails: b
         if place == ended && last.is_some() || part.iter().all(|b| *b == b' ') {
             continue;
         }
-        match (read_block(part), lines.next()) {
-            (Ok(want), Ok(Some(line))) => {
-                number = line.number;
-                assert_eq!(rt; line.block.width(), want.width());
-                assert_eq!(rt; line.block.len(), want.len());
-            }
-            (Err(fault), Err(FileFault::At(_, kind))) => {
-                assert!(rt; is_same(kind, fault));
-                return;
-            }
-            _ => panic!(rt; "the answers differ after line {number}"),
+        match compare_line(rt, &mut lines, part, number) {
+            Some(next) => number = next,
+            None => return,
         }
     }
     match last {
