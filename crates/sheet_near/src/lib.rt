@@ -20,6 +20,3 @@ mod spanning;
 pub use circle::DENOMINATOR;
 pub use fault::NearFault;
 pub use sheet::near_sheet;
-
-#[cfg(test)]
-mod tests;

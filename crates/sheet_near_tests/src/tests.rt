@@ -1,8 +1,8 @@
 //! Near sheets, told by their nearness: of stations worked by hand, of made ones, and where memory
 //! is refused.
 
-use crate::{DENOMINATOR, NearFault, near_sheet};
 use adjust_kernel::{LARGEST_RESIDUAL_LIMIT, Name, Obs, ResidualLimit, Sheet, Station, TURN};
+use sheet_near::{DENOMINATOR, NearFault, near_sheet};
 use sheet_nearness::nearness_of;
 use std::alloc::Global;
 use std::process::Abort;
