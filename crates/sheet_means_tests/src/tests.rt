@@ -6,8 +6,8 @@ use std::alloc::Global;
 use std::process::Abort;
 use std::test::Fail;
 
-/// Values of the observations, set by set and within a set target by target; and the sheet of means:
-/// directions, orientations, turns, and its greatest residual.
+/// Values of the observations, set by set and within a set target by target; and the sheet of
+/// means: directions, orientations, turns, and its greatest residual.
 #[derive(Clone, Copy)]
 struct Worked<'a> {
     targets: u32,
@@ -25,8 +25,8 @@ fn name(rt: &impl Abort, number: u32) -> Name {
     Name::new(&bytes[..number as usize % LONGEST_NAME + 1]).expect(rt, "a name")
 }
 
-/// A station of this many sets, numbered from `first` on, and targets, with these observations: set,
-/// target, value.
+/// A station of this many sets, numbered from `first` on, and targets, with these observations:
+/// set, target, value.
 fn station_of(
     rt: &impl Abort,
     alloc: Global,

@@ -106,7 +106,8 @@ fn what_holds_nothing_or_lies_far_off_is_refused(rt: HostRuntime) -> Result<(), 
 
 #[test]
 fn the_stated_limit_counts(rt: HostRuntime) -> Result<(), Fail> {
-    // Each residual is half a unit, 1 half unit in all: 10,000,004 and 10,000,008 beside 10,000,006.
+    // Each residual is half a unit, 1 half unit in all: 10,000,004 and 10,000,008 beside
+    // 10,000,006.
     let station = station_of(&rt, rt.alloc(), 2, b"AB", &TWO_SETS)?;
     let far = Err(AdjustFault::Kernel(KernelFault::Residual(1)));
     for (limit, want) in [(0, far), (1, Ok(0)), (2_000, Ok(0))] {
@@ -298,8 +299,8 @@ fn hoard_of_all_but(alloc: Global, spare: Vec<u8>) -> Vec<Vec<u8>> {
     hoard
 }
 
-/// With too little memory for these observations of four targets the answer is `Memory`, until there
-/// is enough.
+/// With too little memory for these observations of four targets the answer is `Memory`, until
+/// there is enough.
 fn assert_each_refusal(
     rt: &impl Abort,
     alloc: Global,
