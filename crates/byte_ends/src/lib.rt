@@ -21,8 +21,6 @@ mod out_of_memory;
 mod script;
 mod sink;
 mod source;
-#[cfg(test)]
-mod tests;
 
 pub use failed::Failed;
 pub use held::Held;

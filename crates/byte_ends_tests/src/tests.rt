@@ -1,6 +1,6 @@
 //! What no clause says: that calls succeed, and what std's own readers and writers get.
 
-use crate::{
+use byte_ends::{
     Failed, Held, InputFault, OfRead, OfWrite, OutOfMemory, Script, Sink, Source, read_whole,
 };
 use std::alloc::{AllocError, Global};
