@@ -19,26 +19,29 @@ use Rattle.std.specs.Int.{w128}
 own : IsDigitsTest (λ ds. list_all is_ascii_digit ds ≡ true)
 own = search rules
 
+-- Bytes that are all digits are what the library reads as a numeral in tens.
 pub numerals : IsNumeralModel (λ ds. list_all is_ascii_digit ds ≡ true) (digits_value 10)
 numerals = numerals_by_value _ own
 
+-- A digit 1 to 9 and any digits are digits throughout.
 pub positive-digits : (ds : List ℕ) → is_positive ds ≡ true → list_all is_ascii_digit ds ≡ true
 positive-digits [] e = cc e
 positive-digits (c ∷ cs) e = grind (arith, nat_tests)
 
+-- The first of them lies between the digits 1 and 9.
 pub positive-first : (ds : List ℕ) → is_positive ds ≡ true → (49 ≤ slice_index ds 0)
     × (slice_index ds 0 ≤ 57)
 positive-first [] e = cc e
 positive-first (c ∷ cs) e = grind (arith, nat_tests)
 
-pub positive-numeral : (ds : List ℕ) → is_positive ds ≡ true → IsNumeral 10 ds
+positive-numeral : (ds : List ℕ) → is_positive ds ≡ true → IsNumeral 10 ds
 positive-numeral [] e = cc e
 positive-numeral (c ∷ cs) e = (omega arith, numerals.to (c ∷ cs) (positive-digits (c ∷ cs) e))
 
-pub positive-ascii : (ds : List ℕ) → is_positive ds ≡ true → IsAscii ds
+positive-ascii : (ds : List ℕ) → is_positive ds ≡ true → IsAscii ds
 positive-ascii ds e = IsAscii-from_digits ds (positive-numeral ds e).1
 
--- a number between two that fit 128 bits fits them
+-- A number between two that fit 128 bits fits them.
 pub between-fits : (low high v : ℤ) → FitsSigned w128 low → FitsSigned w128 high
     → int_le low v ≡ true → int_le v high ≡ true → FitsSigned w128 v
 between-fits (pos l) (pos h) (pos n) f g a b =
@@ -51,7 +54,7 @@ between-fits (pos l) h (negsuc n) f g a b = cc a
 between-fits (negsuc l) h (negsuc n) f g a b =
     record { sfits = omega (arith, f.sfits, leb-true n l a) }
 
--- a number's form has a sign, or none, and digits
+-- A number's form has a sign, or none, and digits.
 canonical-from : (c : ℕ) (cs : List ℕ) (zero_first minus : Bool) → (c == 48) ≡ zero_first
     → (c == 45) ≡ minus → is_canonical (c ∷ cs) ≡ true
     → IsNumeral 10 (without_leading_sign (c ∷ cs)) × IsAscii (c ∷ cs)
@@ -70,12 +73,13 @@ canonical-from c cs false false z m e =
     let plus : (c == 43) ≡ false = ne_eqb c 43 (λ q. absurd (omega (arith, f, q))) in
     rw (m, plus) (positive-numeral (c ∷ cs) p, positive-ascii (c ∷ cs) p)
 
+-- A canonical decimal, but for its sign, is a numeral, and all of it is ASCII.
 pub canonical-numeral : (bs : List ℕ) → is_canonical bs ≡ true
     → IsNumeral 10 (without_leading_sign bs) × IsAscii bs
 canonical-numeral [] e = cc e
 canonical-numeral (c ∷ cs) e = canonical-from c cs (c == 48) (c == 45) refl refl e
 
--- a canonical number that is none of 128 bits is out of the bounds
+-- A canonical number that is none of 128 bits is out of the bounds.
 pub outside : (low high : ℤ) (bs : List ℕ) → FitsSigned w128 low → FitsSigned w128 high
     → is_canonical bs ≡ true
     → (IsNumeral 10 (without_leading_sign bs) × FitsSigned w128 (signed_digits_value 10 bs) → ⊥)

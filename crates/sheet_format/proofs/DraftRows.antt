@@ -45,21 +45,22 @@ use Rattle.sheet_format.proofs.Ranges.{angle-fits, natural-text, number-text, tu
 use Rattle.sheet_format.proofs.Ranges.{within-found}
 use Rattle.sheet_format.proofs.SaidBy.{IsBare}
 
--- what the first row states is within the limits of its version
+-- What the first row states is within the limits of its version.
 abbrev pub IsVersionedHeader : Option Header → Type 0
 IsVersionedHeader None = Unit {0}
 IsVersionedHeader (Some h) = IsName h.name × (1 ≤ h.denominator)
     × (h.denominator ≤ largest_denominator h.version)
 
--- a direction and an orientation within the ranges of a version
+-- A direction has a name, and is within the range of a version.
 abbrev pub IsDirectionOf : Version → Direction → Type 0
 IsDirectionOf v d = IsName d.name × IsWithin (largest_angle v) d.value
 
+-- An orientation has a set number, and is within the range of a version.
 abbrev pub IsOrientationOf : Version → Orientation → Type 0
 IsOrientationOf v o = IsSetNumber o.set × IsWithin (largest_angle v) o.value
 
--- the entries of a draft are within their limits, and no type of entry stands without the one
--- before it
+-- The entries of a draft are within their limits, and no type of entry stands without the one
+-- before it.
 pub record IsDraft (d : DraftValue) : Type 0 where
   pub header : IsVersionedHeader d.header
   pub bare : d.header ≡ None → IsBare d
@@ -72,6 +73,7 @@ pub record IsDraft (d : DraftValue) : Type 0 where
   pub sets_follow : 0 < length d.orientations → 0 < length d.directions
   pub rows_follow : 0 < length d.rows → 0 < length d.orientations
 
+-- The draft before any row is within the limits.
 pub blank-draft : IsDraft blank
 blank-draft = record {
   header = tt;
@@ -86,12 +88,12 @@ blank-draft = record {
   rows_follow = λ h. absurd (omega (arith, h));
 }
 
--- a row's entry was added: the draft stands for one row more
+-- A row's entry was added: the draft stands for one row more.
 pub record Takes (d : DraftValue) (row : List (List ℕ)) (e : DraftValue) : Type 0 where
   pub rows : rows_of_draft e ≡ rows_of_draft d ++ (row ∷ [])
   pub draft : IsDraft e
 
--- no fault among tests
+-- No fault among tests.
 or-none : (a b : Option RowKind) → option_or a b ≡ None → (a ≡ None) × (b ≡ None)
 or-none None b e = (refl, e)
 or-none (Some k) b e = cc e
@@ -100,7 +102,7 @@ unless-none : (b : Bool) (k : RowKind) → unless b k ≡ None → b ≡ true
 unless-none true k e = refl
 unless-none false k e = cc e
 
--- the fields of a row that has five columns
+-- The fields of a row that has five columns.
 abbrev pub listed : Fields → List (List ℕ)
 listed c = c.kind ∷ c.number ∷ c.name ∷ c.value ∷ c.turn ∷ []
 
@@ -115,7 +117,7 @@ columns-found (x ∷ y ∷ z ∷ v ∷ w ∷ []) c e =
     ap listed same
 columns-found (x ∷ y ∷ z ∷ v ∷ w ∷ u ∷ rest) c e = cc e
 
--- the type that a field names
+-- The type that a field names.
 row_type-from : (a b c e : Bool) (k : RowType)
     → (if a then Some row_type.Sheet else (if b then Some row_type.Target
     else (if c then Some row_type.Set else (if e then Some row_type.Obs else None)))) ≡ Some k
@@ -144,8 +146,8 @@ row_type-found bs k h = elim (row_type-from (names_row_type row_type.Sheet bs)
       ]
     ]
 
--- what the type of the next row says of a draft: `a`, `b` and `c` say that it has no rows,
--- orientations, directions
+-- What the type of the next row says of a draft: `a`, `b` and `c` say that it has no rows,
+-- orientations, directions.
 before-sheet : (a b c : Bool) (h : Option Header)
     → may_follow (if a then (if b then (if c then last_of_header h else Some row_type.Target)
     else Some row_type.Set) else Some row_type.Obs) row_type.Sheet ≡ true
@@ -189,14 +191,14 @@ none-there xs e = nil_from_length xs (eqb-true _ _ e)
 some-there : {X : Type 0} (xs : List X) → (length xs == 0) ≡ false → 0 < length xs
 some-there xs e = let not : length xs ≡ 0 → ⊥ = eqb-false _ _ e in omega (arith, not)
 
--- whether a list has elements
+-- A list has no elements, or some.
 pub none-or-some : {X : Type 0} (xs : List X) → ((length xs == 0) ≡ true) ⊎ (0 < length xs)
 none-or-some xs = elim (cases_Bool (length xs == 0)) [
   | inl e ↦ inl e
   | inr e ↦ inr (some-there xs e)
 ]
 
--- a row of a later type is allowed after a first row alone
+-- A row of a later type is allowed after a first row alone.
 headed : (d : DraftValue) → (d.header ≡ None → IsBare d) → (k : RowType) → may_follow None k ≡ false
     → may_follow (last_of_draft d) k ≡ true → d.header ≡ None → ⊥
 headed d bare k first follows e =
@@ -204,13 +206,14 @@ headed d bare k first follows e =
     let none : last_of_draft d ≡ None = rw (rs, os, ds, e) refl in
     true≢false (sym follows ∙ ap (λ (o : Option RowType). may_follow o k) none ∙ first)
 
--- one more row at the end
+-- One more row at the end.
 pushed : {X : Type 0} (a b c e : List X) (x : X)
     → a ++ (b ++ (c ++ (e ++ (x ∷ [])))) ≡ (a ++ (b ++ (c ++ e))) ++ (x ∷ [])
 pushed {X = X} a b c e x = sym (append_assoc a (b ++ (c ++ e)) (x ∷ [])
     ∙ ap (λ (t : List X). a ++ t) (append_assoc b (c ++ e) (x ∷ [])
     ∙ ap (λ (t : List X). b ++ t) (append_assoc c e (x ∷ []))))
 
+-- What holds of each element of a list and of one more holds of each of the longer list.
 pub All-pushed : {X : Type 0} (P : X → Type 0) (xs : List X) (x : X) → All P xs → P x
     → All P (xs ++ (x ∷ []))
 All-pushed P xs x h p = All-append P xs (x ∷ []) h (All-cons P x [] p (All-nil P))
@@ -507,7 +510,7 @@ obs-taken d c ok named follows none =
       };
     }
 
--- a row without a fault, of whatever type
+-- A row without a fault, of whatever type.
 by-row_type : (d : DraftValue) (c : Fields) (k : RowType) → IsDraft d → c.kind ≡ row_type_text k
     → may_follow (last_of_draft d) k ≡ true → columns_fault (said_by_draft d) k c ≡ None
     → Takes d (listed c) (with_columns k d c)
@@ -516,6 +519,7 @@ by-row_type d c row_type.Target ok named follows none = target-taken d c ok name
 by-row_type d c row_type.Set ok named follows none = set-taken d c ok named follows none
 by-row_type d c row_type.Obs ok named follows none = obs-taken d c ok named follows none
 
+-- A row without a fault adds its entry to a draft: the draft then stands for one row more.
 pub row-taken : (d : DraftValue) (row : List (List ℕ)) → IsDraft d
     → row_fault (said_by_draft d) row ≡ None → Takes d row (with_row d row)
 unfolding row_fault with_row

@@ -29,13 +29,13 @@ use Rattle.sheet_format.proofs.DraftRows.{IsOrientationOf, blank-draft, none-or-
 use Rattle.sheet_format.proofs.Ranges.{angle-below, denominator-below}
 use Rattle.sheet_format.proofs.SaidBy.{said}
 
--- the fault at the place where these rows part
+-- Where rows part, their fault is the one between those before and those left.
 pub fault_at-seam : (before rest : List (List (List ℕ)))
     → fault_at (before ++ rest) (length before) ≡ fault_between before rest
 fault_at-seam before rest = rw (take-append_seam before rest, drop-append_seam before rest) refl
 
--- one row more without a fault
-pub faultless-more : (all before rest : List (List (List ℕ))) (row : List (List ℕ))
+-- With one more row that has no fault, no place up to it has one.
+faultless-more : (all before rest : List (List (List ℕ))) (row : List (List ℕ))
     → all ≡ before ++ (row ∷ rest) → NoFaultBefore all (length before)
     → row_fault (said_by before) row ≡ None
     → NoFaultBefore all (length (before ++ (row ∷ [])))
@@ -49,7 +49,7 @@ faultless-more all before rest row whole none here earlier below =
           omega (arith, not, below, length-append before (row ∷ [])))
     ]
 
--- the draft that rows make of a draft
+-- The draft that rows make of a draft.
 abbrev pub drafted : DraftValue → List (List (List ℕ)) → DraftValue
 drafted d [] = d
 drafted d (row ∷ rows) = drafted (with_row d row) rows
@@ -62,6 +62,7 @@ pub record HasRead (all : List (List (List ℕ))) (d : DraftValue) (rest : List 
   pub faultless : NoFaultBefore all (length (rows_of_draft d))
   pub made : drafted blank all ≡ drafted d rest
 
+-- Before the first row the blank draft is what was read, and all rows are left.
 pub read-begin : (all : List (List (List ℕ))) → HasRead all blank all
 read-begin all = record {
   draft = blank-draft;
@@ -70,6 +71,7 @@ read-begin all = record {
   made = refl;
 }
 
+-- With one more row that has no fault, the draft with its entry is what was read.
 pub read-more : (all : List (List (List ℕ))) (d e : DraftValue) (row : List (List ℕ))
     (rest : List (List (List ℕ))) → HasRead all d (row ∷ rest)
     → row_fault (said_by_draft d) row ≡ None → e ≡ with_row d row → HasRead all e rest
@@ -87,6 +89,7 @@ read-more all d e row rest read none same =
       made = read.made;
     })
 
+-- Where the next row has a fault, it is the first fault of all rows.
 pub read-fault : (all : List (List (List ℕ))) (d : DraftValue) (row : List (List ℕ))
     (rest : List (List (List ℕ))) (k : RowKind) → HasRead all d (row ∷ rest)
     → row_fault (said_by_draft d) row ≡ Some k
@@ -101,13 +104,14 @@ read-fault all d row rest k read found =
       before = read.faultless;
     }
 
--- a draft whose last row is an observation's has all parts of a sheet
-pub directions-below : (v : Version) (ds : List Direction) → All (IsDirectionOf v) ds
+-- Directions within the range of a version are directions of a sheet.
+directions-below : (v : Version) (ds : List Direction) → All (IsDirectionOf v) ds
     → All IsDirection ds
 directions-below v ds h k x below = let d = h k x below in
     record { name = d.0; value = angle-below v (get_or ds k x).value d.1 }
 
-pub orientations-below : (v : Version) (os : List Orientation) → All (IsOrientationOf v) os
+-- Orientations within the range of a version are orientations of a sheet.
+orientations-below : (v : Version) (os : List Orientation) → All (IsOrientationOf v) os
     → All IsOrientation os
 orientations-below v os h k x below = let o = h k x below in
     record { set = o.0; value = angle-below v (get_or os k x).value o.1 }
@@ -121,6 +125,7 @@ some-rows true true false h e z = cc e
 some-rows true false c h e z = cc e
 some-rows false b c h e z = cc z
 
+-- A draft that has a row of an observation has all parts of a sheet.
 finished-sheet : (d : DraftValue) → IsDraft d → 0 < length d.rows → (s : SheetValue) × IsOfDraft d s
     × IsSheet s
 finished-sheet d ok some = by d.header refl
@@ -154,7 +159,7 @@ finished-sheet d ok some = by d.header refl
           },
         )
 
--- a draft has the parts of a sheet, or no sheet has its parts
+-- A draft has the parts of a sheet, or no sheet has its parts.
 pub whole-or-not : (d : DraftValue) → IsDraft d → ((s : SheetValue) × IsOfDraft d s × IsSheet s)
     ⊎ ((s : SheetValue) → IsOfDraft d s → IsSheet s → ⊥)
 whole-or-not d ok = elim (none-or-some d.rows) [
@@ -173,7 +178,7 @@ whole-or-not d ok = elim (none-or-some d.rows) [
             let zero : length d.rows ≡ 0 = eqb-true _ _ none in
             omega (arith, same, zero, whole.rows.some)
 
--- the end of the rows, where no sheet has the parts of the draft
+-- Where no sheet has the parts of the draft at the end, the end is the first fault.
 pub read-end : (all : List (List (List ℕ))) (d : DraftValue) → HasRead all d []
     → ((s : SheetValue) → IsOfDraft d s → IsSheet s → ⊥)
     → IsFirstFaultOfRows all (length (rows_of_draft d)) Unfinished
@@ -197,7 +202,7 @@ read-end all d read no_sheet =
           absurd (no_sheet s parts whole)
     ]
 
--- the end of the rows, where a sheet has the parts of the draft
+-- Where a sheet has the parts of the draft at the end, the bytes stand for it.
 pub read-whole : (bytes : List ℕ) (d : DraftValue) (s : SheetValue) → length bytes ≤ LONGEST_SHEET
     → HasRead (records_of bytes) d [] → IsOfDraft d s → IsSheet s → IsSheetText bytes s
 read-whole bytes d s short read parts whole = by d.header refl parts

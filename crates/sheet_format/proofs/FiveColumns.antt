@@ -3,9 +3,11 @@ use Rattle.std.proofs.Common.{◌≡◌, ℕ, List, [], ◌∷◌, length, Some,
 use Rattle.csv.specs.Records.{field_at}
 use Rattle.sheet_format.specs.Columns.{columns_of}
 
+-- A field of a row by its place, or an empty one where the row has none there.
 abbrev pub at : List (List ℕ) → ℕ → List ℕ
 at fs i = unwrap_or (field_at fs i) []
 
+-- A row of five fields has them as its columns, in their order.
 pub five : (fs : List (List ℕ)) → length fs ≡ 5
     → columns_of fs ≡ Some (record {
       kind = at fs 0;

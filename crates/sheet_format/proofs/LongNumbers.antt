@@ -8,7 +8,7 @@ use Rattle.std.proofs.lemmas.Fmt.{length-decimal-le_wide}
 use Rattle.sheet_format.specs.Numbers.{is_canonical, is_within, value_of}
 use Rattle.sheet_format.proofs.OneForm.{form-written}
 
--- the text of a number between two of 32 bits
+-- The text of a number between two of 32 bits.
 between-short : (low high v : ℤ) → FitsSigned w32 low → FitsSigned w32 high → int_le low v ≡ true
     → int_le v high ≡ true → FitsSigned w128 v × (length (signed_decimal v) ≤ 18)
 between-short low (pos h) (pos n) f g a b =
@@ -22,6 +22,7 @@ between-short (negsuc l) high (negsuc n) f g a b =
     let short = length-decimal-le_wide 10 (suc n) (omega arith) small (omega (arith, small)) in
     (record { sfits = omega (arith, small) }, omega (arith, short))
 
+-- A canonical decimal longer than 18 bytes lies between no two numbers of 32 bits.
 pub long-outside : (low high : ℤ) (bs : List ℕ) → FitsSigned w32 low → FitsSigned w32 high
     → is_canonical bs ≡ true → 18 < length bs → is_within low high (value_of bs) ≡ false
 long-outside low high bs f g e long = elim (cases_Bool (is_within low high (value_of bs))) [

@@ -30,17 +30,19 @@ all-test [] h = refl
 all-test (b ∷ bs) h = and_from _ _ (printable-test b (All-head IsPrintable b bs h))
     (all-test bs (All-tail IsPrintable b bs h))
 
+-- Bytes that pass the test are a name.
 pub name-found : (bs : List ℕ) → is_name bs ≡ true → IsName bs
 name-found bs e =
     let (size, bytes) = and_parts _ _ e in
     let (some, short) = and_parts _ _ size in
     record { some = leb-true _ _ some; short = leb-true _ _ short; printable = all-found bs bytes }
 
+-- A name passes the test.
 pub name-test : (bs : List ℕ) → IsName bs → is_name bs ≡ true
 name-test bs h = and_from _ _ (and_from _ _ (le-leb _ _ h.some) (le-leb _ _ h.short))
     (all-test bs h.printable)
 
--- a name that was made of bytes says that they pass the test
+-- A name that was made of bytes says that they pass the test.
 pub test-of-some : (bs : List ℕ) (name : Option (List ℕ)) → IfSome name (λ n. n ≡ bs)
     → IfSome name IsName → OnSome name (is_name bs ≡ true)
 test-of-some bs None e h = tt

@@ -29,8 +29,8 @@ use Rattle.sheet_format.proofs.SheetRows.{draft, obs-read, sets-read, sheet-row-
 abbrev header_for : Version → SheetValue → Header
 header_for v s = record { version = v; name = s.name; denominator = s.denominator }
 
--- the rows of a sheet are read whole
-pub sheet-read : (v : Version) (s : SheetValue) → IsSheet s → IsOfVersion v s
+-- The rows of a sheet are read whole.
+sheet-read : (v : Version) (s : SheetValue) → IsSheet s → IsOfVersion v s
     → HasRead (rows_of v s) (draft (header_for v s) s.directions s.orientations s.rows) []
 sheet-read v s whole within =
     let all = rows_of v s in
@@ -50,7 +50,7 @@ sheet-read v s whole within =
     (ne_eqb _ _ (λ e. absurd (omega (arith, e, whole.orientations.some)))) sets whole.rows.each
     (omega (arith, whole.rows.few))
 
--- no place of the rows of a sheet has a fault
+-- No place of the rows of a sheet has a fault.
 clean-end : (v : Version) (s : SheetValue) → IsSheet s
     → may_end (last_row_type (rows_of v s)) ≡ true
 clean-end v s whole =
@@ -74,7 +74,7 @@ clean v s whole within place = elim (cases_Bool (nat_lt place (length (rows_of v
 none-some : {A : Type 0} (x : A) → None ≡ Some x → ⊥
 none-some x e = cc e
 
--- bytes that stand for a sheet have no fault
+-- Bytes that stand for a sheet have no fault.
 pub never-both : (bytes : List ℕ) (s : SheetValue) (f : SheetFault) → IsSheetText bytes s
     → IsSheetFault bytes f → ⊥
 never-both bytes s TooLong text fault = omega (arith, text.short, fault)
@@ -87,11 +87,12 @@ never-both bytes s (Row number kind) text fault =
     ∙ ap (λ (all : List (List (List ℕ))). fault_at all place) (sym rows) ∙ found.here)
 never-both bytes s Memory text fault = absurd fault
 
--- bytes have one fault
+-- No first fault of rows stands before another.
 first-of-two : (rows : List (List (List ℕ))) (p q : ℕ) (j k : RowKind) → IsFirstFaultOfRows rows p j
     → IsFirstFaultOfRows rows q k → p < q → ⊥
 first-of-two rows p q j k one two below = none-some j (sym (two.before p below) ∙ one.here)
 
+-- Two first faults of rows stand at one place.
 same-place : (rows : List (List (List ℕ))) (p q : ℕ) (j k : RowKind) → IsFirstFaultOfRows rows p j
     → IsFirstFaultOfRows rows q k → p ≡ q
 same-place rows p q j k one two =
@@ -105,6 +106,7 @@ same-kind rows p q j k one two same =
     let both : Some j ≡ Some k = sym one.here ∙ ap (fault_at rows) same ∙ two.here in
     cc both
 
+-- Bytes have one fault at most.
 pub one-fault : (bytes : List ℕ) (f g : SheetFault) → IsSheetFault bytes f → IsSheetFault bytes g
     → f ≡ g
 one-fault bytes TooLong TooLong a b = refl
@@ -120,7 +122,7 @@ one-fault bytes (Row n j) (Row m k) a b =
 one-fault bytes (Row n j) Memory a b = absurd b
 one-fault bytes Memory g a b = absurd a
 
--- bytes stand for one sheet
+-- The sheet of what a first row states and of the entries of a draft.
 abbrev parts_of : Option Header → DraftValue → SheetValue
 parts_of None d = record {
   name = [];
@@ -148,6 +150,7 @@ made-of bytes s text =
     ∙ (sheet-read v s text.sheet within).made in
     ap (λ (d : DraftValue). parts_of d.header d) made
 
+-- Bytes stand for one sheet at most.
 pub one-sheet : (bytes : List ℕ) (s t : SheetValue) → IsSheetText bytes s → IsSheetText bytes t
     → s ≡ t
 one-sheet bytes s t a b = sym (made-of bytes s a) ∙ made-of bytes t b
@@ -164,6 +167,7 @@ answers-sheet bytes (Err f) ok err s text = elim err [
   | inr memory ↦ inr (ap (λ (x : SheetFault). Err x) memory)
 ]
 
+-- Where the bytes have a fault, such an answer is that fault, or out of memory.
 pub answers-fault : (bytes : List ℕ) (r : Result SheetValue SheetFault) → IfOk r (IsSheetText bytes)
     → IfErr r (IsFaultOrMemory bytes) → (f : SheetFault) → IsSheetFault bytes f → (r ≡ Err f)
     ⊎ (r ≡ Err Memory)
@@ -173,7 +177,7 @@ answers-fault bytes (Err g) ok err f fault = elim err [
   | inr memory ↦ inr (ap (λ (x : SheetFault). Err x) memory)
 ]
 
--- rows that are left stand for the rest of a sheet, or one of them has a fault
+-- Bytes stand for a sheet, or they have a fault.
 abbrev pub SheetOrFault : List ℕ → Type 0
 SheetOrFault bytes = ((s : SheetValue) × IsSheetText bytes s)
     ⊎ ((f : SheetFault) × IsSheetFault bytes f)
@@ -202,6 +206,7 @@ decided-rows bytes short (row ∷ rest) d read =
       (short, length (rows_of_draft d), refl, read-fault (records_of bytes) d row rest k read e),
     )
 
+-- Bytes stand for a sheet, or have a fault.
 pub sheet-or-fault : (bytes : List ℕ) → SheetOrFault bytes
 sheet-or-fault bytes = elim (cases_lt LONGEST_SHEET (length bytes)) [
   | inl long ↦ inr (TooLong, long)

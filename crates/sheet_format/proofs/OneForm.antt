@@ -28,7 +28,7 @@ digit-at ds i e h = elim (cases_Bool (is_ascii_digit (get_or ds i 0))) [
   | inr bad ↦ absurd (true≢false (sym e ∙ list_all_at is_ascii_digit ds i 0 h bad))
 ]
 
--- one more digit
+-- One more digit.
 next-written : (v d : ℕ) (front : List ℕ) (c : ℕ) → decimal v ≡ front → 0 < v → d + 48 ≡ c → d < 10
     → v * 10 + d < 10 ^ 64 → (decimal (v * 10 + d) ≡ front ++ (c ∷ [])) × (0 < v * 10 + d)
 next-written v d front c text above digit low small =
@@ -42,7 +42,7 @@ moved : (x y : ℕ) (a b : List ℕ) → x ≡ y → a ≡ b → (decimal y ≡ 
     × (0 < x)
 moved x y a b e f h = rw (e, f) h
 
--- the front of the digits
+-- The front of the digits.
 front-written : (ds : List ℕ) (n : ℕ) → list_all is_ascii_digit ds ≡ true → 49 ≤ get_or ds 0 0
     → digits_value 10 ds < 10 ^ 64 → suc n ≤ length ds
     → (decimal (digits_value 10 (take (suc n) ds)) ≡ take (suc n) ds)
@@ -71,8 +71,8 @@ front-written (c ∷ cs) (suc k) e first small h =
     (digit_value (get_or ds (suc k) 0)) (take (suc k) ds) (get_or ds (suc k) 0) text above d.0
     d.1 (omega (arith, value, below, small)))
 
--- digits that begin with none or another
-pub positive-written : (ds : List ℕ) → is_positive ds ≡ true → digits_value 10 ds < 10 ^ 64
+-- A digit 1 to 9 and any digits are the text of their number, which is above 0.
+positive-written : (ds : List ℕ) → is_positive ds ≡ true → digits_value 10 ds < 10 ^ 64
     → (decimal (digits_value 10 ds) ≡ ds) × (0 < digits_value 10 ds)
 positive-written [] e small = cc e
 positive-written (c ∷ cs) e small =
@@ -114,7 +114,7 @@ form-from c cs false false z m e f =
     subst (λ (v : ℤ). FitsSigned w128 v) value f in
     ap signed_decimal value ∙ (positive-written (c ∷ cs) p (omega (arith, g.sfits))).0
 
--- a number's one form is what is written of its value
+-- A number's one form is what is written of its value.
 pub form-written : (bs : List ℕ) → is_canonical bs ≡ true
     → FitsSigned w128 (signed_digits_value 10 bs) → signed_decimal (signed_digits_value 10 bs) ≡ bs
 form-written [] e f = cc e

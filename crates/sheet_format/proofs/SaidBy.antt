@@ -21,7 +21,7 @@ use Rattle.sheet_format.specs.declared.row_type.RowType.TheVariants as row_type
 use Rattle.sheet_format.specs.declared.version.Version.{Version}
 use Rattle.sheet_format.specs.declared.version.Version.TheVariants as version
 
--- the type of the last of these rows, or where there is none, this type
+-- The type of the last of these rows, or where there is none, this type.
 abbrev row_type_from : Option RowType → List (List (List ℕ)) → Option RowType
 row_type_from kind [] = kind
 row_type_from kind (row ∷ others) = row_type_from (row_type_of (first_field row)) others
@@ -32,7 +32,7 @@ row_type_from-last : (last : Option (List (List ℕ))) (rows : List (List (List 
 row_type_from-last last [] = refl
 row_type_from-last last (row ∷ rows) = row_type_from-last (Some row) rows
 
--- the last type of joined rows
+-- The last type of joined rows.
 row_type_from-append : (k : Option RowType) (xs ys : List (List (List ℕ)))
     → row_type_from k (xs ++ ys) ≡ row_type_from (row_type_from k xs) ys
 row_type_from-append k [] ys = refl
@@ -52,7 +52,7 @@ row_type_from-map f k named before (x ∷ xs) =
     ∙ either-way (length xs == 0) (Some k)
     ∙ sym (rw (eqb-suc-zero (length xs)) refl)
 
--- how many of joined rows are of a type
+-- How many of joined rows are of a type.
 count_of-append : (k : RowType) (xs ys : List (List (List ℕ)))
     → count_of k (xs ++ ys) ≡ count_of k xs + count_of k ys
 count_of-append k xs ys = sum_by-append _ xs ys
@@ -87,7 +87,7 @@ count_of-body k hs ds os rs a b c e at_hs at_ds at_os at_rs =
       at_rs,
     ) refl
 
--- the rows of a header: of none of the other types
+-- The rows of a header: of none of the other types.
 header-count : (k : RowType) → names_row_type k (codes "sheet") ≡ false → (h : Option Header)
     → count_of k (header_rows h) ≡ 0
 header-count k other None = refl
@@ -124,7 +124,7 @@ obs-counted h ds os rs =
     (count-all obs_fields row_type.Obs (λ x. refl) rs)
     ∙ omega arith
 
--- the last type of a draft's rows
+-- The last type of a draft's rows.
 header-last : (h : Option Header) → row_type_from None (header_rows h) ≡ last_of_header h
 header-last None = refl
 header-last (Some h) = refl
@@ -150,7 +150,7 @@ last-said h ds os rs =
     )
     refl
 
--- the version of a draft's rows; a draft without a first row is to have no other
+-- The version of a draft's rows; a draft without a first row is to have no other.
 abbrev pub IsBare : DraftValue → Type 0
 IsBare d = (d.directions ≡ []) × (d.orientations ≡ []) × (d.rows ≡ [])
 
@@ -170,7 +170,7 @@ same-said : (a b : Before) → a.last ≡ b.last → a.version ≡ b.version →
     → a.sets ≡ b.sets → a.obs ≡ b.obs → a ≡ b
 same-said a b last version targets sets obs = rw (last, version, targets, sets, obs) refl
 
--- what a draft's rows say of the next row is what its lists say
+-- What a draft's rows say of the next row is what its lists say.
 pub said : (d : DraftValue) → (d.header ≡ None → IsBare d)
     → said_by (rows_of_draft d) ≡ said_by_draft d
 said d bare = same-said _ _

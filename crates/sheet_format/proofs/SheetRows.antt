@@ -29,10 +29,11 @@ use Rattle.sheet_format.proofs.NameTests.{name-test}
 use Rattle.sheet_format.proofs.Ranges.{angle-fits, natural-again, natural-within, number-again}
 use Rattle.sheet_format.proofs.Ranges.{turn-fits, within-test}
 
+-- The draft of a first row and of these entries.
 abbrev pub draft : Header → List Direction → List Orientation → List Row → DraftValue
 draft h ds os rs = record { header = Some h; directions = ds; orientations = os; rows = rs }
 
--- the first row
+-- The first row.
 version-again : (v : Version) → version_of (version_text v) ≡ Some v
 version-again version.One = refl
 version-again version.Two = refl
@@ -41,6 +42,7 @@ denominator-small : (v : Version) (n : ℕ) → n ≤ largest_denominator v → 
 denominator-small version.One n h = omega (arith, h)
 denominator-small version.Two n h = omega (arith, h)
 
+-- The first row of a sheet has no fault, and adds the sheet's header to the blank draft.
 pub sheet-row-clean : (h : Header) → IsVersionedHeader (Some h)
     → (row_fault (said_by_draft blank) (sheet_fields h.version h.name h.denominator) ≡ None)
     × (draft h [] [] [] ≡ with_row blank (sheet_fields h.version h.name h.denominator))
@@ -57,7 +59,7 @@ sheet-row-clean h ok =
       rw (version-again h.version, d.value) refl,
     )
 
--- the row of a target, after the first row or other targets
+-- The row of a target, after the first row or other targets.
 target-follows : (a : Bool) → may_follow (if a then Some row_type.Sheet else Some row_type.Target)
     row_type.Target ≡ true
 target-follows true = refl
@@ -82,6 +84,7 @@ target-row-clean h ds x ok room =
       rw n.value refl,
     )
 
+-- The rows of a sheet's targets are read, and their directions join the draft.
 pub targets-read : (all : List (List (List ℕ))) (h : Header) (ds xs : List Direction)
     (rest : List (List (List ℕ))) → HasRead all (draft h ds [] []) (map target_fields xs ++ rest)
     → All (IsDirectionOf h.version) xs → length ds + length xs ≤ MOST_TARGETS
@@ -97,7 +100,7 @@ targets-read all h ds (x ∷ xs) rest read ok room =
     (targets-read all h (ds ++ (x ∷ [])) xs rest next (All-tail (IsDirectionOf h.version) x xs ok)
     (omega (arith, room, length-append ds (x ∷ []))))
 
--- the row of a set, after targets or other sets
+-- The row of a set, after targets or other sets.
 set-follows : (a b : Bool) → b ≡ false → may_follow
     (if a then (if b then Some row_type.Sheet else Some row_type.Target) else Some row_type.Set)
     row_type.Set ≡ true
@@ -127,6 +130,7 @@ set-row-clean h ds os x targets ok room =
       rw (s.value, n.value) refl,
     )
 
+-- The rows of its sets are read after those of the targets, and their orientations join it.
 pub sets-read : (all : List (List (List ℕ))) (h : Header) (ds : List Direction)
     (os xs : List Orientation) (rest : List (List (List ℕ))) → (length ds == 0) ≡ false
     → HasRead all (draft h ds os []) (map set_fields xs ++ rest)
@@ -144,7 +148,7 @@ sets-read all h ds os (x ∷ xs) rest targets read ok room =
     (All-tail (IsOrientationOf h.version) x xs ok)
     (omega (arith, room, length-append os (x ∷ []))))
 
--- the row of an observation, after sets or other observations
+-- The row of an observation, after sets or other observations.
 obs-follows : (a b c : Bool) → b ≡ false → may_follow
     (if a then (if b then (if c then Some row_type.Sheet else Some row_type.Target)
     else Some row_type.Set) else Some row_type.Obs) row_type.Obs ≡ true
@@ -179,6 +183,7 @@ obs-row-clean h ds os rs x sets ok room =
       rw (s.value, p.value, k.value) refl,
     )
 
+-- The rows of its observations are read last, and then none is left.
 pub obs-read : (all : List (List (List ℕ))) (h : Header) (ds : List Direction)
     (os : List Orientation) (rs xs : List Row) → (length os == 0) ≡ false
     → HasRead all (draft h ds os rs) (map obs_fields xs)

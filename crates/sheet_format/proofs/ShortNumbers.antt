@@ -17,14 +17,14 @@ use Rattle.sheet_format.proofs.CanonicalDecimals.{numerals}
 digit-range : (c : ℕ) → is_ascii_digit c ≡ true → IsInRange 48 57 c
 digit-range c e = grind (arith, nat_tests)
 
--- the first few digits leave room for one more in 64 bits
+-- The first few digits leave room for one more in 64 bits.
 pub bound : (ds : List ℕ) (i : ℕ) → list_all is_ascii_digit (take i ds) ≡ true → length ds ≤ 18
     → i ≤ length ds → digits_value 10 (take i ds) < 1000000000000000000
 bound ds i e short h =
     let few = length-take-le i ds h in
     digits_value_short numerals (take i ds) 18 e (omega (arith, few, short, h))
 
--- what one more digit adds to those before it, and its room
+-- What one more digit adds to those before it, and its room.
 pub record Step (ds : List ℕ) (i : ℕ) : Type 0 where
   pub digit : IsInRange 48 57 (get_or ds i 0)
   pub digits : list_all is_ascii_digit (take (i + 1) ds) ≡ true
@@ -32,6 +32,7 @@ pub record Step (ds : List ℕ) (i : ℕ) : Type 0 where
       + (get_or ds i 0 - 48)
   pub room : digits_value 10 (take i ds) < 1000000000000000000
 
+-- One more digit, of at most 18, makes ten times the number before it and its own, with room.
 pub step : (ds : List ℕ) (i : ℕ) → list_all is_ascii_digit (take i ds) ≡ true
     → is_ascii_digit (get_or ds i 0) ≡ true → length ds ≤ 18 → i < length ds → Step ds i
 step ds i before here short h =

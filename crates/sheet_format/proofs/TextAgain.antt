@@ -27,7 +27,7 @@ use Rattle.sheet_format.proofs.Ranges.{within-found}
 use Rattle.sheet_format.proofs.RecordFacts.{records-end, records-step}
 use Rattle.sheet_format.proofs.TextLengths.{text-short}
 
--- rows that were written are read as those rows
+-- Rows that were written are read as those rows.
 pub records-written : (n : ℕ) (rows : List (List (List ℕ))) → length (rows_text rows) < n
     → records_from default_config n st.StartRecord (rows_text rows) ≡ map read_back rows
 unfolding next_record
@@ -37,7 +37,7 @@ records-written n (row ∷ rows) h =
     (read_back row, st.StartRecord, rows_text rows) (read-write row (rows_text rows)) refl h in
     r.1 ∙ ap (λ (t : List (List (List ℕ))). read_back row ∷ t) (records-written r.0 rows r.2)
 
--- rows that have fields are read back as they are
+-- Rows that have fields are read back as they are.
 pub back-entries : {X : Type 0} (f : X → List (List ℕ)) → ((x : X) → read_back (f x) ≡ f x)
     → (xs : List X) → map read_back (map f xs) ≡ map f xs
 back-entries f same [] = refl
@@ -55,7 +55,7 @@ back-body ds os rs =
     )
     refl
 
--- a text that begins with `sheet` has no byte order mark
+-- A text that begins with `sheet` has no byte order mark.
 no-mark : (v : Version) (s : SheetValue) → strip_bom (rows_text (rows_of v s))
     ≡ rows_text (rows_of v s)
 unfolding strip_bom
@@ -68,7 +68,7 @@ records-again v s =
     ∙ ap (λ (t : List (List (List ℕ))). sheet_fields v s.name s.denominator ∷ t)
     (back-body s.directions s.orientations s.rows))
 
--- the version that a sheet is written in is one that it is within
+-- The version that a sheet is written in is one that it is within.
 all-within : {X : Type 0} (most : ℤ) (f : X → ℤ) (xs : List X)
     → list_all (λ x. is_at_most most (f x)) xs ≡ true → All (λ x. IsWithin most (f x)) xs
 all-within most f [] e = All-nil _
@@ -103,6 +103,7 @@ within-version s ok = by (is_of_version One s) refl
     by true e = within-one s e
     by false e = within-two s ok
 
+-- The text of a sheet stands for that sheet.
 pub text-again : (s : SheetValue) → IsSheet s → IsSheetText (sheet_text s) s
 text-again s ok = record {
   short = text-short s ok;

@@ -25,7 +25,7 @@ use Rattle.sheet_format.specs.declared.version.Version.{Version}
 use Rattle.sheet_format.specs.declared.version.Version.TheVariants as version
 use Rattle.sheet_format.proofs.TextRows.{rows_text-append}
 
--- a field in quotes is at most twice as long, and two quotes
+-- A field in quotes is at most twice as long, and two quotes.
 escaped-more : (b : Bool) (q c : ℕ) (rest : List ℕ) (n : ℕ) → length rest ≤ 2 * n
     → length (if b then q ∷ c ∷ rest else c ∷ rest) ≤ 2 * (n + 1)
 escaped-more true q c rest n h = omega (arith, h)
@@ -37,6 +37,7 @@ length-escaped [] = omega arith
 length-escaped (c ∷ rest) = let h = escaped-more (c == 34) 34 c (escaped default_writer rest)
     (length rest) (length-escaped rest) in omega (arith, h)
 
+-- The text of a field is at most twice as long as the field, and two quotes.
 pub length-field : (field : List ℕ) → length (field_text default_writer field)
     ≤ 2 * length field + 2
 length-field field = by (needs_quotes default_writer field)
@@ -50,7 +51,7 @@ length-field field = by (needs_quotes default_writer field)
     )
     by false = omega arith
 
--- the text of a row of five fields
+-- The text of a row of five fields.
 joined-length : (a b c d e : List ℕ) → length
     ((a ++ (44 ∷ (b ++ (44 ∷ (c ++ (44 ∷ (d ++ (44 ∷ (e ++ []))))))))) ++ (10 ∷ []))
     ≡ length a + length b + length c + length d + length e + 5
@@ -86,7 +87,7 @@ length-row a b c d e =
       length-field e,
     )
 
--- numbers are short
+-- Numbers are short.
 decimal-short : (k n : ℕ) → 0 < k → n < 10 ^ k → n < 10 ^ 64 → length (decimal n) ≤ k
 decimal-short = length-decimal-le_wide
 
@@ -117,10 +118,7 @@ version-short : (v : Version) → length (version_text v) ≡ 1
 version-short version.One = refl
 version-short version.Two = refl
 
--- no row is longer than this
-abbrev longest_row : ℕ
-longest_row = 128
-
+-- The text of a row has at most 128 bytes.
 abbrev pub IsShort : List (List ℕ) → Type 0
 IsShort row = length (row_text default_writer row) ≤ 128
 
@@ -167,6 +165,7 @@ obs-short r ok =
       turn-short r.turn ok.turn,
     )
 
+-- Where the row of each entry is short, the rows have at most 128 bytes for each entry.
 pub entries-short : {X : Type 0} (P : X → Type 0) (f : X → List (List ℕ))
     → ((x : X) → P x → IsShort (f x)) → (xs : List X) → All P xs
     → length (rows_text (map f xs)) ≤ length xs * 128
@@ -179,7 +178,7 @@ entries-short P f short (x ∷ xs) ok =
       entries-short P f short xs (All-tail P x xs ok),
     )
 
--- the whole text
+-- The text of a sheet is no longer than that of any sheet may be.
 pub text-short : (s : SheetValue) → IsSheet s → length (sheet_text s) ≤ LONGEST_SHEET
 text-short s ok =
     let first = sheet_fields (version_for s) s.name s.denominator in

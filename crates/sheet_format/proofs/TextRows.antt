@@ -7,11 +7,12 @@ use Rattle.std.proofs.lemmas.List.Concat.{flat_map-append}
 use Rattle.csv.specs.Writing.{default_writer, row_text}
 use Rattle.sheet_format.specs.Texts.{rows_text}
 
+-- The text of joined rows is the text of the first ones and then that of the others.
 pub rows_text-append : (rows more : List (List (List ℕ)))
     → rows_text (rows ++ more) ≡ rows_text rows ++ rows_text more
 rows_text-append rows more = flat_map-append (row_text default_writer) rows more
 
--- one more entry of a list, after any text
+-- After any text, the text of one more entry joins that of the entries before it.
 pub entries-more : {X : Type 0} (f : X → List (List ℕ)) (text : List ℕ) (xs : List X) (i : ℕ)
     (d : X) → i < length xs
     → (text ++ rows_text (map f (take i xs))) ++ row_text default_writer (f (get_or xs i d))
@@ -28,7 +29,7 @@ entries-more f text xs i d h =
     append_assoc text (rows_text (map f (take i xs))) (row_text default_writer (f x))
     ∙ ap (λ (t : List ℕ). text ++ t) (sym pushed)
 
--- the same, where the entry is known by its place
+-- So it does where the entry is known by its place.
 pub entry-more : {X : Type 0} (f : X → List (List ℕ)) (text : List ℕ) (xs : List X) (i : ℕ) (x : X)
     → x ≡ get_or xs i x → i < length xs
     → (text ++ rows_text (map f (take i xs))) ++ row_text default_writer (f x)
@@ -36,7 +37,7 @@ pub entry-more : {X : Type 0} (f : X → List (List ℕ)) (text : List ℕ) (xs 
 entry-more {X = X} f text xs i x at h = ap (λ (y : X). (text ++ rows_text (map f (take i xs)))
     ++ row_text default_writer (f y)) at ∙ entries-more f text xs i x h
 
--- a text and the four parts of a sheet's
+-- After any text, the four parts of a sheet's text make the whole of it.
 pub parts-joined : (text first : List ℕ) (targets sets obs : List (List (List ℕ)))
     → (((text ++ first) ++ rows_text targets) ++ rows_text sets) ++ rows_text obs
     ≡ text ++ (first ++ rows_text (targets ++ (sets ++ obs)))
@@ -46,7 +47,7 @@ parts-joined text first targets sets obs =
     ∙ append_assoc (text ++ first) (rows_text targets) (rows_text sets ++ rows_text obs)
     ∙ append_assoc text first (rows_text targets ++ (rows_text sets ++ rows_text obs)))
 
--- a fact on success, carried on
+-- What follows from a fact on success holds on success.
 pub on_ok : {T E P Q : Type 0} (r : Result T E) → (P → Q) → OnOk r P → OnOk r Q
 on_ok (Ok x) f h = f h
 on_ok (Err e) f h = h

@@ -26,12 +26,12 @@ positive-push (c ∷ cs) d e h =
     and_from _ _ p.0 (list_all-append is_ascii_digit cs (d ∷ [])
     ∙ and_from _ _ p.1 (and_from _ _ h refl))
 
-pub decimal-positive : (n : ℕ) → n < 10 ^ 64 → 0 < n → is_positive (decimal n) ≡ true
+decimal-positive : (n : ℕ) → n < 10 ^ 64 → 0 < n → is_positive (decimal n) ≡ true
 decimal-positive = decimal_by_steps_wide (λ n ds. 0 < n → is_positive ds ≡ true) first-digit
     (λ n ds le more p. positive-push ds (48 + n % 10) (more (omega arith))
     (digit-glyph (n % 10) (omega arith)))
 
-pub positive-canonical : (ds : List ℕ) → is_positive ds ≡ true → is_canonical ds ≡ true
+positive-canonical : (ds : List ℕ) → is_positive ds ≡ true → is_canonical ds ≡ true
 positive-canonical [] e = e
 positive-canonical (c ∷ cs) e =
     let f = positive-first (c ∷ cs) e in
@@ -40,6 +40,7 @@ positive-canonical (c ∷ cs) e =
       ne_eqb c 45 (λ q. absurd (omega (arith, f, q))),
     ) e
 
+-- Digits that begin with 1 to 9 have no sign, so their number is that of the digits.
 pub positive-value : (ds : List ℕ) → is_positive ds ≡ true
     → signed_digits_value 10 ds ≡ pos (digits_value 10 ds)
 positive-value [] e = cc e
@@ -50,7 +51,7 @@ positive-value (c ∷ cs) e =
       ne_eqb c 43 (λ q. absurd (omega (arith, f, q))),
     ) refl
 
--- the text of a number
+-- The text of a number is a canonical decimal, and has its value.
 pub written : (z : ℤ) → FitsSigned w128 z → (is_canonical (signed_decimal z) ≡ true)
     × (signed_digits_value 10 (signed_decimal z) ≡ z)
 written (pos zero) f = rw (decimal_digit 0 (omega arith)) (refl, refl)
