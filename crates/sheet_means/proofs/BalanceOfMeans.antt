@@ -11,7 +11,7 @@ use Rattle.sheet_means.proofs.GridLaws.{sum_below, sum_below-same, sum_below-sub
 use Rattle.sheet_means.proofs.GridLaws.{sum_below-const, AreGrid, at, sum_of_target, sum_of_set}
 use Rattle.sheet_means.proofs.GridLaws.{whole_by_sets, whole_less}
 
--- what is left over of a target, and of a set
+-- What is left over of a target, and of a set.
 target_left : (s t : ℕ) (c f g : ℤ) → pos s *ℤ (pos t *ℤ (c -ℤ f)) -ℤ (pos s *ℤ g -ℤ pos s *ℤ g
     -ℤ pos s *ℤ (pos t *ℤ f)) -ℤ pos (s * t) *ℤ c ≡ pos 0
 target_left s t c f g =
@@ -66,6 +66,7 @@ module _ (sets targets : ℕ) (observations : List TurnedObservation)
   residual_at s t h k = let p = grid.at_place s t h k in
       λ i. c.direction (p.1 i) -ℤ c.orientation (p.0 i) -ℤ pos (means.denominator i) *ℤ x s t
 
+  -- With the means, the residuals of each target add up to 0.
   pub target_sums_vanish : (t : ℕ) → t < targets → target_sum c observations t ≡ pos 0
   target_sums_vanish t h =
       sum_of_target sets targets observations grid (residual c) t h
@@ -84,6 +85,7 @@ module _ (sets targets : ℕ) (observations : List TurnedObservation)
       (means.directions t h)
       ∙ target_left sets targets (target_total observations t) F G
 
+  -- So do those of each set.
   pub set_sums_vanish : (s : ℕ) → s < sets → set_sum c observations s ≡ pos 0
   set_sums_vanish s h =
       sum_of_set sets targets observations grid (residual c) s h
@@ -101,6 +103,7 @@ module _ (sets targets : ℕ) (observations : List TurnedObservation)
       -ℤ pos (sets * targets) *ℤ set_total observations s) (means.orientations s h)
       ∙ set_left sets targets (set_total observations s) F G
 
+  -- The first target has the direction 0.
   pub first_direction : c.direction 0 ≡ pos 0
   first_direction = means.directions 0 some ∙ ap (λ z. pos targets *ℤ z) (+ℤ_invr F)
       ∙ *ℤ-zero (pos targets)

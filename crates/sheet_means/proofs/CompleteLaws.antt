@@ -10,13 +10,15 @@ use Rattle.adjust_kernel.specs.Stations.{StationValue, IsStation, IsObs, IsBefor
 use Rattle.sheet_means.specs.Complete.{IsComplete}
 use native.Mathlib.Decide.{dec_lt}
 
--- the place of an observation in a complete station of this many targets
+-- The place of an observation in a complete station of this many targets.
 abbrev pub place_of : ℕ → Obs → ℕ
 place_of targets o = o.set * targets + o.target
 
+-- What is read at a place that no observation has.
 abbrev pub any_obs : Obs
 any_obs = record { set = 0; target = 0; value = 0 }
 
+-- The place of a set and a target is below as many places as there are pairs of them.
 pub place_below : (s t sets targets : ℕ) → s < sets → t < targets → s * targets + t < sets * targets
 place_below s t sets targets h k = let e : suc s * targets ≤ sets * targets =
     mul-le-mul h (omega arith) in omega arith
@@ -28,6 +30,7 @@ before_place targets a b h (inl lt) = let e : suc a.set * targets ≤ b.set * ta
 before_place targets a b h (inr e) = let f : a.set * targets ≡ b.set * targets =
     ap (λ n. n * targets) e.0 in omega (arith, e.1)
 
+-- One place is that of one set and one target.
 pub same_place : (s t s' t' targets : ℕ) → t < targets → t' < targets
     → s * targets + t ≡ s' * targets + t' → (s ≡ s') × (t ≡ t')
 same_place s t s' t' targets h k e = by (dec_lt s s') (dec_lt s' s)
@@ -40,7 +43,7 @@ same_place s t s' t' targets h k e = by (dec_lt s s') (dec_lt s' s)
     by (no n) (no m) = let f : s ≡ s' = omega arith in let g : s * targets ≡ s' * targets =
         ap (λ n. n * targets) f in (f, omega arith)
 
--- each place is that of some set and target
+-- Each place is that of some set and target.
 set_and_target : (m sets targets : ℕ) → m < sets * targets
     → (s : ℕ) × (t : ℕ) × (s < sets) × (t < targets) × (s * targets + t ≡ m)
 set_and_target m zero targets h = absurd (omega arith)
@@ -78,7 +81,7 @@ module _ (sets targets : ℕ) (obs : List Obs) (within : All (IsObs sets targets
   place-below i h = let w = within i any_obs h in
       place_below (at i).set (at i).target sets targets w.set w.target
 
-  -- with all observations, each is at its place
+  -- With all observations, each is at its place.
   pub place-full : length obs ≡ sets * targets → (i : ℕ) → i < length obs
       → place_of targets (at i) ≡ i
   place-full full i h =
@@ -88,6 +91,7 @@ module _ (sets targets : ℕ) (obs : List Obs) (within : All (IsObs sets targets
       let g = place-at_least i h in
       omega arith
 
+  -- So the observation at the place of a set and a target is theirs.
   pub at_place : length obs ≡ sets * targets → (s t : ℕ) → s < sets → t < targets
       → ((at (s * targets + t)).set ≡ s) × ((at (s * targets + t)).target ≡ t)
   at_place full s t h k =
@@ -117,7 +121,7 @@ module _ (sets targets : ℕ) (obs : List Obs) (within : All (IsObs sets targets
 
   module _ (complete : (s t : ℕ) → s < sets → t < targets
       → Any (λ o. (o.set ≡ s) × (o.target ≡ t)) obs) where
-    -- an observation has each place
+    -- An observation has each place.
     found : (m : ℕ) → m < sets * targets → (j : ℕ) × (j < length obs) × (place_of targets (at j)
         ≡ m)
     found m h =
@@ -154,11 +158,13 @@ module _ (sets targets : ℕ) (obs : List Obs) (within : All (IsObs sets targets
         let c = a.long in omega arith
 
 module _ (station : StationValue) (valid : IsStation station) where
+  -- A station with as many observations as pairs of a set and a target is complete.
   pub complete_where_full : length station.obs ≡ length station.sets * length station.targets
       → IsComplete station
   complete_where_full = full_is_complete (length station.sets)
       (length station.targets) station.obs valid.obs.within valid.obs.ordered
 
+  -- And a complete station has as many.
   pub full_where_complete : IsComplete station
       → length station.obs ≡ length station.sets * length station.targets
   full_where_complete = complete_is_full (length station.sets)

@@ -22,6 +22,7 @@ module _ (sets targets : ℕ) (observations : List TurnedObservation)
       (λ n. sym n.2 ∙ sym (together d 0 n.0 some_sets n.1) ∙ together d 0 0 some_sets some_targets)
       m
 
+  -- Such observations hold all sets and targets together.
   pub complete_is_connected : IsConnected sets targets observations
   complete_is_connected d = let e : true ≡ false = one_part d true d.first_part
       ∙ sym (one_part d false d.second_part) in cc

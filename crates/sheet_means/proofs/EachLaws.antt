@@ -7,6 +7,7 @@ use Rattle.sheet_means.specs.Parts.{AreEach}
 use native.Mathlib.Decide.{dec_lt}
 
 module _ {X : Type 0} (P : ℕ → X → Type 0) where
+  -- A list with one more element, which has the property at its place, has it at each place.
   pub each_more : (n : ℕ) (xs : List X) (x : X) → AreEach P n xs → P n x
       → AreEach P (n + 1) (xs ++ x ∷ [])
   each_more n xs x e p = record {

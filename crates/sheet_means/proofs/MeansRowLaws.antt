@@ -18,22 +18,26 @@ use Rattle.sheet_means.proofs.CompleteLaws.{any_obs, at_place, full_where_comple
 use Rattle.sheet_means.proofs.ValueLaws.{place_inside}
 use Rattle.sheet_means.proofs.GridLaws.{AreGrid, any_observation}
 
+-- What is read at a place that no row has.
 abbrev pub any_row : Row
 any_row = record { set = 0; target = []; value = 0; turn = pos 0 }
 
--- what a row says was read, with its full turns
+-- What a row says was read, with its full turns.
 abbrev pub unrolled_row : Row → ℤ
 unrolled_row r = pos r.value +ℤ pos TURN *ℤ r.turn
 
 module _ (station : StationValue) (valid : IsStation station) (complete : IsComplete station)
     (rows : List Row) (means : AreMeansRows station rows) where
+  -- The number of targets.
   abbrev pub T : ℕ
   T = length station.targets
 
+  -- There are as many observations as rows.
   pub same_length : length station.obs ≡ length rows
   same_length = sym (length-map station.obs (key_of_obs station.sets station.targets))
       ∙ ap length (sym means.keys) ∙ length-map rows key_of_row
 
+  -- The row of a set and a target stands inside the list of rows.
   pub row_inside : (s t : ℕ) → s < length station.sets → t < T → s * T + t < length rows
   row_inside s t h k = let e = place_inside station valid complete s t h k in
       let f = same_length in omega arith
@@ -44,6 +48,7 @@ module _ (station : StationValue) (valid : IsStation station) (complete : IsComp
   observation_at i h =
       get_or-turned_by_rows station.obs rows i any_obs any_row any_observation same_length h
 
+  -- The observations with the turns of the rows are one of each set and target, in order.
   pub grid : AreGrid (length station.sets) T (turned_by_rows station.obs rows)
   grid = record {
     long = length-turned_by_rows station.obs rows same_length
@@ -66,6 +71,7 @@ module _ (station : StationValue) (valid : IsStation station) (complete : IsComp
       (omega (arith, h, same_length))) ∙ ap (λ (l : List Key). get_or l i k) means.keys
       ∙ get_or-map (key_of_obs station.sets station.targets) station.obs i any_obs k h)
 
+  -- An observation with its full turns is what its row says was read.
   pub unrolled_at : (i : ℕ) → i < length station.obs
       → unrolled (get_or (turned_by_rows station.obs rows) i any_observation)
       ≡ unrolled_row (get_or rows i any_row)

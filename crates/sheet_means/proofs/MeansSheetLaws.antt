@@ -27,7 +27,7 @@ use Rattle.sheet_means.proofs.CompleteLaws.{full_where_complete}
 use Rattle.sheet_means.proofs.ConnectedLaws.{complete_is_connected}
 use Rattle.sheet_means.proofs.MeansRowLaws.{grid, same_length}
 
--- no full turn keeps 0 in the half circle but none
+-- No full turn keeps 0 in the half circle but none.
 no_turns : (k : ℤ) → IsInHalfCircle (pos 0 +ℤ pos TURN *ℤ k) → k ≡ pos 0
 no_turns (pos zero) h = refl
 no_turns (pos (suc n)) h = let a = h.high in absurd (omega (arith, ints))
@@ -60,6 +60,7 @@ module _ (station : StationValue) (valid : IsStation station) (complete : IsComp
   abbrev observations : List TurnedObservation
   observations = turned_by_rows station.obs rows
 
+  -- The sheet of the station's name, of sets times targets, and of these parts.
   abbrev pub means_sheet : SheetValue
   means_sheet = record {
     name = station.name;
@@ -101,6 +102,7 @@ module _ (station : StationValue) (valid : IsStation station) (complete : IsComp
         ∙ (each_orientation.at s any_orientation h).value;
   }
 
+  -- It is the sheet of means.
   pub is_means_sheet : IsMeansSheet station means_sheet
   is_means_sheet = record {
     matches = record {
@@ -128,6 +130,7 @@ module _ (station : StationValue) (valid : IsStation station) (complete : IsComp
       (ap (λ (t : ℕ). angle_difference station.obs r.set t) e
       ∙ first_difference (v r.set 0) (v 0 0)) h)
 
+  -- No observation of the first set or of the first target has full turns in it.
   pub is_unturned : IsUnturnedAtFirst station means_sheet
   is_unturned k d h = unturned_at (get_or observations k d) (means_rows.turned k d h)
 
@@ -137,6 +140,7 @@ module _ (station : StationValue) (valid : IsStation station) (complete : IsComp
   some : 1 ≤ S * T
   some = mul-le-mul valid.sets.some valid.targets.some
 
+  -- It is within the limits of a sheet.
   pub is_sheet : IsSheet means_sheet
   is_sheet = record {
     name = valid.name;
@@ -172,18 +176,22 @@ module _ (station : StationValue) (valid : IsStation station) (complete : IsComp
     };
   }
 
+  -- Its residuals add up to 0 for each target.
   pub targets_add_up : TargetsAddUp station means_sheet
   targets_add_up = target_sums_vanish S T observations (grid station valid complete rows means_rows)
       (choice_stated_by means_sheet) means valid.targets.some
 
+  -- And for each set.
   pub sets_add_up : SetsAddUp station means_sheet
   sets_add_up = set_sums_vanish S T observations (grid station valid complete rows means_rows)
       (choice_stated_by means_sheet) means valid.targets.some
 
+  -- The station with its turns is held together.
   pub holds_together : HoldsTogether station means_sheet
   holds_together = complete_is_connected S T observations
       (grid station valid complete rows means_rows) valid.sets.some valid.targets.some
 
+  -- There is at least one observation.
   pub some_observations : 1 ≤ length observations
   some_observations = let g = (grid station valid complete rows means_rows).long in
       omega (arith, some)

@@ -21,7 +21,7 @@ use Rattle.sheet_means.proofs.CompleteLaws.{any_obs}
 use Rattle.sheet_means.proofs.GridLaws.{any_observation}
 use Rattle.sheet_means.proofs.MeansRowLaws.{any_row}
 
--- one number of turns alone brings a difference into the half circle
+-- One number of turns alone brings a difference into the half circle.
 not_fewer : (d k m : ℤ) → IsInHalfCircle (d +ℤ pos TURN *ℤ k) → IsInHalfCircle (d +ℤ pos TURN *ℤ m)
     → k <ℤ m → ⊥
 not_fewer d k m h j lt = let a = h.low in let b = j.high in omega (arith, ints)
@@ -95,7 +95,7 @@ module _ (station : StationValue) (one other : SheetValue) (a : IsMeansSheet sta
   abbrev any_orientation : Orientation
   any_orientation = record { set = 0; value = pos 0 }
 
-  -- the direction and the orientation that the observations with these rows have
+  -- The direction and the orientation that the observations with these rows have.
   abbrev direction_by : List Row → ℕ → ℤ
   direction_by rows t = let observations = turned_by_rows station.obs rows in
       pos (length station.targets) *ℤ (target_total observations t -ℤ target_total observations 0)
@@ -155,6 +155,7 @@ module _ (station : StationValue) (one other : SheetValue) (a : IsMeansSheet sta
           (pos 0) k in
           λ j. record { set = set j; value = value j }
 
+  -- Two sheets of means of one station are one.
   pub same_sheet : one ≡ other
   same_sheet = λ i. record {
     name = (a.matches.name ∙ sym b.matches.name) i;

@@ -12,6 +12,7 @@ use Rattle.adjust_kernel.specs.Stations.{StationValue}
 use Rattle.sheet_means.specs.Turning.{IsTurned}
 use Rattle.sheet_means.specs.Parts.{IsMeansRow}
 
+-- The rows of the sheet of means for the first observations, so many.
 pub record AreRowsTo (station : StationValue) (rows : List Row) (n : ℕ) : Type 0 where
   pub keys : map key_of_row rows ≡ map (key_of_obs station.sets station.targets)
       (take n station.obs)
@@ -33,7 +34,7 @@ module _ (station : StationValue) (rows : List Row) (n : ℕ) (known : AreRowsTo
   as_long = sym (length-map (take n station.obs) (key_of_obs station.sets station.targets))
       ∙ ap length (sym known.keys) ∙ length-map rows key_of_row
 
-  -- one more row
+  -- With the row of the next observation they are the rows of one more.
   pub rows_more : (d : Obs) (r : Row) → n < length station.obs
       → key_of_row r ≡ key_of_obs station.sets station.targets (get_or station.obs n d)
       → IsTurned station.obs (turned_by (get_or station.obs n d) r.turn) → IsMeansRow r
@@ -56,6 +57,7 @@ module _ (station : StationValue) (rows : List Row) (n : ℕ) (known : AreRowsTo
         rows_in = All-push IsMeansRow rows r known.rows_in row;
       }
 
+-- No row is needed for no observation.
 pub no_rows : (station : StationValue) → AreRowsTo station [] 0
 no_rows station = record {
   keys = refl;

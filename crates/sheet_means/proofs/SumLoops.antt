@@ -5,11 +5,12 @@ use Rattle.std.proofs.lemmas.Int.{ints}
 use Rattle.adjust_kernel.specs.Within.{IsWithin}
 use Rattle.sheet_means.proofs.GridLaws.{sum_below}
 
--- the sum of f at the numbers below n, each within the bound
+-- The sum of f at the numbers below n, each within the bound.
 pub record IsSumTo (f : ℕ → ℤ) (most : ℤ) (n : ℕ) (total : ℤ) : Type 0 where
   pub total_is : total ≡ sum_below n f
   pub bound : IsWithin (most *ℤ pos n) total
 
+-- The sum with one more term within the bound is the sum of so many more.
 pub sum_more : (f : ℕ → ℤ) (most : ℤ) (n : ℕ) (total : ℤ) → IsSumTo f most n total
     → IsWithin most (f n) → IsSumTo f most (n + 1) (total +ℤ f n)
 sum_more f most n total s w =

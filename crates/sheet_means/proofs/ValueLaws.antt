@@ -13,7 +13,7 @@ use Rattle.sheet_means.proofs.CompleteLaws.{any_obs, place_below, place-full, at
 use Rattle.sheet_means.proofs.CompleteLaws.{full_where_complete}
 use native.Mathlib.Decide.{ℕ_discrete}
 
--- the first that passes is at place i
+-- The first that passes is at place i.
 find-at : {X : Type 0} (p : X → Bool) (xs : List X) (i : ℕ) (d : X) → i < length xs
     → p (get_or xs i d) ≡ true → ((j : ℕ) → j < i → p (get_or xs j d) ≡ false)
     → find p xs ≡ Some (get_or xs i d)
@@ -26,7 +26,7 @@ find-at p (x ∷ xs) (suc i) d h e before = ap (λ b. cond b (Some x) (find p xs
 both_pass : (a s b t : ℕ) → a ≡ s → b ≡ t → (eqb a s && eqb b t) ≡ true
 both_pass a s b t e f = grind (arith, nat_tests)
 
--- an observation at another place is of another set or target
+-- An observation at another place is of another set or target.
 other_place : (a s b t targets : ℕ) → a * targets + b ≢ s * targets + t
     → (eqb a s && eqb b t) ≡ false
 other_place a s b t targets n = by (ℕ_discrete a s) (ℕ_discrete b t)
@@ -44,10 +44,12 @@ module _ (station : StationValue) (valid : IsStation station) (complete : IsComp
   full : length station.obs ≡ length station.sets * T
   full = full_where_complete station valid complete
 
+  -- The place of a set and a target stands inside the observations.
   pub place_inside : (s t : ℕ) → s < length station.sets → t < T → s * T + t < length station.obs
   place_inside s t h k = let e = place_below s t (length station.sets) T h k in let f = full in
       omega arith
 
+  -- The direction of a set and a target is that of the observation at their place.
   pub value_of-at : (s t : ℕ) → s < length station.sets → t < T
       → value_of station.obs s t ≡ pos (get_or station.obs (s * T + t) any_obs).value
   value_of-at s t h k =

@@ -16,7 +16,7 @@ use Rattle.sheet_means.proofs.MeansRowLaws.{grid}
 use Rattle.sheet_means.proofs.SumLoops.{sum_more}
 use Rattle.sheet_means.proofs.adjusted.directions_of.Goals as goal
 
--- the difference of this target's total and the first's
+-- The difference of this target's total and the first's.
 difference_is : (c : goal.In_ok-push) → c.subtract-difference.result
     ≡ target_total (turned_by_rows c.args.station.now.obs c.args.rows.now) c.loop-target.target
     -ℤ target_total (turned_by_rows c.args.station.now.obs c.args.rows.now) 0

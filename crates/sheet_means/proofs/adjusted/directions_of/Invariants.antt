@@ -8,7 +8,7 @@ use Rattle.sheet_means.specs.declared.totals.TheConstants.{LARGEST_UNROLLED}
 use Rattle.sheet_means.proofs.SumLoops.{IsSumTo}
 use Rattle.sheet_means.proofs.adjusted.directions_of.Given as goal
 
--- the directions of the first targets, and their observations less the first target's
+-- The directions of the first targets, and their observations less the first target's.
 abbrev pub invariant-loop-target : goal.invariant-loop-target
 invariant-loop-target l =
     let observations = turned_by_rows l.station.obs l.rows in

@@ -18,7 +18,7 @@ bounds-rows-set c =
     subst (λ (l : List (List ℕ)). c.args.set * length l + c.args.target < length c.args.rows.now)
     (sym c.targets.ensures.value) inside
 
--- a row of the sheet of means with its full turns, two at most
+-- A row of the sheet of means with its full turns, two at most.
 row_bound : (r : Row) → IsMeansRow r → IsWithin LARGEST_UNROLLED (unrolled_row r)
 row_bound r m =
     let v = m.row.value in

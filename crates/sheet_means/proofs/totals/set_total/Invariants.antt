@@ -6,7 +6,7 @@ use Rattle.sheet_means.specs.declared.totals.TheConstants.{LARGEST_UNROLLED}
 use Rattle.sheet_means.proofs.SumLoops.{IsSumTo}
 use Rattle.sheet_means.proofs.totals.set_total.Given as goal
 
--- the observations of the first targets added
+-- The observations of the first targets added.
 abbrev pub invariant-loop-target : goal.invariant-loop-target
 invariant-loop-target l =
     IsSumTo (λ t. unrolled (observation_at (turned_by_rows l.station.obs l.rows)
