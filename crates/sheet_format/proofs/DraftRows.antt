@@ -103,7 +103,7 @@ unless-none true k e = refl
 unless-none false k e = cc e
 
 -- The fields of a row that has five columns.
-abbrev pub listed : Fields → List (List ℕ)
+abbrev listed : Fields → List (List ℕ)
 listed c = c.kind ∷ c.number ∷ c.name ∷ c.value ∷ c.turn ∷ []
 
 columns-found : (fs : List (List ℕ)) (c : Fields) → columns_of fs ≡ Some c → fs ≡ listed c

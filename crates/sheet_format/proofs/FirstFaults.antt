@@ -30,7 +30,7 @@ use Rattle.sheet_format.proofs.Ranges.{angle-below, denominator-below}
 use Rattle.sheet_format.proofs.SaidBy.{said}
 
 -- Where rows part, their fault is the one between those before and those left.
-pub fault_at-seam : (before rest : List (List (List ℕ)))
+fault_at-seam : (before rest : List (List (List ℕ)))
     → fault_at (before ++ rest) (length before) ≡ fault_between before rest
 fault_at-seam before rest = rw (take-append_seam before rest, drop-append_seam before rest) refl
 

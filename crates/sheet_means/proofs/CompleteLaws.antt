@@ -31,7 +31,7 @@ before_place targets a b h (inr e) = let f : a.set * targets ≡ b.set * targets
     ap (λ n. n * targets) e.0 in omega (arith, e.1)
 
 -- One place is that of one set and one target.
-pub same_place : (s t s' t' targets : ℕ) → t < targets → t' < targets
+same_place : (s t s' t' targets : ℕ) → t < targets → t' < targets
     → s * targets + t ≡ s' * targets + t' → (s ≡ s') × (t ≡ t')
 same_place s t s' t' targets h k e = by (dec_lt s s') (dec_lt s' s)
   where

@@ -56,14 +56,3 @@ module _ (station : StationValue) (rows : List Row) (n : ℕ) (known : AreRowsTo
             (turned_by o r.turn) known.turned turned);
         rows_in = All-push IsMeansRow rows r known.rows_in row;
       }
-
--- No row is needed for no observation.
-pub no_rows : (station : StationValue) → AreRowsTo station [] 0
-no_rows station = record {
-  keys = refl;
-  turned = nothing (IsTurned station.obs);
-  rows_in = nothing IsMeansRow;
-}
-  where
-    nothing : {X : Type 0} (P : X → Type 0) → All P []
-    nothing P k d h = absurd (omega arith)
