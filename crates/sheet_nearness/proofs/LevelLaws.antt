@@ -18,27 +18,31 @@ use Rattle.adjust_kernel.proofs.SquareBounds.{int_sum_by-below}
 use Rattle.adjust_kernel.proofs.SumLaws.{int_sum_by-sub, int_sum_by-not_negative}
 use Rattle.adjust_kernel.proofs.UniqueLaws.{squared-zero}
 
-pub or_is : (a b : Bool) → (a || b) ≡ true → (a ≡ true) ⊎ (b ≡ true)
+-- Where one test or the other passes, one of them does.
+or_is : (a b : Bool) → (a || b) ≡ true → (a ≡ true) ⊎ (b ≡ true)
 or_is true b e = inl refl
 or_is false b e = inr e
 
-pub or_left : (a b : Bool) → a ≡ true → (a || b) ≡ true
+or_left : (a b : Bool) → a ≡ true → (a || b) ≡ true
 or_left true b e = refl
 or_left false b e = cc
 
+-- Where a second test passes, so do the two joined by or.
 pub or_right : (a b : Bool) → b ≡ true → (a || b) ≡ true
 or_right true b e = refl
 or_right false b e = e
 
-pub and_is : (a b : Bool) → (a && b) ≡ true → (a ≡ true) × (b ≡ true)
+-- Where two tests pass together, each does.
+and_is : (a b : Bool) → (a && b) ≡ true → (a ≡ true) × (b ≡ true)
 and_is true b e = (refl, e)
 and_is false b e = cc
 
+-- Two tests that pass do so together.
 pub and_both : (a b : Bool) → a ≡ true → b ≡ true → (a && b) ≡ true
 and_both true b e f = f
 and_both false b e f = cc
 
--- no term that isn't negative is above the sum of such terms
+-- No term that isn't negative is above the sum of such terms.
 one_at_most : {X : Type 0} (g : X → ℤ) → ((x : X) → pos 0 ≤ℤ g x) → (xs : List X) (k : ℕ) (d : X)
     → k < length xs → g (get_or xs k d) ≤ℤ int_sum_by g xs
 one_at_most g h [] k d inside = absurd (omega arith)
@@ -51,11 +55,12 @@ not_below : (k : ℕ) (z : ℤ) → pos 0 ≤ℤ (pos (suc k) *ℤ z) → pos 0 
 not_below k (pos a) h = omega (arith, ints)
 not_below k (negsuc a) h = absurd (omega (arith, ints))
 
+-- A number that is not below 0 is not below it either when it is taken some times.
 pub times_not_below : (k : ℕ) (z : ℤ) → pos 0 ≤ℤ z → pos 0 ≤ℤ (pos k *ℤ z)
 times_not_below k (pos a) h = omega (arith, ints)
 times_not_below k (negsuc a) h = absurd (omega (arith, ints))
 
--- one step more, by y, where the sum grows by the square of y
+-- One step more, by y, where the sum grows by the square of y.
 step_more : (j : ℕ) (x y w w' : ℤ) → squared x ≤ℤ (pos j *ℤ w) → pos 0 ≤ℤ w
     → (w +ℤ squared y) ≤ℤ w' → squared (x +ℤ y) ≤ℤ (pos (suc j) *ℤ w')
 step_more zero x y w w' h k m =
@@ -93,7 +98,7 @@ no_step_more j q w w' h k m =
     ⊖ num (pos j) ⊗ num w) (omega arith) in
     omega (arith, ints)
 
--- a weight, where both ends are reached
+-- A weight, where both ends are reached.
 weight-not_negative : (b : Bool) (q : ℤ) → pos 0 ≤ℤ q → pos 0 ≤ℤ cond b q (pos 0)
 weight-not_negative true q h = h
 weight-not_negative false q h = omega (arith, ints)
@@ -109,6 +114,7 @@ weight-grows true false q h k = let e : false ≡ true = k refl in absurd cc
 weight-grows false true q h k = omega (arith, ints)
 weight-grows false false q h k = omega (arith, ints)
 
+-- A set that is reached by so many observations is reached by one more.
 pub set_within-more : (observations : List TurnedObservation) (h s : ℕ)
     → is_set_within observations h s ≡ true
     → is_set_within observations (suc h) s ≡ true
@@ -117,6 +123,7 @@ set_within-more observations h s e = or_left (is_set_within observations h s)
     (λ (r : TurnedObservation). eqb r.set s
     && is_target_within observations h r.target) observations) e
 
+-- So is a target.
 pub target_within-more : (observations : List TurnedObservation) (h t : ℕ)
     → is_target_within observations h t ≡ true
     → is_target_within observations (suc h) t ≡ true
@@ -126,10 +133,11 @@ target_within-more observations h t e = or_left (is_target_within observations h
     e
 
 module _ (of_target of_set : ℕ → ℤ) (observations : List TurnedObservation) where
-  abbrev pub move : TurnedObservation → ℤ
+  -- How much further a target moves than a set, for an observation between them.
+  abbrev move : TurnedObservation → ℤ
   move r = of_target r.target -ℤ of_set r.set
 
-  -- both ends of the observation are reached
+  -- Both ends of the observation are reached.
   abbrev is_reached : ℕ → TurnedObservation → Bool
   is_reached h r = is_set_within observations h r.set && is_target_within observations h r.target
 
@@ -162,7 +170,7 @@ module _ (of_target of_set : ℕ → ℤ) (observations : List TurnedObservation
       let f = int_sum_by-sub (weight (suc h)) (weight h) observations in
       omega (arith, ints)
 
-  -- an observation whose second end is reached by this step
+  -- An observation whose second end is reached by this step.
   weights-gain : (h k : ℕ) (d : TurnedObservation) → k < length observations
       → is_reached h (get_or observations k d)
       ≡ false → is_reached (suc h) (get_or observations k d) ≡ true
@@ -218,7 +226,7 @@ module _ (of_target of_set : ℕ → ℤ) (observations : List TurnedObservation
   set_again h s c = no_step_more h (squared (of_set s -ℤ of_target 0)) (weights h)
       (weights (suc h)) c (weights-not_negative h) (weights-grow h)
 
-  -- along an observation to its target
+  -- Along an observation to its target.
   target_next : (h k : ℕ) (d : TurnedObservation) → k < length observations
       → is_set_within observations h (get_or observations k d).set ≡ true
       → is_target_within observations h (get_or observations k d).target ≡ false
@@ -234,7 +242,7 @@ module _ (of_target of_set : ℕ → ℤ) (observations : List TurnedObservation
       (step_more h (of_set r.set -ℤ of_target 0) (move r) (weights h) (weights (suc h)) c
       (weights-not_negative h) gain)
 
-  -- along an observation to its set
+  -- Along an observation to its set.
   set_next : (h k : ℕ) (d : TurnedObservation) → k < length observations
       → is_target_within observations h (get_or observations k d).target ≡ true
       → is_set_within observations h (get_or observations k d).set ≡ false
@@ -320,12 +328,13 @@ module _ (of_target of_set : ℕ → ℤ) (observations : List TurnedObservation
       ⊖ num (pos h) ⊗ num (weights h)) (omega arith) in
       omega (arith, ints)
 
-  -- the square of a move is at most so many times the squares of all observations' moves
+  -- The square of a target's move is at most so many times those of all observations.
   pub target_within-close : (h t : ℕ) → is_target_within observations h t ≡ true
       → squared (of_target t -ℤ of_target 0) ≤ℤ (pos h *ℤ squares)
   target_within-close h t e = at_most_all h (squared (of_target t -ℤ of_target 0))
       ((close_at h).0 t e)
 
+  -- And so is the square of a set's move.
   pub set_within-close : (h s : ℕ) → is_set_within observations h s ≡ true
       → squared (of_set s -ℤ of_target 0) ≤ℤ (pos h *ℤ squares)
   set_within-close h s e = at_most_all h (squared (of_set s -ℤ of_target 0)) ((close_at h).1 s e)

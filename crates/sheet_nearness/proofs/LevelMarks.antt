@@ -28,7 +28,7 @@ or_assoc true b c d = refl
 or_assoc false true c d = refl
 or_assoc false false c d = refl
 
--- a mark that is set where a test passes
+-- A mark that is set where a test passes.
 mark_or : (l : List Bool) (k : ℕ) (v : Bool) (n : ℕ) → k < length l
     → mark (set l k (mark l k || v)) n ≡ (mark l n || (eqb n k && v))
 mark_or l k v n inside = by (ℕ_discrete n k)
@@ -43,7 +43,7 @@ mark_or l k v n inside = by (ℕ_discrete n k)
         ∙ sym (or_false (mark l n))
         ∙ ap (λ b. mark l n || (b && v)) (sym (ne_eqb n k f))
 
--- the marks of one observation more
+-- A mark of one observation more was there before, or that observation sets it.
 pub marked_next-more : (marks next : List Bool) (sets i : ℕ) (obs : List Obs) (d : Obs) (n : ℕ)
     → i < length obs → (get_or obs i d).set < length next
     → sets + (get_or obs i d).target < length next
@@ -71,7 +71,7 @@ marked_next-more marks next sets i obs d n inside set_in target_in e =
     && w)
     ∙ ap (λ b. mark marks n || b) (sym (list_any_more p obs i d inside))
 
--- a test of observations, whatever turns they are given
+-- A test of observations, whatever turns they are given.
 any_observation : (q : Obs → Bool) (p : TurnedObservation → Bool) (obs : List Obs) (rows : List Row)
     → length rows ≡ length obs → AllByRecursion (λ o. (k : ℤ) → q o ≡ p (turned_by o k)) obs
     → list_any q obs ≡ list_any p (turned_by_rows obs rows)
@@ -86,13 +86,14 @@ same_test a b = grind (arith, nat_tests)
 shifted_test : (s a b : ℕ) → eqb (s + a) (s + b) ≡ eqb b a
 shifted_test s a b = grind (arith, nat_tests)
 
--- the marks are those of what is reached by so many steps
+-- The marks are those of what is reached by so many steps.
 pub record IsLevel (sets targets : ℕ) (obs : List Obs) (rows : List Row) (marks : List Bool)
     (steps : ℕ) : Type 0 where
   pub sets_are : (s : ℕ) → s < sets → mark marks s ≡ is_set_within (turned_by_rows obs rows) steps s
   pub targets_are : (t : ℕ) → t < targets → mark marks (sets + t)
       ≡ is_target_within (turned_by_rows obs rows) steps t
 
+-- With the first target alone marked, the marks are those after no step.
 pub level_start : (sets targets : ℕ) (obs : List Obs) (rows : List Row) → sets + targets ≤ 140
     → 0 < targets → IsLevel sets targets obs rows (set (replicate 140 false) sets true) 0
 level_start sets targets obs rows few some = record {
@@ -125,7 +126,7 @@ module _ (sets targets : ℕ) (obs : List Obs) (placed : All (IsObs sets targets
   abbrev rs : List TurnedObservation
   rs = turned_by_rows obs rows
 
-  -- one step on
+  -- The marks of one step on are those of what one more observation reaches.
   pub level_more : (marks next : List Bool) (steps : ℕ) → IsLevel sets targets obs rows marks steps
       → ((n : ℕ) → n < sets + targets → mark next n ≡ is_marked_next marks sets obs n)
       → IsLevel sets targets obs rows next (steps + 1)
@@ -167,17 +168,8 @@ module _ (sets targets : ℕ) (obs : List Obs) (placed : All (IsObs sets targets
           apart : (s : ℕ) → s < sets → sets + t ≢ s
           apart s l f = omega arith
 
-  -- all are reached where all are marked
-  pub marked_are_within : (marks : List Bool) (steps : ℕ)
-      → IsLevel sets targets obs rows marks steps → ((n : ℕ) → n < sets + targets
-      → mark marks n ≡ true) → AreWithin sets targets rs steps
-  marked_are_within marks steps level all = record {
-    targets_within = λ t h. sym (level.targets_are t h) ∙ all (sets + t) (omega arith);
-    sets_within = λ s h. sym (level.sets_are s h) ∙ all s (omega arith);
-  }
-
-  -- and not where one isn't
-  pub unmarked_is_not_within : (marks : List Bool) (steps : ℕ)
+  -- Where one is not marked, not all are reached.
+  unmarked_is_not_within : (marks : List Bool) (steps : ℕ)
       → IsLevel sets targets obs rows marks steps → (n : ℕ) → n < sets + targets
       → mark marks n ≡ false → AreWithin sets targets rs steps → ⊥
   unmarked_is_not_within marks steps level n h e within = by (dec_lt n sets)
@@ -191,7 +183,7 @@ module _ (sets targets : ℕ) (obs : List Obs) (placed : All (IsObs sets targets
           ∙ level.targets_are (n - sets) inside ∙ within.targets_within (n - sets) inside in
           cc
 
-  -- so a step more is needed
+  -- So fewer observations than one more than those steps do not reach all.
   pub fewest_more : (marks : List Bool) (steps : ℕ) → IsLevel sets targets obs rows marks steps
       → (n : ℕ) × (n < sets + targets) × (mark marks n ≡ false)
       → ((fewer : ℕ) → fewer < steps → AreWithin sets targets rs fewer → ⊥) → (fewer : ℕ)

@@ -35,7 +35,7 @@ use Rattle.adjust_kernel.proofs.SumLaws.{int_sum_by-not_negative}
 use Rattle.adjust_kernel.proofs.TurnLaws.{IsHeldUnder, turned, taken, taken_squares, taken_up}
 use native.Mathlib.Decide.{dec_le}
 
--- one rotation of all moves is taken off
+-- One rotation of all moves is taken off.
 rotated : (v a o z : ℤ) → v *ℤ a -ℤ v *ℤ o ≡ v *ℤ (a -ℤ z) -ℤ v *ℤ (o -ℤ z)
 rotated v a o z = same_value (num v ⊗ num a ⊖ num v ⊗ num o) (num v ⊗ (num a ⊖ num z)
     ⊖ num v ⊗ (num o ⊖ num z)) (omega arith)
@@ -45,7 +45,7 @@ within_apart : (m s t : ℕ) (x y : ℤ) → IsWithin (pos (m * s)) x → IsWith
 within_apart m s t x y h k = let a = h.low in let b = h.high in let c = k.low in let d = k.high in
     record { low = omega (arith, ints); high = omega (arith, ints) }
 
--- what is within a bound, some times
+-- What is within a bound, some times.
 times_low : (k m : ℕ) (z : ℤ) → IsWithin (pos m) z → neg_ℤ (pos (k * m)) ≤ℤ (pos k *ℤ z)
 times_low k m (pos a) h = omega (arith, ints)
 times_low k m (negsuc a) h = let e : k * suc a ≤ k * m =
@@ -59,7 +59,7 @@ times_at_most k y z h =
     (omega arith) in
     omega (arith, ints)
 
--- a number the square of which is at most some times it
+-- A number the square of which is at most some times it.
 root_at_most : (u k : ℕ) → u * u ≤ k * u → u ≤ k
 root_at_most u k h = by (dec_le u k)
   where
@@ -68,7 +68,7 @@ root_at_most u k h = by (dec_le u k)
     by (no f) = let e : suc k * u ≤ u * u = mul-le-mul (omega (arith, f)) (omega arith) in
         absurd (omega (arith, f))
 
--- the root of a number, rounded down
+-- The root of a number, rounded down.
 root : (x : ℕ) → (m : ℕ) × (m * m ≤ x) × (x < suc m * suc m)
 root zero = (0, omega arith, omega arith)
 root (suc x) = by (root x)
@@ -81,7 +81,7 @@ root (suc x) = by (root x)
         pick (yes e) = (suc m, e, omega (arith, high))
         pick (no f) = (m, omega (arith, low), omega (arith, f))
 
--- what has a square below that of the next number
+-- What has a square below that of the next number.
 below_next : (a m : ℕ) → a * a < suc m * suc m → a ≤ m
 below_next a m h = by (dec_le a m)
   where
@@ -96,6 +96,7 @@ root_within x m (pos a) h k = let e = below_next a m (omega (arith, ints)) in
 root_within x m (negsuc a) h k = let e = below_next (suc a) m (omega (arith, ints)) in
     record { low = omega (arith, ints); high = omega (arith, ints) }
 
+-- What is within a bound is within a larger one.
 pub within_more : (m n : ℕ) (z : ℤ) → m ≤ n → IsWithin (pos m) z → IsWithin (pos n) z
 within_more m n z h w = let a = w.low in let b = w.high in record {
   low = omega (arith, ints);
@@ -106,7 +107,7 @@ size_is : (z : ℤ) → pos 0 ≤ℤ z → pos (unsigned_abs z) ≡ z
 size_is (pos a) h = refl
 size_is (negsuc a) h = absurd (omega (arith, ints))
 
--- there and back
+-- There and back.
 moved_back : (d e : ℕ) (a a' o o' : ℤ)
     → squared ((pos e *ℤ a -ℤ pos d *ℤ a') -ℤ (pos e *ℤ o -ℤ pos d *ℤ o'))
     ≡ squared ((pos d *ℤ a' -ℤ pos e *ℤ a) -ℤ (pos d *ℤ o' -ℤ pos e *ℤ o))
@@ -121,7 +122,7 @@ twice : (k : ℕ) (z : ℤ) → pos (2 * k) *ℤ z ≡ pos k *ℤ z +ℤ pos k *
 twice k z = same_value (num (pos (2 * k)) ⊗ num z) (num (pos k) ⊗ num z ⊕ num (pos k) ⊗ num z)
     (omega arith)
 
--- with the same full turns
+-- With the same full turns.
 module _ (steps sets targets : ℕ) (c other : Choice) (observations : List TurnedObservation)
     (placed : AllByRecursion (IsPlaced sets targets) observations)
     (within : AreWithin sets targets observations steps) where
@@ -144,7 +145,7 @@ module _ (steps sets targets : ℕ) (c other : Choice) (observations : List Turn
   set_square s h = set_within-close (moved_direction c other)
       (moved_orientation c other) observations steps s (within.sets_within s h)
 
-  -- a bound of all moves, so many times the denominator and the sums, is one of their squares
+  -- A bound of all moves, so many times the denominator and the sums, is one of their squares.
   abbrev AreSquaresWithin : ℕ → Type 0
   AreSquaresWithin factor = (size : ℕ) → IsWithin (pos (size * sums))
       (moved_residuals c other observations)
@@ -176,16 +177,16 @@ module _ (steps sets targets : ℕ) (c other : Choice) (observations : List Turn
         (AllByRecursion-map (IsPlaced sets targets) (λ (r : TurnedObservation). r.set < sets)
         (λ r p. p.set_in) observations placed) set_near))
 
-  -- all observations' moves together, where the sum of squares is no larger
-  pub no_larger_squares : IsNoLargerSum other observations c observations → AreSquaresWithin 2
+  -- All observations' moves together, where the sum of squares is no larger.
+  no_larger_squares : IsNoLargerSum other observations c observations → AreSquaresWithin 2
   no_larger_squares not_greater size within_size =
       let e = squares-changed c other observations in
       let f = times_low (2 * other.denominator) (size * sums)
       (moved_residuals c other observations) within_size in
       omega (arith, ints, not_greater)
 
-  -- half of that, where the other choice's residuals add up
-  pub balanced_squares : IsBalanced other observations → AreSquaresWithin 1
+  -- Half of that, where the other choice's residuals add up.
+  balanced_squares : IsBalanced other observations → AreSquaresWithin 1
   balanced_squares balanced size within_size =
       let e = squares-changed c other observations in
       let f = squares-moved other c observations balanced in
@@ -211,8 +212,8 @@ module _ (steps sets targets : ℕ) (c other : Choice) (observations : List Turn
           omega (arith, ints) in
           root_at_most size (factor * (steps * sums) * other.denominator) (omega arith)
 
-    -- all move alike, but for so much
-    pub move_alike : ((t : ℕ) → t < targets
+    -- All move alike, but for so much.
+    move_alike : ((t : ℕ) → t < targets
         → IsWithin (pos (factor * (steps * sums) * other.denominator)) (moved_direction c other t
         -ℤ first))
         × ((s : ℕ) → s < sets → IsWithin (pos (factor * (steps * sums) * other.denominator))
@@ -249,7 +250,7 @@ module _ (steps sets targets : ℕ) (c other : Choice) (observations : List Turn
                   -ℤ first) small (set_near s h),
             )
 
--- the residuals of a choice with turns taken off are those of the choice with these turns
+-- The residuals of a choice with turns taken off are those of the choice with these turns.
 module _ (other : Choice) (of_target of_set : ℕ → ℤ) where
   abbrev turns_taken : List TurnedObservation → List ℤ
   turns_taken observations = map (λ r. r.turn +ℤ of_target r.target -ℤ of_set r.set) observations
@@ -271,7 +272,7 @@ module _ (other : Choice) (of_target of_set : ℕ → ℤ) where
       (other.direction r.target) (other.orientation r.set) r.turn (of_target r.target)
       (of_set r.set) i) (pos 0) +ℤ taken_set_sum s observations i
 
--- a least choice's residuals add up
+-- A least choice's residuals add up.
 module _ (c : Choice) (observations : List TurnedObservation) (fraction : 1 ≤ c.denominator)
     (least : IsLeast c observations) where
   none_better : HasBetter c observations → ⊥
@@ -285,7 +286,7 @@ module _ (c : Choice) (observations : List TurnedObservation) (fraction : 1 ≤ 
       by (yes e) = e
       by (no f) = absurd (none_better (h f))
 
-  pub least_is_balanced : IsBalanced c observations
+  least_is_balanced : IsBalanced c observations
   least_is_balanced = record {
     targets = λ t. zero_or_better (target_sum c observations t)
         (target_sum_has_better c observations t fraction);
@@ -293,7 +294,7 @@ module _ (c : Choice) (observations : List TurnedObservation) (fraction : 1 ≤ 
         (set_sum_has_better c observations s fraction);
   }
 
--- with any full turns, under a residual limit
+-- With any full turns, under a residual limit.
 module _ (limit steps sets targets : ℕ) (c : Choice) (observations : List TurnedObservation)
     (a : IsHeldUnder limit sets targets c observations)
     (within : AreWithin sets targets observations steps)
@@ -334,14 +335,15 @@ module _ (limit steps sets targets : ℕ) (c : Choice) (observations : List Turn
     orientations = alike.1;
   }
 
-  pub no_larger_is_near : IsNear sets targets c observations
+  -- A choice with no larger sum of squares is near.
+  no_larger_is_near : IsNear sets targets c observations
       (most_apart steps sets targets c observations) other turns
   no_larger_is_near =
       near_within (most_apart steps sets targets c observations)
       (move_alike steps sets targets c back observations placed within 2
       (no_larger_squares steps sets targets c back observations placed within back_no_larger))
 
-  -- a least one
+  -- A least one.
   module _ (least : IsLeast other (with_turns observations turns)) where
     back_balanced : IsBalanced back observations
     back_balanced =
@@ -355,7 +357,8 @@ module _ (limit steps sets targets : ℕ) (c : Choice) (observations : List Turn
               (sym whole.turns_are) ∙ balanced.sets s;
         }
 
-    pub least_is_near : IsNear sets targets c observations
+    -- Where it is least, it is within half as much.
+    least_is_near : IsNear sets targets c observations
         (least_apart steps sets targets c observations) other turns
     least_is_near =
         let alike = move_alike steps sets targets c back observations placed within 1
@@ -369,6 +372,7 @@ module _ (limit steps sets targets : ℕ) (c : Choice) (observations : List Turn
               (alike.1 s h),
         )
 
+-- All choices with no larger sum of squares are near: within twice what least ones are.
 pub all_no_larger_are_near : (limit steps sets targets : ℕ) (c : Choice)
     (observations : List TurnedObservation)
     → IsHeldUnder limit sets targets c observations → AreWithin sets targets observations steps
@@ -376,6 +380,7 @@ pub all_no_larger_are_near : (limit steps sets targets : ℕ) (c : Choice)
 all_no_larger_are_near limit steps sets targets c observations a within other turns long h k =
     no_larger_is_near limit steps sets targets c observations a within other turns long h k
 
+-- All least choices with no larger sum of squares are near.
 pub all_least_are_near : (limit steps sets targets : ℕ) (c : Choice)
     (observations : List TurnedObservation)
     → IsHeldUnder limit sets targets c observations → AreWithin sets targets observations steps

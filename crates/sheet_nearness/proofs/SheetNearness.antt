@@ -44,6 +44,7 @@ module _ (station : StationValue) (sheet : SheetValue) where
     limited = limited;
   }
 
+  -- A sheet that keeps a residual limit is near all choices with no larger sum of squares.
   pub sheet_is_near_all_no_larger : (limit steps : ℕ) → IsStation station → IsSheet sheet
       → limit ≤ LARGEST_RESIDUAL_LIMIT
       → HoldsTogether station sheet → KeepsLimit station sheet limit
@@ -54,6 +55,7 @@ module _ (station : StationValue) (sheet : SheetValue) where
       (choice_stated_by sheet) (observations station sheet)
       (held_under limit is_station is_sheet limit_in connected limited) within
 
+  -- Of those that are least it is within half as much.
   pub sheet_is_near_all_least : (limit steps : ℕ) → IsStation station → IsSheet sheet
       → limit ≤ LARGEST_RESIDUAL_LIMIT
       → HoldsTogether station sheet → KeepsLimit station sheet limit
@@ -64,6 +66,7 @@ module _ (station : StationValue) (sheet : SheetValue) where
       (choice_stated_by sheet) (observations station sheet)
       (held_under limit is_station is_sheet limit_in connected limited) within
 
+  -- Fewer observations than there are sets and targets hold its station together.
   pub tied_within : IsStation station → HoldsTogether station sheet
       → IsTiedWithin station sheet (length station.sets + length station.targets - 1)
   tied_within is_station connected =
@@ -73,7 +76,7 @@ module _ (station : StationValue) (sheet : SheetValue) where
       (recursion_from_All (IsPlaced sets targets) (observations station sheet)
       (observations_placed sets targets station.obs sheet.rows is_station.obs.within)) connected
 
-  -- the sheet's full turns are some of those that may be added
+  -- The sheet's full turns are some of those that may be added.
   pub tied_holds_together : Matches station sheet → AreTied station → HoldsTogether station sheet
   tied_holds_together matches tied =
       tied sheet.rows (sym (length-map sheet.rows key_of_row) ∙ ap length matches.rows
@@ -90,7 +93,7 @@ module _ (station : StationValue) (sheet : SheetValue) where
   early_is_beside_sums NotConnected h = tt
   early_is_beside_sums (Residual n) h = tt
 
-  -- a fault that is looked for before the sums
+  -- A fault that is looked for before the sums is the first beside them.
   pub early_fault : (limit : ℕ) (fault : KernelFault) → IsFault station sheet fault
       → order_of fault < 6 → IsFirstBesideSums station sheet limit fault
   early_fault limit fault is early =
@@ -101,7 +104,7 @@ module _ (station : StationValue) (sheet : SheetValue) where
         before = λ other kind less stands. verdict.1 other less stands;
       }
 
-  -- no fault beside the sums is left
+  -- What matches, is held together and keeps the limit has no fault beside the sums.
   pub none_beside_sums : (limit : ℕ) → Matches station sheet → HoldsTogether station sheet
       → KeepsLimit station sheet limit → (fault : KernelFault) → IsBesideSums fault
       → Stands station sheet (Some limit) fault → ⊥

@@ -16,7 +16,7 @@ use Rattle.adjust_kernel.proofs.ObservationLaws.{IsPlaced}
 use Rattle.adjust_kernel.proofs.SumLaws.{AllByRecursion-map, AllByRecursion-both}
 use native.Mathlib.Decide.{dec_lt}
 
--- a test that this element passes is passed by some element
+-- A test that this element passes is passed by some element.
 abbrev PassesAmong : {X : Type 0} → List X → X → Type 0
 PassesAmong {X} xs x = (p : X → Bool) → p x ≡ true → list_any p xs ≡ true
 
@@ -75,7 +75,7 @@ module _ (sets targets : ℕ) (observations : List TurnedObservation) (some : 0 
       (is_target_within observations
       (suc h)) (target_within-more observations h)
 
-  -- one place more that is marked
+  -- One place more that is marked.
   marked_too : (mark more : ℕ → Bool) (n : ℕ) → more n ≡ true → ((k : ℕ) → mark k ≡ true
       → more k ≡ true) → (k : ℕ) → mark_too mark n k ≡ true → more k ≡ true
   marked_too mark more n e h k f = ⊎_elim (λ g. ap more g
@@ -106,7 +106,7 @@ module _ (sets targets : ℕ) (observations : List TurnedObservation) (some : 0 
       omega arith)
       o.ends
 
-  -- after so many steps none is left, or as many fewer
+  -- After so many steps none is left, or as many fewer.
   left_after : (h : ℕ) → (left h ≡ 0) ⊎ (left h + h ≤ sets + targets - 1)
   left_after zero =
       let a = unmarked-at_most sets (is_set_within observations 0) in
@@ -132,6 +132,7 @@ module _ (sets targets : ℕ) (observations : List TurnedObservation) (some : 0 
               (is_set_within observations h) (is_target_within observations h) (first_within h) w k)
           kept (no k) = let a = sets_kept h in let b = targets_kept h in omega arith
 
+  -- Fewer observations than there are sets and targets lead to each from the first target.
   pub connected_within : AreWithin sets targets observations (sets + targets - 1)
   connected_within =
       let none : left (sets + targets - 1) ≡ 0 =

@@ -13,7 +13,7 @@ use Rattle.adjust_kernel.specs.Sums.{int_sum_by, int_sum_where}
 use Rattle.adjust_kernel.specs.Within.{IsWithin}
 use Rattle.adjust_kernel.proofs.SumLaws.{int_sum_by-same, int_sum_by-zero, int_sum_where-next_key}
 
--- a factor within a bound, times a number, is within the bound times its size
+-- A factor within a bound, times a number, is within the bound times its size.
 within_product : (m : ℕ) (x z : ℤ) → IsWithin (pos m) x
     → IsWithin (pos (m * unsigned_abs z)) (x *ℤ z)
 within_product m (pos a) (pos b) h = let e : a * b ≤ m * b =
@@ -46,7 +46,7 @@ module _ {X : Type 0} (key : X → ℕ) (f : X → ℤ) (a : ℕ → ℤ) (m : �
   abbrev sum_of : List X → ℕ → ℤ
   sum_of xs n = int_sum_where (λ x. eqb (key x) n) f xs
 
-  -- the elements whose keys are below a number
+  -- The elements whose keys are below a number.
   below : (xs : List X) (n : ℕ) → ((k : ℕ) → k < n → IsWithin (pos m) (a k))
       → IsWithin (pos (m * sizes_below (sum_of xs) n)) (int_sum_where (λ x. ltb (key x) n)
       (λ x. f x *ℤ a (key x)) xs)
@@ -66,7 +66,7 @@ module _ {X : Type 0} (key : X → ℕ) (f : X → ℤ) (a : ℕ → ℤ) (m : �
       (a n *ℤ sum_of xs n) (below xs n (λ k l. h k (omega arith)))
       (within_product m (a n) (sum_of xs n) (h n (omega arith))))
 
-  -- all elements
+  -- The sum over all elements is within the largest factor times the sizes of the sums.
   pub int_sum_by-within : (xs : List X) (n : ℕ) → AllByRecursion (λ x. key x < n) xs
       → ((k : ℕ) → k < n → IsWithin (pos m) (a k))
       → IsWithin (pos (m * sizes_below (sum_of xs) n)) (int_sum_by (λ x. f x *ℤ a (key x)) xs)

@@ -19,7 +19,7 @@ use Rattle.adjust_kernel.proofs.GreatestLaws.{size_within}
 use Rattle.adjust_kernel.proofs.VerdictSquares.{length-turned_by_rows}
 use Rattle.sheet_nearness.proofs.NearnessLaws.{within_more}
 
--- one term more, which is counted or not
+-- One term more, which is counted or not.
 one_more : (m n : ℕ) (b : Bool) (x rest : ℤ) → IsWithin (pos m) x → IsWithin (pos (m * n)) rest
     → IsWithin (pos (m * suc n)) (cond b x (pos 0) +ℤ rest)
 one_more m n true x rest h k = let a = h.low in let b = h.high in let c = k.low in
@@ -27,7 +27,7 @@ one_more m n true x rest h k = let a = h.low in let b = h.high in let c = k.low 
 one_more m n false x rest h k = let c = k.low in let d = k.high in
     record { low = omega (arith, ints); high = omega (arith, ints) }
 
--- as many terms as there are elements
+-- As many terms as there are elements.
 int_sum_where-within : {X : Type 0} (m : ℕ) (p : X → Bool) (f : X → ℤ) (xs : List X)
     → AllByRecursion (λ x. IsWithin (pos m) (f x)) xs
     → IsWithin (pos (m * length xs)) (int_sum_where p f xs)
@@ -36,13 +36,14 @@ int_sum_where-within m p f (x ∷ xs) h = one_more m (length xs) (p x) (f x)
     (int_sum_where p f xs) h.0 (int_sum_where-within m p f xs h.1)
 
 module _ (station : StationValue) (sheet : SheetValue) where
-  -- what keeps a limit keeps the largest one
+  -- What keeps a limit keeps the largest one.
   pub keeps_largest : (limit : ℕ) → limit ≤ LARGEST_RESIDUAL_LIMIT → KeepsLimit station sheet limit
       → KeepsLimit station sheet LARGEST_RESIDUAL_LIMIT
   keeps_largest limit limit_in limited = λ k d inside. within_more (limit * sheet.denominator)
       (LARGEST_RESIDUAL_LIMIT * sheet.denominator) _ (mul-le-mul limit_in (omega arith))
       (limited k d inside)
 
+  -- The sum of some residuals of a sheet, each within the largest limit, fits 64 bits.
   pub sum_at_most : IsSheet sheet → KeepsLimit station sheet LARGEST_RESIDUAL_LIMIT
       → (p : TurnedObservation → Bool)
       → unsigned_abs
