@@ -14,7 +14,7 @@ use Rattle.sheet_apart.specs.Apart.{difference}
 use Rattle.sheet_apart.specs.Arcs.{IsArc}
 use Rattle.sheet_nearness.specs.Nearness.{IsNear}
 
--- a number that is not below another is some more
+-- A number that is not below another is some more.
 more : (x start : ℤ) → start ≤ℤ x → (m : ℕ) × (x -ℤ start ≡ pos m)
 more x start h = by (x -ℤ start) (omega (arith, ints, h))
   where
@@ -22,7 +22,7 @@ more x start h = by (x -ℤ start) (omega (arith, ints, h))
     by (pos m) h = (m, refl)
     by (negsuc m) h = absurd (omega (arith, ints, h))
 
--- an angle in an arc, and what it is off, over both denominators
+-- An angle in an arc, and what it is off, over both denominators.
 in_middle : (w spread near d e m : ℕ) (off : ℤ) → spread + 10_000 * near ≤ w * (2_000 * d)
     → m ≤ spread → IsWithin (pos (near * e)) off
     → IsWithin (pos (w * (1_000 * e * (2 * d)))) (pos (2 * (e * m)) -ℤ pos (e * spread)
@@ -37,7 +37,7 @@ in_middle w spread near d e m off wide inside within =
       high = omega (arith, ints, a, b, low, high);
     }
 
--- the rotation that brings the middle of the arc to 0
+-- The rotation that brings the middle of the arc to 0.
 middle_is : (d e : ℕ) (a b s k t start off : ℤ) (spread m : ℕ)
     → pos 1 *ℤ ((pos d *ℤ s -ℤ pos 5_000 *ℤ a) +ℤ pos (d * 400_000_000_000) *ℤ k) -ℤ start ≡ pos m
     → pos (2 * d) *ℤ ((pos e *ℤ s -ℤ pos 5_000 *ℤ b) +ℤ pos (e * 400_000_000_000) *ℤ (t +ℤ k))
@@ -68,13 +68,13 @@ middle_is d e a b s k t start off spread m h =
     *ℤ ((pos d *ℤ (b -ℤ pos (e * 80_000_000) *ℤ t) -ℤ pos e *ℤ a) -ℤ off))
     (ap (λ z. pos (2 * e) *ℤ z) h ∙ last)
 
--- a fraction that is rounded up has some parts
+-- A fraction that is rounded up has some parts.
 some_parts : (d numerator w : ℕ) → numerator ≤ w * (2_000 * d)
     → w * (2_000 * d) < numerator + 2_000 * d → 1 ≤ d
 some_parts zero numerator w a b = absurd (omega (arith, a, b))
 some_parts (suc d) numerator w a b = omega arith
 
--- a number within a bound, some times
+-- A number within a bound, some times.
 pub times_within : (k m : ℕ) (z : ℤ) → IsWithin (pos m) z → IsWithin (pos (k * m)) (pos k *ℤ z)
 times_within k m (pos a) h =
     let high = h.high in
@@ -88,7 +88,7 @@ times_within k m (negsuc a) h =
     (omega arith) in
     record { low = omega (arith, ints, e, is); high = omega (arith, ints, e, is) }
 
--- what is within units of 0.000001 gon, doubled, in halves of 0.000000001 gon
+-- What is within units of 0.000001 gon, doubled, in halves of 0.000000001 gon.
 twice_within : (w e q : ℕ) (z : ℤ) → IsWithin (pos (w * (1_000 * e * q))) z
     → IsWithin (pos (2_000 * w * (e * q))) (pos 2 *ℤ z)
 twice_within w e q z h =
@@ -122,6 +122,7 @@ module _ (sets targets : ℕ) (c other : Choice) (observations : List TurnedObse
       (in_middle apart is.spread near c.denominator other.denominator m _ is.rounded_up.not_below
       inside (n.directions t h))
 
+  -- One rotation brings the stated directions within so many units of every choice so near.
   pub all_brought : AreBroughtWithin targets other stated apart
   all_brought = record {
     parts = 2 * c.denominator;
@@ -132,7 +133,7 @@ module _ (sets targets : ℕ) (c other : Choice) (observations : List TurnedObse
     each = λ t h. twice_within apart other.denominator (2 * c.denominator) _ (brought t h);
   }
 
--- twice a difference from one choice, by that from the other
+-- Twice a difference from one choice, by that from the other.
 from_other : (d e q : ℕ) (a b s k t p off : ℤ)
     → pos (2 * (q * e)) *ℤ ((pos d *ℤ s -ℤ pos 5_000 *ℤ a) +ℤ pos (d * 400_000_000_000) *ℤ (k -ℤ t))
     ≡ (pos d *ℤ (pos 2 *ℤ (pos q *ℤ ((pos e *ℤ s -ℤ pos 5_000 *ℤ b)
@@ -151,7 +152,7 @@ from_other d e q a b s k t p off =
     ⊖ e' ⊗ num a) ⊖ num off)) ⊕ (num (pos (2 * d)) ⊗ num p ⊕ num (pos (10_000 * q)) ⊗ num off))
     (omega arith)
 
--- two numbers within bounds, from below the middle by both and as far above
+-- Two numbers within bounds, from below the middle by both and as far above.
 around_low : (m n : ℕ) (x y z middle : ℤ) → x ≡ (y +ℤ z) +ℤ middle → IsWithin (pos m) y
     → IsWithin (pos n) z → (middle -ℤ pos (m + n)) ≤ℤ x
 around_low m n x y z middle is h k = let a = h.low in let b = k.low in omega (arith, ints, is, a, b)
@@ -161,7 +162,7 @@ around_high : (m n : ℕ) (x y z middle : ℤ) → x ≡ (y +ℤ z) +ℤ middle 
 around_high m n x y z middle is h k = let a = h.high in let b = k.high in
     omega (arith, ints, is, a, b)
 
--- the narrowest arc is no wider than what a rotation reaches and what is left open
+-- The narrowest arc is no wider than what a rotation reaches and what is left open.
 no_wider : (d e q near v spread : ℕ) → 1 ≤ q * e
     → 2 * (q * e) * spread ≤ 2 * (d * (v * (e * q)) + 10_000 * q * (near * e))
     → spread ≤ v * d + 10_000 * near
@@ -169,7 +170,7 @@ no_wider d e q near v spread some short =
     let h : q * e * spread ≤ q * e * (v * d + 10_000 * near) = omega (arith, short) in
     le_of_mul-le-mul_left h some
 
--- so it is rounded up to less than that, 1 unit and a quarter
+-- So it is rounded up to less than that, 1 unit and a quarter.
 little_more : (d near v spread w : ℕ) → spread ≤ v * d + 10_000 * near
     → w * (2_000 * d) < spread + 10_000 * near + 2_000 * d → 5_000 * near < 125 * d
     → 2_000 * w < v + 2_500
@@ -213,7 +214,8 @@ module _ (sets targets : ℕ) (c other : Choice) (observations : List TurnedObse
         (times_within (10_000 * b.parts) (near * other.denominator) _ (n.directions t h));
   }
 
-  -- what a rotation brings so near to what is near is apart by less than that, 1 unit and a quarter
+  -- What a rotation brings so near to what is near is apart by less than that, 1 unit and a
+  -- quarter.
   pub apart_at_most : 2_000 * apart < v + 2_500
   apart_at_most =
       let parts : 1 ≤ b.parts * other.denominator = mul-le-mul b.positive some in

@@ -1,18 +1,18 @@
 -- The way round a circle, and arcs that hold angles.
 use Rattle.std.proofs.Common.{◌≡◌, ℕ, zero, suc, ◌+◌, ◌*◌, ◌/◌, ◌%◌, ◌≤◌, ◌<◌, ◌+ℤ◌, ℤ, pos, negsuc}
 use Rattle.std.proofs.Common.{arith, subst}
-use Rattle.std.specs.Prelude.{max, min}
+use Rattle.std.specs.Prelude.{max}
 use Rattle.std.specs.Int.{int_rem_euclid}
 use Rattle.std.specs.Int.RustNames.{unsigned_abs}
 use Rattle.std.proofs.Math.IntN.{◌*ℤ◌, ◌-ℤ◌}
 use Rattle.std.proofs.lemmas.Int.{ints}
 use Rattle.std.proofs.lemmas.Grind.{common_steps}
-use Rattle.std.specs.Ordering.{nat_cmp, ord_max, ord_min}
+use Rattle.std.specs.Ordering.{nat_cmp, ord_max}
 use native.Mathlib.Decide.{dec_le}
 use Rattle.adjust_kernel.proofs.Ring.{num, ◌⊖◌, ◌⊗◌, same_value}
 use Rattle.sheet_apart.specs.Arcs.{IsExtent, IsWayRound}
 
--- what is left of a number after full circles
+-- What is left of a number after full circles.
 left_of_circles : (z : ℤ) (circle : ℕ) → 1 ≤ circle
     → (turns : ℤ) × (pos (unsigned_abs (int_rem_euclid z (pos circle))) ≡ z +ℤ pos circle *ℤ turns)
     × (unsigned_abs (int_rem_euclid z (pos circle)) < circle)
@@ -31,13 +31,14 @@ left_of_circles (negsuc a) circle h =
     let d : circle * q + a % circle ≡ a = omega arith in
     (pos (q + 1), omega (arith, ints, e, d), omega arith)
 
+-- The way round from an angle to another is their difference, less full circles.
 pub way_round_is : (circle : ℕ) (from to : ℤ) → 1 ≤ circle
     → IsWayRound circle from to (unsigned_abs (int_rem_euclid (to -ℤ from) (pos circle)))
 way_round_is circle from to h =
     let (turns, is, below) = left_of_circles (to -ℤ from) circle h in
     record { turns = turns; there = omega (arith, ints, is); below = below }
 
--- numbers below a circle that differ by full circles are one
+-- Numbers below a circle that differ by full circles are one.
 pub no_circle : (circle x y : ℕ) (k : ℤ) → x < circle → y < circle
     → pos x ≡ pos y +ℤ pos circle *ℤ k → x ≡ y
 no_circle circle x y (pos zero) hx hy e =
@@ -55,8 +56,8 @@ no_circle circle x y (negsuc n) hx hy e =
     ⊖ num (pos (circle + circle * n))) (omega arith) in
     absurd (omega (arith, ints, e, f))
 
--- there is one way round
-pub one_way : (circle : ℕ) (from to : ℤ) (a b : ℕ) → IsWayRound circle from to a
+-- There is one way round.
+one_way : (circle : ℕ) (from to : ℤ) (a b : ℕ) → IsWayRound circle from to a
     → IsWayRound circle from to b → a ≡ b
 one_way circle from to a b f g =
     let s = f.turns in
@@ -68,20 +69,18 @@ one_way circle from to a b f g =
     let q = g.there in
     no_circle circle a b (s -ℤ t) f.below g.below (omega (arith, ints, p, q, d))
 
+-- No angle needs an arc: its width is 0.
 pub no_extent : (circle : ℕ) (angle : ℕ → ℤ) (start : ℕ) → IsExtent circle angle 0 start 0
 no_extent circle angle start = record {
   held = λ i h. absurd (omega arith);
   narrowest = λ width h. omega arith;
 }
 
--- the larger and the smaller of two numbers, as `max` and `min` answer
+-- The larger of two numbers is what `max` answers.
 pub larger_is : (a b : ℕ) → ord_max nat_cmp a b ≡ max a b
 larger_is a b = grind (arith, common_steps)
 
-pub smaller_is : (a b : ℕ) → ord_min nat_cmp a b ≡ min a b
-smaller_is a b = grind (arith, common_steps)
-
--- the extent with one angle more
+-- The arc from one angle that holds one angle more is as wide as the longer way.
 pub next_extent : (circle : ℕ) (angle : ℕ → ℤ) (count start extent way : ℕ)
     → IsExtent circle angle count start extent → IsWayRound circle (angle start) (angle count) way
     → IsExtent circle angle (count + 1) start (max extent way)

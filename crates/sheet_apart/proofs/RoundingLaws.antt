@@ -18,7 +18,7 @@ use Rattle.sheet_apart.proofs.ApartLaws.{times_within}
 use Rattle.sheet_apart.proofs.ArcLaws.{no_circle}
 use Rattle.sheet_nearness.specs.Nearness.{IsNear}
 
--- what is left of whole steps after full circles is whole steps
+-- What is left of whole steps after full circles is whole steps.
 left_is_whole : (steps step circles left k : ℕ) → 1 ≤ step
     → steps * step ≡ circles * (k * step) + left → left % step ≡ 0
 left_is_whole steps step circles left k some is =
@@ -50,6 +50,7 @@ twice_is d step n x q left a turns is there =
     ap (λ z. pos 2 *ℤ z) (sym there) ∙ twice in
     omega (arith, ints, h, steps, back)
 
+-- The nearest whole number of steps, less full circles, is the rounded direction.
 pub rounded_is : (c : Choice) (t step n x : ℕ) → 1 ≤ step → CIRCLE % step ≡ 0
     → IsWayRound (circle_of c) (pos 0) (pos 5_000 *ℤ c.direction t) x
     → 2 * (n * (c.denominator * step)) ≤ 2 * x + c.denominator * step
@@ -71,7 +72,8 @@ rounded_is c t step n x some whole way low high =
       high = omega (arith, ints, is, low);
     }
 
--- twice what a rounded direction is more than another choice's, by what it is more than the sheet's
+-- Twice what a rounded direction is more than another choice's, by what it is more than the
+-- sheet's.
 from_sheet : (d e : ℕ) (a b s k t off : ℤ)
     → pos 2 *ℤ (pos d *ℤ ((pos e *ℤ s -ℤ pos 5_000 *ℤ b) +ℤ pos (e * 400_000_000_000) *ℤ (t +ℤ k))
     -ℤ (pos 0 -ℤ pos 5_000 *ℤ off))
@@ -90,7 +92,7 @@ from_sheet d e a b s k t off =
     ⊖ num off))
     (omega arith)
 
--- half a step and what is left open, over both denominators
+-- Half a step and what is left open, over both denominators.
 both_within : (step left near d e : ℕ) (x y : ℤ) → 10_000 * near ≤ left * d
     → IsWithin (pos (e * (step * d))) x → IsWithin (pos (10_000 * (near * e))) y
     → IsWithin (pos ((step + left) * (e * d))) (x -ℤ y)
@@ -102,7 +104,7 @@ both_within step left near d e x y few first second =
     let s = second.high in
     record { low = omega (arith, ints, a, p, q, r, s); high = omega (arith, ints, a, p, q, r, s) }
 
--- twice what two rounded directions are more than one direction, by their steps
+-- Twice what two rounded directions are more than one direction, by their steps.
 abbrev twice_off : ℕ → ℕ → ℕ → ℤ → ℤ → ℤ
 twice_off d rounded circle v k = pos 2 *ℤ ((pos d *ℤ pos rounded -ℤ v) +ℤ pos (d * circle) *ℤ k)
 
@@ -118,7 +120,7 @@ steps_apart d m n q step v j k =
     (num (pos (2 * (step * d))) ⊗ ((num (pos m) ⊖ num (pos n)) ⊕ num (pos q) ⊗ (num j ⊖ num k)))
     (omega arith)
 
--- a multiple that is smaller in size than once is none
+-- A multiple that is smaller in size than once is none.
 none_of : (w : ℕ) (z : ℤ) → (neg_ℤ (pos w)) <ℤ (pos w *ℤ z) → (pos w *ℤ z) <ℤ pos w → z ≡ pos 0
 none_of w (pos zero) low high = refl
 none_of w (pos (suc n)) low high =
@@ -130,7 +132,7 @@ none_of w (negsuc n) low high =
     (omega arith) in
     absurd (omega (arith, ints, e, low))
 
--- a rounded direction is one number
+-- A rounded direction is one number.
 pub one_rounded : (c : Choice) (t step a b : ℕ) → 1 ≤ c.denominator → 1 ≤ step → CIRCLE % step ≡ 0
     → IsRounded c t step a → IsRounded c t step b → a ≡ b
 one_rounded c t step a b positive some whole ra rb =
@@ -171,7 +173,7 @@ one_rounded c t step a b positive some whole ra rb =
     (omega arith) in
     no_circle 400_000_000_000 a b (k -ℤ j) ra.below rb.below (omega (arith, ints, scaled, nothing))
 
--- a direction of 0 is rounded to 0
+-- A direction of 0 is rounded to 0.
 pub rounded_of_0 : (c : Choice) (t step rounded : ℕ) → 1 ≤ c.denominator → 1 ≤ step
     → CIRCLE % step ≡ 0 → c.direction t ≡ pos 0 → IsRounded c t step rounded → rounded ≡ 0
 rounded_of_0 c t step rounded positive some whole at_0 r =
@@ -192,12 +194,12 @@ rounded_of_0 c t step rounded positive some whole at_0 r =
 
 module _ (targets step : ℕ) (c : Choice) (stated : ℕ → ℕ) (each : (t : ℕ) → t < targets
     → IsRounded c t step (stated t)) where
-  -- the full circles of a target
+  -- The full circles of a target.
   abbrev circles_of : (t : ℕ) → Dec (suc t ≤ targets) → ℤ
   circles_of t (yes h) = (each t h).circles
   circles_of t (no h) = pos 0
 
-  -- a rounded direction is within half a step
+  -- A rounded direction is within half a step.
   within_half : (t : ℕ) → t < targets → (d : Dec (suc t ≤ targets))
       → IsWithin (pos (step * c.denominator)) (twice_more c t (stated t) (circles_of t d))
   within_half t h (yes e) = let a = (each t e).low in record {
@@ -241,7 +243,7 @@ module _ (targets step : ℕ) (c : Choice) (stated : ℕ → ℕ) (each : (t : �
         (times_within other.denominator (step * c.denominator) _ (within_half t h d))
         (times_within 10_000 (near * other.denominator) _ (n.directions t h)))
 
-    -- rounded directions, beside every choice as near
+    -- Rounded directions, beside every choice as near.
     pub rounded_near : AreBroughtNear targets other (λ t. pos (stated t)) (step + left)
     rounded_near = record {
       parts = c.denominator;
@@ -251,7 +253,7 @@ module _ (targets step : ℕ) (c : Choice) (stated : ℕ → ℕ) (each : (t : �
       each = λ t h. near_each t h (dec_le (suc t) targets);
     }
 
--- half of so little is rounded up to 1 unit
+-- Half of so little is rounded up to 1 unit.
 one_at_most : (d near spread w : ℕ) → spread ≤ 1_000 * d → 5_000 * near < 125 * d
     → w * (2_000 * d) < spread + 10_000 * near + 2_000 * d → w ≤ 1
 one_at_most d near spread zero narrow clear least = omega arith
@@ -259,7 +261,7 @@ one_at_most d near spread (suc zero) narrow clear least = omega arith
 one_at_most d near spread (suc (suc w)) narrow clear least =
     absurd (omega (arith, narrow, clear, least))
 
--- what was rounded to steps that are small is apart by 1 unit at most
+-- What was rounded to steps that are small is apart by 1 unit at most.
 pub rounded_agrees : (targets step near apart : ℕ) (c : Choice) (stated : ℕ → ℕ) → step ≤ UNIT
     → IsClear c near
     → ((t : ℕ) → t < targets → IsRounded c t step (stated t))

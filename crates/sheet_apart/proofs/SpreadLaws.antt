@@ -12,6 +12,7 @@ use Rattle.adjust_kernel.proofs.Ring.{num, ◌⊕◌, ◌⊖◌, ◌⊗◌, same
 use Rattle.sheet_apart.specs.Arcs.{IsArc, IsExtent, IsSpread, IsWayRound}
 use Rattle.sheet_apart.proofs.ArcLaws.{way_round_is}
 
+-- Of two numbers one is not above the other.
 pub one_is_first : (a b : ℤ) → (a ≤ℤ b) ⊎ (b ≤ℤ a)
 one_is_first (pos a) (pos b) = by (dec_le a b)
   where
@@ -26,12 +27,12 @@ one_is_first (negsuc a) (negsuc b) = by (dec_le b a)
     by (yes h) = inl (omega (arith, ints, h))
     by (no h) = inr (omega (arith, ints, h))
 
--- one of some numbers is the lowest
-pub record IsLowest (f : ℕ → ℤ) (count place : ℕ) : Type 0 where
+-- One of some numbers is the lowest.
+record IsLowest (f : ℕ → ℤ) (count place : ℕ) : Type 0 where
   pub inside : place < count
   pub low : (i : ℕ) → i < count → f place ≤ℤ f i
 
-pub lowest : (f : ℕ → ℤ) (count : ℕ) → (place : ℕ) × IsLowest f (suc count) place
+lowest : (f : ℕ → ℤ) (count : ℕ) → (place : ℕ) × IsLowest f (suc count) place
 lowest f zero = (
   0,
   record {
@@ -70,7 +71,7 @@ lowest f (suc count) = by (lowest f count)
           },
         )
 
--- what is less than a circle onward, but for full circles, is the way round itself
+-- What is less than a circle onward, but for full circles, is the way round itself.
 within_way : (circle parts width way : ℕ) (k : ℤ) → 1 ≤ parts → way < circle
     → width < parts * circle
     → pos 0 ≤ℤ (pos parts *ℤ (pos way +ℤ pos circle *ℤ k))
@@ -89,8 +90,8 @@ within_way circle parts width way (negsuc n) some below narrow low high =
     let f : parts * way < parts * circle = mul-lt-mul_of_pos_left below some in
     absurd (omega (arith, ints, e, f, low))
 
--- from the lowest angle of an arc that is less than a circle to another, the way round is no longer
--- than the arc
+-- From the lowest angle of an arc that is less than a circle to another, the way round is no longer
+-- than the arc.
 way_in_arc : (circle parts width way : ℕ) (a b j k turns start : ℤ) → 1 ≤ parts → way < circle
     → width < parts * circle
     → a +ℤ pos way ≡ b +ℤ pos circle *ℤ turns
@@ -114,7 +115,7 @@ way_in_arc circle parts width way a b j k turns start some below narrow there fi
     within_way circle parts width way (k -ℤ turns -ℤ j) some below narrow
     (omega (arith, ints, is, low)) (omega (arith, ints, is, first, high))
 
--- no arc from one of the angles is narrower
+-- No arc from one of the angles is narrower.
 abbrev pub IsNoWider : (circle : ℕ) (angle : ℕ → ℤ) (count start narrowest : ℕ) → Type 0
 IsNoWider circle angle count start narrowest = (width : ℕ)
     → ((i : ℕ) → i < count → (way : ℕ) → IsWayRound circle (angle start) (angle i) way
@@ -122,7 +123,7 @@ IsNoWider circle angle count start narrowest = (width : ℕ)
     → narrowest ≤ width
 
 module _ (circle : ℕ) (angle : ℕ → ℤ) where
-  -- the way round from one of the angles to another
+  -- The way round from one of the angles to another.
   abbrev onward : (start i : ℕ) → ℕ
   onward start i = unsigned_abs (int_rem_euclid (angle i -ℤ angle start) (pos circle))
 
@@ -141,8 +142,8 @@ module _ (circle : ℕ) (angle : ℕ → ℤ) where
       let n = once (angle i +ℤ pos circle *ℤ w.turns) in
       (omega (arith, ints, t, n), omega (arith, ints, t, n, h))
 
-  -- an extent is the width of an arc
-  pub extent_arc : (count start extent : ℕ) → 1 ≤ circle → IsExtent circle angle count start extent
+  -- An extent is the width of an arc.
+  extent_arc : (count start extent : ℕ) → 1 ≤ circle → IsExtent circle angle count start extent
       → IsArc circle angle count 1 extent
   extent_arc count start extent some e = record {
     start = angle start;
@@ -153,17 +154,19 @@ module _ (circle : ℕ) (angle : ℕ → ℤ) where
         (way_is start i some))).1;
   }
 
-  pub extent_below : (count start extent : ℕ) → 1 ≤ circle
+  -- An extent is less than a circle.
+  extent_below : (count start extent : ℕ) → 1 ≤ circle
       → IsExtent circle angle count start extent → extent < circle
   extent_below count start extent some e = let f = e.narrowest (circle - 1) (λ i h size w. (let b =
       w.below in omega (arith, b))) in omega (arith, f)
 
-  -- one start more: the narrower of what was the narrowest before and of its extent
+  -- The narrowest of the arcs from the first so many angles, or a circle where there is none yet.
   pub record IsNarrowest (count starts narrowest : ℕ) : Type 0 where
     pub reached : (narrowest ≡ circle) ⊎ IsArc circle angle count 1 narrowest
     pub below : 1 ≤ starts → narrowest < circle
     pub least : (j : ℕ) → j < starts → IsNoWider circle angle count j narrowest
 
+  -- Before any start it is the circle.
   pub no_start : (count : ℕ) → IsNarrowest count 0 circle
   no_start count = record {
     reached = inl refl;
@@ -195,6 +198,7 @@ module _ (circle : ℕ) (angle : ℕ → ℤ) where
       → IsWayRound circle (angle k) (angle i) way → way ≤ width) here all) in
       omega (arith, a)
 
+  -- With one start more it is the narrower of what it was and of the arc from that start.
   pub next_start : (count starts narrowest extent : ℕ) → 1 ≤ circle
       → IsNarrowest count starts narrowest → IsExtent circle angle count starts extent
       → IsNarrowest count (starts + 1) (min narrowest extent)
@@ -227,7 +231,8 @@ module _ (circle : ℕ) (angle : ℕ → ℤ) where
         times : narrowest ≤ width / parts → parts * narrowest ≤ width
         times h = let e = (le-div_iff_mul-le some).0 h in omega (arith, e)
 
-    pub spread_is : IsArc circle angle (suc count) 1 narrowest
+    -- What is no wider than the arcs from all angles is the spread.
+    spread_is : IsArc circle angle (suc count) 1 narrowest
         → IsSpread circle angle (suc count) narrowest
     spread_is arc = record {
       held = arc;
@@ -242,6 +247,7 @@ module _ (circle : ℕ) (angle : ℕ → ℤ) where
         by parts width some a (no h) = narrow parts width some (omega (arith, h)) a
             (lowest (λ i. pos parts *ℤ (angle i +ℤ pos circle *ℤ a.circles i)) count)
 
+  -- The narrowest arc from any of the angles is the narrowest of all arcs that hold them.
   pub all_starts : (count narrowest : ℕ) → 1 ≤ count → IsNarrowest count count narrowest
       → IsSpread circle angle count narrowest
   all_starts zero narrowest some n = absurd (omega (arith, some))

@@ -5,7 +5,7 @@ use Rattle.std.proofs.Common.{arith, ap, sym, ◌∙◌, add-one}
 use Rattle.std.proofs.Math.Seq.{take-suc}
 use Rattle.std.proofs.lemmas.List.{map-append}
 
--- one element more
+-- With one more element made, the list stands for one more of the other list.
 pub mapped_more : {A B : Type 0} (f : A → B) (made : List A) (one : A) (all : List B) (n : ℕ)
     (none : B)
     → map f made ≡ take n all → n < length all → f one ≡ get_or all n none
@@ -16,6 +16,6 @@ mapped_more f made one all n none so_far inside same =
     ∙ sym (take-suc all n none inside)
     ∙ ap (λ k. take k all) (sym (add-one n))
 
--- where something holds of some element, there is one
+-- Where something holds of some element, there is one.
 pub some_element : {X : Type 0} (P : X → Type 0) (xs : List X) → Any P xs → 1 ≤ length xs
 some_element P xs (k, x, inside, at, holds) = omega (arith, inside)

@@ -17,11 +17,11 @@ use Rattle.adjust_kernel.specs.declared.row.Row.{Row}
 use Rattle.sheet_nearness.specs.Nearness.{IsNear, IsNearAllNoLarger}
 use Rattle.stated_directions.specs.LeastOf.{IsLeastOf, observed_with}
 
--- the observations with no full turns
+-- The observations with no full turns.
 abbrev plain : List Obs → List TurnedObservation
 plain obs = map (λ o. turned_by o (pos 0)) obs
 
--- other turns take the place of those of the rows
+-- Other turns take the place of those of the rows.
 other_turns : (obs : List Obs) (rows : List Row) (turns : List ℤ) → length rows ≡ length obs
     → with_turns (turned_by_rows obs rows) turns ≡ with_turns (plain obs) turns
 other_turns [] rows turns h = refl
@@ -30,7 +30,7 @@ other_turns (o ∷ obs) (r ∷ rows) [] h = refl
 other_turns (o ∷ obs) (r ∷ rows) (k ∷ turns) h =
     ap (λ rs. turned_by o k ∷ rs) (other_turns obs rows turns (omega (arith, h)))
 
--- the turns of the rows are such turns
+-- The turns of the rows are such turns.
 own_turns : (obs : List Obs) (rows : List Row) → length rows ≡ length obs
     → turned_by_rows obs rows ≡ with_turns (plain obs) (map (λ r. r.turn) rows)
 own_turns [] rows h = refl
@@ -44,19 +44,19 @@ as_many [] rows h = refl
 as_many (o ∷ obs) [] h = absurd (omega (arith, h))
 as_many (o ∷ obs) (r ∷ rows) h = omega (arith, as_many obs rows (omega (arith, h)))
 
--- a sheet of the station has a row for each observation
-pub a_row_each : (station : StationValue) (sheet : SheetValue) → Matches station sheet
+-- A sheet of the station has a row for each observation.
+a_row_each : (station : StationValue) (sheet : SheetValue) → Matches station sheet
     → length sheet.rows ≡ length station.obs
 a_row_each station sheet matches = sym (length-map sheet.rows key_of_row) ∙ ap length matches.rows
     ∙ length-map station.obs (key_of_obs station.sets station.targets)
 
--- and a direction for each target
+-- And a direction for each target.
 pub a_direction_each : (station : StationValue) (sheet : SheetValue) → Matches station sheet
     → length sheet.directions ≡ length station.targets
 a_direction_each station sheet matches = sym (length-map sheet.directions
     (λ (d : Direction). d.name)) ∙ ap length matches.targets
 
--- every least-squares choice is near
+-- Every least-squares choice of a station is near a sheet of it.
 pub least_is_near : (station : StationValue) (sheet : SheetValue) (near : ℕ) (c : Choice)
     (turns : List ℤ)
     → Matches station sheet → 1 ≤ sheet.denominator → IsNearAllNoLarger station sheet near
@@ -80,11 +80,11 @@ least_is_near station sheet near c turns matches positive all l =
     (sym (own_turns station.obs sheet.rows rows)) no_larger) in
     all c turns (l.each ∙ sym count) l.positive here
 
--- the turns of a sheet's rows
+-- The turns of a sheet's rows.
 abbrev pub turns_of : SheetValue → List ℤ
 turns_of sheet = map (λ r. r.turn) sheet.rows
 
--- a sheet with no larger sum of squares than another of its station is near that
+-- A sheet with no larger sum of squares than another of its station is near that.
 pub sheet_is_near : (station : StationValue) (sheet other : SheetValue) (near : ℕ)
     → Matches station sheet → Matches station other → 1 ≤ other.denominator
     → IsNearAllNoLarger station sheet near

@@ -4,7 +4,7 @@ use Rattle.std.proofs.Common.{length-append, arith, refl, sym, subst}
 use Rattle.std.proofs.lemmas.List.{get_or_append_left, get_or_push}
 use native.Mathlib.Decide.{dec_le}
 
--- one element more
+-- A list with one more element, which has the property at its place, has it at each place.
 pub one_more : (P : ℕ → ℕ → Type 0) (made : List ℕ) (one : ℕ)
     → ((t : ℕ) → t < length made → P t (get_or made t 0)) → P (length made) one
     → (t : ℕ) → t < length (made ++ (one ∷ [])) → P t (get_or (made ++ (one ∷ [])) t 0)

@@ -17,7 +17,7 @@ module _ (part_of_set part_of_target : ℕ → Bool) where
   abbrev in_one_part : TurnedObservation → Type 0
   in_one_part r = part_of_set r.set ≡ part_of_target r.target
 
-  -- no observation stands between two parts, with other full turns either
+  -- No observation stands between two parts, with other full turns either.
   with_other_turns : (obs : List Obs) (rows others : List Row) → length rows ≡ length obs
       → HasNoneBetween part_of_set part_of_target (turned_by_rows obs rows)
       → HasNoneBetween part_of_set part_of_target (turned_by_rows obs others)
@@ -30,7 +30,7 @@ module _ (part_of_set part_of_target : ℕ → Bool) where
       (with_other_turns obs rows others (omega (arith, count))
       (All-tail in_one_part _ (turned_by_rows obs rows) h))
 
--- a station whose sheet is measured is held together
+-- A station whose sheet is measured is held together.
 pub measured_is_tied : (station : StationValue) (limit : ℕ) (sheet : SheetValue)
     (nearness : Nearness) → IsMeasured station limit sheet nearness → AreTied station
 measured_is_tied station limit sheet nearness m = λ rows count divided.

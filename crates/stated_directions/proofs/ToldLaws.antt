@@ -30,15 +30,15 @@ as_stated_at [] (suc t) = refl
 as_stated_at (d ∷ directions) zero = refl
 as_stated_at (d ∷ directions) (suc t) = as_stated_at directions t
 
--- rounded directions as stated, target by target
-pub as_stated_is : (directions : List ℕ) → (λ t. pos (get_or directions t 0)) ≡ as_stated directions
+-- Rounded directions as stated, target by target.
+as_stated_is : (directions : List ℕ) → (λ t. pos (get_or directions t 0)) ≡ as_stated directions
 as_stated_is directions = λ i. λ t. as_stated_at directions t i
 
--- what is clear has a denominator
-pub some_parts : (c : Choice) (near : ℕ) → IsClear c near → 1 ≤ c.denominator
+-- What is clear has a denominator.
+some_parts : (c : Choice) (near : ℕ) → IsClear c near → 1 ≤ c.denominator
 some_parts c near clear = omega (arith, clear)
 
--- stated directions that a sheet tells, beside a least-squares choice
+-- Stated directions that a sheet tells, beside a least-squares choice.
 module _ (station : StationValue) (limit apart : ℕ) (stated : ℕ
     → ℤ) (told : IsTold station limit stated apart) (c : Choice) (turns : List ℤ)
     (l : IsLeastOf station c turns) where
@@ -49,12 +49,14 @@ module _ (station : StationValue) (limit apart : ℕ) (stated : ℕ
       (some_parts (choice_stated_by told.sheet) told.nearness.most told.clear)
       told.measured.near l
 
+  -- They are within what is told of every least-squares choice of the station.
   pub least_within : AreBroughtWithin (length station.targets) c stated apart
   least_within =
       all_brought (length station.sets) (length station.targets) (choice_stated_by told.sheet) c
       (observations station told.sheet) told.nearness.most apart stated turns told.is_apart
       near_sheet
 
+  -- And no rotation brings them 2 units nearer.
   pub least_no_nearer : 2 ≤ apart → AreBroughtWithin (length station.targets) c stated (apart - 2)
       → ⊥
   least_no_nearer two b =
@@ -64,7 +66,7 @@ module _ (station : StationValue) (limit apart : ℕ) (stated : ℕ
       (2_000 * (apart - 2)) stated turns told.is_apart told.clear l.positive near_sheet b in
       omega (arith, two, less)
 
--- the directions of a measured sheet, rounded, are told by it
+-- The directions of a measured sheet, rounded, are told by it.
 pub told_by : (station : StationValue) (limit step : ℕ) (directions : List ℕ) (sheet : SheetValue)
     (nearness : Nearness)
     → IsMeasured station limit sheet nearness → IsClear (choice_stated_by sheet) nearness.most
@@ -83,7 +85,7 @@ told_by station limit step directions sheet nearness measured clear count each =
 no_larger_itself : (c : Choice) (rs : List TurnedObservation) → IsNoLargerSum c rs c rs
 no_larger_itself c rs = omega (arith, ints)
 
--- a choice, with full turns, that is near two sheets of a station
+-- A choice, with full turns, that is near two sheets of a station.
 record IsNearBoth (station : StationValue) (first second : SheetValue)
     (one other : ℕ) : Type 0 where
   pub choice : Choice
@@ -94,7 +96,7 @@ record IsNearBoth (station : StationValue) (first second : SheetValue)
   pub to_second : IsNear (length station.sets) (length station.targets) (choice_stated_by second)
       (observations station second) other choice turns
 
--- the sheet with the smaller sum of squares is one
+-- The sheet with the smaller sum of squares is one.
 near_both : (station : StationValue) (first second : SheetValue) (one other : ℕ)
     → 1 ≤ first.denominator → 1 ≤ second.denominator
     → Matches station first → Matches station second → IsNearAllNoLarger station first one
@@ -133,7 +135,7 @@ module _ (station : StationValue) (limit step : ℕ) (directions : List ℕ)
   abbrev sheet : Choice
   sheet = choice_stated_by rounded.sheet
 
-  -- rounded directions beside a choice that is near the sheet
+  -- Rounded directions beside a choice that is near the sheet.
   brought : (left : ℕ) (other : Choice) (turns : List ℤ)
       → 10_000 * rounded.nearness.most ≤ left * sheet.denominator
       → IsNear (length station.sets) (length station.targets) sheet
@@ -147,7 +149,7 @@ module _ (station : StationValue) (limit step : ℕ) (directions : List ℕ)
       (observations station rounded.sheet) turns
       (some_parts sheet rounded.nearness.most rounded.clear) few n)
 
-  -- and beside a least-squares choice
+  -- Rounded directions are brought as near every least-squares choice, and what is left open.
   pub least_brought : (left : ℕ) (c : Choice) (turns : List ℤ)
       → 10_000 * rounded.nearness.most ≤ left * sheet.denominator
       → IsLeastOf station c turns → AreBroughtNear (length station.targets) c
@@ -157,7 +159,7 @@ module _ (station : StationValue) (limit step : ℕ) (directions : List ℕ)
       (least_is_near station rounded.sheet rounded.nearness.most c turns rounded.measured.matches
       (some_parts sheet rounded.nearness.most rounded.clear) rounded.measured.near l)
 
-  -- the first is 0, as the sheet's is
+  -- The first is 0, as the sheet's is.
   pub first_is_0 : 1 ≤ step → CIRCLE % step ≡ 0 → length directions ≡ length station.targets
       → get_or directions 0 0 ≡ 0
   first_is_0 some whole count = by (dec_le 1 (length station.targets))
@@ -168,7 +170,7 @@ module _ (station : StationValue) (limit step : ℕ) (directions : List ℕ)
           rounded.measured.matches.datum (rounded.each 0 h)
       by (no h) = get_or_past directions 0 0 (omega (arith, h, count))
 
-  -- each is below a full circle, and whole steps
+  -- Each is below a full circle, and whole steps.
   pub each_whole : length directions ≡ length station.targets
       → All (λ d. (d < CIRCLE) × (d % step ≡ 0)) directions
   each_whole count = λ t other h.
@@ -176,7 +178,7 @@ module _ (station : StationValue) (limit step : ℕ) (directions : List ℕ)
       subst (λ d. (d < CIRCLE) × (d % step ≡ 0)) (get_or_default directions t 0 other h)
       (r.below, r.whole)
 
-  -- by any sheet they are apart by 1 unit at most
+  -- By any sheet they are apart by 1 unit at most.
   pub one_at_most : (other apart : ℕ) → IsTold station other (as_stated directions) apart
       → step ≤ 1_000 → apart ≤ 1
   one_at_most other apart told small =
@@ -193,7 +195,7 @@ module _ (station : StationValue) (limit step : ℕ) (directions : List ℕ)
       (omega (arith, clear)) n.to_first) in
       omega (arith, less, small)
 
--- by one sheet stated directions are apart by little more than by another
+-- By one sheet stated directions are apart by little more than by another.
 pub little_more : (station : StationValue) (limit other apart otherwise : ℕ) (stated : ℕ → ℤ)
     → IsTold station limit stated apart → IsTold station other stated otherwise
     → apart ≤ otherwise + 1

@@ -3,7 +3,7 @@ use Rattle.adjust_kernel.specs.Matching.{key_of_row, key_of_obs}
 use Rattle.adjust_kernel.specs.Sheets.{IsRow}
 use Rattle.sheet_near.proofs.parts.rows_of.Given as goal
 
--- the rows of the observations so far
+-- The rows of the observations so far.
 abbrev pub invariant-loop-obs : goal.invariant-loop-obs
 invariant-loop-obs l = record {
   keys : map key_of_row l.rows.items ≡ take l.obs-index

@@ -11,7 +11,7 @@ use Rattle.adjust_kernel.specs.declared.row.Row.{Row}
 use Rattle.sheet_near.proofs.Mapped.{some_element}
 use Rattle.sheet_near.proofs.sheet.near_sheet.Goals as goal
 
--- a row for each observation
+-- A row for each observation.
 abbrev any_row : Obs → Row
 any_row o = record { set = 0; target = []; value = 0; turn = pos 0 }
 

@@ -3,7 +3,7 @@ use Rattle.adjust_kernel.specs.Pairs.{choice_stated_by}
 use Rattle.sheet_apart.specs.Rounding.{IsRounded}
 use Rattle.stated_directions.proofs.rounded.rounded_to_steps.Given as goal
 
--- the directions of the targets so far
+-- The directions of the targets so far.
 abbrev pub invariant-loop-target : goal.invariant-loop-target
 invariant-loop-target l = record {
   count : length l.directions.items ≡ l.target;
