@@ -27,7 +27,7 @@ use Rattle.station_check.specs.Means.{HasStation}
 use Rattle.station_check.specs.StationOfFile.{IsStationOfFile}
 use Rattle.station_check.specs.KernelVerdicts.{IsJudgedSheet, IfKernels}
 
--- Lines and the end after them come to these blocks: they are the blocks of the lines behind those
+-- Lines and the end after them come to these blocks: they are the blocks of the lines after those
 -- before them, and no fault stands.
 pub record CameWell (limits : FaceLimits) (past : History) (lines : List (List ℕ))
     (last : Option FileKind) (blocks : History) : Type 0 where
@@ -38,7 +38,7 @@ pub record CameWell (limits : FaceLimits) (past : History) (lines : List (List �
   pub faultless : IsWithoutFault limits blocks
   pub closed : fault_at_end blocks ≡ None
 
--- the end of the lines, where the fault of the end is this
+-- The end of the lines, where the fault of the end is this.
 well_at_end : (limits : FaceLimits) (past blocks : History) (o : Option BookKind)
     → IsWithoutFault limits past → fault_at_end past ≡ o → Ok blocks ≡ at_end past o
     → CameWell limits past [] None blocks
@@ -48,6 +48,7 @@ well_at_end limits past blocks None clean e h =
     (record { more = []; each = tt; split = refl; ended = refl; faultless = clean; closed = e })
 well_at_end limits past blocks (Some kind) clean e h = cc
 
+-- So they are wherever lines and the end after them come to blocks.
 pub came_well : (limits : FaceLimits) (past : History) (lines : List (List ℕ))
     (last : Option FileKind) (blocks : History) → IsWithoutFault limits past
     → ComesTo limits past lines last (Ok blocks) → CameWell limits past lines last blocks
@@ -159,7 +160,7 @@ acceptance limits most file told stations a small survey judged =
       says = judged.judged.verdict.1;
     }
 
--- the same of an answer
+-- The same of an answer.
 pub accepted_so : (limits : FaceLimits) → AreLimits limits
     → (most : Option ℕ) (file : FileAnswers) (told : Told) (stations : List SurveyedStation)
     (r : Result Accepted Fault) → IsSurvey limits file stations

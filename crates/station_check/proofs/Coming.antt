@@ -8,12 +8,12 @@ use Rattle.gsi_file.specs.ToCome.{ToCome}
 use Rattle.byte_ends.specs.Came.{SomeBytesCame}
 use Rattle.station_check.specs.Came.{SomeLinesCame}
 
--- what stands at the end of some reads
+-- What stands at the end of some reads.
 pub at_last : (old new : Option Told) (P : Told → Told → Type 0) → Through old new P
     → (after : Told) × ((before : Told) × MayGive old before × P before after)
 at_last old new P p = let left = some_bytes new in (left.came, p left.came left.as_told)
 
--- what came of new lines, by what is to come of them
+-- What came of new lines, by what is to come of them.
 pub lines_came : (told known : Option Told) (next : Told → ToCome) (So : FileAnswers → Type 0)
     → known ≡ told → ((t : Told) → next t ≡ record { number = 0; answers = Some (file_answers t) })
     → SomeBytesCame known (λ t. IfSome (next t).answers So) → SomeLinesCame told So
@@ -21,7 +21,7 @@ lines_came told known next So e whole s = subst (λ (o : Option Told). SomeLines
     (came_so known (λ t. IfSome (next t).answers So) (λ t. So (file_answers t)) s
     (λ t so. subst (λ (c : ToCome). IfSome c.answers So) (whole t) so))
 
--- of two readers that tell, what came is what they tell
+-- Of two readers that tell, what came is what they tell.
 pub both_told : (x y gsi sheet : Told) (P : Told → Told → Type 0)
     → SomeBytesCame (Some x) (λ a. SomeBytesCame (Some y) (λ b. P a b)) → x ≡ gsi → y ≡ sheet
     → P gsi sheet

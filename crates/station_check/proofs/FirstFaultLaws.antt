@@ -33,7 +33,7 @@ record ComesToFault (limits : FaceLimits) (past : History) (lines : List (List �
   pub faultless : IsWithoutFault limits (reverse_aux more past)
   pub stands : StandsNext limits (reverse_aux more past) others last fault
 
--- the fault that stands at once
+-- The fault that stands at once.
 at_once : (limits : FaceLimits) (past : History) (lines : List (List ℕ)) (last : Option FileKind)
     (fault other : Fault) → IsWithoutFault limits past → StandsNext limits past lines last other
     → other ≡ fault
@@ -50,7 +50,7 @@ at_once limits past lines last fault other clean stands same =
       stands = stands;
     })
 
--- the fault of the end
+-- The fault of the end.
 ends_with : (limits : FaceLimits) (past : History) (fault : Fault) (o : Option BookKind)
     → IsWithoutFault limits past → fault_at_end past ≡ o → Err fault ≡ at_end past o
     → ComesToFault limits past [] None fault
@@ -103,13 +103,13 @@ is_first limits answers fault h =
       stands = found.stands;
     }
 
--- where no block has a fault, none has that came before some of them
+-- Where no block has a fault, none has that came before some of them.
 pub clean_before : (limits : FaceLimits) (past : History) (more : List GsiBlock)
     → IsWithoutFault limits (reverse_aux more past) → IsWithoutFault limits past
 clean_before limits past [] clean = clean
 clean_before limits past (b ∷ more) clean = (clean_before limits (b ∷ past) more clean).1
 
--- what stands next is come to
+-- What stands next is come to.
 next_comes : (limits : FaceLimits) (past : History) (lines : List (List ℕ)) (last : Option FileKind)
     (fault : Fault) → StandsNext limits past lines last fault
     → ComesTo limits past lines last (Err fault)

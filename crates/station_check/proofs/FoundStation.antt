@@ -16,7 +16,7 @@ use Rattle.station_check.specs.StationOfFile.{IsStationOfFile}
 use Rattle.station_book.proofs.LawLemmas.{its_station}
 use Rattle.station_check.proofs.FirstFaultLaws.{clean_before}
 
--- lines that are blocks without a fault come to these
+-- Lines that are blocks without a fault come to these.
 comes_to_blocks : (limits : FaceLimits) (past : History) (lines : List (List ℕ))
     (more : List GsiBlock) → AllZip IsBlock lines more
     → IsWithoutFault limits (reverse_aux more past)
@@ -35,6 +35,7 @@ comes_to_blocks limits past (line ∷ lines) (b ∷ more) each clean closed =
           comes_to_blocks limits (b ∷ past) lines more each.1 clean closed;
     }))
 
+-- A station of the lines of a file is one that the name finds.
 pub has_station : (limits : FaceLimits) (file : FileAnswers) (name : List ℕ) (its : SurveyedStation)
     → IsStationOfFile limits file name its → HasStation limits file name its
 has_station limits file name its s =

@@ -2,24 +2,14 @@
 use Rattle.std.proofs.Common.{Option, Result, Ok, Err, refl}
 use Rattle.std.specs.Prelude.{Bool, IfErr}
 use Rattle.byte_ends.specs.Source.{Told}
-use Rattle.sheet_format.specs.declared.fault.SheetFault.{SheetFault}
-use Rattle.sheet_format.specs.declared.fault.SheetFault.TheVariants as sheet
 use Rattle.station_check.specs.declared.fault.Fault.{Fault}
 use Rattle.station_check.specs.declared.fault.Fault.TheVariants.{Gsi, Book, SheetRead, Sheet}
 use Rattle.station_check.specs.declared.fault.Fault.TheVariants.{NoStation, Means, Kernel, Write}
 use Rattle.station_check.specs.declared.fault.Fault.TheVariants.{Memory}
 use Rattle.adjust_kernel.specs.declared.accepted.Accepted.{Accepted}
-use Rattle.station_check.specs.Answerable.{of_sheet, IsOfFile, IsOfSheet}
+use Rattle.station_check.specs.Answerable.{IsOfFile, IsOfSheet}
 use Rattle.station_check.specs.Refused.{IsUnreadAtFileFault}
-use Rattle.byte_ends.specs.Came.{IsReadOut}
 use Rattle.station_check.specs.SheetInput.{LeavesAtFault}
-
--- A fault of the sheet's bytes is answered where the reader has ended.
-pub left_by_text : (fault : SheetFault) (told : Option Told) (failed failed' : Bool)
-    → IsReadOut told failed failed' → LeavesAtFault (of_sheet fault) told failed failed'
-left_by_text sheet.TooLong told failed failed' h = h.1
-left_by_text (sheet.Row number what) told failed failed' h = h
-left_by_text sheet.Memory told failed failed' h = h.1
 
 -- A fault of the field file leaves the sheet's reader as it was.
 pub left_alone : (fault : Fault) (told : Option Told) (failed : Bool) → IsOfFile fault

@@ -5,7 +5,7 @@ use Rattle.std.specs.Str.{bytes_eq}
 use Rattle.std.proofs.lemmas.Slice.Eq.{bytes_eq-Decides}
 use Rattle.station_book.specs.Stations.{SurveyedStation, station_named}
 
--- what is found passes the test
+-- What is found passes the test.
 find_passes : {X : Type 0} (p : X → Bool) (x : X) (xs : List X) → find p xs ≡ Some x → p x ≡ true
 find_passes p x [] e = cc
 find_passes p x (y ∷ ys) e = split (find_passes p x ys) (p y) refl e where

@@ -21,7 +21,7 @@ use Rattle.station_check.proofs.Acceptance.{accepted_so}
 use Rattle.station_check.proofs.OneVerdict.{only_verdict}
 use Rattle.station_check.proofs.Refusals.{refused_so, told_of_file, none_first, first}
 
--- the whole verdict on a sheet that was checked by a file's stations
+-- The whole verdict on a sheet that was checked by a file's stations.
 verdict_of : (limits : FaceLimits) (most : Option ℕ) (file : FileAnswers) (stated : Told)
     (stations : List SurveyedStation) (r : Result Accepted Fault) → IsSurvey limits file stations
     → IsChecked stations most stated r → AnswersVerdict limits most file stated r
@@ -48,7 +48,7 @@ promise_by_sheet limits small most file stated stations r s o c =
       file_first = none_first limits file stations r s;
     }
 
--- the whole verdict, where the field file has a fault
+-- The whole verdict, where the field file has a fault.
 file_verdict : (limits : FaceLimits) (most : Option ℕ) (file : FileAnswers) (stated : Told)
     (fault : Fault) → Surveys limits file (Err fault)
     → AnswersVerdict limits most file stated (Err fault)

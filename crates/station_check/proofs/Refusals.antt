@@ -35,7 +35,7 @@ use Rattle.station_check.proofs.FirstFaultLaws.{is_first}
 use Rattle.station_check.proofs.Named.{has_name}
 use Rattle.station_check.proofs.OneVerdict.{one_outcome}
 
--- a refusal by the kernel's verdict is the kernel's
+-- A refusal by the kernel's verdict is the kernel's.
 by_kernel_alone : (fault : Fault) (v : Result Accepted KernelFault) → Err fault ≡ by_kernel v
     → (k : KernelFault) × (fault ≡ Kernel k)
 by_kernel_alone fault (Ok a) e = cc
@@ -60,7 +60,7 @@ no_text : (its : Option SurveyedStation) (sheet : SheetValue) (most : Option ℕ
 no_text its sheet most fault (inl h) = let e = h.1 in cc
 no_text its sheet most fault (inr h) = let e = h.1 in cc
 
--- where a read failed, the sheet's reader broke off
+-- Where a read failed, the sheet's reader broke off.
 read_says : (stations : List SurveyedStation) (most : Option ℕ) (input : Input)
     → BySheet stations most input (Err SheetRead) → (bytes : List ℕ) × (input ≡ BrokeOff bytes)
 read_says stations most (BrokeOff bytes) h = (bytes, refl)
@@ -70,7 +70,7 @@ read_says stations most (Ended bytes) (inr h) =
     absurd (no_read (station_named h.sheet.name stations) h.sheet most
     (by_station_alone (station_named h.sheet.name stations) h.sheet most SheetRead h.verdict))
 
--- a fault of the sheet's bytes is theirs
+-- A fault of the sheet's bytes is theirs.
 text_says : (stations : List SurveyedStation) (most : Option ℕ) (input : Input) (fault : SheetFault)
     → BySheet stations most input (Err (Sheet fault)) → IsFaultOfInput input fault
 text_says stations most (BrokeOff bytes) fault h = cc
@@ -83,7 +83,7 @@ text_says stations most (Ended bytes) fault (inr h) =
     absurd (no_text (station_named h.sheet.name stations) h.sheet most fault
     (by_station_alone (station_named h.sheet.name stations) h.sheet most (Sheet fault) h.verdict))
 
--- no station was found by the name of the sheet of these bytes
+-- No station was found by the name of the sheet of these bytes.
 record FindsNone (stations : List SurveyedStation) (input : Input) : Type 0 where
   pub bytes : List ℕ
   pub whole : input ≡ Ended bytes
@@ -144,7 +144,7 @@ judged_badly limits most file told stations fault survey judged = record {
   squares = judged.judged.squares;
 }
 
--- what a refusal from the sheet on says
+-- What a refusal from the sheet on says.
 pub refusal : (limits : FaceLimits) (most : Option ℕ) (file : FileAnswers) (told : Told)
     (stations : List SurveyedStation) (fault : Fault) → IsSurvey limits file stations
     → IsOfSheet fault
@@ -176,7 +176,7 @@ refusal limits most file told stations (Kernel fault) s o j h =
 refusal limits most file told stations Write s o j h = absurd o
 refusal limits most file told stations Memory s o j h = tt
 
--- the answer by a sheet is its verdict, or that there was no memory
+-- The answer by a sheet is its verdict, or that there was no memory.
 abbrev pub AnswersSheet : List SurveyedStation → Option ℕ → Told → Result Accepted Fault → Type 0
 AnswersSheet stations most told r =
     (r ≡ Err Memory) ⊎ BySheet stations most (input_within LONGEST_SHEET told) r
@@ -231,6 +231,7 @@ its_first limits file fault k =
     λ other h. let e : Err fault
     ≡ Err other = one_outcome limits file (Err fault) (Err other) k h in inr cc
 
+-- A survey answers the fault that the file comes to, or out of memory.
 pub first : (limits : FaceLimits) (file : FileAnswers) (fault : Fault)
     → Surveys limits file (Err fault) → IsFileFirst limits file (Err fault)
 first limits file (Gsi fault) h = its_first limits file (Gsi fault) h

@@ -17,6 +17,7 @@ use Rattle.station_check.specs.Listing.{WritesList}
 use Rattle.station_check.specs.Means.{HasIncomplete, IsMeansText, WritesMeans}
 use Rattle.station_check.specs.Surveys.{Surveys}
 
+-- A list of stations may be refused with a fault of the field file.
 pub list_refused : (A : Type 0) (limits : FaceLimits) (answers : FileAnswers) (fault : Fault)
     (old new : Option (List ℕ)) → IsOfFile fault → Surveys limits answers (Err fault)
     → WritesList limits answers {A = A} (Err fault) old new
@@ -30,6 +31,7 @@ list_refused A limits answers (Kernel fault) old new o h = absurd o
 list_refused A limits answers Write old new o h = absurd o
 list_refused A limits answers Memory old new o h = tt
 
+-- So may a sheet of means.
 pub means_refused : (A : Type 0) (limits : FaceLimits) (answers : FileAnswers) (name : List ℕ)
     (fault : Fault) (old new : Option (List ℕ)) → IsOfFile fault
     → Surveys limits answers (Err fault)

@@ -24,13 +24,13 @@ use Rattle.station_check.specs.Verdicts.{ByStation, BySheet, ByFile, IsWholeVerd
 use Rattle.station_check.proofs.Acceptance.{came_well}
 use Rattle.station_check.proofs.OneVerdict.{some_end}
 
--- bytes are a sheet, or have a fault as one
-abbrev pub IsSheetOrFault : List ℕ → Type 0
+-- Bytes are a sheet, or have a fault as one.
+abbrev IsSheetOrFault : List ℕ → Type 0
 IsSheetOrFault bytes =
     ((sheet : SheetValue) × IsSheetText bytes sheet)
     ⊎ ((fault : SheetFault) × IsSheetFault bytes fault)
 
--- each station that is found by a name has an observation
+-- Each station that is found by a name has an observation.
 abbrev AreObserved : List SurveyedStation → Type 0
 AreObserved stations =
     (name : List ℕ) (s : SurveyedStation) → station_named name stations ≡ Some s
@@ -74,7 +74,7 @@ by_file limits small most file told (Ok blocks) h =
     ((book.its_station limits blocks survey.0 name s well.faultless survey.1).0 e).0) in
     (verdict.0, (survey.0, survey.1, verdict.1))
 
--- what came of two readers has a verdict
+-- What came of two readers has a verdict.
 pub some_verdict : (limits : FaceLimits) (most : Option ℕ) (file : FileAnswers) (told : Told)
     → AreLimits limits → (r : Result Accepted Fault) × IsWholeVerdict limits most file told r
 some_verdict limits most file told small =

@@ -2,7 +2,7 @@ use Rattle.std.proofs.Common.{◌≡◌, ℕ, List, ◌++◌, ap, ◌∙◌, app
 use Rattle.std.specs.Fmt.{signed_decimal}
 use Rattle.station_check.proofs.accepted.add_greatest.Goals as goal
 
--- two pieces, one after another
+-- Two pieces, one after another.
 two : (t t1 t2 a b d : List ℕ) → t1 ≡ t ++ a → t2 ≡ t1 ++ b → b ≡ d → t2 ≡ t ++ (a ++ d)
 two t t1 t2 a b d e1 e2 same =
     e2 ∙ ap (λ (r : List ℕ). r ++ b) e1 ∙ ap (λ (r : List ℕ). (t ++ a) ++ r) same

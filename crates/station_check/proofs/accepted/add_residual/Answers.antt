@@ -1,7 +1,7 @@
 use Rattle.std.proofs.Common.{◌≡◌, ℕ, List, ◌++◌, ap, ◌∙◌, append_assoc}
 use Rattle.station_check.proofs.accepted.add_residual.Goals as goal
 
--- three pieces, one after another
+-- Three pieces, one after another.
 three : (t t1 t2 t3 a b d : List ℕ) → t1 ≡ t ++ a → t2 ≡ t1 ++ b → t3 ≡ t2 ++ d
     → t3 ≡ t ++ (a ++ b ++ d)
 three t t1 t2 t3 a b d e1 e2 e3 =
