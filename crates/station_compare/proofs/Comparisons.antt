@@ -29,7 +29,7 @@ use Rattle.station_compare.specs.declared.fault.CompareFault.TheVariants.{File, 
 use Rattle.station_compare.specs.declared.fault.CompareFault.TheVariants.{Adjust, Apart, Write}
 use Rattle.station_compare.specs.declared.fault.CompareFault.TheVariants.{Memory}
 
--- a table that agrees was read to its end
+-- A table that agrees was read to its end.
 ended_by : (station : StationValue) (within : ℕ) (a : Agreement) (input : Input)
     → ByInput station within input (Ok a)
     → (bytes : List ℕ) × (input ≡ Ended bytes) × IsAgreement station bytes within a
@@ -59,7 +59,7 @@ agrees_of limits lines stated name within its a station ended = record {
   counted = ended.2.counted;
 }
 
--- no fault of the field file comes of the table
+-- No fault of the field file comes of the table.
 no_file_fault : (its : SurveyedStation) (within : ℕ) (fault : Fault) (input : Input)
     → ByInput its.station within input (Err (File fault)) → ⊥
 no_file_fault its within fault (Ended bytes) h = h
@@ -68,7 +68,7 @@ no_file_fault its within fault (BrokeOff bytes) (inr h) = cc
 no_file_fault its within fault RanPast (inl h) = cc
 no_file_fault its within fault RanPast (inr h) = cc
 
--- what is answered, where the station was found
+-- What is answered, where the station was found.
 pub compares_by_table : (limits : FaceLimits) (lines : FileAnswers) (stated : Told) (name : List ℕ)
     (within : ℕ) (its : SurveyedStation) (r : Result Agreement CompareFault)
     → IsStationOfFile limits lines name its
@@ -91,7 +91,7 @@ compares_by_table limits lines stated name within its (Err Write) station h =
     record { its = its; station = station; by_input = h }
 compares_by_table limits lines stated name within its (Err Memory) station h = tt
 
--- what is answered of a fault of the field file
+-- What is answered of a fault of the field file.
 pub compares_by_file : (limits : FaceLimits) (lines : FileAnswers) (stated : Told) (name : List ℕ)
     (within : ℕ) (fault : Fault) → IsOfFile fault → Surveys limits lines (Err fault)
     → Compares limits lines stated name within (Err (of_file fault))
@@ -105,7 +105,7 @@ compares_by_file limits lines stated name within (file.Kernel fault) o h = absur
 compares_by_file limits lines stated name within file.Write o h = absurd o
 compares_by_file limits lines stated name within file.Memory o h = tt
 
--- what a table's directions and how far they are apart say of its bytes
+-- What a table's directions and how far they are apart say of its bytes.
 pub compared : (station : StationValue) (bytes : List ℕ) (targets : List (List ℕ))
     (directions stated : List ℤ) (apart : ℕ) → targets ≡ station.targets → stated ≡ directions
     → IsTableText targets bytes directions

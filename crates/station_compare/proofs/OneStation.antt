@@ -17,7 +17,7 @@ module _ (limits : FaceLimits) (small : AreLimits limits) (file : FileAnswers) (
       → HasStation limits file name its
   has_station its s = (station_of_file limits file name its small).1 s
 
-  -- a file that has stations has no fault
+  -- A file that has stations has no fault.
   pub no_file_fault : (its : SurveyedStation) → IsStationOfFile limits file name its
       → (fault : Fault) → FileComesTo limits file (Err fault) → ⊥
   no_file_fault its s fault h =
@@ -35,7 +35,7 @@ module _ (limits : FaceLimits) (small : AreLimits limits) (file : FileAnswers) (
       one_survey limits t.blocks a b small
       (subst (λ (h : History). AreStations limits h a) same s.stations_are) t.stations_are
 
-  -- so a name has one station
+  -- So a name has one station.
   pub same_station : (a b : SurveyedStation) → IsStationOfFile limits file name a
       → IsStationOfFile limits file name b → a ≡ b
   same_station a b s t =
@@ -47,7 +47,7 @@ module _ (limits : FaceLimits) (small : AreLimits limits) (file : FileAnswers) (
       (same_survey has.stations other.stations has.survey other.survey) ∙ other.named in
       cc
 
-  -- and a file that has it is not without it
+  -- And a file that has it is not without it.
   pub never_none : (its : SurveyedStation) → IsStationOfFile limits file name its
       → HasNoStation limits file name → ⊥
   never_none its s none =

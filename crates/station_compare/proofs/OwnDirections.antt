@@ -50,16 +50,16 @@ power_small (suc (suc zero)) h = omega arith
 power_small (suc (suc (suc zero))) h = omega arith
 power_small (suc (suc (suc (suc k)))) h = absurd (omega (arith, h))
 
--- the step of 6 decimals or more
+-- The step of 6 decimals or more.
 small_step : (count : ℕ) → 6 ≤ count → step_of count ≤ 1_000
 small_step count many = power_small (9 - count) (omega (arith, many))
 
--- what rows are read as are their numbers
+-- What rows are read as are their numbers.
 read_as : (rows : List TargetDirection) → directions_of rows ≡ map pos (numbers_of rows)
 read_as [] = refl
 read_as (row ∷ rows) = ap (λ ds. pos row.direction ∷ ds) (read_as rows)
 
--- bytes that are not too many are read to their end
+-- Bytes that are not too many are read to their end.
 read_whole : (bytes : List ℕ) → length bytes ≤ LONGEST_TABLE
     → input_within LONGEST_TABLE (record { bytes = bytes; fails = false }) ≡ Ended bytes
 read_whole bytes short =
@@ -67,7 +67,7 @@ read_whole bytes short =
     (le-ltb LONGEST_TABLE (length bytes) short)
 
 module _ (count : ℕ) (text : List ℕ) (many : 6 ≤ count) where
-  -- own directions beside their station
+  -- Own directions beside their station.
   module _ (station : StationValue) (own : IsDirectionsText station count text) where
     own_apart : (directions : List ℤ) (apart : ℕ) → IsTableText station.targets text directions
         → IsTold station LARGEST_RESIDUAL_LIMIT (stated_by directions) apart → apart ≤ 1
@@ -119,13 +119,14 @@ module _ (count : ℕ) (text : List ℕ) (many : 6 ≤ count) where
     read : input_within LONGEST_TABLE whole ≡ Ended text
     read = read_whole text own.directions.reads.short
 
-    -- the station that a comparison finds is that of the directions
+    -- The station that a comparison finds is that of the directions.
     its : (other : SurveyedStation) → IsStationOfFile limits file name other
         → IsDirectionsText other.station count text
     its other s =
         subst (λ (o : SurveyedStation). IsDirectionsText o.station count text)
         (same_station limits small file name own.its other own.station s) own.directions
 
+    -- Where own directions agree with their file, they are apart by 1 unit at most.
     pub agrees_by_1 : (within : ℕ) (a : Agreement) → Agrees limits file whole name within a
         → a.apart ≤ 1
     agrees_by_1 within a h =
@@ -163,6 +164,7 @@ module _ (count : ℕ) (text : List ℕ) (many : 6 ≤ count) where
     refused_by_file within lines.Memory h =
         no_file_fault limits small file name own.its own.station lines.Memory h
 
+    -- They are refused for being apart by 1, where 0 was asked for, for another sheet, or memory.
     pub may_refuse : (within : ℕ) (fault : CompareFault)
         → Compares limits file whole name within (Err fault) → MayRefuse within fault
     may_refuse within (File fault) h = refused_by_file within fault h

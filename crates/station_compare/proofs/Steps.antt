@@ -3,6 +3,7 @@ use Rattle.std.proofs.Common.{◌≡◌, ◌≤◌, ◌%◌, ℕ, zero, suc, ref
 use Rattle.sheet_apart.specs.declared.units.TheConstants.{CIRCLE}
 use Rattle.direction_table.specs.Texts.{AreDecimals, step_of}
 
+-- The step of so many decimals is at least 1, and a full circle is whole steps.
 pub fits : (n : ℕ) → AreDecimals n → (1 ≤ step_of n) × (CIRCLE % step_of n ≡ 0)
 fits zero h = absurd (omega (arith, h))
 fits (suc zero) h = (omega arith, refl)

@@ -13,7 +13,7 @@ use Rattle.station_compare.specs.declared.fault.CompareFault.TheVariants.{File, 
 use Rattle.station_compare.specs.declared.fault.CompareFault.TheVariants.{Adjust, Apart, Write}
 use Rattle.station_compare.specs.declared.fault.CompareFault.TheVariants.{Memory}
 
--- what holds of each element's part holds of each element by its part
+-- What holds of each element's part holds of each element by its part.
 pub all_by_part : {X Y : Type 0} (P : Y → Type 0) (f : X → Y) (xs : List X) → All P (map f xs)
     → All (λ x. P (f x)) xs
 all_by_part P f [] h = All-nil (λ x. P (f x))
@@ -21,7 +21,7 @@ all_by_part P f (x ∷ xs) h =
     All-cons (λ x. P (f x)) x xs (All-head P (f x) (map f xs) h)
     (all_by_part P f xs (All-tail P (f x) (map f xs) h))
 
--- what is answered, where the station was found
+-- What is answered, where the station was found.
 pub tells_by_station : {T : Type 0} (items : T
     → List ℕ) (limits : FaceLimits) (lines : FileAnswers) (name : List ℕ) (count : ℕ)
     (its : SurveyedStation) (r : Result T CompareFault) → IsStationOfFile limits lines name its
