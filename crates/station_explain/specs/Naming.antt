@@ -8,18 +8,18 @@ use Rattle.station_explain.specs.declared.explanations.Explanation.{Explanation}
 
 -- The text has no such part.
 abbrev pub Lacks : List ℕ → List ℕ → Type 0
-Lacks part text = (front behind : List ℕ) → text ≢ front ++ (part ++ behind)
+Lacks part text = (before after : List ℕ) → text ≢ before ++ (part ++ after)
 
--- What stands in front of the last such part of a text, and what stands behind it.
-pub record SplitsAtLast (part text front behind : List ℕ) : Type 0 where
-  pub whole : text ≡ front ++ (part ++ behind)
-  pub last : Lacks part behind
+-- What stands before the last such part of a text, and what stands after it.
+pub record SplitsAtLast (part text before after : List ℕ) : Type 0 where
+  pub whole : text ≡ before ++ (part ++ after)
+  pub last : Lacks part after
 
--- The fault that a line tells of, with the number that it carries: what stands behind the line's
+-- The fault that a line tells of, with the number that it carries: what stands after the line's
 -- last ": ", or the whole of it where it has none.
 abbrev pub IsFaultIn : List ℕ → List ℕ → Type 0
 IsFaultIn line fault = (Lacks (codes ": ") line × (fault ≡ line))
-    ⊎ ((front : List ℕ) × SplitsAtLast (codes ": ") line front fault)
+    ⊎ ((before : List ℕ) × SplitsAtLast (codes ": ") line before fault)
 
 -- All its characters are digits, where it has any: a blank at the end of a line is passed over, as
 -- a number is.
@@ -30,8 +30,8 @@ IsNumber word = All (λ c. IsTrue (is_ascii_digit c)) word
 -- number.
 abbrev pub IsNameIn : List ℕ → List ℕ → Type 0
 IsNameIn fault name = (Lacks (codes " ") fault × (name ≡ fault))
-    ⊎ ((front : List ℕ) × (word : List ℕ) × SplitsAtLast (codes " ") fault front word
-    × ((IsNumber word × (name ≡ front)) ⊎ (¬ (IsNumber word) × (name ≡ fault))))
+    ⊎ ((before : List ℕ) × (word : List ℕ) × SplitsAtLast (codes " ") fault before word
+    × ((IsNumber word × (name ≡ before)) ⊎ (¬ (IsNumber word) × (name ≡ fault))))
 
 -- A line, or a part of it, has this name of a fault.
 abbrev pub Names : List ℕ → List ℕ → Type 0
