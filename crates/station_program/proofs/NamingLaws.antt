@@ -9,7 +9,7 @@ use Rattle.clap.specs.declared.parser.matches.Found.{Found}
 use Rattle.station_explain.specs.Naming.{Names}
 use Rattle.station_program.specs.CommandLine.{NamesFault}
 
--- Words with a text in front of each are the same whether they are lent or not.
+-- Words with a text before each are the same whether they are lent or not.
 lent : (between : List ℕ) (words : List (Bor (List ℕ)))
     → flat_map (λ word. between ++ word) (map (λ word. word.now) words)
     ≡ flat_map (λ word. between ++ word.now) words
