@@ -18,6 +18,3 @@ mod units;
 pub use apart::{apart_of, is_clear};
 pub use rounding::rounded;
 pub use units::{CIRCLE, CLEAR_BELOW, HALF_UNIT, UNIT};
-
-#[cfg(test)]
-mod tests;

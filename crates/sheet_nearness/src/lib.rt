@@ -11,6 +11,3 @@ mod levels;
 mod nearness;
 
 pub use nearness::{Nearness, nearness_of};
-
-#[cfg(test)]
-mod tests;

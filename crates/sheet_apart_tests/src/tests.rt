@@ -1,7 +1,7 @@
 //! Directions worked by hand.
 
-use crate::{CIRCLE, apart_of, is_clear, rounded};
 use adjust_kernel::{Direction, Name, Orientation, Row, Sheet};
+use sheet_apart::{CIRCLE, apart_of, is_clear, rounded};
 use std::alloc::Global;
 use std::process::Abort;
 use std::test::Fail;

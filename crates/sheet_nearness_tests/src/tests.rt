@@ -1,9 +1,9 @@
 //! Sheets worked by hand whose residuals don't add to 0.
 
-use crate::nearness_of;
 use adjust_kernel::{
     Direction, KernelFault, Name, Obs, Orientation, ResidualLimit, Row, Sheet, Station,
 };
+use sheet_nearness::nearness_of;
 use std::alloc::Global;
 use std::process::Abort;
 use std::test::Fail;
