@@ -160,7 +160,7 @@ acceptance limits most file told stations a small survey judged =
       says = judged.judged.verdict.1;
     }
 
--- The same of an answer.
+-- So a well judged answer of a check is an acceptance.
 pub accepted_so : (limits : FaceLimits) → AreLimits limits
     → (most : Option ℕ) (file : FileAnswers) (told : Told) (stations : List SurveyedStation)
     (r : Result Accepted Fault) → IsSurvey limits file stations
