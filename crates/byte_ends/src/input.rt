@@ -32,8 +32,8 @@ pub enum InputFault {
 ///
 /// # Errors
 ///
-/// `Read` where a read failed; `TooLong` where there are more bytes; `Memory` may stand in the place
-/// of any answer.
+/// `Read` where a read failed; `TooLong` where there are more bytes; `Memory` may stand in the
+/// place of any answer.
 pub fn read_whole<S: Source>(
     alloc: Global,
     source: &mut S,

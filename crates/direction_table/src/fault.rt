@@ -18,8 +18,8 @@ pub enum RowKind {
     /// Its name is not 1 to 16 bytes from the blank to the tilde: write the name of the field file.
     #[error("the name is not 1 to {most} bytes from the blank to the tilde", most = LONGEST_NAME)]
     Name,
-    /// Its direction is no number of gon in the form of a table: write 1 to 3 digits, a point and at
-    /// most 9 decimals.
+    /// Its direction is no number of gon in the form of a table: write 1 to 3 digits, a point and
+    /// at most 9 decimals.
     #[error("the direction is no number")]
     Number,
     /// Its direction is a full circle or more: write one below 400 gon.

@@ -88,7 +88,8 @@ pub(crate) struct Gons {
 impl Gons {
     /// The direction of a field, if it is one, however large.
     pub(crate) fn of(field: &[u8]) -> Option<Gons>
-        ensures size { IfSome result (λ gons. gons.size ≡ spec.size_value (spec.unsigned field.now)) }
+        ensures size { IfSome result
+            (λ gons. gons.size ≡ spec.size_value (spec.unsigned field.now)) }
         ensures sign { IfSome result (λ gons. gons.is_negative ≡ spec.is_negative field.now) }
         ensures some { OnSome result (spec.is_direction field.now ≡ true) }
         ensures none { IfNone result (spec.is_direction field.now ≡ false) }

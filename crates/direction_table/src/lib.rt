@@ -1,8 +1,8 @@
 //! A table of directions as programs print them, read exactly, with its first fault named.
 //!
 //! A table is CSV of two columns, `NAME,DIRECTION`, one row for each target of a station, in any
-//! order. A direction is in gon: an optional minus, 1 to 3 digits, and optionally a point and 1 to 9
-//! digits, below 400 in size.
+//! order. A direction is in gon: an optional minus, 1 to 3 digits, and optionally a point and 1 to
+//! 9 digits, below 400 in size.
 #![tactic(auto)]
 
 mod columns;

@@ -23,8 +23,8 @@ pub struct TargetDirection {
     pub direction: u64,
 }
 
-/// The text of the table of these targets and directions, a row for each in their order, with so many
-/// decimals; decimals after the last are left out.
+/// The text of the table of these targets and directions, a row for each in their order, with so
+/// many decimals; decimals after the last are left out.
 ///
 /// The only error is that memory was refused.
 pub fn table_text(

@@ -15,8 +15,8 @@ ghost use Rattle.sheet_nearness.specs.Nearness.{IsNear};
 /// is brought within some bound of such a choice's is apart by less than the bound, 1 unit and a
 /// quarter.
 pub fn apart()
-    ensures within { (sets targets : ℕ) (c : Choice) (observations : List TurnedObservation) (near apart : ℕ)
-        (stated : ℕ → ℤ) (other : Choice) (turns : List ℤ)
+    ensures within { (sets targets : ℕ) (c : Choice) (observations : List TurnedObservation)
+        (near apart : ℕ) (stated : ℕ → ℤ) (other : Choice) (turns : List ℤ)
         → IsApart targets c stated near apart
         → IsNear sets targets c observations near other turns
         → AreBroughtWithin targets other stated apart }
@@ -27,8 +27,8 @@ pub fn apart()
         → IsNear sets targets c observations near other turns
         → AreBroughtNear targets other stated most
         → 2 * UNIT * apart < most + 2 * UNIT + 4 * CLEAR_BELOW }
-    ensures no_nearer { (sets targets : ℕ) (c : Choice) (observations : List TurnedObservation) (near apart : ℕ)
-        (stated : ℕ → ℤ) (other : Choice) (turns : List ℤ)
+    ensures no_nearer { (sets targets : ℕ) (c : Choice) (observations : List TurnedObservation)
+        (near apart : ℕ) (stated : ℕ → ℤ) (other : Choice) (turns : List ℤ)
         → IsApart targets c stated near apart → IsClear c near → 2 ≤ apart
         → 1 ≤ other.denominator
         → IsNear sets targets c observations near other turns
@@ -60,14 +60,14 @@ pub fn rounded()
 /// clear, within half a step and an eighth of 0.000001 gon. Bounds are in halves of 0.000000001
 /// gon.
 pub fn near_rounded()
-    ensures left { (sets targets step near left : ℕ) (c : Choice) (observations : List TurnedObservation)
-        (stated : ℕ → ℕ) (other : Choice) (turns : List ℤ)
+    ensures left { (sets targets step near left : ℕ) (c : Choice)
+        (observations : List TurnedObservation) (stated : ℕ → ℕ) (other : Choice) (turns : List ℤ)
         → 1 ≤ c.denominator → 2 * HALF_UNIT * near ≤ left * c.denominator
         → ((t : ℕ) → t < targets → IsRounded c t step (stated t))
         → IsNear sets targets c observations near other turns
         → AreBroughtNear targets other (λ t. pos (stated t)) (step + left) }
-    ensures clear { (sets targets step near : ℕ) (c : Choice) (observations : List TurnedObservation)
-        (stated : ℕ → ℕ) (other : Choice) (turns : List ℤ)
+    ensures clear { (sets targets step near : ℕ) (c : Choice)
+        (observations : List TurnedObservation) (stated : ℕ → ℕ) (other : Choice) (turns : List ℤ)
         → IsClear c near
         → ((t : ℕ) → t < targets → IsRounded c t step (stated t))
         → IsNear sets targets c observations near other turns

@@ -72,8 +72,8 @@ fn read_rows(alloc: Global, bytes: &[u8]) -> Result<Sheet, SheetFault>
 }
 
 /// What an error of `csv` comes to where rows are read as bytes and may be of any length: out of
-/// memory. No other comes there but one of the input. Bytes in memory have none, and `csv` leaves it
-/// open over any reader.
+/// memory. No other comes there but one of the input. Bytes in memory have none, and `csv` leaves
+/// it open over any reader.
 fn out_of_memory(_error: &csv::Error) -> SheetFault
     requires { IsMemoryOrInput (error_kind _error.now) }
     ensures { result ≡ Memory }

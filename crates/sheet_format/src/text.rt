@@ -45,8 +45,8 @@ fn push_sheet<W: Write + Drop>(writer: &mut Writer<W>, sheet: &Sheet) -> Result<
     push_obs(writer, sheet.rows())
 }
 
-/// Writes one row after those that were written. An error of `csv` is out of memory: the text is made
-/// there.
+/// Writes one row after those that were written. An error of `csv` is out of memory: the text is
+/// made there.
 fn push_row<W: Write + Drop>(writer: &mut Writer<W>, fields: &[&[u8]]) -> Result<(), AllocError>
     ensures { OnOk result (spec.Writes W.contents writer.old writer.new
         (row_text default_writer (map (λ f. f.now) fields.now))) }

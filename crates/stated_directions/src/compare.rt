@@ -13,8 +13,8 @@ use sheet_apart::apart_of;
 use std::alloc::Global;
 
 /// How far stated directions, one for each target of a station, are apart from its least-squares
-/// directions, in units of 0.000001 gon: one rotation brings every stated direction so near to every
-/// least-squares choice, and none brings them nearer by 2 units. Stated directions are in units of
+/// directions, in units of 0.000001 gon: one rotation brings every stated direction so near to
+/// every least-squares choice, and none brings them nearer by 2 units. Stated directions are in units of
 /// 0.000000001 gon. Memory is linear in the observations.
 ///
 /// # Errors

@@ -42,7 +42,7 @@ rows-preserved c =
     let row = fields_of c.read_byte_record.new.row in
     let next =
     next-row (λ (b : MutBor (Bor (List ℕ))). Some b.now.now)
-        c.rows.reader c.read_byte_record.new.self row y
+    c.rows.reader c.read_byte_record.new.self row y
     n config source got well room in
     let rest = records_from default_config next.fuel c.read_byte_record.new.self.state next.left in
     let here = subst (HasRead c.args.targets.now
@@ -78,7 +78,7 @@ returns-then-not-found-clause-faultless c =
     c.rows.invariant in
     let got = rw c.if-not-found.true at (c.in-Ok.ensures.reads trim ready) in
     let end = rows-end (λ (b : MutBor (Bor (List ℕ))). Some b.now.now)
-        c.rows.reader c.read_byte_record.new.self
+    c.rows.reader c.read_byte_record.new.self
     (fields_of c.read_byte_record.new.row) default_config y config source got in
     let here = subst (HasRead c.args.targets.now
     (records_of c.args.bytes.now) c.rows.stated.items c.rows.number)
@@ -92,7 +92,7 @@ returns-then-not-found-clause-stated c =
     c.rows.invariant in
     let got = rw c.if-not-found.true at (c.in-Ok.ensures.reads trim ready) in
     let end = rows-end (λ (b : MutBor (Bor (List ℕ))). Some b.now.now)
-        c.rows.reader c.read_byte_record.new.self
+    c.rows.reader c.read_byte_record.new.self
     (fields_of c.read_byte_record.new.row) default_config y config source got in
     let here = subst (HasRead c.args.targets.now
     (records_of c.args.bytes.now) c.rows.stated.items c.rows.number)
@@ -115,7 +115,7 @@ returns-in-Err-clause-fault c =
     let row = fields_of c.read_byte_record.new.row in
     let next =
     next-row (λ (b : MutBor (Bor (List ℕ))). Some b.now.now)
-        c.rows.reader c.read_byte_record.new.self row y
+    c.rows.reader c.read_byte_record.new.self row y
     n config source got well room in
     let rest = records_from default_config next.fuel c.read_byte_record.new.self.state next.left in
     let here = subst (HasRead c.args.targets.now
@@ -138,7 +138,7 @@ rows-smaller c =
     let got = rw c.if-not-found.false at (c.in-Ok.ensures.reads trim ready) in
     let next =
     next-row (λ (b : MutBor (Bor (List ℕ))). Some b.now.now)
-        c.rows.reader c.read_byte_record.new.self
+    c.rows.reader c.read_byte_record.new.self
     (fields_of c.read_byte_record.new.row) y n config source got well room in
     let shorter = next.shorter in
     omega (arith, left, shorter)
