@@ -474,15 +474,95 @@ fn a_fault_is_told_in_words(rt: HostRuntime) -> Result<(), Fail> {
             "the first word is neither a point number nor a code number",
         ),
     ];
-    for (kind, text) in rows {
-        assert_eq!(rt; format!(in rt.alloc(); "{kind}")?.as_str(), text);
-        let fault = format!(in rt.alloc(); "{}", FileFault::At(7, kind))?;
-        assert_eq!(rt; fault.as_str().strip_prefix("block 7: "), Some(text));
+    for (place, (kind, text)) in rows.iter().enumerate() {
+        assert_eq!(rt; format!(in rt.alloc(); "{kind}")?.as_str(), *text);
+        let fault = format!(in rt.alloc(); "{}", FileFault::At(1_048_577, *kind))?;
+        assert_eq!(rt; fault.as_str().strip_prefix("block 1048577: "), Some(*text));
+        for (other_place, (other, _)) in rows.iter().enumerate() {
+            assert_eq!(rt; kind == other, place == other_place);
+            let same = FileFault::At(7, *kind) == FileFault::At(7, *other);
+            assert_eq!(rt; same, place == other_place);
+        }
+        assert!(rt; FileFault::At(7, *kind) != FileFault::At(8, *kind));
+        assert!(rt; FileFault::At(7, *kind) != FileFault::Memory);
     }
+    assert!(rt; FileKind::Byte(16) != FileKind::Byte(17));
+    assert!(rt; FileKind::Word(2) != FileKind::Word(3));
     let memory = "out of memory";
     let fault = FileFault::Memory;
     assert_eq!(rt; format!(in rt.alloc(); "{fault}")?.as_str(), memory);
     assert_eq!(rt; format!(in rt.alloc(); "{OutOfMemory}")?.as_str(), memory);
+    Ok(())
+}
+
+/// A reader of nothing that notes the largest room that it was offered.
+#[derive(Drop)]
+struct Notes {
+    largest: usize,
+}
+
+impl Read for Notes {
+    fn read(&mut self, buf: &mut [u8]) -> io::Result<usize> {
+        self.largest = self.largest.max(buf.len());
+        Ok(0)
+    }
+}
+
+#[test]
+fn a_file_is_read_through_4096_bytes(rt: HostRuntime) -> Result<(), Fail> {
+    let mut reader = Notes { largest: 0 };
+    let mut lines = Lines::new(rt.alloc(), OfRead::new(&mut reader)).map_err(|_| "no memory")?;
+    expect_end(&rt, &mut lines);
+    drop(lines);
+    assert_eq!(rt; reader.largest, 4_096);
+    Ok(())
+}
+
+/// How many blocks of memory are held at most.
+const BLOCKS: usize = 60_000;
+
+/// How many sizes of blocks are tried, each half of the one before: from 2^40 bytes down to 16.
+const SIZES: usize = 37;
+
+/// How many bytes are left free, in one piece: more than the lines could take unseen.
+const ROOM: usize = 65_536;
+
+/// Holds all memory that there is.
+fn hoard(alloc: Global) -> Vec<Vec<u8>> {
+    let mut hoard: Vec<Vec<u8>> = Vec::new(alloc);
+    if hoard.reserve(BLOCKS).is_err() {
+        return hoard;
+    }
+    let mut size: usize = 1 << 40;
+    for _ in 0..SIZES {
+        for _ in 0..BLOCKS {
+            match Vec::<u8>::with_capacity(alloc, size) {
+                Ok(block) => {
+                    if hoard.push(block).is_err() {
+                        return hoard;
+                    }
+                }
+                Err(_) => break,
+            }
+        }
+        size /= 2;
+    }
+    hoard
+}
+
+/// `rt test` runs it. `rt try --test` watches over memory itself, and small blocks are not refused
+/// there.
+#[test]
+fn lines_take_no_memory_after_the_buffer(rt: HostRuntime) -> Result<(), Fail> {
+    let mut lines = lines_cut(rt.alloc(), WORKED, 7, false)?;
+    let room = Vec::<u8>::with_capacity(rt.alloc(), ROOM)?;
+    let held = hoard(rt.alloc());
+    drop(room);
+    take_blocks(&rt, &mut lines, &WORKED_WORDS);
+    expect_end(&rt, &mut lines);
+    let again = Vec::<u8>::with_capacity(rt.alloc(), ROOM);
+    drop(held);
+    assert!(rt; again.is_ok());
     Ok(())
 }
 

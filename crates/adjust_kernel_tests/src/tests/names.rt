@@ -17,6 +17,13 @@ fn a_name_has_1_to_16_printable_bytes(rt: HostRuntime) {
 fn a_name_shows_its_bytes_as_text(rt: HostRuntime) -> Result<(), Fail> {
     let name = Name::new(b"S1 ~").expect(&rt, "a name");
     assert_eq!(rt; name.to_string(rt.alloc())?.as_str(), "S1 ~");
+    let longest = Name::new(b"1234567890 ~AB,\"").expect(&rt, "a name");
+    assert_eq!(rt;
+        longest.to_string(rt.alloc())?.as_str(),
+        "1234567890 ~AB,\""
+    );
+    assert!(rt; longest != name);
+    assert_eq!(rt; longest.clone().expect(&rt, "a copy"), longest);
     assert_eq!(rt; format!(in rt.alloc(); "{name:>6}")?.as_str(), "  S1 ~");
     assert_eq!(rt; Name::from_valid(b"S1 ~"), name);
     assert_eq!(rt; Name::of_end(b"0000S1 ~", 4), name);

@@ -34,12 +34,11 @@ fn a_scan_counts_what_was_added(rt: HostRuntime) -> Result<(), Fail> {
 /// How many blocks of memory are held at most.
 const BLOCKS: usize = 60_000;
 
-/// How many sizes of blocks are tried, each half of the one before: from 2^40 bytes down to 2^16,
-/// which is less than a scan takes.
-const SIZES: usize = 25;
+/// How many sizes of blocks are tried, each half of the one before: from 2^40 bytes down to 16.
+const SIZES: usize = 37;
 
-// Holds all memory that there is, but for small blocks.
-fn hoard(alloc: Global) -> Vec<Vec<u8>> {
+/// Holds all memory that there is.
+pub(super) fn hoard(alloc: Global) -> Vec<Vec<u8>> {
     let mut hoard: Vec<Vec<u8>> = Vec::new(alloc);
     if hoard.reserve(BLOCKS).is_err() {
         return hoard;

@@ -2,6 +2,7 @@
 
 ghost use Rattle.std.specs.Prelude.{◌<◌};
 
+use super::tallies::hoard;
 use adjust_kernel::{
     Accepted, Direction, KernelFault, Name, Obs, Orientation, OutOfMemory, ResidualLimit, Row,
     Running, Scan, Sheet, Station, check, check_with, laws, residual_of,
@@ -507,8 +508,8 @@ fn faults_are_told_in_words(rt: HostRuntime) -> Result<(), Fail> {
             "at place 3 the sheet's sets are not the station's",
         ),
         (
-            KernelFault::ObsRow(4),
-            "at row 4 the sheet's observations are not the station's",
+            KernelFault::ObsRow(4_000),
+            "at row 4000 the sheet's observations are not the station's",
         ),
         (
             KernelFault::Datum,
@@ -527,18 +528,62 @@ fn faults_are_told_in_words(rt: HostRuntime) -> Result<(), Fail> {
             "no observations tie all sets and targets together",
         ),
         (
-            KernelFault::Residual(7),
-            "the residual of row 7 is above the residual limit",
+            KernelFault::Residual(3_999),
+            "the residual of row 3999 is above the residual limit",
         ),
     ];
-    for (fault, text) in faults {
-        assert_eq!(rt; fault.to_string(rt.alloc())?.as_str(), text);
+    for (place, (fault, text)) in faults.iter().enumerate() {
+        assert_eq!(rt; fault.to_string(rt.alloc())?.as_str(), *text);
+        for (other_place, (other, _)) in faults.iter().enumerate() {
+            assert_eq!(rt; fault == other, place == other_place);
+        }
     }
+    assert!(rt; KernelFault::Residual(3_999) != KernelFault::Residual(4_000));
     assert_eq!(rt;
         OutOfMemory.to_string(rt.alloc())?.as_str(),
         "out of memory"
     );
     Ok(())
+}
+
+/// How many bytes are left free, in one piece: more than a check could take unseen.
+const ROOM: usize = 65_536;
+
+/// `rt test` runs it. `rt try --test` watches over memory itself, and small blocks are not refused
+/// there.
+#[test]
+fn a_check_takes_no_memory(rt: HostRuntime) -> Result<(), Fail> {
+    let pair = Worked {
+        denominator: 4,
+        targets: &[(b'A', 0), (b'B', 40_000_024)],
+        sets: &[(1, -20), (2, -80_000_020)],
+        rows: &pair_rows([0, 0, 0, 0]),
+    };
+    let station = station_of(&rt, rt.alloc(), &pair)?;
+    let sheet = sheet_of(&rt, rt.alloc(), b"S1", &pair)?;
+    let scan = Scan::new(rt.alloc())?;
+    let room = Vec::<u8>::with_capacity(rt.alloc(), ROOM)?;
+    let held = hoard(rt.alloc());
+    drop(room);
+    let is_accepted = check(&station, &sheet, None).is_ok();
+    let is_scanned = check_with(scan, &station, &sheet, None).is_ok();
+    let again = Vec::<u8>::with_capacity(rt.alloc(), ROOM);
+    drop(held);
+    assert!(rt; is_accepted && is_scanned && again.is_ok());
+    Ok(())
+}
+
+#[test]
+fn observations_and_limits_are_equal_and_copied_as_they_are(rt: HostRuntime) {
+    let obs = |set, target, value| Obs { set, target, value };
+    let one = obs(1, 2, 3);
+    assert_eq!(rt; one.clone().expect(&rt, "a copy"), one);
+    for other in [obs(2, 1, 3), obs(1, 1, 3), obs(2, 2, 3), obs(1, 2, 4)] {
+        assert!(rt; other != one);
+    }
+    let limit = ResidualLimit::new(7).expect(&rt, "a limit");
+    assert_eq!(rt; limit.clone().expect(&rt, "a copy").half_units(), 7);
+    assert!(rt; ResidualLimit::new(8).expect(&rt, "a limit") != limit);
 }
 
 #[test]

@@ -2,7 +2,7 @@
 //! none is made. No clause says either, since a growth may always fail.
 
 use super::{hoard, new_book, numbered, take};
-use station_book::{Book, Faces, Stations};
+use station_book::{Book, Faces, Limits, Stations};
 use std::alloc::Global;
 use std::process::Abort;
 
@@ -147,13 +147,26 @@ fn stations_sets_and_targets_of_many_numbers_are_listed(rt: HostRuntime) {
 }
 
 #[test]
-fn face_differences_are_copied_as_they_are(rt: HostRuntime) {
+fn face_differences_and_limits_are_copied_as_they_are(rt: HostRuntime) {
     let faces = Faces {
         two_c: 10,
         two_i: 2,
     };
     let copy = faces.clone().expect(&rt, "a copy");
     assert_eq!(rt; (copy.two_c, copy.two_i), (10, 2));
+    let limits = Limits::new(10, 2).expect(&rt, "limits");
+    let copy = limits.clone().expect(&rt, "a copy");
+    assert_eq!(rt; (copy.two_c(), copy.two_i()), (10, 2));
+    for other in [(10, 3), (11, 2), (2, 10)] {
+        assert!(rt;
+            faces
+                != Faces {
+                    two_c: other.0 as i32,
+                    two_i: other.1 as i32
+                }
+        );
+        assert!(rt; limits != Limits::new(other.0, other.1).expect(&rt, "limits"));
+    }
 }
 
 /// How many bytes are left free, in one piece: more than a book of no station could take unseen.
