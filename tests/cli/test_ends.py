@@ -228,6 +228,17 @@ class SignalsTest(EndsTest):
                 stdout, stderr = run.communicate(timeout=TIME)
                 self.assertEqual(answer, (run.returncode, stdout, stderr))
 
+    def test_a_fault_is_refused_while_more_may_come(self):
+        """What comes after the first fault is not waited for."""
+        refused = b"refused: block 1: SetOutside\n"
+        for args in [["list"], ["means", "S1"], ["directions", "S1"], ["check", self.sheet]]:
+            with self.subTest(args):
+                run = self.started(args[0], "/dev/stdin", *args[1:])
+                run.stdin.write(b"410001+00000020 42....+00000001\r\n")
+                run.stdin.flush()
+                self.assertEqual(1, run.wait(TIME))
+                self.assertEqual((b"", refused), (run.stdout.read(), run.stderr.read()))
+
     def test_a_run_that_is_ended_leaves_whole_lines(self):
         """What waits for more input has printed whole lines, or nothing of a list, and stays so."""
         words = model.words(FIELD * 100)[1]

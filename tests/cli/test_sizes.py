@@ -238,9 +238,9 @@ class SizesTest(ProgramTest):
                 room = self.least_room(words(two), answer)
                 self.assertEqual(answer, self.answer_within(room, words(many)))
 
-    def peak_of(self, words, field, answer):
+    def peak_of(self, words, field, answer, out=subprocess.PIPE):
         """The most address space that a run has had when it has read a field file."""
-        pipes = {"stdin": subprocess.PIPE, "stdout": subprocess.PIPE, "stderr": subprocess.PIPE}
+        pipes = {"stdin": subprocess.PIPE, "stdout": out, "stderr": subprocess.PIPE}
         with subprocess.Popen([PROGRAM, *words], **pipes) as run:
             try:
                 run.stdin.write(field)
@@ -260,6 +260,15 @@ class SizesTest(ProgramTest):
             with self.subTest(words):
                 room = self.peak_of(words, few, answer)
                 self.assertEqual(room, self.peak_of(words, full, answer))
+
+    def test_words_take_no_memory_that_grows(self):
+        """The words of as many blocks as a file may have take no more of it than those of two."""
+        words, answer, out = ["words", "/dev/stdin"], (0, None, b""), subprocess.DEVNULL
+        for block in NO_SETS:
+            full = b"".join(block % n for n in range(model.LONGEST_FILE // BLOCK))
+            with self.subTest(block):
+                room = self.peak_of(words, block % 1 + block % 2, answer, out)
+                self.assertEqual(room, self.peak_of(words, full, answer, out))
 
     def check_file(self, length):
         """A file of blanks and line feeds behind the example has the example's answers."""

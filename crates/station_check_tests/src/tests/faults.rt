@@ -37,9 +37,12 @@ fn a_fault_is_told_in_words(rt: HostRuntime) -> Result<(), Fail> {
         (Fault::Write, "a write failed"),
         (Fault::Memory, "out of memory"),
     ];
-    for (fault, text) in rows {
+    for (place, (fault, text)) in rows.iter().enumerate() {
         let told = format!(in rt.alloc(); "{fault}")?;
-        assert_eq!(rt; told.as_str(), text);
+        assert_eq!(rt; told.as_str(), *text);
+        for (other_place, (other, _)) in rows.iter().enumerate() {
+            assert_eq!(rt; fault == other, place == other_place);
+        }
     }
     let inner = SheetFault::Row(3, RowKind::Name);
     let told = format!(in rt.alloc(); "{}", Fault::Sheet(inner))?;

@@ -135,13 +135,14 @@ fn a_flush_that_fails_is_a_write_fault_with_the_whole_text_gone_out(
 
 #[test]
 fn the_writer_is_flushed_once_after_the_last_byte(rt: HostRuntime) -> Result<(), Fail> {
-    // The words of 1,000 lines: 21 bytes beside the number of the line, whose digits are 2,893.
-    let many = "110001+0000000A\n".repeat(rt.alloc(), 1_000)?;
+    // The words of 3,000 lines, more than two pages: 21 bytes beside the number of the line, whose
+    // digits are 10,893.
+    let many = "110001+0000000A\n".repeat(rt.alloc(), 3_000)?;
     let rows: [(&[u8], usize); 4] = [
         (&STATION[..THREE_LINES], THREE_LINES_WORDS.len()),
         (b"", 0),
         (b"410001+00000010\n5", 22),
-        (many.as_bytes(), 23_893),
+        (many.as_bytes(), 73_893),
     ];
     for (gsi, bytes) in rows {
         let mut noted = Noted::new();
