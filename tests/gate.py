@@ -28,7 +28,7 @@ PAGE_BUILD = ROOT / "page" / "build.py"
 COUNTS = re.compile(r"^(\d+) passed, (\d+) failed$")
 
 # How many minutes the gate takes on so many processors, with nothing beside it.
-MINUTES = {4: 110, 2: 180}
+MINUTES = {4: 50, 2: 100}
 
 # The memory that a check of the largest crate stays within, whose proof and tests may run side by
 # side, and that any other check stays within, in bytes.
