@@ -47,7 +47,7 @@ PARTS = ["src", "specs", "proofs"]
 COPY = "rt-edit-"
 
 # What `rt ci` says of a crate.
-PROVED = re.compile(r"^rt: (\w+) proved$")
+PROVED = re.compile(r"^rt: (\w+) (?:proved$|is kept: )")
 TESTED = re.compile(r"^rt: (\w+): its tests are proved$")
 NOTE = re.compile(r"^rt: note: ")
 FAILED = re.compile(r"^rt: (FAILED: |\w+ NOT PROVED|.*(NOT REFUSED|BAD EDIT): )")
