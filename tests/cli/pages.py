@@ -1,6 +1,6 @@
 """The commands that a page of docs shows, and what they print.
 
-A fenced block `console` has commands, each behind `$ `, and under each what it prints on standard
+A fenced block `console` has commands, each after `$ `, and under each what it prints on standard
 output and standard error; a line `..` stands for any number of lines. A backslash at the end of a
 line continues a command. The commands of a page are run one after the other by one shell.
 

@@ -110,7 +110,7 @@ SAME = [
     ("blank lines", edited(STATION, (b"\r\n", b"  \r\n\r\n"))),
     ("another code", edited(STATION, (b"110004", b"410099+?......1\r\n110004"))),
     ("no end of the last set", edited(STATION, (LAST_LINE, b""))),
-    ("a reading behind the end", STATION + b"110013+00000099 21.102+11111111 22.102+10000000"),
+    ("a reading after the end", STATION + b"110013+00000099 21.102+11111111 22.102+10000000"),
     (
         "the set ended twice",
         STATION + b"410013+00000030\n410014+00000010 42....+000000S1\n",

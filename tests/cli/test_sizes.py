@@ -271,7 +271,7 @@ class SizesTest(ProgramTest):
                 self.assertEqual(room, self.peak_of(words, full, answer, out))
 
     def check_file(self, length):
-        """A file of blanks and line feeds behind the example has the example's answers."""
+        """A file of blanks and line feeds after the example has the example's answers."""
         more = (b" " * 37 + b"\n" * 3) * (length // 40) + b"\n" * (length % 40)
         path = self.file(f"{length}.gsi", FIELD + more)
         self.assertEqual(model.listed(FIELD), answer_of(["list", path]), length)
