@@ -1,26 +1,131 @@
 -- What came of a reader.
-use Rattle.std.proofs.Common.{[], Option, Some, None, refl}
-use Rattle.std.specs.Prelude.{IfSome, false}
-use Rattle.byte_ends.specs.Came.{SomeBytesCame}
-use Rattle.byte_ends.specs.Source.{Told}
+use Rattle.std.proofs.Common.{◌≡◌, ◌++◌, List, ℕ, [], Option, Some, None, Result, Ok, Err, refl, sym}
+use Rattle.std.proofs.Common.{ap, ◌∙◌, subst, append_assoc, take}
+use Rattle.std.proofs.lemmas.List.{append-nil}
+use Rattle.byte_ends.specs.Came.{BytesCame}
+use Rattle.byte_ends.specs.Source.{Told, MayGive, HasGiven, Adds, Reads, Through, given_by}
+use Rattle.byte_ends.specs.Source.{given_then, ended}
 
--- Where one thing is so of what came, so is what follows from it.
-pub came_so : (told : Option Told) (So Then : Told → Type 0) → SomeBytesCame told So
-    → ((t : Told) → So t → Then t) → SomeBytesCame told Then
-came_so told So Then s next = record { came = s.came; as_told = s.as_told; so = next s.came s.so }
+-- A history that grew by some bytes and then by others has grown by both.
+pub adds_then : (a b c : List ℕ → Type 0) (xs ys : List ℕ) → Adds a b xs → Adds b c ys
+    → Adds a c (xs ++ ys)
+adds_then a b c xs ys p q m h =
+    subst (λ (all : List ℕ). c all) (append_assoc m xs ys) (q (m ++ xs) (p m h))
 
--- Where a thing is so of what is told, and of this where nothing is, it is so of what came.
-pub told_or : (told : Option Told) (other : Told) (So : Told → Type 0) → So other → IfSome told So
-    → SomeBytesCame told So
-told_or None other So so h = record { came = other; as_told = tt; so = so }
-told_or (Some t) other So so h = record { came = t; as_told = refl; so = h }
+-- A history that is as it was has grown by nothing.
+pub adds_none : (a : List ℕ → Type 0) → Adds a a []
+adds_none a m h = subst (λ (all : List ℕ). a all) (sym (append-nil m)) h
+
+-- Some bytes, then others, and then what is left.
+then_both : (xs ys : List ℕ) (left : Told)
+    → given_then xs (given_then ys left) ≡ given_then (xs ++ ys) left
+then_both xs ys left =
+    ap (λ (bytes : List ℕ). record { bytes = bytes; fails = left.fails })
+    (sym (append_assoc xs ys left.bytes))
+
+-- Without a read nothing is given.
+pub given_none : {S : Type 0} (told : S → Option Told) (gave : S → List ℕ → Type 0) (s : S)
+    → HasGiven told gave s s []
+given_none told gave s = record { adds = adds_none (gave s); might = λ left may. may }
+
+-- What some reads gave and then others, all of them gave.
+pub given_on : {S : Type 0} (told : S → Option Told) (gave : S → List ℕ → Type 0) (old now new : S)
+    (xs ys : List ℕ) → HasGiven told gave old now xs → HasGiven told gave now new ys
+    → HasGiven told gave old new (xs ++ ys)
+given_on told gave old now new xs ys p q = record {
+  adds = adds_then (gave old) (gave now) (gave new) xs ys p.adds q.adds;
+  might = λ left may. subst (λ (t : Told). MayGive (told old) t) (then_both xs ys left)
+      (p.might (given_then ys left) (q.might left may));
+}
+
+might_by_read : {E : Type 0} (old new : Option Told) (r : Result ℕ E) (buf : List ℕ)
+    → Reads old new r buf → (left : Told) → MayGive new left
+    → MayGive old (given_then (given_by r buf) left)
+might_by_read None new r buf h left may = tt
+might_by_read (Some o) None r buf h left may = absurd h
+might_by_read (Some o) (Some n) (Ok k) buf h left may =
+    let b : take k buf ++ left.bytes ≡ o.bytes =
+    ap (λ (t : Told). take k buf ++ t.bytes) may ∙ sym h.next in
+    let f : left.fails ≡ o.fails = ap (λ (t : Told). t.fails) may ∙ h.same in
+    rw (b, f) refl
+might_by_read (Some o) (Some n) (Err e) buf h left may = may ∙ h.unchanged
+
+-- What one read gave.
+pub given_by_read : {S E : Type 0} (told : S → Option Told) (gave : S → List ℕ → Type 0)
+    (old new : S) (r : Result ℕ E) (buf : List ℕ) → Reads (told old) (told new) r buf
+    → Adds (gave old) (gave new) (given_by r buf)
+    → HasGiven told gave old new (given_by r buf)
+given_by_read told gave old new r buf reads adds = record {
+  adds = adds;
+  might = might_by_read (told old) (told new) r buf reads;
+}
+
+-- Without a read, of whatever may be left.
+pub through_none : {S : Type 0} (told : S → Option Told) (gave : S → List ℕ → Type 0) (s : S)
+    (P : Told → Told → Type 0) → ((t : Told) → P t t) → Through told gave s s P
+through_none told gave s P so = record {
+  given = [];
+  by_reads = given_none told gave s;
+  so = λ left may. so left;
+}
+
+-- Through some reads and then others.
+pub through_then : {S : Type 0} (told : S → Option Told) (gave : S → List ℕ → Type 0)
+    (old now new : S) (P Q R : Told → Told → Type 0) → Through told gave old now P
+    → Through told gave now new Q
+    → ((first then last : Told) → P first then → Q then last → R first last)
+    → Through told gave old new R
+through_then told gave old now new P Q R p q next = record {
+  given = p.given ++ q.given;
+  by_reads = given_on told gave old now new p.given q.given p.by_reads q.by_reads;
+  so = λ left may.
+      let then = given_then q.given left in
+      subst (λ (t : Told). R t left) (then_both p.given q.given left)
+      (next (given_then p.given then) then left
+      (p.so then (q.by_reads.might left may)) (q.so left may));
+}
+
+-- Through the same reads, what follows.
+pub through_so : {S : Type 0} (told : S → Option Told) (gave : S → List ℕ → Type 0) (old new : S)
+    (P Q : Told → Told → Type 0) → Through told gave old new P
+    → ((first last : Told) → P first last → Q first last) → Through told gave old new Q
+through_so told gave old new P Q p next = record {
+  given = p.given;
+  by_reads = p.by_reads;
+  so = λ left may. next (given_then p.given left) left (p.so left may);
+}
+
+-- What is left of a reader that has told its end is that end.
+pub left_is : (told : Option Told) (end left : Told) → told ≡ Some end → MayGive told left
+    → left ≡ end
+left_is None end left e may = cc
+left_is (Some t) end left e may = may ∙ some_is e
+  where
+    some_is : Some t ≡ Some end → t ≡ end
+    some_is e = cc
 
 -- A reader may always give something.
-pub some_bytes : (told : Option Told) → SomeBytesCame told (λ t. Unit {0})
-some_bytes None = record { came = record { bytes = []; fails = false }; as_told = tt; so = tt }
-some_bytes (Some t) = record { came = t; as_told = refl; so = tt }
+pub some_left : (told : Option Told) → (t : Told) × MayGive told t
+some_left None = (ended, tt)
+some_left (Some t) = (t, refl)
 
--- What is so of anything that comes is so of what came.
-pub anything_came : (told : Option Told) (So : Told → Type 0) → ((t : Told) → So t)
-    → SomeBytesCame told So
-anything_came told So so = came_so told (λ t. Unit {0}) So (some_bytes told) (λ t u. so t)
+-- What stands at the end of some reads.
+pub at_last : {S : Type 0} (told : S → Option Told) (gave : S → List ℕ → Type 0) (old new : S)
+    (P : Told → Told → Type 0) → Through told gave old new P
+    → (left : Told) × (MayGive (told new) left × ((first : Told) × P first left))
+at_last told gave old new P p =
+    let left = some_left (told new) in
+    (left.0, (left.1, (given_then p.given left.0, p.so left.0 left.1)))
+
+-- Where one thing is so of what came, so is what follows from it.
+pub came_so : {S : Type 0} (told : S → Option Told) (gave : S → List ℕ → Type 0) (old new : S)
+    (So Then : Told → Type 0) → BytesCame told gave old new So → ((t : Told) → So t → Then t)
+    → BytesCame told gave old new Then
+came_so told gave old new So Then s next =
+    through_so told gave old new (λ came left. So came) (λ came left. Then came) s
+    (λ came left so. next came so)
+
+-- What is so of anything that comes is so of what came where nothing was read.
+pub anything_came : {S : Type 0} (told : S → Option Told) (gave : S → List ℕ → Type 0) (s : S)
+    (So : Told → Type 0) → ((t : Told) → So t) → BytesCame told gave s s So
+anything_came told gave s So so = through_none told gave s (λ came left. So came) so

@@ -1,17 +1,16 @@
 -- What came of a source that is read to its end or up to a limit, and how it is left then.
 use Rattle.std.specs.Prelude.{◌≡◌, ℕ, Bool, true, List, Option, Some, Result, Ok, Err, ⊤}
-use Rattle.byte_ends.specs.Source.{Told, MayGive, ended, broken_off}
+use Rattle.byte_ends.specs.Source.{Told, Through, ended, broken_off}
 use Rattle.byte_ends.specs.Input.{Input, BrokeOff, RanPast}
 use Rattle.byte_ends.specs.declared.input.InputFault.{InputFault}
 use Rattle.byte_ends.specs.declared.input.InputFault.TheVariants.{Read, TooLong, Memory}
 
--- Some bytes came of a reader, and then an end or a failed read, of which this is so. Where the
--- reader tells its bytes they are these, and it ends or fails as it tells. Of any other, as a
--- file's, they are not known beforehand, and so it is said that there are such.
-pub record SomeBytesCame (told : Option Told) (So : Told → Type 0) : Type 0 where
-  pub came : Told
-  pub as_told : MayGive told came
-  pub so : So came
+-- These bytes came of a reader, by which its history has grown, and of them, and then whatever may
+-- be left in it, this is so. Nothing is left where it has ended or broken off, and so the bytes are
+-- all that came; where the reader tells its bytes, they are the first of those.
+abbrev pub BytesCame : {S : Type 0} → (S → Option Told) → (S → List ℕ → Type 0) → S → S
+    → (Told → Type 0) → Type 0
+BytesCame told gave old new So = Through told gave old new (λ came left. So came)
 
 -- Why the bytes of a source aren't had whole: a read failed, or there are too many, or there was no
 -- memory.

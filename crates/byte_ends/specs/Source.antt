@@ -58,17 +58,34 @@ abbrev pub TellsOver : {E : Type 0} → Option Told → Result ℕ E → ℕ →
 TellsOver new (Ok n) room = n ≡ 0 → 0 < room → new ≡ Some ended
 TellsOver new (Err e) room = new ≡ Some broken_off
 
--- By some reads a source that tells has given these bytes: they come before what it still gives.
-abbrev pub HasGiven : Option Told → Option Told → List ℕ → Type 0
-HasGiven old new given =
-    WhereTold old new (λ o n. (o.bytes ≡ given ++ n.bytes) × (n.fails ≡ o.fails))
-
 -- The source may still give these bytes and this end: where it tells, what it tells and no other.
 abbrev pub MayGive : Option Told → Told → Type 0
 MayGive told gives = IfSome told (λ known. gives ≡ known)
 
--- Whatever the source may give after some reads, there is something that it might give before them,
--- so that this holds of the two.
-abbrev pub Through : Option Told → Option Told → (Told → Told → Type 0) → Type 0
-Through old new P = (after : Told) → MayGive new after
-    → (before : Told) × MayGive old before × P before after
+-- The bytes that a read into this buffer gave.
+abbrev pub given_by : {E : Type 0} → Result ℕ E → List ℕ → List ℕ
+given_by (Ok n) buf = take n buf
+given_by (Err e) buf = []
+
+-- A history has grown by these bytes: whatever the source may have given before, since it was made,
+-- it has then given that and these.
+abbrev pub Adds : (List ℕ → Type 0) → (List ℕ → Type 0) → List ℕ → Type 0
+Adds gave gave' bytes = (m : List ℕ) → gave m → gave' (m ++ bytes)
+
+-- These bytes, and then what is left.
+abbrev pub given_then : List ℕ → Told → Told
+given_then given left = record { bytes = given ++ left.bytes; fails = left.fails }
+
+-- By some reads a source has given these bytes: its history has grown by them, and whatever it may
+-- give after the reads, it might give these bytes and then that before them.
+pub record HasGiven {S : Type 0} (told : S → Option Told) (gave : S → List ℕ → Type 0) (old new : S)
+    (given : List ℕ) : Type 0 where
+  pub adds : Adds (gave old) (gave new) given
+  pub might : (left : Told) → MayGive (told new) left → MayGive (told old) (given_then given left)
+
+-- Some reads gave bytes, so that this holds of them with whatever may be left, and of that.
+pub record Through {S : Type 0} (told : S → Option Told) (gave : S → List ℕ → Type 0) (old new : S)
+    (P : Told → Told → Type 0) : Type 0 where
+  pub given : List ℕ
+  pub by_reads : HasGiven told gave old new given
+  pub so : (left : Told) → MayGive (told new) left → P (given_then given left) left

@@ -1,7 +1,7 @@
 //! All bytes of a source.
 
 ghost use Rattle.std.specs.Prelude.{◌≡◌, MatchResult};
-ghost use Rattle.byte_ends.specs.Came.{SomeBytesCame, ExplainsInput, LeavesSource};
+ghost use Rattle.byte_ends.specs.Came.{BytesCame, ExplainsInput, LeavesSource};
 ghost use Rattle.byte_ends.specs.Input.{input_within, Ended};
 
 use crate::source::Source;
@@ -39,7 +39,7 @@ pub fn read_whole<S: Source>(
     source: &mut S,
     most: usize,
 ) -> Result<Vec<u8>, InputFault>
-    ensures came { SomeBytesCame (S.told source.old) (λ gives. MatchResult result
+    ensures came { BytesCame S.told S.gave source.old source.new (λ gives. MatchResult result
         (λ bytes. input_within most gives ≡ Ended bytes.items)
         (ExplainsInput (input_within most gives))) }
     ensures left { LeavesSource result (S.told source.new)

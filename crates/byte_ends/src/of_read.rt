@@ -1,4 +1,4 @@
-ghost use Rattle.std.specs.Prelude.{◌≡◌, ◌≢◌, ◌≤◌, Option, None, IfOk, length};
+ghost use Rattle.std.specs.Prelude.{◌≡◌, ◌≢◌, ◌≤◌, Option, None, IfOk, length, ⊤};
 ghost use Rattle.std.specs.Io.KnownBytes.{ReadConsumes};
 ghost use Rattle.byte_ends.specs.Sink.{failed_after};
 ghost use Rattle.byte_ends.specs.Source.{Told, Reads, TellsOver};
@@ -56,6 +56,8 @@ impl<R: Read + Drop> Source for OfRead<R> {
     ghost told = { λ s. read_told s };
 
     ghost failed = { λ s. read_failed s };
+
+    ghost gave = { λ _ _. ⊤ };
 
     fn read(&mut self, buf: &mut [u8]) -> Result<usize, Failed>
         ensures bound { IfOk result (λ n. n ≤ length buf.new) }

@@ -1,4 +1,4 @@
-ghost use Rattle.std.specs.Prelude.{◌<◌, ◌≤◌, Option, Some, IfOk, length};
+ghost use Rattle.std.specs.Prelude.{◌<◌, ◌≤◌, Option, Some, IfOk, length, ⊤};
 ghost use Rattle.byte_ends.specs.Source.{Told, Reads, TellsOver};
 
 use crate::failed::Failed;
@@ -44,6 +44,8 @@ impl Source for Script<'_> {
     ghost told = { λ s. Some (script_told s) };
 
     ghost failed = { λ s. script_failed s };
+
+    ghost gave = { λ _ _. ⊤ };
 
     fn read(&mut self, buf: &mut [u8]) -> Result<usize, Failed>
         ensures bound { IfOk result (λ n. n ≤ length buf.new) }

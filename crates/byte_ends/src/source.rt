@@ -1,6 +1,6 @@
-ghost use Rattle.std.specs.Prelude.{◌≡◌, ◌≤◌, Bool, Option, IfOk, length};
+ghost use Rattle.std.specs.Prelude.{◌≡◌, ◌≤◌, ℕ, Bool, List, Option, IfOk, length};
 ghost use Rattle.byte_ends.specs.Sink.{failed_after};
-ghost use Rattle.byte_ends.specs.Source.{Told, Reads, TellsOver};
+ghost use Rattle.byte_ends.specs.Source.{Told, Reads, TellsOver, Adds, given_by};
 
 use crate::failed::Failed;
 
@@ -16,6 +16,10 @@ pub trait Source: Drop {
     // Whether a read of it has failed.
     ghost failed: { Self → Bool };
 
+    // Its history: whether it may have given these bytes, in all, since it was made. A source that
+    // keeps nothing of them may have given any.
+    ghost gave: { Self → List ℕ → Type 0 };
+
     /// Reads once, into the front of `buf`, and answers how many bytes came.
     ///
     /// From a read into some room `Ok(0)` is the end, and `Failed` comes for any cause. A read into
@@ -24,13 +28,16 @@ pub trait Source: Drop {
         ensures bound { IfOk result (λ n. n ≤ length buf.new) }
         ensures reads { Reads (told self.old) (told self.new) result buf.new }
         ensures over { TellsOver (told self.new) result (length buf.new) }
-        ensures failed { failed self.new ≡ failed_after (failed self.old) result };
+        ensures failed { failed self.new ≡ failed_after (failed self.old) result }
+        ensures adds { Adds (gave self.old) (gave self.new) (given_by result buf.new) };
 }
 
 impl<S: Source> Source for &mut S {
     ghost told = { λ s. S.told s.now };
 
     ghost failed = { λ s. S.failed s.now };
+
+    ghost gave = { λ s. S.gave s.now };
 
     fn read(&mut self, buf: &mut [u8]) -> Result<usize, Failed> {
         Source::read(&mut **self, buf)

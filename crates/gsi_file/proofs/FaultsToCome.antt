@@ -1,5 +1,5 @@
 -- A line at fault is what comes next.
-use Rattle.std.proofs.Common.{◌≡◌, ℕ, ◌+◌, ◌≤◌, Bool, true, false, List, [], take, Some, IfSome}
+use Rattle.std.proofs.Common.{◌≡◌, ℕ, ◌+◌, ◌≤◌, Bool, true, false, List, [], take, Option, Some, None, IfSome}
 use Rattle.std.proofs.Common.{refl, ap, inr}
 use Rattle.byte_ends.specs.Source.{Told}
 use Rattle.gsi_file.specs.declared.file_fault.FileKind.{FileKind}
@@ -38,3 +38,29 @@ fault_to_come End count room room' hand hand' rest before after f kind unsettled
     cc
 fault_to_come (Failed k) count room room' hand hand' rest before after f kind unsettled fits found
     fault = cc
+
+no_line : (before : Told) (room line used room' : ℕ) (hand hand' : List ℕ) (last : Bool)
+    → FindsLine (Some before) None room hand hand' line used room' last → ⊥
+no_line before room line used room' hand hand' true h = h
+no_line before room line used room' hand hand' false h = h
+
+-- The same of a reader that may tell.
+pub told_fault_to_come : (state : State) (count room room' : ℕ) (hand hand' rest : List ℕ)
+    (before after : Option Told) (f : FoundLine) (kind : FileKind)
+    → settled_in state ≡ false → count + 1 ≤ LONGEST_FILE
+    → HasFound before after room hand hand' f → IsFileFault (take f.line hand') kind
+    → IfSome (comes_in state count room hand before).answers (λ a. FaultIsNext a kind)
+    × ((comes_in state count room' rest after).number
+    ≡ (comes_in state count room hand before).number)
+    × ((comes_in state count room hand before).number + 1 ≤ LONGEST_FILE)
+told_fault_to_come Open count room room' hand hand' rest None after f kind unsettled fits found
+    fault = (tt, refl, fits)
+told_fault_to_come Open count room room' hand hand' rest (Some b) None f kind unsettled fits found
+    fault = absurd (no_line b room f.line f.used f.room hand hand' f.last found.told)
+told_fault_to_come Open count room room' hand hand' rest (Some b) (Some a) f kind unsettled fits
+    found fault =
+    fault_to_come Open count room room' hand hand' rest b a f kind unsettled fits found fault
+told_fault_to_come End count room room' hand hand' rest before after f kind unsettled fits found
+    fault = cc
+told_fault_to_come (Failed k) count room room' hand hand' rest before after f kind unsettled fits
+    found fault = cc

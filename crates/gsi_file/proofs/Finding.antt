@@ -5,7 +5,7 @@ use Rattle.std.proofs.Common.{ap, subst, ◌∙◌, arith, append_assoc, add-one
 use Rattle.std.proofs.Common.{length-drop, length-append, drop-cons, drop-drop, ◌⊎◌, inl, inr}
 use Rattle.std.specs.Prelude.{slice_index}
 use Rattle.std.proofs.lemmas.List.{take-append-drop, take-take, take_all, get_or-take, get_or-drop}
-use Rattle.std.proofs.lemmas.List.{append-nil}
+use Rattle.std.proofs.lemmas.List.{append-nil, take-append-le}
 use Rattle.std.proofs.lemmas.List.Elements.{All-nil, All-take}
 use Rattle.std.proofs.lemmas.Bool.{true≢false, false≢true}
 use Rattle.byte_ends.specs.Source.{Told, HasBrokenOff}
@@ -306,3 +306,40 @@ found_at_end told0 told told' room h0 left line h h' n e z line_there s g =
       told = ends_by told0 told told' room h0 left line h h' n true e z line_there s g;
       printable = λ e. absurd (false≢true e);
     }
+
+-- Bytes that come to those in hand are no longer to come: the answers stay the same.
+pub still_same : (room : ℕ) (h0 : List ℕ) (left : ℕ) (h h' : List ℕ) (n : ℕ) (a b c : Told)
+    → SameAnswers (Some a) room h0 (Some b) left h → Grows (Some b) (Some c) h h' n
+    → SameAnswers (Some a) room h0 (Some c) left h'
+still_same room h0 left h h' n a b c same g =
+    let bytes : h ++ b.bytes ≡ h' ++ c.bytes =
+    ap (λ (zs : List ℕ). h ++ zs) g.told.next
+    ∙ sym (append_assoc h g.given c.bytes)
+    ∙ ap (λ (zs : List ℕ). zs ++ c.bytes) (sym g.now) in
+    same
+    ∙ ap (λ (zs : List ℕ). answers_within left zs b.fails) bytes
+    ∙ ap (λ (f : Bool). answers_within left (h' ++ c.bytes) f) (sym g.told.same)
+
+same_answers : (told0 told told' : Option Told) (room : ℕ) (h0 : List ℕ) (left : ℕ) (h h' : List ℕ)
+    (n : ℕ) → SameAnswers told0 room h0 told left h → Grows told told' h h' n
+    → SameAnswers told0 room h0 told' left h'
+same_answers None told told' room h0 left h h' n s g = tt
+same_answers (Some a) None told' room h0 left h h' n s g = absurd s
+same_answers (Some a) (Some b) None room h0 left h h' n s g = absurd g.told
+same_answers (Some a) (Some b) (Some c) room h0 left h h' n s g =
+    still_same room h0 left h h' n a b c s g
+
+-- After a read the search goes on where it stood, with more in hand.
+pub goes_on : (told0 told told' : Option Told) (room : ℕ) (h0 : List ℕ) (left from line : ℕ)
+    (h h' : List ℕ) (n : ℕ) → line ≤ 1024 → line ≤ length h → line ≤ left → HasNoEnd (take line h)
+    → Searching told0 told room h0 left from h → Grows told told' h h' n
+    → Searching told0 told' room h0 left line h'
+goes_on told0 told told' room h0 left from line h h' n short inside fits plain s g = record {
+  short = short;
+  inside = omega (arith, grown_length told told' h h' n g);
+  fits = fits;
+  most = s.most;
+  plain = subst (λ (zs : List ℕ). HasNoEnd zs)
+      (sym (ap (take line) g.now ∙ take-append-le line h g.given inside)) plain;
+  same = same_answers told0 told told' room h0 left h h' n s.same g;
+}

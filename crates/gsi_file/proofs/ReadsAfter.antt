@@ -4,8 +4,9 @@ use Rattle.std.proofs.Common.{drop, Option, None, Some, Result, Ok, Err, slice_r
 use Rattle.std.proofs.Common.{refl, sym, ap, subst, ◌∙◌, arith, length-take, drop-drop}
 use Rattle.std.specs.Prelude.{IfOk}
 use Rattle.std.proofs.lemmas.List.{drop-take, drop-append-le, take-append-le}
-use Rattle.byte_ends.specs.Source.{Told, Reads, AfterRead, TellsOver, MayGive, Through, ended}
-use Rattle.byte_ends.specs.Source.{broken_off}
+use Rattle.byte_ends.specs.Source.{Told, Reads, AfterRead, TellsOver, MayGive, Through, Adds}
+use Rattle.byte_ends.specs.Source.{given_by, given_then, ended, broken_off}
+use Rattle.byte_ends.proofs.Coming.{given_by_read, left_is}
 use Rattle.byte_ends.specs.declared.failed.Failed.{Failed}
 use Rattle.gsi_file.specs.Filling.{Grows, GivesTold, FailsTold}
 
@@ -94,41 +95,34 @@ grows_behind old new buf buf' hand a e n le inside same g = record {
   told = g.told;
 }
 
--- A source that has told its end gives that after the read.
-over_known : (new : Option Told) (end after : Told) → new ≡ Some end → MayGive new after
-    → after ≡ end
-over_known None end after e may = cc
-over_known (Some t) end after e may = may ∙ some_is e
-  where
-    some_is : Some t ≡ Some end → t ≡ end
-    some_is e = cc
-
 no_bytes : (n : ℕ) (buf : List ℕ) → take n buf ≡ [] → 0 < length buf → n ≡ 0
 no_bytes n buf e some = omega (arith, ap length e, length-take n buf)
 
--- Whatever a source gives after a read that told nothing, the read is one of a source that told it.
-pub reads_as : (old new : Option Told) (buf : List ℕ) (r : Result ℕ Failed) → Reads old new r buf
-    → TellsOver new r (length buf) → Through old new (λ o n. AfterRead o n r buf)
-reads_as None new buf (Ok n) h over after may = (
-  record { bytes = take n buf ++ after.bytes; fails = after.fails },
-  tt,
-  record {
-    next = refl;
-    same = refl;
-    end = λ none some. let e : after ≡ ended =
-        over_known new ended after (over (no_bytes n buf none some) some) may in
-        (ap (λ (t : Told). t.bytes) e, ap (λ (t : Told). t.fails) e);
-  },
-)
-reads_as None new buf (Err e') h over after may =
-    let e : after ≡ broken_off = over_known new broken_off after over may in (
-      after,
-      tt,
-      record {
-        unchanged = refl;
-        end = (ap (λ (t : Told). t.bytes) e, ap (λ (t : Told). t.fails) e);
-      },
-    )
-reads_as (Some o) None buf r h over after may = absurd h
-reads_as (Some o) (Some n) buf r h over after may =
-    (o, refl, subst (λ (t : Told). AfterRead o t r buf) (sym may) h)
+-- A read is one of a source that told what it gave and what is left.
+after_read : (told : Option Told) (buf : List ℕ) (r : Result ℕ Failed)
+    → TellsOver told r (length buf) → (left : Told) → MayGive told left
+    → AfterRead (given_then (given_by r buf) left) left r buf
+after_read told buf (Ok n) over left may = record {
+  next = refl;
+  same = refl;
+  end = λ none some. let e : left ≡ ended =
+      left_is told ended left (over (no_bytes n buf none some) some) may in
+      (ap (λ (t : Told). t.bytes) e, ap (λ (t : Told). t.fails) e);
+}
+after_read told buf (Err e') over left may =
+    let e : left ≡ broken_off = left_is told broken_off left over may in
+    record {
+      unchanged = refl;
+      end = (ap (λ (t : Told). t.bytes) e, ap (λ (t : Told). t.fails) e);
+    }
+
+-- Whatever a source may give after a read, the read is one of a source that told it.
+pub reads_as : {S : Type 0} (told : S → Option Told) (gave : S → List ℕ → Type 0) (old new : S)
+    (buf : List ℕ) (r : Result ℕ Failed) → Reads (told old) (told new) r buf
+    → TellsOver (told new) r (length buf) → Adds (gave old) (gave new) (given_by r buf)
+    → Through told gave old new (λ o n. AfterRead o n r buf)
+reads_as told gave old new buf r reads over adds = record {
+  given = given_by r buf;
+  by_reads = given_by_read told gave old new r buf reads adds;
+  so = after_read (told new) buf r over;
+}

@@ -1,7 +1,7 @@
 -- What looking for the next line does, where the source tells.
 use Rattle.std.specs.Prelude.{◌≡◌, ℕ, ◌+◌, ◌/◌, ◌<◌, ◌≤◌, Bool, true, false, List, ◌++◌, All}
 use Rattle.std.specs.Prelude.{length, take, drop, Option, Some, None, Result, Ok, Err}
-use Rattle.byte_ends.specs.Source.{Told, WhereTold, HasBrokenOff}
+use Rattle.byte_ends.specs.Source.{Told, WhereTold, HasBrokenOff, ended, broken_off}
 use Rattle.gsi_word.specs.Words.{IsPrintable}
 use Rattle.gsi_file.specs.declared.file_fault.FileKind.{FileKind}
 use Rattle.gsi_file.specs.declared.search.FoundLine.{FoundLine}
@@ -56,3 +56,9 @@ Finds old new room hand hand' (Ok (Some f)) = HasFound old new room hand hand' f
 Finds old new room hand hand' (Ok None) = AnswersAre old room hand new (only None)
 Finds old new room hand hand' (Err kind) =
     AnswersAre old room hand new (only (Some kind)) × (IsRead kind → BreaksOff old new)
+
+-- Where the source has ended or a read has failed, it tells so, whether it told its bytes or not.
+abbrev pub IsOverAfter : Result (Option FoundLine) FileKind → Option Told → Type 0
+IsOverAfter (Ok (Some f)) told = f.last ≡ true → told ≡ Some ended
+IsOverAfter (Ok None) told = told ≡ Some ended
+IsOverAfter (Err kind) told = IsRead kind → told ≡ Some broken_off

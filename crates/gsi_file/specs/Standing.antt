@@ -3,8 +3,10 @@ use Rattle.std.specs.Prelude.{◌≡◌, Bool, true, false, ℕ, ◌<◌, List, 
 use Rattle.std.specs.Prelude.{Ok, Err}
 use Rattle.std.specs.Option.{option_map}
 use Rattle.byte_ends.specs.Source.{Told}
+use Rattle.byte_ends.specs.Source as over
 use Rattle.gsi_file.specs.declared.file_fault.FileFault.{FileFault}
 use Rattle.gsi_file.specs.declared.file_fault.FileFault.TheVariants.{At, Memory}
+use Rattle.gsi_file.specs.declared.file_fault.FileKind.{FileKind}
 use Rattle.gsi_file.specs.declared.lines.State.{State}
 use Rattle.gsi_file.specs.declared.lines.State.TheVariants.{Open, End, Failed}
 use Rattle.gsi_file.specs.declared.lines.Lines.{Lines}
@@ -63,6 +65,22 @@ gives_none (Ok (Some x)) = false
 gives_none (Ok None) = true
 gives_none (Err e) = true
 
+-- Whether the end is settled in a state.
+abbrev pub at_end_in : State → Bool
+at_end_in Open = false
+at_end_in End = true
+at_end_in (Failed kind) = false
+
+-- Whether the end is settled.
+abbrev pub is_at_end : {R : Type 0} → Lines R → Bool
+is_at_end l = at_end_in l.state
+
+-- A call answered the end.
+abbrev pub IsEnd : {A E : Type 0} → Result (Option A) E → Type 0
+IsEnd (Ok (Some x)) = ⊥
+IsEnd (Ok None) = ⊤
+IsEnd (Err e) = ⊥
+
 -- An answer that is no line settles the end or a fault. A line that no byte ended settles the end
 -- too. Once one is settled the reader is not asked again.
 pub record AsksNoMore {A E R : Type 0} (result : Result (Option A) E) (old new : Lines R)
@@ -70,6 +88,8 @@ pub record AsksNoMore {A E R : Type 0} (result : Result (Option A) E) (old new :
   pub settles : gives_none result ≡ true → is_settled new ≡ true
   pub last : gives_none result ≡ false → bytes_in_hand new ≡ line_found new → is_settled new ≡ true
   pub unread : is_settled old ≡ true → reader_of new ≡ reader_of old
+  pub at_end : gives_none result ≡ false → is_settled new ≡ true → is_at_end new ≡ true
+  pub stays : is_at_end old ≡ true → IsEnd result
 
 -- A line that was given takes bytes.
 abbrev pub Progresses : {A E : Type 0} → Result (Option A) E → ℕ → ℕ → Type 0
@@ -88,3 +108,17 @@ IsReadFault (Err Memory) = ⊥
 abbrev pub FailsAtItsEnd : {A : Type 0} → Result (Option A) FileFault → Bool
     → Option Told → Option Told → Type 0
 FailsAtItsEnd result settled old new = IsReadFault result → settled ≡ false → BreaksOff old new
+
+-- Where a step settles the end or a failed read, the reader tells that it has ended or broken off,
+-- whether it told its bytes or not.
+abbrev pub IsOverBy : {A : Type 0} → Result (Option A) FileKind → Bool → Option Told → Type 0
+IsOverBy (Ok (Some x)) settled told = settled ≡ true → told ≡ Some over.ended
+IsOverBy (Ok None) settled told = told ≡ Some over.ended
+IsOverBy (Err kind) settled told = IsRead kind → told ≡ Some over.broken_off
+
+-- The same of a call.
+abbrev pub IsOverWith : {A : Type 0} → Result (Option A) FileFault → Bool → Option Told → Type 0
+IsOverWith (Ok (Some x)) settled told = settled ≡ true → told ≡ Some over.ended
+IsOverWith (Ok None) settled told = told ≡ Some over.ended
+IsOverWith (Err (At number kind)) settled told = IsRead kind → told ≡ Some over.broken_off
+IsOverWith (Err Memory) settled told = ⊤

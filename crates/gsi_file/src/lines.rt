@@ -75,18 +75,34 @@ impl<R: Source> Lines<R> {
     ghost use Rattle.gsi_file.specs.FileAnswers.{file_answers};
     ghost use Rattle.gsi_file.specs.ToCome.{ToCome, Answers, FindsNext, FindsBlock, IsRead};
     ghost use Rattle.gsi_file.specs.Finding.{BreaksOff};
-    ghost use Rattle.gsi_file.specs.Standing.{to_come, gives, reader_of, AsksNoMore, line_found, bytes_left, is_settled, Progresses, FailsAtItsEnd};
+    ghost use Rattle.gsi_file.specs.Standing.{to_come, gives, reader_of, AsksNoMore, line_found, bytes_left, is_settled, Progresses, FailsAtItsEnd, IsOverBy, IsOverWith};
     ghost use Rattle.byte_ends.specs.Source.{Told, Through};
 
     /// Takes the one buffer, and reads nothing. Where there is no memory the reader is dropped.
     pub fn new(alloc: Global, reader: R) -> Result<Lines<R>, OutOfMemory>
         ensures unread { IfOk result (λ l. reader_of l ≡ reader) }
         ensures number { IfOk result (λ l. (to_come R.told l).number ≡ 0) }
+        ensures open { IfOk result (λ l. is_settled l ≡ false) }
         ensures room { IfOk result (λ l. bytes_left l ≡ LONGEST_FILE) }
         ensures answers { IfSome (R.told reader) (λ told. IfOk result
             (λ l. (to_come R.told l).answers ≡ Some (file_answers told))) }
         ensures whatever { IfOk result (λ l. (told : Told)
             → to_come (gives told) l ≡ record { number = 0; answers = Some (file_answers told) }) }
+    {
+        Lines::over(alloc, reader).map_err(|_| OutOfMemory)
+    }
+
+    /// The same, and where there is no memory the reader is given back.
+    pub fn over(alloc: Global, reader: R) -> Result<Lines<R>, R>
+        ensures unread { IfOk result (λ l. reader_of l ≡ reader) }
+        ensures number { IfOk result (λ l. (to_come R.told l).number ≡ 0) }
+        ensures open { IfOk result (λ l. is_settled l ≡ false) }
+        ensures room { IfOk result (λ l. bytes_left l ≡ LONGEST_FILE) }
+        ensures answers { IfSome (R.told reader) (λ told. IfOk result
+            (λ l. (to_come R.told l).answers ≡ Some (file_answers told))) }
+        ensures whatever { IfOk result (λ l. (told : Told)
+            → to_come (gives told) l ≡ record { number = 0; answers = Some (file_answers told) }) }
+        ensures back { IfErr result (λ r. r ≡ reader) }
     {
         match Buffer::new(alloc) {
             Ok(buffer) => Ok(Lines {
@@ -96,7 +112,7 @@ impl<R: Source> Lines<R> {
                 room: LONGEST_FILE,
                 state: State::Open,
             }),
-            Err(_) => Err(OutOfMemory),
+            Err(_) => Err(reader),
         }
     }
 
@@ -127,8 +143,10 @@ impl<R: Source> Lines<R> {
             (R.told (reader_of self.old)) (R.told (reader_of new))
             × (R.failed (reader_of new)
             ≡ failed_in (is_settled self.old) (R.failed (reader_of self.old)) result)
-            × Through (R.told (reader_of self.old)) (R.told (reader_of new)) (λ before after.
-            Answers (to_come (gives before) self.old) result (to_come (gives after) new)))) }
+            × Through R.told R.gave (reader_of self.old) (reader_of new) (λ before after.
+            Answers (to_come (gives before) self.old) result (to_come (gives after) new))
+            × (is_settled self.old ≡ false
+            → IsOverWith result (is_settled new) (R.told (reader_of new))))) }
     {
         match self.advance()? {
             Some(shape) => {
@@ -145,7 +163,7 @@ impl<R: Source> Lines<R> {
     fn advance(&mut self) -> Result<Option<Shape>, FileFault>
         ensures finds { FindsNext (to_come R.told self.old) result (to_come R.told self.new)
             (line_found self.new) }
-        ensures through { Through (R.told (reader_of self.old)) (R.told (reader_of self.new))
+        ensures through { Through R.told R.gave (reader_of self.old) (reader_of self.new)
             (λ before after. FindsNext (to_come (gives before) self.old) result
             (to_come (gives after) self.new) (line_found self.new)) }
         ensures settled { AsksNoMore result self.old self.new }
@@ -154,6 +172,8 @@ impl<R: Source> Lines<R> {
             (R.told (reader_of self.old)) (R.told (reader_of self.new)) }
         ensures failed { R.failed (reader_of self.new)
             ≡ failed_in (is_settled self.old) (R.failed (reader_of self.old)) result }
+        ensures over { is_settled self.old ≡ false
+            → IsOverWith result (is_settled self.new) (R.told (reader_of self.new)) }
     {
         match self.state {
             State::Open => {}
@@ -174,7 +194,7 @@ impl<R: Source> Lines<R> {
         requires { is_settled self.old ≡ false }
         ensures finds { FindsBlock (to_come R.told self.old) result (to_come R.told self.new)
             (line_found self.new) }
-        ensures through { Through (R.told (reader_of self.old)) (R.told (reader_of self.new))
+        ensures through { Through R.told R.gave (reader_of self.old) (reader_of self.new)
             (λ before after. FindsBlock (to_come (gives before) self.old) result
             (to_come (gives after) self.new) (line_found self.new)) }
         ensures settled { OnOk result (AsksNoMore result self.old self.new) }
@@ -183,6 +203,7 @@ impl<R: Source> Lines<R> {
             → BreaksOff (R.told (reader_of self.old)) (R.told (reader_of self.new))) }
         ensures failed { R.failed (reader_of self.new)
             ≡ failed_by (R.failed (reader_of self.old)) result }
+        ensures over { IsOverBy result (is_settled self.new) (R.told (reader_of self.new)) }
     {
         self.window.drop_line();
         let Some(found) = find_line(&mut self.reader, &mut self.window.buffer, self.room)? else {

@@ -1,17 +1,20 @@
 -- What came of a reader, read by read.
-use Rattle.std.proofs.Common.{◌≡◌, Option, Some, subst, ◌∙◌}
+use Rattle.std.proofs.Common.{◌≡◌, List, ℕ, Option, Some, subst, ◌∙◌}
 use Rattle.std.specs.Prelude.{IfSome}
-use Rattle.byte_ends.proofs.Coming.{came_so, some_bytes}
+use Rattle.station_check.proofs.SomeCame.{came_so, step_back}
+use Rattle.byte_ends.proofs.Coming.{some_left}
 use Rattle.byte_ends.specs.Source.{Told, MayGive, Through}
 use Rattle.gsi_file.specs.FileAnswers.{FileAnswers, file_answers}
 use Rattle.gsi_file.specs.ToCome.{ToCome}
-use Rattle.byte_ends.specs.Came.{SomeBytesCame}
-use Rattle.station_check.specs.Came.{SomeLinesCame}
+use Rattle.station_check.specs.Came.{SomeBytesCame, SomeLinesCame}
 
 -- What stands at the end of some reads.
-pub at_last : (old new : Option Told) (P : Told → Told → Type 0) → Through old new P
-    → (after : Told) × ((before : Told) × MayGive old before × P before after)
-at_last old new P p = let left = some_bytes new in (left.came, p left.came left.as_told)
+pub at_last : {S : Type 0} (told : S → Option Told) (gave : S → List ℕ → Type 0) (old new : S)
+    (P : Told → Told → Type 0) → Through told gave old new P
+    → (after : Told) × ((before : Told) × MayGive (told old) before × P before after)
+at_last told gave old new P p =
+    let left = some_left (told new) in
+    (left.0, step_back told gave old new P p left.0 left.1)
 
 -- What came of new lines, by what is to come of them.
 pub lines_came : (told known : Option Told) (next : Told → ToCome) (So : FileAnswers → Type 0)

@@ -1,6 +1,13 @@
 -- No failed read of a field file is passed over.
-use Rattle.std.proofs.Common.{◌≡◌}
-use Rattle.std.specs.Prelude.{Bool, true, false, Ok}
+use Rattle.std.proofs.Common.{◌≡◌, ◌∙◌, ap, refl, Option, Some}
+use Rattle.byte_ends.specs.Source.{Told, ended}
+use Rattle.std.specs.Prelude.{Bool, true, false, Ok, Err}
+use Rattle.gsi_file.specs.Standing.{IsOverWith}
+use Rattle.gsi_file.specs.declared.file_fault.FileFault.{FileFault}
+use Rattle.gsi_file.specs.declared.file_fault.FileFault.TheVariants.{At, Memory}
+use Rattle.gsi_file.specs.declared.file_fault.FileKind.TheVariants.{Read, FileTooLong, LineTooLong}
+use Rattle.gsi_file.specs.declared.file_fault.FileKind.TheVariants.{Byte, Word, FirstWord}
+use Rattle.station_check.specs.Answerable.{of_lines, LeavesFile}
 use Rattle.gsi_file.specs.Failing.{failed_in}
 
 -- No read failed in a call that gave a line or the end.
@@ -8,3 +15,34 @@ pub none_failed : (A : Type 0) (settled old new : Bool) (x : A)
     → new ≡ failed_in {A = A} settled old (Ok x) → new ≡ old
 none_failed A true old new x e = e
 none_failed A false old new x e = e
+
+-- While lines come, the reader has ended where the end is settled.
+pub over_still : {R : Type 0} (told : R → Option Told) (was is : Bool) (old new : R)
+    → (was ≡ true → new ≡ old) → (was ≡ true → told old ≡ Some ended)
+    → (was ≡ false → is ≡ true → told new ≡ Some ended)
+    → is ≡ true → told new ≡ Some ended
+over_still told true is old new unread over next settled = ap told (unread refl) ∙ over refl
+over_still told false is old new unread over next settled = next refl settled
+
+-- At the end the reader has ended.
+pub over_here : {R : Type 0} (told : R → Option Told) (was : Bool) (old new : R)
+    → (was ≡ true → new ≡ old) → (was ≡ true → told old ≡ Some ended)
+    → (was ≡ false → told new ≡ Some ended)
+    → told new ≡ Some ended
+over_here told true old new unread over next = ap told (unread refl) ∙ over refl
+over_here told false old new unread over next = next refl
+
+-- A fault of the file leaves its reader as it says.
+pub left_at : (A : Type 0) (fault : FileFault) (settled is old : Bool) (told : Option Told)
+    {first new : Bool} → (settled ≡ true → ⊥)
+    → (settled ≡ false → IsOverWith {A = A} (Err fault) is told)
+    → new ≡ failed_in {A = A} settled old (Err fault) → old ≡ first
+    → LeavesFile {A = A} (Err (of_lines fault)) told first new
+left_at A fault true is old told never over failed kept = absurd (never refl)
+left_at A (At number Read) false is old told never over failed kept = (over refl tt, failed)
+left_at A (At number FileTooLong) false is old told never over failed kept = failed ∙ kept
+left_at A (At number LineTooLong) false is old told never over failed kept = failed ∙ kept
+left_at A (At number (Byte at)) false is old told never over failed kept = failed ∙ kept
+left_at A (At number (Word nth)) false is old told never over failed kept = failed ∙ kept
+left_at A (At number FirstWord) false is old told never over failed kept = failed ∙ kept
+left_at A Memory false is old told never over failed kept = failed ∙ kept

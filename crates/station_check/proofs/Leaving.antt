@@ -1,5 +1,5 @@
 -- How the sheet's reader is left.
-use Rattle.std.proofs.Common.{Option, Result, Ok, Err, refl}
+use Rattle.std.proofs.Common.{◌≡◌, Option, Result, Ok, Err, refl, subst}
 use Rattle.std.specs.Prelude.{Bool, IfErr}
 use Rattle.byte_ends.specs.Source.{Told}
 use Rattle.station_check.specs.declared.fault.Fault.{Fault}
@@ -7,7 +7,9 @@ use Rattle.station_check.specs.declared.fault.Fault.TheVariants.{Gsi, Book, Shee
 use Rattle.station_check.specs.declared.fault.Fault.TheVariants.{NoStation, Means, Kernel, Write}
 use Rattle.station_check.specs.declared.fault.Fault.TheVariants.{Memory}
 use Rattle.adjust_kernel.specs.declared.accepted.Accepted.{Accepted}
-use Rattle.station_check.specs.Answerable.{IsOfFile, IsOfSheet}
+use Rattle.byte_ends.specs.Came.{IsReadOut}
+use Rattle.gsi_file.specs.declared.file_fault.FileFault.TheVariants as file
+use Rattle.station_check.specs.Answerable.{IsOfFile, IsOfSheet, LeavesFile}
 use Rattle.station_check.specs.Refused.{IsUnreadAtFileFault}
 use Rattle.station_check.specs.SheetInput.{LeavesAtFault}
 
@@ -50,3 +52,39 @@ asked (Err (Means fault)) old new o = tt
 asked (Err (Kernel fault)) old new o = tt
 asked (Err Write) old new o = tt
 asked (Err Memory) old new o = tt
+
+-- An answer from the sheet on leaves the field file's reader read to its end.
+pub left_by_sheet : (r : Result Accepted Fault) (told : Option Told) (old new : Bool)
+    → IfErr r IsOfSheet → IsReadOut told old new → LeavesFile r told old new
+left_by_sheet (Ok a) told old new o h = h
+left_by_sheet (Err (Gsi fault)) told old new o h = absurd o
+left_by_sheet (Err (Book fault)) told old new o h = absurd o
+left_by_sheet (Err SheetRead) told old new o h = h
+left_by_sheet (Err (Sheet fault)) told old new o h = h
+left_by_sheet (Err NoStation) told old new o h = h
+left_by_sheet (Err (Means fault)) told old new o h = absurd o
+left_by_sheet (Err (Kernel fault)) told old new o h = h
+left_by_sheet (Err Write) told old new o h = absurd o
+left_by_sheet (Err Memory) told old new o h = h.1
+
+-- The same fault with another answer beside it.
+left_by : (A B : Type 0) (fault : Fault) (told : Option Told) (old new : Bool)
+    → LeavesFile {A = A} (Err fault) told old new → LeavesFile {A = B} (Err fault) told old new
+left_by A B (Gsi (file.At number what)) told old new h = h
+left_by A B (Gsi file.Memory) told old new h = h
+left_by A B (Book fault) told old new h = h
+left_by A B SheetRead told old new h = h
+left_by A B (Sheet fault) told old new h = h
+left_by A B NoStation told old new h = h
+left_by A B (Means fault) told old new h = h
+left_by A B (Kernel fault) told old new h = h
+left_by A B Write told old new h = h
+left_by A B Memory told old new h = h
+
+-- A fault of the field file leaves its reader so, whatever else might be answered.
+pub left_by_file : (A : Type 0) (r : Result A Fault) (fault : Fault) (told : Option Told)
+    (old new : Bool) → r ≡ Err fault → LeavesFile r told old new
+    → LeavesFile {A = Accepted} (Err fault) told old new
+left_by_file A r fault told old new e h =
+    left_by A Accepted fault told old new
+    (subst (λ (x : Result A Fault). LeavesFile x told old new) e h)

@@ -1,6 +1,8 @@
 -- Which faults a call may answer, whatever its readers and writers tell. That memory ran out is
 -- answered as `Memory`, whichever part it was, and `Write` only where a call of the writer failed.
-use Rattle.std.specs.Prelude.{◌≡◌, Bool, true, Result, Ok, Err, ⊤}
+use Rattle.std.specs.Prelude.{◌≡◌, Bool, true, Option, Some, Result, Ok, Err, ⊤}
+use Rattle.byte_ends.specs.Came.{IsReadOut}
+use Rattle.byte_ends.specs.Source.{Told, broken_off}
 use Rattle.byte_ends.specs.declared.input.InputFault.{InputFault}
 use Rattle.byte_ends.specs.declared.input.InputFault.TheVariants as input
 use Rattle.gsi_file.specs.declared.file_fault.FileFault.{FileFault}
@@ -130,3 +132,21 @@ abbrev pub PassesNoFailure : {A : Type 0} → Result A Fault → Bool → Bool �
 PassesNoFailure (Ok x) old new = new ≡ old
 PassesNoFailure (Err (Gsi (file.At number what))) old new = NoReadFailed what old new
 PassesNoFailure (Err fault) old new = new ≡ old
+
+-- How a fault of the file leaves its reader: at `Read` a read failed, and it has broken off; no read
+-- failed at any other.
+abbrev pub LeavesAtKind : FileKind → Option Told → Bool → Bool → Type 0
+LeavesAtKind kind.Read told old new = (told ≡ Some broken_off) × (new ≡ true)
+LeavesAtKind other told old new = new ≡ old
+
+-- How an answer leaves the reader of the field file, whatever that tells: at a failed read it has
+-- broken off; at each fault from the sheet on, and at an acceptance, it has ended; and no read
+-- failed at any other answer.
+abbrev pub LeavesFile : {A : Type 0} → Result A Fault → Option Told → Bool → Bool → Type 0
+LeavesFile (Ok x) told old new = IsReadOut told old new
+LeavesFile (Err (Gsi (file.At number what))) told old new = LeavesAtKind what told old new
+LeavesFile (Err SheetRead) told old new = IsReadOut told old new
+LeavesFile (Err (Sheet fault)) told old new = IsReadOut told old new
+LeavesFile (Err NoStation) told old new = IsReadOut told old new
+LeavesFile (Err (Kernel fault)) told old new = IsReadOut told old new
+LeavesFile (Err fault) told old new = new ≡ old

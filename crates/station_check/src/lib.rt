@@ -48,7 +48,7 @@ mod word_line;
 mod words;
 
 pub use accepted::accepted_line;
-pub use check::{check_bytes, check_slices, handed_in};
+pub use check::{check_bytes, check_slices, check_sources, handed_in};
 pub use fault::Fault;
 pub use list::write_list;
 pub use means::write_means;

@@ -1,6 +1,6 @@
 -- What the answer of each run says, and what `out` got.
 use Rattle.std.specs.Prelude.{◌≡◌, ℕ, Bool, true, List, Option, Result, Ok, Err}
-use Rattle.byte_ends.specs.Came.{SomeBytesCame}
+use Rattle.station_check.specs.Came.{SomeBytesCame}
 use Rattle.byte_ends.specs.Source.{Told}
 use Rattle.station_book.specs.Limits.{FaceLimits}
 use Rattle.station_check.specs.Came.{SomeLinesCame}

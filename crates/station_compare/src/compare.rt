@@ -1,7 +1,7 @@
 //! A field file and a table of directions, compared.
 ghost use Rattle.std.specs.Prelude.{◌≡◌};
 ghost use Rattle.adjust_kernel.specs.declared.bounds.TheConstants.{LARGEST_RESIDUAL_LIMIT};
-ghost use Rattle.byte_ends.specs.Came.{SomeBytesCame};
+ghost use Rattle.station_check.specs.Came.{SomeBytesCame};
 ghost use Rattle.byte_ends.specs.Input.{input_within};
 ghost use Rattle.direction_table.specs.declared.reading.TheConstants.{LONGEST_TABLE};
 ghost use Rattle.station_check.specs.Came.{SomeLinesCame};

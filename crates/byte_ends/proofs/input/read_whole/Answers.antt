@@ -1,76 +1,120 @@
-use Rattle.std.proofs.Common.{rules, ◌≡◌, ℕ, ◌<◌, ◌≤◌, length, List, [], Option, Some, None, refl}
-use Rattle.std.proofs.Common.{arith, ap, sym, ◌∙◌, ◌+◌, ◌++◌, Bool, if◌then◌else◌}
-use Rattle.std.specs.Prelude.{IfSome, nat_lt, true, false}
+use Rattle.std.proofs.Common.{rules, ◌≡◌, ℕ, ◌<◌, ◌≤◌, length, List, [], Option, Some, Ok, Err, refl}
+use Rattle.std.proofs.Common.{subst, take, arith, ap, sym, ◌∙◌, ◌+◌, ◌++◌, Bool}
+use Rattle.std.specs.Prelude.{nat_lt, true, false}
 use Rattle.std.proofs.lemmas.List.{length-append, append-nil}
-use Rattle.std.proofs.lemmas.Bool.{le-ltb}
-use Rattle.byte_ends.specs.Source.{Told, HasGiven, WhereTold, Fails}
+use Rattle.byte_ends.specs.Source.{Told, HasGiven, MayGive, given_by, given_then, ended, broken_off}
+use Rattle.byte_ends.specs.declared.failed.Failed.{Failed}
 use Rattle.byte_ends.specs.Input.{input_within, Ended, BrokeOff, RanPast}
-use Rattle.byte_ends.proofs.Coming.{told_or, anything_came}
+use Rattle.byte_ends.proofs.Coming.{given_by_read, given_on, left_is}
 use Rattle.byte_ends.proofs.input.read_whole.Goals as goal
 
-ended_at : (limit : ℕ) (bytes : List ℕ) → length bytes ≤ limit
-    → input_within limit (record { bytes = bytes; fails = false }) ≡ Ended bytes
-ended_at limit bytes le = let e : nat_lt limit (length bytes) ≡ false = grind arith in rw e refl
+-- Where nothing is left, the bytes are all.
+ended_at : (limit : ℕ) (bytes : List ℕ) (told : Option Told) (left : Told) → length bytes ≤ limit
+    → told ≡ Some ended → MayGive told left → input_within limit (given_then bytes left) ≡ Ended bytes
+ended_at limit bytes told left le e may =
+    let s : nat_lt limit (length bytes) ≡ false = grind arith in
+    ap (λ (t : Told). input_within limit (given_then bytes t)) (left_is told ended left e may)
+    ∙ rw (append-nil bytes, s) refl
 
-broke_at : (limit : ℕ) (bytes : List ℕ) → length bytes ≤ limit
-    → input_within limit (record { bytes = bytes; fails = true }) ≡ BrokeOff bytes
-broke_at limit bytes le = let e : nat_lt limit (length bytes) ≡ false = grind arith in rw e refl
+broke_at : (limit : ℕ) (bytes : List ℕ) (told : Option Told) (left : Told) → length bytes ≤ limit
+    → told ≡ Some broken_off → MayGive told left
+    → input_within limit (given_then bytes left) ≡ BrokeOff bytes
+broke_at limit bytes told left le e may =
+    let s : nat_lt limit (length bytes) ≡ false = grind arith in
+    ap (λ (t : Told). input_within limit (given_then bytes t)) (left_is told broken_off left e may)
+    ∙ rw (append-nil bytes, s) refl
 
-past_at : (limit : ℕ) (bytes : List ℕ) → limit < length bytes
-    → input_within limit (record { bytes = bytes; fails = false }) ≡ RanPast
-past_at limit bytes lt = let e : nat_lt limit (length bytes) ≡ true = grind arith in rw e refl
+past_at : (limit : ℕ) (bytes : List ℕ) (left : Told) → limit < length bytes
+    → input_within limit (given_then bytes left) ≡ RanPast
+past_at limit bytes left lt =
+    let l = length-append bytes left.bytes in
+    let e : nat_lt limit (length (bytes ++ left.bytes)) ≡ true = grind arith in rw e refl
 
-gave_past : (limit : ℕ) (old new : Option Told) (bytes : List ℕ) → HasGiven old new bytes
-    → limit < length bytes → IfSome old (λ t. input_within limit t ≡ RanPast)
-gave_past limit None new bytes h lt = tt
-gave_past limit (Some o) None bytes h lt = absurd h
-gave_past limit (Some o) (Some n) bytes h lt =
-    let l : length o.bytes ≡ length bytes + length n.bytes = ap (λ (b : List ℕ). length b) h.0
-    ∙ length-append bytes n.bytes in
-    let e : nat_lt limit (length o.bytes) ≡ true = grind arith in rw e refl
-
-gave_broken : (limit : ℕ) (old now new : Option Told) (bytes : List ℕ) → HasGiven old now bytes
-    → WhereTold now new (λ o n. Fails o n) → length bytes ≤ limit
-    → IfSome old (λ t. (b : List ℕ) × (input_within limit t ≡ BrokeOff b))
-gave_broken limit None now new bytes h f le = tt
-gave_broken limit (Some o) None new bytes h f le = absurd h
-gave_broken limit (Some o) (Some n) None bytes h f le = absurd f
-gave_broken limit (Some o) (Some n) (Some m) bytes h f le =
-    let none : n.bytes ≡ [] = ap (λ (t : Told). t.bytes) (sym f.unchanged) ∙ f.end.0 in
-    let whole : o.bytes ≡ bytes = h.0 ∙ ap (λ (r : List ℕ). bytes ++ r) none ∙ append-nil bytes in
-    let fails : o.fails ≡ true = sym h.1 ∙ ap (λ (t : Told). t.fails) (sym f.unchanged) ∙ f.end.1 in
-    let short : nat_lt limit (length o.bytes) ≡ false =
-    ap (λ (b : List ℕ). nat_lt limit (length b)) whole ∙ le-ltb limit (length bytes) le in (
-      bytes,
-      ap (λ (past : Bool). if past then RanPast else
-          (if o.fails then BrokeOff o.bytes else Ended o.bytes)) short
-          ∙ ap (λ (failed : Bool). if failed then BrokeOff o.bytes else Ended o.bytes) fails
-          ∙ ap (λ (b : List ℕ). BrokeOff b) whole,
-    )
+-- Where a last read gave nothing, no more was given.
+given_still : {S : Type 0} (told : S → Option Told) (gave : S → List ℕ → Type 0) (old new : S)
+    (bytes none : List ℕ) → none ≡ [] → HasGiven told gave old new (bytes ++ none)
+    → HasGiven told gave old new bytes
+given_still told gave old new bytes none e h =
+    subst (λ (b : List ℕ). HasGiven told gave old new b)
+    (ap (λ (r : List ℕ). bytes ++ r) e ∙ append-nil bytes) h
 
 pub returns-in-Ok-eq0-clause-came : goal.returns-in-Ok-eq0-clause-came
-returns-in-Ok-eq0-clause-came g c = told_or _ (record {
-  bytes = c.reading.bytes.items;
-  fails = false;
-}) _ (ended_at c.args.most c.reading.bytes.items (search rules)) (search rules)
+returns-in-Ok-eq0-clause-came g c =
+    let told = g.S.Source.told in
+    let gave = g.S.Source.gave in
+    let old = c.args.source.now in
+    let now = c.reading.source in
+    let new = c.read.new.self in
+    let bytes = c.reading.bytes.items in
+    let n = c.in-Ok-eq0.field-0 in
+    record {
+      given = bytes;
+      by_reads = given_still told gave old new bytes (take n c.read.new.buf)
+          (ap (λ (n : ℕ). take n c.read.new.buf) c.in-Ok-eq0.field-0-test)
+          (given_on told gave old now new bytes (take n c.read.new.buf) c.reading.invariant.given
+          (given_by_read {E = Failed} told gave now new (Ok n) c.read.new.buf
+          c.in-Ok-eq0.ensures.reads c.in-Ok-eq0.ensures.adds));
+      so = λ left may. ended_at c.args.most bytes (told new) left (search rules)
+          (c.in-Ok-eq0.ensures.over c.in-Ok-eq0.field-0-test (search rules)) may;
+    }
 
 pub returns-then-is_err-clause-came : goal.returns-then-is_err-clause-came
-returns-then-is_err-clause-came g c = anything_came _ _ (λ t. tt)
+returns-then-is_err-clause-came g c =
+    let told = g.S.Source.told in
+    let gave = g.S.Source.gave in
+    let now = c.reading.source in
+    let new = c.read.new.self in
+    record {
+      given = c.reading.bytes.items ++ given_by c.read.result c.read.new.buf;
+      by_reads = given_on told gave c.args.source.now now new c.reading.bytes.items
+          (given_by c.read.result c.read.new.buf) c.reading.invariant.given
+          (given_by_read {E = Failed} told gave now new c.read.result c.read.new.buf
+          c.read.ensures.reads c.read.ensures.adds);
+      so = λ left may. tt;
+    }
 
 pub returns-in-Err-clause-came : goal.returns-in-Err-clause-came
-returns-in-Err-clause-came g c = told_or _ (record {
-  bytes = c.reading.bytes.items;
-  fails = true;
-}) _ (
-  c.reading.bytes.items,
-  broke_at c.args.most c.reading.bytes.items
-      (search rules),
-) (gave_broken c.args.most _ _ _ c.reading.bytes.items c.reading.invariant.given
-    c.in-Err.ensures.reads (search rules))
+returns-in-Err-clause-came g c =
+    let told = g.S.Source.told in
+    let gave = g.S.Source.gave in
+    let old = c.args.source.now in
+    let now = c.reading.source in
+    let new = c.read.new.self in
+    let bytes = c.reading.bytes.items in
+    record {
+      given = bytes;
+      by_reads = given_still told gave old new bytes [] refl
+          (given_on told gave old now new bytes [] c.reading.invariant.given
+          (given_by_read {E = Failed} told gave now new (Err c.in-Err.field-0) c.read.new.buf
+          c.in-Err.ensures.reads c.in-Err.ensures.adds));
+      so = λ left may. (
+        bytes,
+        broke_at c.args.most bytes (told new) left (search rules) c.in-Err.ensures.over may,
+      );
+    }
 
 pub returns-clause-came : goal.returns-clause-came
-returns-clause-came g c = told_or _ (record {
-  bytes = c.reading.bytes.items;
-  fails = false;
-}) _ (past_at c.args.most c.reading.bytes.items (search rules))
-    (gave_past c.args.most _ _ c.reading.bytes.items c.reading.invariant.given (search rules))
+returns-clause-came g c = record {
+  given = c.reading.bytes.items;
+  by_reads = c.reading.invariant.given;
+  so = λ left may. past_at c.args.most c.reading.bytes.items left (search rules);
+}
+
+pub reading-preserved : goal.reading-preserved
+reading-preserved g c =
+    let told = g.S.Source.told in
+    let gave = g.S.Source.gave in
+    let old = c.args.source.now in
+    let now = c.reading.source in
+    let new = c.read.new.self in
+    let bytes = c.reading.bytes.items in
+    let n = c.in-Ok.n in
+    let items : c.extend_from_slice.new.self.items ≡ bytes ++ take n c.read.new.buf =
+    search rules in
+    record {
+      given = subst (λ (b : List ℕ). HasGiven told gave old new b) (sym items)
+          (given_on told gave old now new bytes (take n c.read.new.buf) c.reading.invariant.given
+          (given_by_read {E = Failed} told gave now new (Ok n) c.read.new.buf
+          c.in-Ok.ensures.reads c.in-Ok.ensures.adds));
+      unfailed = c.in-Ok.ensures.failed ∙ c.reading.invariant.unfailed;
+    }

@@ -4,7 +4,7 @@ use Rattle.byte_ends.proofs.input.read_whole.Given as goal
 
 abbrev pub invariant-reading : goal.invariant-reading
 invariant-reading g l = record {
-  given : HasGiven (g.S.Source.told l.fn.source) (g.S.Source.told l.source) l.bytes.items;
+  given : HasGiven g.S.Source.told g.S.Source.gave l.fn.source l.source l.bytes.items;
   unfailed : g.S.Source.failed l.source ≡ g.S.Source.failed l.fn.source;
 }
 

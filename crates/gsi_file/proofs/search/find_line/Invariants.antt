@@ -8,7 +8,7 @@ abbrev pub invariant-search : goal.invariant-search
 invariant-search g l = record {
   searching : Searching (g.R.Source.told l.fn.reader) (g.R.Source.told l.reader) l.fn.room
       l.fn.buffer l.left l.searched l.buffer;
-  through : Through (g.R.Source.told l.fn.reader) (g.R.Source.told l.reader)
+  through : Through g.R.Source.told g.R.Source.gave l.fn.reader l.reader
       (λ before after. SameAnswers (Some before) l.fn.room l.fn.buffer (Some after) l.left
       l.buffer);
   unfailed : g.R.Source.failed l.reader ≡ g.R.Source.failed l.fn.reader;

@@ -1,11 +1,11 @@
 use Rattle.std.proofs.Common.{◌≡◌, Ok, Err, rules}
 use Rattle.byte_ends.specs.Source.{Told}
 use Rattle.gsi_file.specs.FileAnswers.{file_answers}
-use Rattle.byte_ends.specs.Came.{SomeBytesCame}
+use Rattle.station_check.specs.Came.{SomeBytesCame}
 use Rattle.station_check.specs.KernelVerdicts.{IsChecked}
 use Rattle.station_check.specs.Promise.{KeepsPromise}
 use Rattle.station_check.specs.Surveys.{Surveys}
-use Rattle.byte_ends.proofs.Coming.{came_so, anything_came}
+use Rattle.station_check.proofs.SomeCame.{came_so, anything_came, dropped}
 use Rattle.station_check.proofs.Leaving.{asked, left_alone, unasked}
 use Rattle.station_check.proofs.Promises.{promise_by_sheet, promise_by_file}
 use Rattle.station_check.proofs.Refusals.{of_check, file_of_check}
@@ -27,7 +27,7 @@ returns g c =
           (λ (stated : Told). IsChecked stations c.args.residual stated answer)
           (λ (stated : Told).
           KeepsPromise c.args.limits c.args.residual (file_answers gsi) stated answer)
-          c.check_sheet.ensures.checks
+          (dropped _ _ _ _ _ c.check_sheet.ensures.checks)
           (λ stated checked. promise_by_sheet c.args.limits c.recall.ensures
           c.args.residual (file_answers gsi) stated stations answer s of_sheet checked));
       of_check = of_check answer of_sheet;

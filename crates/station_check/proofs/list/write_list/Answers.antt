@@ -2,7 +2,7 @@ use Rattle.std.proofs.Common.{◌≡◌, Err, refl, rules}
 use Rattle.std.proofs.lemmas.Result.{err_from_is_err_and}
 use Rattle.gsi_file.specs.FileAnswers.{file_answers}
 use Rattle.station_check.specs.declared.fault.Fault.TheVariants.{Write}
-use Rattle.byte_ends.proofs.Coming.{came_so}
+use Rattle.station_check.proofs.SomeCame.{came_so}
 use Rattle.station_check.proofs.Refusing.{list_refused}
 use Rattle.station_check.proofs.list.write_list.Goals as goal
 

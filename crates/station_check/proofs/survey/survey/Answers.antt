@@ -5,7 +5,7 @@ use Rattle.gsi_file.specs.ToCome.{ToCome}
 use Rattle.gsi_file.specs.Standing.{to_come, gives}
 use Rattle.station_check.specs.declared.fault.Fault.TheVariants.{Memory}
 use Rattle.station_check.specs.Surveys.{Surveys}
-use Rattle.byte_ends.proofs.Coming.{anything_came}
+use Rattle.station_check.proofs.SomeCame.{anything_came, dropped}
 use Rattle.station_check.proofs.Coming.{lines_came}
 use Rattle.station_check.proofs.survey.survey.Goals as goal
 
@@ -20,8 +20,10 @@ returns-clause-surveys g c =
     lines_came _ _ (λ (gsi : Told). to_come (gives gsi) c.in_ok-lines.lines)
     (λ (file : FileAnswers). Surveys c.args.limits file c.survey_lines.result)
     (ap g.R.Source.told c.in_ok-lines.ensures.unread) c.in_ok-lines.ensures.whatever
-    c.survey_lines.ensures.surveys
+    (dropped _ _ _ _ _ c.survey_lines.ensures.surveys)
 
 pub survey_lines-requires : goal.survey_lines-requires
-survey_lines-requires g c =
-    λ gsi. ap (λ (next : ToCome). next.number) (c.in_ok-lines.ensures.whatever gsi)
+survey_lines-requires g c = record {
+  none = λ gsi. ap (λ (next : ToCome). next.number) (c.in_ok-lines.ensures.whatever gsi);
+  unsettled = c.in_ok-lines.ensures.open;
+}

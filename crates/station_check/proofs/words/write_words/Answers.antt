@@ -6,7 +6,7 @@ use Rattle.gsi_file.specs.Standing.{to_come, gives}
 use Rattle.station_check.specs.declared.fault.Fault.TheVariants.{Memory}
 use Rattle.station_check.specs.Printing.{Prints, PrintsSome}
 use Rattle.station_check.specs.Words.{AnswersWords, WritesWords}
-use Rattle.byte_ends.proofs.Coming.{came_so, anything_came}
+use Rattle.station_check.proofs.SomeCame.{came_so, anything_came}
 use Rattle.station_check.proofs.Coming.{lines_came}
 use Rattle.station_check.proofs.words.write_words.Goals as goal
 

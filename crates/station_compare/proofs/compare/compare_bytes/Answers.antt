@@ -1,7 +1,7 @@
 use Rattle.std.proofs.Common.{◌≡◌, rules, Result, Ok, Err, ap, sym, subst, ◌∙◌, option_copied}
 use Rattle.adjust_kernel.specs.Stations.{StationValue}
-use Rattle.byte_ends.proofs.Coming.{anything_came, came_so}
-use Rattle.byte_ends.specs.Came.{SomeBytesCame}
+use Rattle.station_check.proofs.SomeCame.{anything_came, came_so}
+use Rattle.station_check.specs.Came.{SomeBytesCame}
 use Rattle.byte_ends.specs.Input.{input_within}
 use Rattle.byte_ends.specs.Source.{Told}
 use Rattle.direction_table.specs.declared.reading.TheConstants.{LONGEST_TABLE}

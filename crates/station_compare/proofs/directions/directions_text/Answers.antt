@@ -1,7 +1,7 @@
 use Rattle.std.proofs.Common.{Ok, ap, sym, subst, ◌∙◌, option_copied}
 use Rattle.std.specs.Prelude.{MatchResult}
 use Rattle.adjust_kernel.specs.Stations.{StationValue}
-use Rattle.byte_ends.proofs.Coming.{came_so}
+use Rattle.station_check.proofs.SomeCame.{came_so}
 use Rattle.byte_ends.specs.Source.{Told}
 use Rattle.gsi_file.specs.FileAnswers.{file_answers}
 use Rattle.station_check.specs.Surveys.{Surveys}
