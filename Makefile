@@ -11,8 +11,8 @@ EXAMPLE := examples/station_s1.gsi
 SHEET := examples/station_s1.csv
 TABLE := examples/station_s1_directions.csv
 
-# All that the program is made of. Tests and wrong bodies are no part of it.
-SOURCES := crates.txt HANDLES $(shell find crates \( -name out -o -name tests -o -name '*_tests' -o -name must-fail \) -prune \
+# All that the program and the page are made of. Tests and wrong bodies are no part of it.
+SOURCES := $(shell find crates \( -name out -o -name '*_tests' -o -name must-fail \) -prune \
   -o -type f \( -name '*.rt' -o -name '*.antt' \) -print)
 
 # The manual page and the completions.
@@ -31,6 +31,27 @@ DIST ?= build/dist
 # that of the page.
 CRATES := $(filter-out %_tests station_page, \
   $(shell sed -n 's/^\([a-z_]*\)[ :].*/\1/p' crates.txt))
+
+# The crates of the program that each of them stands on, directly and however far.
+$(foreach crate,$(CRATES),$(eval below_$(crate) := $(filter $(CRATES), \
+  $(shell sed -n 's/^$(crate):\(.*\)/\1/p' crates.txt))))
+$(foreach crate,$(CRATES),$(eval under_$(crate) := \
+  $(sort $(below_$(crate)) $(foreach low,$(below_$(crate)),$(under_$(low))))))
+
+# A file for each crate that is proved as its sources are now.
+PROVED := build/proved
+
+# Says something, and at which second.
+START := $(shell date +%s)
+say = printf "%4d s  %s\n" $$(($$(date +%s) - $(START))) "$1" >&2
+comma := ,
+
+# Crates are proved side by side, as many as there are processors, and as memory holds: each takes
+# up to 4 GiB. JOBS=1 proves one after the other.
+KIBIBYTES := $(shell sed -n 's/^MemAvailable: *\([0-9]*\).*/\1/p' /proc/meminfo)
+JOBS ?= $(shell most=$$(( $(or $(KIBIBYTES),0) / 4194304 )); here=$$(nproc); \
+  [ $$most -ge $$here ] && echo $$here || echo $$(( most > 1 ? most : 1 )))
+MAKEFLAGS += --jobs=$(JOBS)
 
 # What each recipe that proves begins with.
 NEED_TOOLCHAIN = command -v $(RT) > /dev/null || { \
@@ -57,7 +78,8 @@ run: $(PROGRAM)
 # Makes the page that checks in a browser, one file, of the proved calls.
 page: $(PAGE)
 
-$(PAGE): $(SOURCES) $(wildcard page/*.py page/*.js) page/heap.c page/station_check.html
+$(PAGE): $(PROVED)/station_compare $(PROVED)/station_explain $(SOURCES) $(wildcard page/*.py page/*.js) \
+  page/heap.c page/station_check.html
 	@$(NEED_TOOLCHAIN)
 	@RT='$(RT)' $(PYTHON) page/build.py $@
 
@@ -104,18 +126,25 @@ dist: $(PROGRAM)
 clean:
 	rm -rf crates/*/out build
 
-# Proves the crates one by one, lowest first, links the program and puts it where it is run and installed from. A
-# failed proof is a failed build.
-$(PROGRAM): $(SOURCES)
+# Proves a crate over those that it stands on. What the proof says stays in out/build.log, also where
+# a later run finds the crate proved and so says nothing. A failed proof is a failed build.
+$(CRATES:%=$(PROVED)/%): $(PROVED)/%: crates.txt HANDLES | $(PROVED)
 	@$(NEED_TOOLCHAIN)
-	@echo 'proving $(words $(CRATES)) crates; the first time takes minutes' >&2
-	@start=$$(date +%s); \
-	for crate in $(CRATES); do \
-	  printf '%4d s  %s\n' $$(($$(date +%s) - start)) "$$crate" >&2; \
-	  mkdir -p "crates/$$crate/out"; \
-	  log="$$PWD/crates/$$crate/out/build.log"; \
-	  case "$$crate" in $(PROGRAM_CRATE)) verb=run ;; *) verb=lib ;; esac; \
-	  (cd "crates/$$crate" && $(RT) $$verb < /dev/null > "$$log" 2>&1) || { tail -n 20 "$$log" >&2; exit 1; }; \
-	done; \
-	printf '%4d s  all is proved\n' $$(($$(date +%s) - start)) >&2
+	@mkdir -p crates/$*/out
+	@rm -f $@ $(foreach crate,$(CRATES),$(if $(filter $*,$(under_$(crate))),$(PROVED)/$(crate)))
+	@cd crates/$* && log=out/build.log && \
+	{ $(RT) $(if $(filter $*,$(PROGRAM_CRATE)),run,lib) < /dev/null > $$log.new 2>&1 || { \
+	  $(call say,$* is NOT PROVED: crates/$*/$$log.new ends with) && tail -n 20 $$log.new >&2; exit 1; }; } && \
+	if [ -s $$log.new ]; then mv $$log.new $$log; else rm $$log.new; fi
+	@flock $(PROVED) sh -c 'touch $@ && $(call say,$* is proved$(comma) $$(ls $(PROVED) | wc -l) of $(words $(CRATES)))'
+
+$(PROVED):
+	@mkdir -p $@
+	@$(call say,proving $(words $(CRATES)) crates$(comma) $(JOBS) side by side; the first time takes minutes)
+
+$(foreach crate,$(CRATES),$(eval $(PROVED)/$(crate): \
+  $(filter crates/$(crate)/%,$(SOURCES)) $(below_$(crate):%=$(PROVED)/%)))
+
+# Puts the program where it is run and installed from.
+$(PROGRAM): $(PROVED)/$(PROGRAM_CRATE)
 	@install -D -m 755 crates/$(PROGRAM_CRATE)/out/$(PROGRAM_CRATE) $@

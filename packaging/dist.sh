@@ -52,7 +52,7 @@ END
 fill() {
   root=$1 prefix=$2
   rm -rf "$root"
-  make -s -o "$program" PROGRAM="$program" DESTDIR="$root" PREFIX="$prefix" install
+  MAKEFLAGS='' make -s -o "$program" PROGRAM="$program" DESTDIR="$root" PREFIX="$prefix" install
   proved > "$root$prefix/share/doc/station_check/PROVED"
 }
 
