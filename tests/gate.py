@@ -11,7 +11,6 @@ import sys
 import tempfile
 import threading
 import time
-from collections import Counter
 from pathlib import Path
 
 import command_line
@@ -42,18 +41,15 @@ TIME_LIMITS = [
     ["/sys/fs/cgroup/cpu/cpu.cfs_quota_us", "/sys/fs/cgroup/cpu/cpu.cfs_period_us"],
 ]
 
-# The folders of a crate that `rt ci` copies to try a wrong body, and how such a copy is named.
-PARTS = ["src", "specs", "proofs"]
-COPY = "rt-edit-"
-
 # What `rt ci` says of a crate.
 PROVED = re.compile(r"^rt: (\w+) (?:proved$|is kept: )")
 TESTED = re.compile(r"^rt: (\w+): its tests are proved$")
+TRIED = re.compile(r"^rt: (\w+): trying its must-fail edits \((\d+)\)$")
 NOTE = re.compile(r"^rt: note: ")
 FAILED = re.compile(r"^rt: (FAILED: |\w+ NOT PROVED|.*(NOT REFUSED|BAD EDIT): )")
 
-# How often it is looked, and how often it is said, how far the gate is, in seconds.
-LOOK, SAY = 1, 60
+# How often it is said how far the gate is, in seconds.
+SAY = 60
 
 
 def numbers_in(*paths):
@@ -93,92 +89,55 @@ def environment(room):
     return {**jobs, **os.environ, "TMPDIR": room}
 
 
-def sources(folder):
-    """The files that a crate, or a copy of one, is made of."""
-    found = (path for part in PARTS for path in (folder / part).rglob("*") if path.is_file())
-    return {str(path.relative_to(folder)) for path in found}
-
-
 class Progress:
-    """How far `rt ci` is.
+    """How far `rt ci` is, by what it says: it tells of a proof when it has ended, of a crate's wrong
+    bodies when the first of them is tried, and of each of these at its own end."""
 
-    It tells of proofs when they have ended, and of wrong bodies only at its own end. For each of
-    these it copies the crate into a folder of its own, and so they are counted here.
-    """
-
-    def __init__(self, room):
-        self.room, self.start = Path(room), time.monotonic()
+    def __init__(self):
+        self.start = time.monotonic()
         names = re.findall(r"^(\w+)(?: staticlib)?:", (ROOT / "crates.txt").read_text(), re.MULTILINE)
-        crates = [ROOT / "crates" / name for name in names]
-        self.sources = {crate.name: sources(crate) for crate in crates}
-        self.wrong = {crate.name: len([*crate.glob("must-fail/*.edit")]) for crate in crates}
-        self.tried, self.seen = Counter(), set()
-        # The minutes at which each crate was proved, its tests were, and the first and the last of
-        # its wrong bodies were begun.
-        self.proved, self.tested, self.first, self.last = {}, {}, {}, {}
+        self.wrong = {name: len([*(ROOT / "crates" / name).glob("must-fail/*.edit")]) for name in names}
+        # The minutes at which each crate was proved, its tests were, and its wrong bodies were begun.
+        self.proved, self.tested, self.begun = {}, {}, {}
         self.notes, self.failed = [], []
 
     def hear(self, line):
         """Takes note of a line of `rt ci`."""
-        if found := PROVED.match(line):
-            self.proved[found[1]] = self.minutes()
-        if found := TESTED.match(line):
-            self.tested[found[1]] = self.minutes()
+        for said, minutes in [(PROVED, self.proved), (TESTED, self.tested), (TRIED, self.begun)]:
+            if found := said.match(line):
+                minutes[found[1]] = self.minutes()
         if NOTE.match(line):
             self.notes.append(line.rstrip("\n"))
         if FAILED.match(line):
             self.failed.append(line.rstrip("\n"))
-
-    def look(self):
-        """Counts the wrong bodies that are tried and were not yet seen."""
-        for copy in {*self.room.glob(f"{COPY}*")} - self.seen:
-            try:
-                files = sources(copy)
-            except OSError:
-                continue  # it is gone again
-            for crate, of_crate in self.sources.items():
-                if files == of_crate:
-                    self.seen.add(copy)
-                    self.tried[crate] += 1
-                    self.first.setdefault(crate, self.minutes())
-                    self.last[crate] = self.minutes()
 
     def minutes(self):
         return (time.monotonic() - self.start) / 60
 
     def lacking(self):
         """The crates that are not yet proved."""
-        return [crate for crate in self.sources if crate not in self.proved]
+        return [crate for crate in self.wrong if crate not in self.proved]
 
     def line(self):
-        tried = {crate: min(self.tried[crate], count) for crate, count in self.wrong.items()}
-        begun = [f"{crate} {n} of {self.wrong[crate]}" for crate, n in tried.items() if n]
-        wrong = f"wrong bodies tried: {sum(tried.values())} of {sum(self.wrong.values())}"
-        if begun:
-            wrong += f" ({', '.join(begun)})"
         lacking = self.lacking()
         proved = f"not yet proved: {', '.join(lacking)}" if lacking else "all crates proved"
+        begun = sum(self.wrong[crate] for crate in self.begun)
+        wrong = f"wrong bodies begun: those of {len(self.begun)} crates, {begun} of {sum(self.wrong.values())}"
         return f"gate: {self.minutes():.0f} min: {proved}; tests of {len(self.tested)}; {wrong}"
 
     def times(self):
         """A table of when each crate's work was done."""
-        yield f"{'minutes':16}{'proved':>8}{'tests':>8}{'wrong bodies':>22}"
+        yield f"{'minutes':26}{'proved':>8}{'tests':>8}{'wrong bodies begun':>24}"
         for crate, wrong in self.wrong.items():
             ended = [self.proved.get(crate), self.tested.get(crate)]
             columns = "".join(" " * 8 if at is None else f"{at:8.1f}" for at in ended)
-            begun = ""
-            if crate in self.first:
-                begun = f"{self.first[crate]:.1f} to {self.last[crate]:.1f} ({wrong})"
-            yield f"{crate:16}{columns}{begun:>22}"
+            begun = f"{self.begun[crate]:.1f} ({wrong})" if crate in self.begun else ""
+            yield f"{crate:26}{columns}{begun:>24}"
 
     def show(self, has_ended):
         """Says how far it is until it has ended."""
-        said = time.monotonic()
-        while not has_ended.wait(LOOK):
-            self.look()
-            if time.monotonic() - said >= SAY:
-                said = time.monotonic()
-                print(self.line(), flush=True)
+        while not has_ended.wait(SAY):
+            print(self.line(), flush=True)
 
 
 class Page:
@@ -206,12 +165,12 @@ class Page:
         return ["FAILED: the page could not be made", *self.log.read_text().splitlines()[-20:]]
 
 
-def proofs_passed_and_failed(progress, page):
+def proofs_passed_and_failed(progress, page, room):
     """Runs `rt ci`, shows what it prints, and answers its counts; a run with no counts is one
     failure. The page is begun where all is proved."""
     command = [os.environ.get("RT", "rt"), "ci"]
     counts, has_ended = None, threading.Event()
-    options = {"cwd": ROOT, "env": environment(str(progress.room))}
+    options = {"cwd": ROOT, "env": environment(room)}
     streams = {"stdout": subprocess.PIPE, "stderr": subprocess.STDOUT, "text": True}
     clock = threading.Thread(target=progress.show, args=(has_ended,), daemon=True)
     with subprocess.Popen(command, **options, **streams) as gate:
@@ -235,7 +194,7 @@ def begin(progress):
     """Says what the gate does, and how long it takes."""
     times = " and ".join(f"{minutes} minutes on {n}" for n, minutes in MINUTES.items())
     print(f"gate: it takes about {times} processors; here it has {processors()}")
-    crates, wrong = len(progress.sources), sum(progress.wrong.values())
+    crates, wrong = len(progress.wrong), sum(progress.wrong.values())
     print(f"gate: it proves {crates} crates and their tests from nothing,")
     print(f"gate: tries {wrong} wrong bodies, and runs the program and the tests", flush=True)
 
@@ -262,9 +221,9 @@ def run_all():
     with tempfile.TemporaryDirectory(prefix="station_check-gate-") as room:
         # The program and the tests are run below it by a user who owns nothing.
         os.chmod(room, 0o711)
-        progress, page = Progress(room), Page(room)
+        progress, page = Progress(), Page(room)
         begin(progress)
-        passed, failed = proofs_passed_and_failed(progress, page)
+        passed, failed = proofs_passed_and_failed(progress, page, room)
         print(f"gate: rt ci took {progress.minutes():.0f} min", *progress.times(), sep="\n")
         failures = [*progress.failed, *page.failure()]
     if failures or failed:
