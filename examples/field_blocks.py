@@ -1,6 +1,6 @@
 """The blocks of a field file, as `station_check words` reads them, and a copy of the file.
 
-mark_sets.py and prepare.py stand on it; by itself it does nothing.
+mark_sets.py stands on it; by itself it does nothing.
 """
 
 import shutil

@@ -1,106 +1,365 @@
 #!/usr/bin/env python3
-"""Leaves blocks out of a copy of a field file, and writes a log of what was left out and why.
+"""Leaves blocks out of a copy of a field file or renames them, and writes a log of what and why.
 
     python3 prepare.py FIELD.gsi COPY.gsi --set P7 3 --why 'the tripod was moved'
 
-The field file stays as it is. What is left out is said by the numbers of blocks, by the station and
-number of a set, or by --closing: the closing sights of all sets, which repeat at the end of a half
-set, in the same face, the target that began it. COPY.gsi.log has the blocks that were left out. A
-command is printed by which anybody sees that nothing else was changed.
+The field file stays as it is. It is taken line by line, so that a file that station_check refuses
+can be copied too. These are left out: blocks by their numbers; a set by its station and number;
+with --closing the closing sights, which repeat at the end of a half set, in the same face, the
+target that began it, or after sets that were read target by target its pair; with --without-codes
+the blocks of codes 10, 20 and 30. --rename gives stated blocks another name: to a measurement its
+word 11, to a code block its word 42. --plain writes plain ASCII letters for others, a blank for a
+tab, and drops a byte order mark and a final byte 1A.
+
+COPY.gsi.log has each line that was left out or changed. The script prints a command by which
+anybody sees that nothing else was changed.
 
 Exit status: 0 the copy was written, 1 it was not (standard error says why), 2 a mistake on the
-command line. Python 3.10 or later, and station_check on the path, are all it needs.
+command line. Python 3.10 or later is all it needs.
 """
 
 import argparse
+import codecs
 import os
 import re
 import shlex
 import sys
-from itertools import groupby
+import unicodedata
+from itertools import groupby, pairwise
+from typing import NamedTuple
 
-from field_blocks import END, SET, STATION, FieldFile, NotPlain, new_file
+STATION, SET, END = "10", "20", "30"
 
-# A block, or those from one to another.
-NUMBERS = re.compile(r"([1-9]\d*)(?:-([1-9]\d*))?")
+# The indices of words: a point, a direction, a zenith angle, a code, its first information, and
+# those of a line that sets up the instrument.
+POINT, DIRECTION, ZENITH, CODE, INFORMATION = 11, 21, 22, 41, 42
+SET_UP = {84, 85, 86, 87, 88}
+
+# A half circle and a full circle, in units of 0.00001 gon, and the byte at the fourth place of an
+# angle's information that says so.
+HALF_CIRCLE, CIRCLE = 20_000_000, 40_000_000
+GON = b"2"
+
+# The bytes of a content, by whether the line is in GSI-16, and those of a word before it.
+CONTENT = {False: 8, True: 16}
+BEFORE = 7
+
+# A word without its content: index, information, sign.
+WORD = re.compile(rb"(\d\d)([!-~]{4})[+-]")
+
+# Letters that are no plain letter with an accent, and what is written for them.
+LETTERS = str.maketrans("ßøØæÆłŁđĐ\t", "soOaAlLdD ")
+BYTE_ORDER_MARK, FILE_END = "\ufeff", re.compile("\x1a(?=[\r\n]*$)")
+
+# A block, or those from one to another, or to the end.
+NUMBERS = re.compile(r"([1-9]\d*)(?:(-)([1-9]\d*)?)?")
+LAST = None
+
+
+class Refused(Exception):
+    """Why no copy is made."""
+
+
+# ---------------------------------------------------------------- blocks
+
+
+class Word(NamedTuple):
+    index: int
+    information: bytes
+    content: bytes
+    begin: int  # where the content stands in the line
+
+
+class Block:
+    """A line that isn't blank: its number, its place among all lines, its bytes with their end, and
+    its words up to the first that is none."""
+
+    def __init__(self, number, place, line):
+        self.number, self.place, self.line = number, place, line
+        begin = len(codecs.BOM_UTF8) * line.startswith(codecs.BOM_UTF8)
+        self.wide = line[begin : begin + 1] == b"*"
+        self.words = list(self.words_of(line.rstrip(b"\r\n"), begin + self.wide))
+
+    def words_of(self, text, at):
+        while word := WORD.match(text, at):
+            begin = at + BEFORE
+            # A letter of two bytes makes a word longer: it goes on to the next blank.
+            end = text.find(b" ", begin + CONTENT[self.wide])
+            end = len(text) if end < 0 else end
+            yield Word(int(word[1]), word[2], text[begin:end], begin)
+            at = end + 1
+
+    def first_of(self, index):
+        """The first word of an index; else none."""
+        return next((word for word in self.words if word.index == index), None)
+
+    def name(self, index):
+        """The content of a word without the zeros before it; of no such word none."""
+        if word := self.first_of(index):
+            return (word.content.lstrip(b"0") or word.content[-1:]).decode("latin-1")
+
+    def begins_with(self, index):
+        return bool(self.words) and self.words[0].index == index
+
+    def code(self):
+        """The code of a code block; of a measurement none."""
+        return self.name(CODE) if self.begins_with(CODE) else None
+
+    def is_reading(self):
+        """Whether it is a measurement with a direction."""
+        return self.begins_with(POINT) and self.first_of(DIRECTION) is not None
+
+    def sets_up(self):
+        """Whether it is a measurement that sets up the instrument, and no reading."""
+        indices = {word.index for word in self.words}
+        return self.begins_with(POINT) and DIRECTION not in indices and bool(SET_UP & indices)
+
+    def target(self):
+        return self.name(POINT)
+
+    def face(self):
+        """1 or 2, by the zenith angle."""
+        word = self.first_of(ZENITH)
+        if word is None or word.information[3:4] != GON or not word.content.isdigit():
+            raise Refused(f"block {self.number}: no zenith angle in gon with five decimals")
+        zenith = int(word.content)
+        if zenith % HALF_CIRCLE == 0 or zenith > CIRCLE:
+            raise Refused(f"block {self.number}: no face has the zenith angle {zenith}")
+        return 1 if zenith < HALF_CIRCLE else 2
+
+    def renamed(self, name):
+        """The line with another name."""
+        index = POINT if self.begins_with(POINT) else INFORMATION
+        if not self.words or not (word := self.first_of(index)):
+            raise Refused(f"block {self.number} has no name: neither word 11 first nor word 42")
+        if len(name) > CONTENT[self.wide]:
+            wide = f"GSI-{CONTENT[self.wide]}"
+            raise Refused(f"block {self.number}: the name {name} is too long for a line of {wide}")
+        filled = name.rjust(CONTENT[self.wide], "0").encode()
+        return self.line[: word.begin] + filled + self.line[word.begin + len(word.content) :]
+
+
+def lines_of(path):
+    """The lines of a field file with their ends, blank ones too."""
+    try:
+        with open(path, "rb") as file:
+            lines = re.findall(rb"[^\r\n]*(?:\r\n|\r|\n)|[^\r\n]+", file.read())
+    except OSError as why:
+        raise Refused(f"cannot read {path}: {why.strerror}") from None
+    if any(line.endswith(b"\r") for line in lines):
+        raise Refused("its lines end in CR alone, which no tool shows as lines")
+    return lines
+
+
+def blocks_of(lines):
+    full = [(place, line) for place, line in enumerate(lines) if line.strip(b" \r\n")]
+    return [Block(number, *block) for number, block in enumerate(full, 1)]
 
 
 # ---------------------------------------------------------------- what is left out
 
 
-def sets_of(field):
+def sets_of(blocks):
     """Each set: the name of its station, its number, and its blocks, that of code 20 first."""
-    station, blocks = None, None
-    for block in field.blocks:
+    station, open_set = None, None
+    for block in blocks:
         code = block.code()
         if code == STATION:
-            station = block.name(42) if 42 in block.words else None
+            station = block.name(INFORMATION)
         if code == SET:
-            blocks = []
-            yield station, block.name(42) if 42 in block.words else None, blocks
+            open_set = []
+            yield station, block.name(INFORMATION), open_set
         if code in (STATION, END):
-            blocks = None
-        if blocks is not None:
-            blocks.append(block)
+            open_set = None
+        if open_set is not None:
+            open_set.append(block)
 
 
-def of_set(field, station, number):
+def of_set(blocks, station, number):
     """The blocks of a set."""
-    found = [set for set in list(sets_of(field)) if set[:2] == (station, number)]
+    found = [of_set for *name, of_set in list(sets_of(blocks)) if name == [station, number]]
     if not found:
-        raise NotPlain(f"station {station} has no set {number}")
+        raise Refused(f"station {station} has no set {number}")
     if len(found) > 1:
-        raise NotPlain(f"station {station} has {len(found)} sets {number}")
-    return found[0][2]
+        raise Refused(f"station {station} has {len(found)} sets {number}")
+    return found[0]
 
 
-def closing_sights(field):
-    """The readings that close a half set."""
+def readings_together(blocks):
+    """The readings of each set; where no code opens one, those between lines that set up."""
+    if marked := [of_set for *_, of_set in list(sets_of(blocks))]:
+        groups = marked
+    else:
+        groups = [[]]
+        for block in blocks:
+            groups += [[]] * block.sets_up()
+            groups[-1].append(block)
+    return [[block for block in group if block.is_reading()] for group in groups]
+
+
+def are_pairs(readings):
+    """Whether each target is read in both faces before the next."""
+    pairs = list(zip(readings[::2], readings[1::2]))
+    one = lambda a, b: a.target() == b.target() and {a.face(), b.face()} == {1, 2}
+    return len(readings) % 2 == 0 and all(one(*pair) for pair in pairs)
+
+
+def closing_pairs(readings):
+    """The pairs of the opening target that stand between others and the end, or such a pair."""
+    pairs = list(zip(readings[::2], readings[1::2]))
+    between = False  # whether others follow the pair that opened
+    for place, pair in enumerate(pairs):
+        if pair[0].target() != pairs[0][0].target():
+            between = True
+            continue
+        follows = pairs[place + 1][0].target() if place + 1 < len(pairs) else pair[0].target()
+        if between and follows == pair[0].target():
+            yield from pair
+        between = False
+
+
+def half_sets(readings):
+    """Readings in one face, up to one of the same target as the reading before it."""
+    for _, run in groupby(readings, Block.face):
+        half = []
+        for reading in run:
+            if half and half[-1].target() == reading.target():
+                yield half
+                half = []
+            half.append(reading)
+        yield half
+
+
+def closing_sights(blocks):
+    """The readings that close a half set, or pairs that close a set."""
     closing = []
-    for *_, blocks in list(sets_of(field)):
-        readings = [block for block in blocks if block.is_reading()]
-        for _, run in groupby(readings, lambda reading: reading.face()):
-            first, *others = run
-            if others and others[-1].target() == first.target():
+    for readings in readings_together(blocks):
+        if are_pairs(readings):
+            closing += closing_pairs(readings)
+            continue
+        for first, *others in half_sets(readings):
+            if len(others) > 1 and others[-1].target() == first.target():
                 closing.append(others[-1])
     if not closing:
-        raise NotPlain("no set has a closing sight")
+        raise Refused("no set has a closing sight")
     return closing
+
+
+def with_codes(blocks):
+    """The blocks of the codes that open and end sets."""
+    found = [block for block in blocks if block.code() in (STATION, SET, END)]
+    if not found:
+        raise Refused("no block has the code 10, 20 or 30")
+    return found
 
 
 def range_said(first, last):
     return f"block {first}" if first == last else f"blocks {first}-{last}"
 
 
-def numbered(field, first, last):
-    """The blocks from one number to another."""
-    if not first <= last <= len(field.blocks):
-        raise NotPlain(f"no {range_said(first, last)}: the file has {len(field.blocks)}")
-    return field.blocks[first - 1 : last]
+def numbered(blocks, first, last):
+    """The blocks from one number to another, or to the last."""
+    last = len(blocks) if last is LAST else last
+    if not first <= last <= len(blocks):
+        raise Refused(f"no {range_said(first, last)}: the file has {len(blocks)}")
+    return blocks[first - 1 : last]
 
 
-def left_out(field, asked):
-    """The blocks that are left out, in order, and what was asked for."""
-    blocks, said = [], []
+def left_out(blocks, asked):
+    """The blocks that are left out, and what was asked for."""
+    out, said = [], []
     for first, last in asked.blocks or []:
-        blocks += numbered(field, first, last)
-        said.append(range_said(first, last))
+        out += (found := numbered(blocks, first, last))
+        said.append(range_said(found[0].number, found[-1].number))
     for station, number in asked.set or []:
-        blocks += of_set(field, station, number)
+        out += of_set(blocks, station, number)
         said.append(f"set {number} of {station}")
     if asked.closing:
-        blocks += closing_sights(field)
+        out += closing_sights(blocks)
         said.append("closing sights")
-    return {block.number: block for block in blocks}, ", ".join(said)
+    if asked.without_codes:
+        out += with_codes(blocks)
+        said.append("codes 10, 20 and 30")
+    return {block.place for block in out}, said
 
 
-def log_of(asked, blocks, said):
-    """The log: what was asked for and why, and each block with its number and its line."""
+# ---------------------------------------------------------------- what is changed
+
+
+def renamed(blocks, out, asked):
+    """The lines that get another name, by their places, and what was asked for."""
+    lines, said = {}, []
+    for numbers, name in asked.rename or []:
+        for first, last in numbers:
+            for block in numbered(blocks, first, last):
+                if block.place in out:
+                    raise Refused(f"block {block.number} is both left out and named {name}")
+                lines[block.place] = block.renamed(name)
+                said.append(f"block {block.number} named {name}")
+    return lines, said
+
+
+def plain(line, number, is_first, is_last):
+    """A line in plain ASCII, where each letter with an accent has its plain letter."""
+    try:
+        text = line.decode()
+    except UnicodeDecodeError:
+        text = line.decode("latin-1")
+    text = text.removeprefix(BYTE_ORDER_MARK) if is_first else text
+    text = FILE_END.sub("", text) if is_last else text
+    letters = unicodedata.normalize("NFD", text.translate(LETTERS))
+    text = "".join(letter for letter in letters if not unicodedata.combining(letter))
+    for letter in text.strip("\r\n"):
+        if not letter.isascii() or not letter.isprintable():
+            raise Refused(f"block {number}: no plain letter stands for {letter!r}")
+    return text.encode()
+
+
+def in_plain(lines, blocks, out, changed):
+    """The lines that are changed, by their places, with those that aren't plain."""
+    changed = dict(changed)
+    for block in blocks:
+        if block.place not in out:
+            line = changed.get(block.place, block.line)
+            ends = block.place == 0, block.place == len(lines) - 1
+            if (now := plain(line, block.number, *ends)) != line:
+                changed[block.place] = now
+    return changed
+
+
+def copied(lines, out, changed):
+    """The lines of the copy."""
+    return [changed.get(place, line) for place, line in enumerate(lines) if place not in out]
+
+
+def neighbours(places):
+    """Places in groups that follow each other without another between."""
+    groups = [[place] for place in places[:1]]
+    for before, place in pairwise(places):
+        groups += [[]] * (place > before + 1)
+        groups[-1].append(place)
+    return groups
+
+
+def without_end(line):
+    return line.rstrip(b"\n") + b"\n"
+
+
+def log_of(asked, blocks, said, out, changed):
+    """The log: what was asked for and why, and the lines as they were and are, as `diff` has them:
+    of blocks that follow each other first all that were, then all that are."""
     names = f"{os.path.basename(asked.copy)} is {os.path.basename(asked.field)}"
-    yield f"{names} without: {said}\n".encode()
+    yield f"{names} {said}\n".encode()
     yield f"why: {asked.why}\n".encode()
-    for number in sorted(blocks):
-        yield f"block {number}:\n".encode() + b"< " + blocks[number].line.rstrip(b"\n") + b"\n"
+    number = {block.place: block.number for block in blocks}
+    lines = {block.place: block.line for block in blocks}
+    for group in neighbours(sorted({*out, *changed})):
+        for place in group:
+            yield f"block {number[place]}:\n".encode() + b"< " + without_end(lines[place])
+        for place in group:
+            if changed.get(place):
+                yield f"block {number[place]} in the copy:\n".encode()
+                yield b"> " + without_end(changed[place])
 
 
 # ---------------------------------------------------------------- the command line
@@ -108,8 +367,31 @@ def log_of(asked, blocks, said):
 
 def numbers(text):
     if not (found := NUMBERS.fullmatch(text)):
-        raise argparse.ArgumentTypeError(f"{text!r} is no number of a block, and no two, as 4-7")
-    return int(found[1]), int(found[2] or found[1])
+        said = "is no number of a block, and none as 4-7 or 4-"
+        raise argparse.ArgumentTypeError(f"{text!r} {said}")
+    first = int(found[1])
+    return first, int(found[3]) if found[3] else LAST if found[2] else first
+
+
+def several_numbers(text):
+    return [numbers(part) for part in text.split(",")]
+
+
+def name(text):
+    if not text or not text.isascii() or not text.isprintable() or text.startswith("0"):
+        raise argparse.ArgumentTypeError("a name is of printable ASCII, with no zero before it")
+    return text
+
+
+class Rename(argparse.Action):
+    """Takes blocks and a name."""
+
+    def __call__(self, parser, asked, values, option=None):
+        try:
+            renaming = several_numbers(values[0]), name(values[1])
+        except argparse.ArgumentTypeError as why:
+            parser.error(f"argument --rename: {why}")
+        asked.rename = [*(asked.rename or []), renaming]
 
 
 def reason(text):
@@ -120,43 +402,82 @@ def reason(text):
 
 def command_line():
     parser = argparse.ArgumentParser(
-        description="Leaves blocks out of a copy of a field file, writes a log beside the copy, "
-        "and prints the command that shows that nothing else was changed.",
+        description="Leaves blocks out of a copy of a field file or renames them, writes a log "
+        "beside the copy, and prints the command that shows that nothing else was changed.",
         epilog="Example: prepare.py FIELD.gsi COPY.gsi --blocks 36 40-42 --why 'named wrongly'. "
         "Exit status: 0 the copy was written, 1 not (standard error says why), 2 a mistake on the "
         "command line.",
     )
-    parser.add_argument("field", metavar="FIELD", help="the field file, which stays as it is")
-    parser.add_argument("copy", metavar="COPY", help="the copy, a new file; its log is COPY.log")
-    parser.add_argument("--why", metavar="TEXT", type=reason, required=True, help="for the log")
-    parser.add_argument(
-        "--blocks", metavar="N", type=numbers, nargs="+", help="blocks by number, as 36 or 40-42"
-    )
-    parser.add_argument(
-        "--set", metavar=("STATION", "NUMBER"), nargs=2, action="append", help="a whole set"
-    )
-    parser.add_argument("--closing", action="store_true", help="the closing sights of all sets")
+    option = parser.add_argument
+    option("field", metavar="FIELD", help="the field file, which stays as it is")
+    option("copy", metavar="COPY", help="the copy, a new file; its log is COPY.log")
+    option("--why", metavar="TEXT", type=reason, required=True, help="for the log")
+    said = "leave out blocks by number, as 36 or 40-42, or 40- for all from 40 on"
+    option("--blocks", metavar="N", type=numbers, nargs="+", help=said)
+    said = "leave out a whole set that codes mark"
+    option("--set", metavar=("STATION", "NUMBER"), nargs=2, action="append", help=said)
+    option("--closing", action="store_true", help="leave out closing sights, with codes or without")
+    said = "leave out the blocks of codes 10, 20 and 30, which may be your office's own"
+    option("--without-codes", action="store_true", help=said)
+    said = "give blocks, as 9 or 9,20, this name: of the target, station or set number"
+    option("--rename", metavar=("BLOCK", "NAME"), nargs=2, action=Rename, help=said)
+    said = "write plain ASCII: no accents, tabs, byte order mark or final byte 1A"
+    option("--plain", action="store_true", help=said)
     return parser
+
+
+def new_file(path):
+    """A file that was not there, to be written."""
+    try:
+        return open(path, "xb")
+    except FileExistsError:
+        raise Refused(f"{path} is there already") from None
+    except OSError as why:
+        raise Refused(f"cannot write {path}: {why.strerror}") from None
+
+
+def prepared(asked):
+    """Writes the copy and its log, and gives how many blocks are left out and changed."""
+    lines = lines_of(asked.field)
+    blocks = blocks_of(lines)
+    out, said_out = left_out(blocks, asked)
+    changed, said_changed = renamed(blocks, out, asked)
+    if asked.plain:
+        changed = in_plain(lines, blocks, out, changed)
+        said_changed.append("plain ASCII")
+    changed = {place: line for place, line in changed.items() if line != lines[place]}
+    if not out and not changed:
+        raise Refused("nothing would be changed")
+    said = [f"without: {', '.join(said_out)}"] * bool(said_out)
+    said += [f"with: {', '.join(said_changed)}"] * bool(said_changed)
+    if os.path.exists(asked.copy):
+        raise Refused(f"{asked.copy} is there already")
+    with new_file(f"{asked.copy}.log") as file:
+        file.writelines(log_of(asked, blocks, "; ".join(said), out, changed))
+    with new_file(asked.copy) as file:
+        file.writelines(copied(lines, out, changed))
+    return len(out), len(changed)
+
+
+def counted(out, changed):
+    """What is printed of these numbers of blocks."""
+    said = [f"{out} blocks are left out"] * bool(out) + [f"{changed} are changed"] * bool(changed)
+    return ", ".join(said) if out else f"{changed} blocks are changed"
 
 
 def main():
     parser = command_line()
     asked = parser.parse_args()
-    if not (asked.blocks or asked.set or asked.closing):
-        parser.error("say what is left out: --blocks, --set or --closing")
-    log = f"{asked.copy}.log"
+    options = [asked.blocks, asked.set, asked.closing, asked.without_codes, asked.rename]
+    if not any([*options, asked.plain]):
+        every = "--blocks, --set, --closing, --without-codes, --rename or --plain"
+        parser.error(f"say what is left out or changed: {every}")
     try:
-        field = FieldFile(asked.field)
-        blocks, said = left_out(field, asked)
-        if os.path.exists(asked.copy):
-            raise NotPlain(f"{asked.copy} is there already")
-        with new_file(log) as file:
-            file.writelines(log_of(asked, blocks, said))
-        field.write(asked.copy, lambda block: b"" if block.number in blocks else block.line)
-    except (NotPlain, OSError) as why:
+        done = prepared(asked)
+    except (Refused, OSError) as why:
         sys.exit(f"prepare.py: {why}")
-    before, after, log = map(shlex.quote, (asked.field, asked.copy, log))
-    print(f"{len(blocks)} blocks are left out; nothing else is changed where this prints nothing:")
+    before, after, log = map(shlex.quote, (asked.field, asked.copy, f"{asked.copy}.log"))
+    print(f"{counted(*done)}; nothing else is changed where this prints nothing:")
     print(f"  diff -a -d {before} {after} | grep -a '^[<>]' | diff -a - {log} | grep -a '^<'")
 
 

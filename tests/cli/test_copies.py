@@ -1,6 +1,7 @@
 """examples/mark_sets.py and examples/prepare.py: copies of a field file with codes put in, or with
-blocks left out, and the commands that show that nothing else was changed."""
+blocks left out or renamed, and the commands that show that nothing else was changed."""
 
+import re
 import subprocess
 import sys
 import unittest
@@ -37,6 +38,17 @@ def job(faces, targets):
     return lines_of(*((target, face, 1_000 * ord(target) + at[face]) for face, target in pairs))
 
 
+def sights_of(text):
+    """A job in which capitals are sights in face I and small letters in face II, and | a line that
+    sets the instrument up."""
+    lines = b""
+    for sight in text:
+        face = 1 if sight.isupper() else 2
+        read = lines_of((sight.upper(), face, 1_000 * ord(sight.upper()) + (face - 1) * 20_000_000))
+        lines += b"110001+000000P7 88..10+00001543\r\n" if sight == "|" else read
+    return lines
+
+
 class CopyTest(ProgramTest):
     def setUp(self):
         super().setUp()
@@ -57,12 +69,13 @@ class CopyTest(ProgramTest):
         self.assertEqual(done.returncode == 0, self.copy.exists(), done.stderr)
         if done.returncode == 0:
             self.shows = done.stdout.splitlines()[-1].strip()
-            self.assertEqual("", self.shown())
+            self.assertEqual(b"", self.shown())
         return done.returncode, done.stdout.split(";")[0], done.stderr
 
     def shown(self):
         """What the printed command shows of the copy."""
-        done = self.run_in_folder(["bash", "-c", self.shows])
+        run = {"cwd": self.folder, "env": self.environment, "timeout": TIME}
+        done = subprocess.run(["bash", "-c", self.shows], capture_output=True, **run)
         return done.stdout + done.stderr
 
     def check_changes_are_shown(self):
@@ -76,7 +89,7 @@ class CopyTest(ProgramTest):
             b"".join([*lines[:at], lines[at], *lines[at:]]),
         ]:
             self.copy.write_bytes(changed)
-            self.assertNotEqual("", self.shown())
+            self.assertNotEqual(b"", self.shown())
         self.copy.write_bytes(right)
 
 
@@ -194,8 +207,7 @@ class PrepareTest(CopyTest):
         return numbers
 
     def numbers_in_log(self):
-        lines = self.log.decode().splitlines()
-        return [line[6:-1] for line in lines if line.startswith("block ")]
+        return re.findall(rb"^block (\d+):$", self.log, re.MULTILINE)
 
     def test_blocks_are_left_out_by_number_and_by_rule(self):
         opened = job("111222", "ABAABA")
@@ -209,11 +221,93 @@ class PrepareTest(CopyTest):
             (P7, ["--set", "P7", "4", "--set", "P7", "1"], [*range(3, 16), *range(38, 51)]),
             (STATION, ["--set", "S1", "1", "--blocks", "12"], [2, 3, 4, 5, 6, 12]),
             (closing, ["--closing"], [5, 8]),
+            (P7, ["--blocks", "50-"], [50, 51]),
+            (P7, ["--without-codes"], [1, 3, 16, 27, 38, 51]),
         ]:
             with self.subTest(args):
                 self.assertEqual(numbers, self.left(field, args))
         self.assertEqual(0, answer_of(["list", self.copy])[0])  # of the closing sights
         self.check_changes_are_shown()
+
+    def test_closing_sights_are_found_in_a_job_without_codes(self):
+        """Capitals are sights in face I and small letters in face II; | sets the instrument up."""
+        for sights, closing in [
+            ("ABCAacbaABCAacba", "...x...x...x...x"),
+            ("ABCAabca|ABAaba", "...x...x...x..x"),
+            ("AABCAacba", "....x...x"),  # an orientation sight comes first
+            ("ABCAacbaacbaABCA", "...x...x...x...x"),  # faces alternate
+            ("AaBbCcAaAaBbCcAa", "......xx......xx"),  # target by target
+            ("AaAaBbCcAa", "........xx"),
+            ("AaBbAa", "....xx"),
+            ("ABCcba|BAbab", "...........x"),
+        ]:
+            with self.subTest(sights):
+                field = sights_of(sights)
+                numbers = [n for n, mark in enumerate(closing, 1) if mark == "x"]
+                self.assertEqual(numbers, self.left(field, ["--closing"]))
+        for sights in ["ABba", "AaBbAaBb", "ABCcbaABCcba", "AaAaBb", "A", "AA"]:
+            status, _, said = self.prepared(sights_of(sights), "--closing")
+            self.assertEqual((1, "prepare.py: no set has a closing sight\n"), (status, said))
+
+    def changed(self, field, args, expected):
+        """Compares the copy, and looks at the log: each line as it was and as it is."""
+        self.assertEqual(0, self.prepared(field, *args)[0], args)
+        self.assertEqual(expected, self.copy.read_bytes())
+        pairs = zip(field.split(b"\n"), expected.split(b"\n"), strict=True)
+        for number, (was, now) in enumerate(pairs, 1):
+            was_said = b"block %d:\n< %s\n" % (number, was) in self.log
+            now_said = b"block %d in the copy:\n> %s\n" % (number, now) in self.log
+            self.assertEqual((was != now, was != now and now != b""), (was_said, now_said), number)
+
+    def test_stated_blocks_are_renamed(self):
+        lower = edited(job("1122", "AKKA"), (b"0000000K 21.102+20", b"0000000k 21.102+20"))
+        self.changed(lower, ["--rename", "3", "K"], job("1122", "AKKA"))
+        good = job("1122", "ABBA")
+        self.changed(good, ["--rename", "2,3", "C"], good.replace(b"0000000B", b"0000000C"))
+        of_a = edited(good, (b"0000000A", b"00000P 1"))
+        self.changed(good, ["--rename", "1,4", "P 1"], of_a)
+        of_both = edited(of_a, (b"0000000B", b"00000P 1"))
+        self.changed(good, ["--rename", "1-4", "P 1"], of_both)
+        other = edited(P7, (b"42....+00000000000000P7", b"42....+00000000000TABOR"))
+        self.changed(P7, ["--rename", "1", "TABOR"], other)
+        other = edited(P7, (b"42....+0000000000000002", b"42....+0000000000000012"))
+        self.changed(P7, ["--rename", "16", "12"], other)
+        self.check_changes_are_shown()
+        both = ["--rename", "4", "X", "--blocks", "3", "5-6", "--rename", "7", "Y"]
+        self.assertEqual(0, self.prepared(P7, *both)[0])
+        said = b"without: block 3, blocks 5-6; with: block 4 named X, block 7 named Y"
+        head = b"a copy.gsi is field.gsi " + said + b"\nwhy: a reason\nblock 3:\n"
+        self.assertTrue(self.log.startswith(head), self.log)
+
+    def test_a_file_that_is_refused_is_copied(self):
+        """A title, a byte order mark, letters with accents, tabs, a final 1A and a line cut off."""
+        good = job("1122", "ABBA")
+        cut = good + good[:30]
+        mark = b"\xef\xbb\xbf"
+        latin, utf = edited(good, (b"A 21", b"\xc4 21")), edited(good, (b"A 21", b"\xc3\x84 21"))
+        sharp = edited(good, (b"0A 21", b"\xdfA 21"))
+        for field, args, expected in [
+            (b"Job 17\r\n" + good, ["--blocks", "1"], good),
+            (cut, ["--blocks", "5"], good),
+            (good + b"\x1a", ["--blocks", "5"], good),
+            (good + b"\x1a", ["--plain"], good),
+            (good[:-2] + b"\x1a\r\n", ["--plain"], good),
+            (mark + good, ["--plain"], good),
+            (latin, ["--plain"], good),
+            (utf, ["--plain"], good),
+            (mark + utf + b"\x1a", ["--plain"], good),
+            (utf, ["--rename", "1,4", "A"], good),
+            (latin, ["--rename", "1,4", "A"], good),
+            (sharp, ["--plain"], good.replace(b"0A 21", b"sA 21")),
+            (good.replace(b" 22.", b"\t22."), ["--plain"], good),
+        ]:
+            with self.subTest(field[:40], args=args):
+                self.assertEqual(0, self.prepared(field, *args)[0])
+                self.assertEqual(expected, self.copy.read_bytes())
+        for byte in [b"\x00", b"\x1a", b"\xd7"]:
+            status, _, said = self.prepared(good.replace(b"A 21", byte + b" 21"), "--plain")
+            self.assertEqual(1, status)
+            self.assertIn("block 1: no plain letter stands for ", said)
 
     def test_the_log_says_what_and_why(self):
         said = self.prepared(P7, "--blocks", "2", "4-5", why="MAST was moved")
@@ -231,6 +325,12 @@ class PrepareTest(CopyTest):
             (["--set", "P7", "5"], "station P7 has no set 5"),
             (["--set", "P8", "1"], "station P8 has no set 1"),
             (["--closing"], "no set has a closing sight"),
+            (["--rename", "1", "x" * 17], "block 1: the name " + "x" * 17 + " is too long"),
+            (["--rename", "51", "X"], "block 51 has no name"),
+            (["--rename", "52", "X"], "no block 52: the file has 51"),
+            (["--rename", "4", "X", "--set", "P7", "1"], "block 4 is both left out and named X"),
+            (["--rename", "1", "P7"], "nothing would be changed"),
+            (["--plain"], "nothing would be changed"),
         ]:
             status, _, answer = self.prepared(P7, *args)
             self.assertEqual(1, status)
@@ -239,7 +339,15 @@ class PrepareTest(CopyTest):
         said = "prepare.py: station P7 has 2 sets 1\n"
         self.assertEqual((1, "", said), self.prepared(twice, "--set", "P7", "1"))
         self.assertEqual(1, self.prepared(P7.replace(b"\n", b"\r"), "--blocks", "2")[0])
-        for args in [[], ["--blocks", "x"], ["--blocks", "0"], ["--blocks"], ["--set", "P7"]]:
+        no_codes = without_codes(P7)
+        said = "prepare.py: no block has the code 10, 20 or 30\n"
+        self.assertEqual((1, "", said), self.prepared(no_codes, "--without-codes"))
+        degrees = edited(job("1122", "ABBA"), (b"22.102+1", b"22.104+1"))
+        said = "prepare.py: block 1: no zenith angle in gon with five decimals\n"
+        self.assertEqual((1, "", said), self.prepared(degrees, "--closing"))
+        names = [["--rename", "1", name] for name in ["", "0P", "P\u00e4"]]
+        of_blocks = [["--blocks", "x"], ["--blocks", "0"], ["--blocks"], ["--rename", "1"]]
+        for args in [[], *of_blocks, ["--set", "P7"], ["--rename", "x", "X"], *names]:
             self.assertEqual(2, self.prepared(P7, *args)[0], args)
         for why in ["", " ", "a\nb"]:
             self.assertEqual(2, self.prepared(P7, "--blocks", "2", why=why)[0])
