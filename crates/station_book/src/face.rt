@@ -5,7 +5,7 @@ ghost use Rattle.station_book.specs.Blocks.{other_face};
 
 /// The face in which a target is read.
 #[derive(Clone, Copy, Debug, PartialEq, Eq, Drop)]
-pub(crate) enum Face {
+pub enum Face {
     /// Face I.
     One,
     /// Face II, in which the telescope is turned over.

@@ -82,9 +82,9 @@ fn face_of(zenith: u32) -> Option<Face>
     None
 }
 
-/// The target of a reading.
+/// The target of a reading; of any other block the name in its first word.
 #[tactic(auto, unfolding(crate::specs::Blocks::target))]
-fn target(block: &Block<'_>) -> Name
+pub fn target(block: &Block<'_>) -> Name
     ensures { result ≡ target (block_of block.now) }
 {
     name_in(&block.first())
@@ -92,7 +92,7 @@ fn target(block: &Block<'_>) -> Name
 
 /// What a measurement block says: nothing where it has no direction.
 #[tactic(auto, unfolding(crate::specs::Blocks::has_two, crate::specs::Blocks::lacks, crate::specs::Blocks::angle_fault, crate::specs::Blocks::angles, crate::specs::Blocks::target))]
-pub(crate) fn read(block: &Block<'_>) -> Result<Option<Reading>, BookKind>
+pub fn read(block: &Block<'_>) -> Result<Option<Reading>, BookKind>
     ensures value { result ≡ read (block_of block.now) }
     ensures angles { IfOk result (λ o. IfSome o (λ s. AreOnCircle s.angles)) }
 {

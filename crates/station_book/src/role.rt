@@ -8,7 +8,7 @@ use gsi_word::{Block, CODE_NUMBER, POINT_NUMBER};
 
 /// What a block is to a book.
 #[derive(Clone, Copy, Debug, PartialEq, Eq)]
-pub(crate) enum Role {
+pub enum Role {
     /// Code 10: a station begins.
     Station,
     /// Code 20: a set begins.
@@ -35,7 +35,7 @@ fn code_role(name: &[u8]) -> Role
 
 /// What a block is.
 #[tactic(auto, unfolding(crate::specs::Blocks::role_of))]
-pub(crate) fn role_of(block: &Block<'_>) -> Role
+pub fn role_of(block: &Block<'_>) -> Role
     ensures { result ≡ role_of (block_of block.now) }
 {
     let first = block.first();
