@@ -67,25 +67,56 @@ abbrev pub given_by : {E : Type 0} → Result ℕ E → List ℕ → List ℕ
 given_by (Ok n) buf = take n buf
 given_by (Err e) buf = []
 
--- A history has grown by these bytes: whatever the source may have given before, since it was made,
--- it has then given that and these.
-abbrev pub Adds : (List ℕ → Type 0) → (List ℕ → Type 0) → List ℕ → Type 0
-Adds gave gave' bytes = (m : List ℕ) → gave m → gave' (m ++ bytes)
+-- Histories have grown by these bytes: whatever a source may have given by one of them, by this
+-- number, it has then given that and these.
+abbrev pub Adds : (ℕ → List ℕ → Type 0) → (ℕ → List ℕ → Type 0) → List ℕ → Type 0
+Adds gave gave' bytes =
+    (history : ℕ) (given : List ℕ) → gave history given → gave' history (given ++ bytes)
+
+-- What happened to a reader: what it told and tells, whether a read of it had failed and has, and
+-- its histories before and after.
+pub record ReaderChange : Type 1 where
+  pub told : Option Told
+  pub told' : Option Told
+  pub failed : Bool
+  pub failed' : Bool
+  pub gave : ℕ → List ℕ → Type 0
+  pub gave' : ℕ → List ℕ → Type 0
+  -- It is as it was, in all that it is.
+  pub is_unasked : Type 0
+
+-- What happened to this reader, which was `old` and is `new`.
+abbrev pub reader_change : {S : Type 0} → (S → Option Told) → (S → Bool)
+    → (S → ℕ → List ℕ → Type 0) → S → S → ReaderChange
+reader_change told failed gave old new = record {
+  told = told old;
+  told' = told new;
+  failed = failed old;
+  failed' = failed new;
+  gave = gave old;
+  gave' = gave new;
+  is_unasked = new ≡ old;
+}
+
+-- A reader was taken in, and what happened to it until it was dropped is so.
+abbrev pub UntilDropped : {S : Type 0} → (S → Option Told) → (S → Bool)
+    → (S → ℕ → List ℕ → Type 0) → S → (ReaderChange → Type 0) → Type 0
+UntilDropped {S} told failed gave taken P =
+    (dropped : S) × P (reader_change told failed gave taken dropped)
 
 -- These bytes, and then what is left.
 abbrev pub given_then : List ℕ → Told → Told
 given_then given left = record { bytes = given ++ left.bytes; fails = left.fails }
 
--- By some reads a source has given these bytes: its history has grown by them, and whatever it may
--- give after the reads, it might give these bytes and then that before them.
-pub record HasGiven {S : Type 0} (told : S → Option Told) (gave : S → List ℕ → Type 0) (old new : S)
-    (given : List ℕ) : Type 0 where
-  pub adds : Adds (gave old) (gave new) given
-  pub might : (left : Told) → MayGive (told new) left → MayGive (told old) (given_then given left)
+-- By some reads a source has given these bytes: its histories have grown by them, and whatever it
+-- may give after the reads, it might give these bytes and then that before them.
+pub record HasGiven (reader : ReaderChange) (given : List ℕ) : Type 0 where
+  pub adds : Adds reader.gave reader.gave' given
+  pub might : (left : Told) → MayGive reader.told' left
+      → MayGive reader.told (given_then given left)
 
 -- Some reads gave bytes, so that this holds of them with whatever may be left, and of that.
-pub record Through {S : Type 0} (told : S → Option Told) (gave : S → List ℕ → Type 0) (old new : S)
-    (P : Told → Told → Type 0) : Type 0 where
+pub record Through (reader : ReaderChange) (P : Told → Told → Type 0) : Type 0 where
   pub given : List ℕ
-  pub by_reads : HasGiven told gave old new given
-  pub so : (left : Told) → MayGive (told new) left → P (given_then given left) left
+  pub by_reads : HasGiven reader given
+  pub so : (left : Told) → MayGive reader.told' left → P (given_then given left) left

@@ -3,6 +3,7 @@
 ghost use Rattle.std.specs.Prelude.{◌≡◌, MatchResult};
 ghost use Rattle.byte_ends.specs.Came.{BytesCame, ExplainsInput, LeavesSource};
 ghost use Rattle.byte_ends.specs.Input.{input_within, Ended};
+ghost use Rattle.byte_ends.specs.Source.{reader_change};
 
 use crate::source::Source;
 use std::alloc::Global;
@@ -39,11 +40,12 @@ pub fn read_whole<S: Source>(
     source: &mut S,
     most: usize,
 ) -> Result<Vec<u8>, InputFault>
-    ensures came { BytesCame S.told S.gave source.old source.new (λ gives. MatchResult result
+    ensures came { BytesCame (reader_change S.told S.failed S.gave source.old source.new)
+        (λ gives. MatchResult result
         (λ bytes. input_within most gives ≡ Ended bytes.items)
         (ExplainsInput (input_within most gives))) }
-    ensures left { LeavesSource result (S.told source.new)
-        (S.failed source.old) (S.failed source.new) }
+    ensures left { LeavesSource result
+        (reader_change S.told S.failed S.gave source.old source.new) }
 {
     let mut bytes = Vec::new(alloc);
     let mut piece = [0; PIECE];

@@ -57,7 +57,7 @@ impl<R: Read + Drop> Source for OfRead<R> {
 
     ghost failed = { λ s. read_failed s };
 
-    ghost gave = { λ _ _. ⊤ };
+    ghost gave = { λ _ _ _. ⊤ };
 
     fn read(&mut self, buf: &mut [u8]) -> Result<usize, Failed>
         ensures bound { IfOk result (λ n. n ≤ length buf.new) }

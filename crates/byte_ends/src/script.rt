@@ -45,7 +45,7 @@ impl Source for Script<'_> {
 
     ghost failed = { λ s. script_failed s };
 
-    ghost gave = { λ _ _. ⊤ };
+    ghost gave = { λ _ _ _. ⊤ };
 
     fn read(&mut self, buf: &mut [u8]) -> Result<usize, Failed>
         ensures bound { IfOk result (λ n. n ≤ length buf.new) }

@@ -16,9 +16,10 @@ pub trait Source: Drop {
     // Whether a read of it has failed.
     ghost failed: { Self → Bool };
 
-    // Its history: whether it may have given these bytes, in all, since it was made. A source that
-    // keeps nothing of them may have given any.
-    ghost gave: { Self → List ℕ → Type 0 };
+    // Its histories, by number: whether by that one it may have given these bytes, in all. A source
+    // that keeps nothing of them may have given any; one that keeps a history of what it asks for
+    // puts it before those of the source that it asks.
+    ghost gave: { Self → ℕ → List ℕ → Type 0 };
 
     /// Reads once, into the front of `buf`, and answers how many bytes came.
     ///

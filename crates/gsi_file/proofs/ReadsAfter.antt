@@ -2,10 +2,10 @@
 use Rattle.std.proofs.Common.{◌≡◌, ℕ, suc, ◌+◌, ◌-◌, ◌<◌, ◌≤◌, List, [], ◌∷◌, ◌++◌, length, take}
 use Rattle.std.proofs.Common.{drop, Option, None, Some, Result, Ok, Err, slice_range, MatchResult}
 use Rattle.std.proofs.Common.{refl, sym, ap, subst, ◌∙◌, arith, length-take, drop-drop}
-use Rattle.std.specs.Prelude.{IfOk}
+use Rattle.std.specs.Prelude.{IfOk, Bool}
 use Rattle.std.proofs.lemmas.List.{drop-take, drop-append-le, take-append-le}
 use Rattle.byte_ends.specs.Source.{Told, Reads, AfterRead, TellsOver, MayGive, Through, Adds}
-use Rattle.byte_ends.specs.Source.{given_by, given_then, ended, broken_off}
+use Rattle.byte_ends.specs.Source.{given_by, given_then, reader_change, ended, broken_off}
 use Rattle.byte_ends.proofs.Coming.{given_by_read, left_is}
 use Rattle.byte_ends.specs.declared.failed.Failed.{Failed}
 use Rattle.gsi_file.specs.Filling.{Grows, GivesTold, FailsTold}
@@ -117,12 +117,13 @@ after_read told buf (Err e') over left may =
     }
 
 -- Whatever a source may give after a read, the read is one of a source that told it.
-pub reads_as : {S : Type 0} (told : S → Option Told) (gave : S → List ℕ → Type 0) (old new : S)
+pub reads_as : {S : Type 0} (told : S → Option Told) (failed : S → Bool)
+    (gave : S → ℕ → List ℕ → Type 0) (old new : S)
     (buf : List ℕ) (r : Result ℕ Failed) → Reads (told old) (told new) r buf
     → TellsOver (told new) r (length buf) → Adds (gave old) (gave new) (given_by r buf)
-    → Through told gave old new (λ o n. AfterRead o n r buf)
-reads_as told gave old new buf r reads over adds = record {
+    → Through (reader_change told failed gave old new) (λ o n. AfterRead o n r buf)
+reads_as told failed gave old new buf r reads over adds = record {
   given = given_by r buf;
-  by_reads = given_by_read told gave old new r buf reads adds;
+  by_reads = given_by_read told failed gave old new r buf reads adds;
   so = after_read (told new) buf r over;
 }

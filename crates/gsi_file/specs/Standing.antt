@@ -2,7 +2,7 @@
 use Rattle.std.specs.Prelude.{◌≡◌, Bool, true, false, ℕ, ◌<◌, List, ⊤, Option, Some, None, Result}
 use Rattle.std.specs.Prelude.{Ok, Err}
 use Rattle.std.specs.Option.{option_map}
-use Rattle.byte_ends.specs.Source.{Told}
+use Rattle.byte_ends.specs.Source.{Told, Through, reader_change}
 use Rattle.byte_ends.specs.Source as over
 use Rattle.gsi_file.specs.declared.file_fault.FileFault.{FileFault}
 use Rattle.gsi_file.specs.declared.file_fault.FileFault.TheVariants.{At, Memory}
@@ -10,9 +10,11 @@ use Rattle.gsi_file.specs.declared.file_fault.FileKind.{FileKind}
 use Rattle.gsi_file.specs.declared.lines.State.{State}
 use Rattle.gsi_file.specs.declared.lines.State.TheVariants.{Open, End, Failed}
 use Rattle.gsi_file.specs.declared.lines.Lines.{Lines}
+use Rattle.gsi_file.specs.declared.line.Line.{Line}
+use Rattle.gsi_file.specs.Failing.{failed_in}
 use Rattle.gsi_file.specs.Window.{line_in_window, unused}
 use Rattle.gsi_file.specs.Finding.{answers_in, BreaksOff}
-use Rattle.gsi_file.specs.ToCome.{ToCome, IsRead, only}
+use Rattle.gsi_file.specs.ToCome.{ToCome, Answers, IsRead, only}
 
 -- What is to come in a state, of so many bytes that may be taken, with these in hand, of a reader
 -- that tells this.
@@ -122,3 +124,21 @@ IsOverWith (Ok (Some x)) settled told = settled ≡ true → told ≡ Some over.
 IsOverWith (Ok None) settled told = told ≡ Some over.ended
 IsOverWith (Err (At number kind)) settled told = IsRead kind → told ≡ Some over.broken_off
 IsOverWith (Err Memory) settled told = ⊤
+
+-- What a call of `next` did to the lines of a reader that tells, fails and keeps its history so.
+pub record IsNext {R : Type 0} (told : R → Option Told) (failed : R → Bool)
+    (gave : R → ℕ → List ℕ → Type 0) (old : Lines R)
+    (result : Result (Option Line) FileFault) (new : Lines R) : Type 0 where
+  -- Some reads gave bytes. Of these, and whatever may be left in the reader, this is the next
+  -- answer.
+  pub answers : Through (reader_change told failed gave (reader_of old) (reader_of new))
+      (λ before after. Answers (to_come (gives before) old) result (to_come (gives after) new))
+  -- A line takes some of the bytes that may still be taken.
+  pub progresses : Progresses result (bytes_left old) (bytes_left new)
+  -- The end or a fault is settled once for all, and the reader is not asked after it.
+  pub asks_no_more : AsksNoMore result old new
+  -- A read failed exactly where that is answered, and was not answered before.
+  pub fails : failed (reader_of new) ≡ failed_in (is_settled old) (failed (reader_of old)) result
+  -- At the end the reader has ended, and at a failed read it has broken off, whether it told its
+  -- bytes or not.
+  pub over : is_settled old ≡ false → IsOverWith result (is_settled new) (told (reader_of new))

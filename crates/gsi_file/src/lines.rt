@@ -73,10 +73,10 @@ impl<R: Source> Lines<R> {
     ghost use Rattle.std.specs.Borrow.{sem};
     ghost use Rattle.gsi_file.specs.contracts.lines.Lines.{the_row};
     ghost use Rattle.gsi_file.specs.FileAnswers.{file_answers};
-    ghost use Rattle.gsi_file.specs.ToCome.{ToCome, Answers, FindsNext, FindsBlock, IsRead};
+    ghost use Rattle.gsi_file.specs.ToCome.{FindsNext, FindsBlock, IsRead};
     ghost use Rattle.gsi_file.specs.Finding.{BreaksOff};
-    ghost use Rattle.gsi_file.specs.Standing.{to_come, gives, reader_of, AsksNoMore, line_found, bytes_left, is_settled, Progresses, FailsAtItsEnd, IsOverBy, IsOverWith};
-    ghost use Rattle.byte_ends.specs.Source.{Told, Through};
+    ghost use Rattle.gsi_file.specs.Standing.{to_come, gives, reader_of, AsksNoMore, line_found, bytes_left, is_settled, Progresses, FailsAtItsEnd, IsOverBy, IsOverWith, IsNext};
+    ghost use Rattle.byte_ends.specs.Source.{Told, Through, reader_change};
 
     /// Takes the one buffer, and reads nothing. Where there is no memory the reader is dropped.
     pub fn new(alloc: Global, reader: R) -> Result<Lines<R>, OutOfMemory>
@@ -135,18 +135,8 @@ impl<R: Source> Lines<R> {
     /// answers of all calls are those of one file, in its order.
     #[inline(always)]
     pub fn next(&mut self) -> Result<Option<Line<'_>>, FileFault>
-        ensures* after { sem 𝓛 (Rests (the_row R.row) self.entry (λ new.
-            Answers (to_come R.told self.old) result (to_come R.told new)
-            × Progresses result (bytes_left self.old) (bytes_left new)
-            × AsksNoMore result self.old new
-            × FailsAtItsEnd result (is_settled self.old)
-            (R.told (reader_of self.old)) (R.told (reader_of new))
-            × (R.failed (reader_of new)
-            ≡ failed_in (is_settled self.old) (R.failed (reader_of self.old)) result)
-            × Through R.told R.gave (reader_of self.old) (reader_of new) (λ before after.
-            Answers (to_come (gives before) self.old) result (to_come (gives after) new))
-            × (is_settled self.old ≡ false
-            → IsOverWith result (is_settled new) (R.told (reader_of new))))) }
+        ensures* after { sem 𝓛 (Rests (the_row R.row) self.entry
+            (IsNext R.told R.failed R.gave self.old result)) }
     {
         match self.advance()? {
             Some(shape) => {
@@ -163,7 +153,7 @@ impl<R: Source> Lines<R> {
     fn advance(&mut self) -> Result<Option<Shape>, FileFault>
         ensures finds { FindsNext (to_come R.told self.old) result (to_come R.told self.new)
             (line_found self.new) }
-        ensures through { Through R.told R.gave (reader_of self.old) (reader_of self.new)
+        ensures through { Through (reader_change R.told R.failed R.gave (reader_of self.old) (reader_of self.new))
             (λ before after. FindsNext (to_come (gives before) self.old) result
             (to_come (gives after) self.new) (line_found self.new)) }
         ensures settled { AsksNoMore result self.old self.new }
@@ -194,7 +184,7 @@ impl<R: Source> Lines<R> {
         requires { is_settled self.old ≡ false }
         ensures finds { FindsBlock (to_come R.told self.old) result (to_come R.told self.new)
             (line_found self.new) }
-        ensures through { Through R.told R.gave (reader_of self.old) (reader_of self.new)
+        ensures through { Through (reader_change R.told R.failed R.gave (reader_of self.old) (reader_of self.new))
             (λ before after. FindsBlock (to_come (gives before) self.old) result
             (to_come (gives after) self.new) (line_found self.new)) }
         ensures settled { OnOk result (AsksNoMore result self.old self.new) }

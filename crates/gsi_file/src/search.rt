@@ -5,7 +5,7 @@
 //! file, so at the same byte the file's limit comes first.
 
 ghost use Rattle.std.specs.Prelude.{◌≡◌, ◌≤◌, ◌-◌, Some, true, false};
-ghost use Rattle.byte_ends.specs.Source.{Through};
+ghost use Rattle.byte_ends.specs.Source.{Through, reader_change};
 ghost use Rattle.gsi_file.specs.Failing.{failed_by};
 ghost use Rattle.gsi_file.specs.Finding.{Finds, IsOverAfter};
 
@@ -77,7 +77,7 @@ pub(crate) fn find_line<R: Source>(
 ) -> Result<Option<FoundLine>, FileKind>
     ensures finds { Finds (R.told reader.old) (R.told reader.new) room buffer.old buffer.new
         result }
-    ensures through { Through R.told R.gave reader.old reader.new (λ before after.
+    ensures through { Through (reader_change R.told R.failed R.gave reader.old reader.new) (λ before after.
         Finds (Some before) (Some after) room buffer.old buffer.new result) }
     ensures failed { R.failed reader.new ≡ failed_by (R.failed reader.old) result }
     ensures over { IsOverAfter result (R.told reader.new) }

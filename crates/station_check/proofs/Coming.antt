@@ -1,34 +1,41 @@
--- What came of a reader, read by read.
-use Rattle.std.proofs.Common.{◌≡◌, List, ℕ, Option, Some, subst, ◌∙◌}
-use Rattle.std.specs.Prelude.{IfSome}
-use Rattle.station_check.proofs.SomeCame.{came_so, step_back}
-use Rattle.byte_ends.proofs.Coming.{some_left}
-use Rattle.byte_ends.specs.Source.{Told, MayGive, Through}
+-- What came of the reader of a field file, by what was to come of its lines.
+use Rattle.std.proofs.Common.{◌≡◌, List, ℕ, Option, Some, Bool, subst, sym}
+use Rattle.std.specs.Prelude.{IfSome, Result}
+use Rattle.byte_ends.proofs.Coming.{came_so, given_as_told, some_left}
+use Rattle.byte_ends.specs.Came.{BytesCame}
+use Rattle.byte_ends.specs.Source.{Told, ReaderChange, reader_change, given_then}
 use Rattle.gsi_file.specs.FileAnswers.{FileAnswers, file_answers}
 use Rattle.gsi_file.specs.ToCome.{ToCome}
-use Rattle.station_check.specs.Came.{SomeBytesCame, SomeLinesCame}
+use Rattle.adjust_kernel.specs.declared.accepted.Accepted.{Accepted}
+use Rattle.station_book.specs.Limits.{FaceLimits}
+use Rattle.station_check.specs.Came.{LinesCame}
+use Rattle.station_check.specs.Promise.{IsAnswer, KeepsPromise}
+use Rattle.station_check.specs.declared.fault.Fault.{Fault}
 
--- What stands at the end of some reads.
-pub at_last : {S : Type 0} (told : S → Option Told) (gave : S → List ℕ → Type 0) (old new : S)
-    (P : Told → Told → Type 0) → Through told gave old new P
-    → (after : Told) × ((before : Told) × MayGive (told old) before × P before after)
-at_last told gave old new P p =
-    let left = some_left (told new) in
-    (left.0, step_back told gave old new P p left.0 left.1)
-
--- What came of new lines, by what is to come of them.
-pub lines_came : (told known : Option Told) (next : Told → ToCome) (So : FileAnswers → Type 0)
-    → known ≡ told → ((t : Told) → next t ≡ record { number = 0; answers = Some (file_answers t) })
-    → SomeBytesCame known (λ t. IfSome (next t).answers So) → SomeLinesCame told So
-lines_came told known next So e whole s = subst (λ (o : Option Told). SomeLinesCame o So) e
-    (came_so known (λ t. IfSome (next t).answers So) (λ t. So (file_answers t)) s
+-- What came of new lines, by what was to come of them.
+pub lines_came : {R : Type 0} (told : R → Option Told) (failed : R → Bool)
+    (gave : R → ℕ → List ℕ → Type 0) (gsi first last : R) (next : Told → ToCome)
+    (So : FileAnswers → Type 0) → first ≡ gsi
+    → ((t : Told) → next t ≡ record { number = 0; answers = Some (file_answers t) })
+    → BytesCame (reader_change told failed gave first last) (λ t. IfSome (next t).answers So)
+    → LinesCame (reader_change told failed gave gsi last) So
+lines_came told failed gave gsi first last next So e whole s =
+    subst (λ (r : _). LinesCame (reader_change told failed gave r last) So) e
+    (came_so (reader_change told failed gave first last) (λ t. IfSome (next t).answers So)
+    (λ t. So (file_answers t)) s
     (λ t so. subst (λ (c : ToCome). IfSome c.answers So) (whole t) so))
 
--- Of two readers that tell, what came is what they tell.
-pub both_told : (x y gsi sheet : Told) (P : Told → Told → Type 0)
-    → SomeBytesCame (Some x) (λ a. SomeBytesCame (Some y) (λ b. P a b)) → x ≡ gsi → y ≡ sheet
-    → P gsi sheet
-both_told x y gsi sheet P s e f =
-    let stated = s.so in
-    subst (λ (b : Told). P gsi b) (stated.as_told ∙ f)
-    (subst (λ (a : Told). P a stated.came) (s.as_told ∙ e) stated.so)
+-- Of two readers that tell, the promise is kept of what they tell.
+pub promise_as_told : (limits : FaceLimits) (most : Option ℕ) (gsi sheet : ReaderChange)
+    (r : Result Accepted Fault) → IsAnswer limits most gsi sheet r
+    → (file stated : Told) → gsi.told ≡ Some file → sheet.told ≡ Some stated
+    → KeepsPromise limits most (file_answers file) stated r
+promise_as_told limits most gsi sheet r a file stated e f =
+    let gsi_left = some_left gsi.told' in
+    let sheet_left = some_left sheet.told' in
+    subst (λ (t : Told). KeepsPromise limits most (file_answers file) t r)
+    (given_as_told sheet a.sheet_bytes a.sheet_reads stated f sheet_left.0 sheet_left.1)
+    (subst (λ (t : Told). KeepsPromise limits most (file_answers t)
+    (given_then a.sheet_bytes sheet_left.0) r)
+    (given_as_told gsi a.gsi_bytes a.gsi_reads file e gsi_left.0 gsi_left.1)
+    (a.promise gsi_left.0 sheet_left.0 gsi_left.1 sheet_left.1))

@@ -1,13 +1,16 @@
 -- No failed read of a field file is passed over.
 use Rattle.std.proofs.Common.{◌≡◌, ◌∙◌, ap, refl, Option, Some}
-use Rattle.byte_ends.specs.Source.{Told, ended}
-use Rattle.std.specs.Prelude.{Bool, true, false, Ok, Err}
+use Rattle.byte_ends.specs.Source.{Told, ReaderChange, ended}
+use Rattle.std.specs.Prelude.{Bool, true, false, Result, Ok, Err}
 use Rattle.gsi_file.specs.Standing.{IsOverWith}
 use Rattle.gsi_file.specs.declared.file_fault.FileFault.{FileFault}
 use Rattle.gsi_file.specs.declared.file_fault.FileFault.TheVariants.{At, Memory}
 use Rattle.gsi_file.specs.declared.file_fault.FileKind.TheVariants.{Read, FileTooLong, LineTooLong}
 use Rattle.gsi_file.specs.declared.file_fault.FileKind.TheVariants.{Byte, Word, FirstWord}
-use Rattle.station_check.specs.Answerable.{of_lines, LeavesFile}
+use Rattle.gsi_file.specs.ToCome.{ToCome, Answers}
+use Rattle.station_check.specs.declared.fault.Fault.{Fault}
+use Rattle.station_check.specs.declared.fault.Fault.TheVariants as run
+use Rattle.station_check.specs.Answerable.{of_lines, LeavesFile, LeavesWords}
 use Rattle.gsi_file.specs.Failing.{failed_in}
 
 -- No read failed in a call that gave a line or the end.
@@ -33,16 +36,34 @@ over_here told true old new unread over next = ap told (unread refl) ∙ over re
 over_here told false old new unread over next = next refl
 
 -- A fault of the file leaves its reader as it says.
-pub left_at : (A : Type 0) (fault : FileFault) (settled is old : Bool) (told : Option Told)
-    {first new : Bool} → (settled ≡ true → ⊥)
-    → (settled ≡ false → IsOverWith {A = A} (Err fault) is told)
-    → new ≡ failed_in {A = A} settled old (Err fault) → old ≡ first
-    → LeavesFile {A = A} (Err (of_lines fault)) told first new
-left_at A fault true is old told never over failed kept = absurd (never refl)
-left_at A (At number Read) false is old told never over failed kept = (over refl tt, failed)
-left_at A (At number FileTooLong) false is old told never over failed kept = failed ∙ kept
-left_at A (At number LineTooLong) false is old told never over failed kept = failed ∙ kept
-left_at A (At number (Byte at)) false is old told never over failed kept = failed ∙ kept
-left_at A (At number (Word nth)) false is old told never over failed kept = failed ∙ kept
-left_at A (At number FirstWord) false is old told never over failed kept = failed ∙ kept
-left_at A Memory false is old told never over failed kept = failed ∙ kept
+pub left_at : (A : Type 0) (fault : FileFault) (settled is now : Bool) (reader : ReaderChange)
+    → (settled ≡ true → ⊥)
+    → (settled ≡ false → IsOverWith {A = A} (Err fault) is reader.told')
+    → reader.failed' ≡ failed_in {A = A} settled now (Err fault) → now ≡ reader.failed
+    → LeavesFile {A = A} (Err (of_lines fault)) reader
+left_at A fault true is now reader never over failed kept = absurd (never refl)
+left_at A (At number Read) false is now reader never over failed kept =
+    record { broken = over refl tt; failed = failed }
+left_at A (At number FileTooLong) false is now reader never over failed kept = failed ∙ kept
+left_at A (At number LineTooLong) false is now reader never over failed kept = failed ∙ kept
+left_at A (At number (Byte at)) false is now reader never over failed kept = failed ∙ kept
+left_at A (At number (Word nth)) false is now reader never over failed kept = failed ∙ kept
+left_at A (At number FirstWord) false is now reader never over failed kept = failed ∙ kept
+left_at A Memory false is now reader never over failed kept = failed ∙ kept
+
+-- The same of words.
+pub words_left_at : (A : Type 0) (fault : FileFault) (settled is now : Bool)
+    (reader : ReaderChange) → (settled ≡ true → ⊥)
+    → (settled ≡ false → IsOverWith {A = A} (Err fault) is reader.told')
+    → reader.failed' ≡ failed_in {A = A} settled now (Err fault) → now ≡ reader.failed
+    → LeavesWords {A = A} (Err (of_lines fault)) reader
+words_left_at A (At number kind) settled is now reader never over failed kept =
+    left_at A (At number kind) settled is now reader never over failed kept
+words_left_at A Memory settled is now reader never over failed kept =
+    left_at A Memory settled is now reader never over failed kept
+
+-- No line is answered by out of memory.
+pub not_of_memory : {A : Type 0} (r : Result A Fault) (fault : FileFault) (t t' : ToCome)
+    → Answers t (Err fault) t' → r ≡ Err (of_lines fault) → r ≡ Err run.Memory → ⊥
+not_of_memory r (At number kind) t t' h e memory = cc
+not_of_memory r Memory t t' h e memory = absurd h

@@ -1,8 +1,9 @@
 -- Which faults a call may answer, whatever its readers and writers tell. That memory ran out is
 -- answered as `Memory`, whichever part it was, and `Write` only where a call of the writer failed.
-use Rattle.std.specs.Prelude.{◌≡◌, Bool, true, Option, Some, Result, Ok, Err, ⊤}
-use Rattle.byte_ends.specs.Came.{IsReadOut}
-use Rattle.byte_ends.specs.Source.{Told, broken_off}
+use Rattle.std.specs.Prelude.{◌≡◌, Bool, true, Result, Ok, Err, ⊤}
+use Rattle.byte_ends.specs.Came.{IsReadOut, HasBroken, NoReadFailed}
+use Rattle.byte_ends.specs.Sink.{WriterChange}
+use Rattle.byte_ends.specs.Source.{ReaderChange}
 use Rattle.byte_ends.specs.declared.input.InputFault.{InputFault}
 use Rattle.byte_ends.specs.declared.input.InputFault.TheVariants as input
 use Rattle.gsi_file.specs.declared.file_fault.FileFault.{FileFault}
@@ -74,6 +75,12 @@ IsOfSheet (Kernel fault) = ⊤
 IsOfSheet Memory = ⊤
 IsOfSheet fault = ⊥
 
+-- A fault that comes of a sheet that was read: there is no station of its name, or the kernel's.
+abbrev pub IsByStation : Fault → Type 0
+IsByStation NoStation = ⊤
+IsByStation (Kernel fault) = ⊤
+IsByStation fault = ⊥
+
 -- What a check may answer.
 abbrev pub IsOfCheck : Fault → Type 0
 IsOfCheck (Gsi (file.At number what)) = ⊤
@@ -100,53 +107,49 @@ IsOfWords Memory = ⊤
 IsOfWords fault = ⊥
 
 -- A call of the writer failed exactly where the answer says so.
-abbrev pub FailsAtWrite : {A : Type 0} → Result A Fault → Bool → Bool → Type 0
-FailsAtWrite (Err Write) old new = new ≡ true
-FailsAtWrite (Err fault) old new = new ≡ old
-FailsAtWrite (Ok x) old new = new ≡ old
+abbrev pub FailsAtWrite : {A : Type 0} → Result A Fault → WriterChange → Type 0
+FailsAtWrite (Err Write) writer = writer.failed' ≡ true
+FailsAtWrite (Err fault) writer = writer.failed' ≡ writer.failed
+FailsAtWrite (Ok x) writer = writer.failed' ≡ writer.failed
 
 -- At a refusal other than a failed write nothing was asked of the writer.
-abbrev pub IsUnwritten : {A W : Type 0} → Result A Fault → W → W → Type 0
-IsUnwritten (Ok x) old new = ⊤
-IsUnwritten (Err Write) old new = ⊤
-IsUnwritten (Err fault) old new = new ≡ old
+abbrev pub IsUnwritten : {A : Type 0} → Result A Fault → WriterChange → Type 0
+IsUnwritten (Ok x) writer = ⊤
+IsUnwritten (Err Write) writer = ⊤
+IsUnwritten (Err fault) writer = writer.is_unasked
 
 -- With Ok all that was written was handed on, after its last byte.
 abbrev pub HandsOn : {A : Type 0} → Result A Fault → Bool → Type 0
-HandsOn (Ok x) handed_on = handed_on ≡ true
-HandsOn (Err fault) handed_on = ⊤
+HandsOn (Ok x) is_handed_on = is_handed_on ≡ true
+HandsOn (Err fault) is_handed_on = ⊤
 
 -- The same of words, where a fault of the file comes after them.
 abbrev pub HandsWordsOn : {A : Type 0} → Result A Fault → Bool → Type 0
-HandsWordsOn (Ok x) handed_on = handed_on ≡ true
-HandsWordsOn (Err (Gsi fault)) handed_on = handed_on ≡ true
-HandsWordsOn (Err fault) handed_on = ⊤
+HandsWordsOn (Ok x) is_handed_on = is_handed_on ≡ true
+HandsWordsOn (Err (Gsi fault)) is_handed_on = is_handed_on ≡ true
+HandsWordsOn (Err fault) is_handed_on = ⊤
 
--- A fault of the field file that is no failed read is answered where none failed.
-abbrev pub NoReadFailed : FileKind → Bool → Bool → Type 0
-NoReadFailed kind.Read old new = ⊤
-NoReadFailed other old new = new ≡ old
-
--- No read of the field file failed, where another answer is given than that one did.
-abbrev pub PassesNoFailure : {A : Type 0} → Result A Fault → Bool → Bool → Type 0
-PassesNoFailure (Ok x) old new = new ≡ old
-PassesNoFailure (Err (Gsi (file.At number what))) old new = NoReadFailed what old new
-PassesNoFailure (Err fault) old new = new ≡ old
-
--- How a fault of the file leaves its reader: at `Read` a read failed, and it has broken off; no read
--- failed at any other.
-abbrev pub LeavesAtKind : FileKind → Option Told → Bool → Bool → Type 0
-LeavesAtKind kind.Read told old new = (told ≡ Some broken_off) × (new ≡ true)
-LeavesAtKind other told old new = new ≡ old
+-- How a fault of the lines leaves their reader: at `Read` a read failed, and it has broken off; no
+-- read failed at any other.
+abbrev pub LeavesAtKind : FileKind → ReaderChange → Type 0
+LeavesAtKind kind.Read reader = HasBroken reader
+LeavesAtKind other reader = NoReadFailed reader
 
 -- How an answer leaves the reader of the field file, whatever that tells: at a failed read it has
--- broken off; at each fault from the sheet on, and at an acceptance, it has ended; and no read
+-- broken off; with Ok, and at each fault that comes after the file's, it has ended; and no read
 -- failed at any other answer.
-abbrev pub LeavesFile : {A : Type 0} → Result A Fault → Option Told → Bool → Bool → Type 0
-LeavesFile (Ok x) told old new = IsReadOut told old new
-LeavesFile (Err (Gsi (file.At number what))) told old new = LeavesAtKind what told old new
-LeavesFile (Err SheetRead) told old new = IsReadOut told old new
-LeavesFile (Err (Sheet fault)) told old new = IsReadOut told old new
-LeavesFile (Err NoStation) told old new = IsReadOut told old new
-LeavesFile (Err (Kernel fault)) told old new = IsReadOut told old new
-LeavesFile (Err fault) told old new = new ≡ old
+abbrev pub LeavesFile : {A : Type 0} → Result A Fault → ReaderChange → Type 0
+LeavesFile (Ok x) reader = IsReadOut reader
+LeavesFile (Err (Gsi (file.At number what))) reader = LeavesAtKind what reader
+LeavesFile (Err SheetRead) reader = IsReadOut reader
+LeavesFile (Err (Sheet fault)) reader = IsReadOut reader
+LeavesFile (Err NoStation) reader = IsReadOut reader
+LeavesFile (Err (Means fault)) reader = IsReadOut reader
+LeavesFile (Err (Kernel fault)) reader = IsReadOut reader
+LeavesFile (Err Write) reader = IsReadOut reader
+LeavesFile (Err fault) reader = NoReadFailed reader
+
+-- The same of words, which are written while the file is read: at `Write` nothing is known of it.
+abbrev pub LeavesWords : {A : Type 0} → Result A Fault → ReaderChange → Type 0
+LeavesWords (Err Write) reader = ⊤
+LeavesWords r reader = LeavesFile r reader

@@ -1,25 +1,30 @@
--- How a run ends: its exit status, and the line of a refusal.
-use Rattle.std.specs.Prelude.{◌≡◌, ◌⊎◌, ℕ, Bool, true, List, Option, Result, Ok, Err}
+-- How a run ends: what it prints, its exit status, and the line of a refusal.
+use Rattle.std.specs.Prelude.{◌≡◌, ◌⊎◌, ℕ, true, List, Result, Ok, Err}
 use Rattle.std.specs.Io.KnownBytes.{Appends}
-use Rattle.byte_ends.specs.Sink.{AppendsSome}
+use Rattle.byte_ends.specs.Sink.{AppendsSome, WriterChange}
 
 -- A writer got this text whole, and no call of it failed.
-pub record IsWritten {W : Type 0} (text : List ℕ) (failed : W → Bool)
-    (holds : W → Option (List ℕ)) (old new : W) : Type 0 where
-  pub got : Appends (holds old) (holds new) text
-  pub unfailed : failed new ≡ failed old
+pub record IsWritten (text : List ℕ) (writer : WriterChange) : Type 0 where
+  pub got : Appends writer.holds writer.holds' text
+  pub unfailed : writer.failed' ≡ writer.failed
 
 -- A call of a writer failed, and it got some of the first bytes of this text.
-pub record IsCutShort {W : Type 0} (text : List ℕ) (failed : W → Bool)
-    (holds : W → Option (List ℕ)) (old new : W) : Type 0 where
-  pub got : AppendsSome (holds old) (holds new) text
-  pub call_failed : failed new ≡ true
+pub record IsCutShort (text : List ℕ) (writer : WriterChange) : Type 0 where
+  pub got : AppendsSome writer.holds writer.holds' text
+  pub call_failed : writer.failed' ≡ true
 
 -- This text was written whole, or cut short by a failed call.
-abbrev pub WritesOrFails : {W : Type 0} → List ℕ
-    → (W → Bool) → (W → Option (List ℕ)) → W → W → Type 0
-WritesOrFails text failed holds old new =
-    IsWritten text failed holds old new ⊎ IsCutShort text failed holds old new
+abbrev pub WritesOrFails : List ℕ → WriterChange → Type 0
+WritesOrFails text writer = IsWritten text writer ⊎ IsCutShort text writer
+
+-- What an answer makes of `out`, and what the run then answers: its text, whole and handed on, or
+-- in part where a call of `out` failed; at a refusal nothing is asked of `out`, and the refusal is
+-- answered. `write` is the fault of a failed call.
+abbrev pub PrintsAnswer : {T A F : Type 0} → (T → List ℕ) → F → Result T F → Result A F
+    → WriterChange → Type 0
+PrintsAnswer text write (Ok a) (Ok x) out = IsWritten (text a) out × (out.is_handed_on ≡ true)
+PrintsAnswer text write (Ok a) (Err fault) out = (fault ≡ write) × IsCutShort (text a) out
+PrintsAnswer text write (Err fault) r out = (r ≡ Err fault) × out.is_unasked
 
 -- the exit status of an answer: 1 for a refusal of any kind, and else 0
 abbrev pub status_of : {A F : Type 0} → Result A F → ℕ
@@ -28,16 +33,15 @@ status_of (Err fault) = 1
 
 -- What `err` got of an answer: the line of a refusal, as its fault has it; and where there is none,
 -- nothing was asked of it.
-abbrev pub Reports : {A F E : Type 0} → (F → List ℕ) → Result A F
-    → (E → Bool) → (E → Option (List ℕ)) → E → E → Type 0
-Reports line (Ok x) failed holds old new = new ≡ old
-Reports line (Err fault) failed holds old new = WritesOrFails (line fault) failed holds old new
+abbrev pub Reports : {A F : Type 0} → (F → List ℕ) → Result A F → WriterChange → Type 0
+Reports line (Ok x) err = err.is_unasked
+Reports line (Err fault) err = WritesOrFails (line fault) err
 
--- A run ended with an answer of which this is so: its status is that of the answer, and the line
--- of a refusal went to `err`.
-pub record EndsWith {A F E : Type 0} (line : F → List ℕ) (So : Result A F → Type 0) (status : ℕ)
-    (failed : E → Bool) (holds : E → Option (List ℕ)) (err err' : E) : Type 0 where
+-- A run ended with an answer of which, with what `out` got, this is so: its status is that of the
+-- answer, and the line of a refusal went to `err`.
+pub record Run {A F : Type 0} (line : F → List ℕ) (So : Result A F → WriterChange → Type 0)
+    (status : ℕ) (out err : WriterChange) : Type 0 where
   pub answer : Result A F
-  pub so : So answer
+  pub so : So answer out
   pub exits : status ≡ status_of answer
-  pub reports : Reports line answer failed holds err err'
+  pub reports : Reports line answer err

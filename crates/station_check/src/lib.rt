@@ -8,7 +8,8 @@
 //! | `write_means` | writes the sheet of a station whose sets are complete: means |
 //! | `write_list` | writes the stations of a field file, their directions and face differences |
 //! | `write_words` | writes the words of a field file |
-//! | `stations_of_file` | the stations of a field file, for what else is made of them |
+//! | `check_sources` | as `check_bytes`, and gives the field file's reader back |
+//! | `stations_of_file` | the stations of a field file, for what else is made of them, and its reader |
 //! | `run_check`, `run_means`, `run_list`, `run_words` | the same as commands: a line of the verdict or the text, the line of a refusal, and the exit status |
 //!
 //! Each reads its bytes from a `Source` and writes to a `Sink`, which may be a file, a slice, or
@@ -57,7 +58,7 @@ pub use refused::{
     refusal_line,
 };
 pub use runs::{DONE, REFUSED, refuse, run_check, run_list, run_means, run_words};
-pub use survey::survey as stations_of_file;
+pub use survey::stations_of_file;
 pub use verdict_line::{LONGEST_U32, LONGEST_VERDICT_LINE, VerdictLine, add, add_numbered};
 pub use whole_text::write_whole;
 pub use words::write_words;

@@ -1,12 +1,14 @@
 -- From the parts of a comparison to what it answers.
 use Rattle.std.proofs.Common.{◌≡◌, ◌-◌, ◌≤◌, ℕ, ℤ, List, length, Result, Ok, Err, refl, subst, inl}
 use Rattle.std.proofs.Common.{inr}
+use Rattle.std.specs.Prelude.{MatchResult}
 use Rattle.adjust_kernel.specs.Residuals.{Choice}
 use Rattle.adjust_kernel.specs.Stations.{StationValue}
 use Rattle.adjust_kernel.specs.declared.bounds.TheConstants.{LARGEST_RESIDUAL_LIMIT}
 use Rattle.stated_directions.specs.Told.{IsTold}
 use Rattle.byte_ends.specs.Input.{Input, Ended, BrokeOff, RanPast, input_within}
-use Rattle.byte_ends.specs.Source.{Told}
+use Rattle.byte_ends.specs.Came.{IsReadOut}
+use Rattle.byte_ends.specs.Source.{Told, ReaderChange}
 use Rattle.direction_table.specs.Tables.{IsTableText}
 use Rattle.direction_table.specs.declared.reading.TheConstants.{LONGEST_TABLE}
 use Rattle.gsi_file.specs.FileAnswers.{FileAnswers}
@@ -14,14 +16,16 @@ use Rattle.sheet_apart.specs.Apart.{AreBroughtWithin, stated_by}
 use Rattle.station_book.specs.Limits.{FaceLimits}
 use Rattle.station_book.specs.Stations.{SurveyedStation}
 use Rattle.stated_directions.specs.LeastOf.{IsLeastOf}
-use Rattle.station_check.specs.Answerable.{IsOfFile}
+use Rattle.station_check.specs.Answerable.{IsOfFile, LeavesFile}
+use Rattle.station_check.proofs.Leaving.{left_by}
 use Rattle.station_check.specs.StationOfFile.{IsStationOfFile}
 use Rattle.station_check.specs.Surveys.{Surveys}
 use Rattle.station_check.specs.declared.fault.Fault.{Fault}
 use Rattle.station_check.specs.declared.fault.Fault.TheVariants as file
 use Rattle.station_compare.specs.Agreeing.{Agrees}
-use Rattle.station_compare.specs.Answers.{Compares}
+use Rattle.station_compare.specs.Answers.{Compares, IsUnreadAtFileFault, LeavesFieldFile, LeavesTable}
 use Rattle.station_compare.specs.Comparing.{ByInput, IsAgreement, IsComparedWith}
+use Rattle.station_compare.specs.Directions.{HasNoTable, IsDirectionsText}
 use Rattle.station_compare.specs.Faults.{of_file}
 use Rattle.station_compare.specs.declared.agreement.Agreement.{Agreement}
 use Rattle.station_compare.specs.declared.fault.CompareFault.{CompareFault}
@@ -126,3 +130,88 @@ compared station bytes targets directions stated apart same_targets same states 
           → ⊥) same no_nearer;
       told = subst (λ s. IsTold station LARGEST_RESIDUAL_LIMIT (stated_by s) apart) same told;
     }
+
+-- What comes of the table is no fault of the field file, which has ended before.
+pub asked : (its : SurveyedStation) (within : ℕ) (r : Result Agreement CompareFault)
+    (input : Input) (table : ReaderChange) → ByInput its.station within input r
+    → IsUnreadAtFileFault r table
+asked its within (Ok a) input table h = tt
+asked its within (Err (File fault)) input table h =
+    absurd (no_file_fault its within fault input h)
+asked its within (Err TableRead) input table h = tt
+asked its within (Err (Table fault)) input table h = tt
+asked its within (Err (Adjust fault)) input table h = tt
+asked its within (Err (Apart apart)) input table h = tt
+asked its within (Err Write) input table h = tt
+asked its within (Err Memory) input table h = tt
+
+pub left_by_table : (its : SurveyedStation) (within : ℕ) (r : Result Agreement CompareFault)
+    (input : Input) (gsi : ReaderChange) → ByInput its.station within input r → IsReadOut gsi
+    → LeavesFieldFile r gsi
+left_by_table its within (Ok a) input gsi h out = out
+left_by_table its within (Err (File fault)) input gsi h out =
+    absurd (no_file_fault its within fault input h)
+left_by_table its within (Err TableRead) input gsi h out = out
+left_by_table its within (Err (Table fault)) input gsi h out = out
+left_by_table its within (Err (Adjust fault)) input gsi h out = out
+left_by_table its within (Err (Apart apart)) input gsi h out = out
+left_by_table its within (Err Write) input gsi h out = out
+left_by_table its within (Err Memory) input gsi h out = out.unfailed
+
+-- A fault of the field file leaves the table's reader as it was, and its own as it says.
+pub unasked : (A : Type 0) (fault : Fault) (table : ReaderChange) → table.is_unasked
+    → IsUnreadAtFileFault {A = A} (Err (of_file fault)) table
+unasked A (file.Gsi fault) table e = e
+unasked A (file.Book fault) table e = e
+unasked A file.SheetRead table e = e
+unasked A (file.Sheet fault) table e = e
+unasked A file.NoStation table e = e
+unasked A (file.Means fault) table e = e
+unasked A (file.Kernel fault) table e = e
+unasked A file.Write table e = e
+unasked A file.Memory table e = tt
+
+pub left_alone : (A : Type 0) (fault : Fault) (table : ReaderChange)
+    → table.failed' ≡ table.failed → LeavesTable {A = A} (Err (of_file fault)) table
+left_alone A (file.Gsi fault) table e = e
+left_alone A (file.Book fault) table e = e
+left_alone A file.SheetRead table e = e
+left_alone A (file.Sheet fault) table e = e
+left_alone A file.NoStation table e = e
+left_alone A (file.Means fault) table e = e
+left_alone A (file.Kernel fault) table e = e
+left_alone A file.Write table e = e
+left_alone A file.Memory table e = e
+
+left_with : (A B : Type 0) (fault : Fault) (gsi : ReaderChange)
+    → LeavesFile {A = A} (Err fault) gsi → LeavesFieldFile {A = B} (Err (of_file fault)) gsi
+left_with A B (file.Gsi fault) gsi h =
+    left_by {A} B (Err (file.Gsi fault)) (file.Gsi fault) gsi refl h
+left_with A B (file.Book fault) gsi h = h
+left_with A B file.SheetRead gsi h = h
+left_with A B (file.Sheet fault) gsi h = h
+left_with A B file.NoStation gsi h = h
+left_with A B (file.Means fault) gsi h = h
+left_with A B (file.Kernel fault) gsi h = h
+left_with A B file.Write gsi h = h
+left_with A B file.Memory gsi h = h
+
+pub left_by_file : {A : Type 0} (B : Type 0) (r : Result A Fault) (fault : Fault)
+    (gsi : ReaderChange) → r ≡ Err fault → LeavesFile r gsi
+    → LeavesFieldFile {A = B} (Err (of_file fault)) gsi
+left_by_file {A} B r fault gsi e h =
+    left_with A B fault gsi (subst (λ (x : Result A Fault). LeavesFile x gsi) e h)
+
+-- So does a station that has no table.
+pub left_by_no_table : {T : Type 0} (items : T → List ℕ) (its : SurveyedStation) (count : ℕ)
+    (r : Result T CompareFault) (gsi : ReaderChange)
+    → MatchResult r (λ t. IsDirectionsText its.station count (items t)) (HasNoTable its.station)
+    → IsReadOut gsi → LeavesFieldFile r gsi
+left_by_no_table items its count (Ok text) gsi h out = out
+left_by_no_table items its count (Err (File fault)) gsi h out = absurd h
+left_by_no_table items its count (Err TableRead) gsi h out = absurd h
+left_by_no_table items its count (Err (Table fault)) gsi h out = absurd h
+left_by_no_table items its count (Err (Adjust fault)) gsi h out = out
+left_by_no_table items its count (Err (Apart apart)) gsi h out = absurd h
+left_by_no_table items its count (Err Write) gsi h out = absurd h
+left_by_no_table items its count (Err Memory) gsi h out = out.unfailed

@@ -5,9 +5,14 @@ use Rattle.std.specs.Prelude.{MatchResult}
 use Rattle.gsi_file.specs.FileAnswers.{FileAnswers}
 use Rattle.station_book.specs.Limits.{FaceLimits}
 use Rattle.station_book.specs.Stations.{SurveyedStation}
+use Rattle.station_check.specs.Answerable.{IsOfFile}
 use Rattle.station_check.specs.StationOfFile.{IsStationOfFile}
+use Rattle.station_check.specs.Surveys.{Surveys}
+use Rattle.station_check.specs.declared.fault.Fault.{Fault}
+use Rattle.station_check.specs.declared.fault.Fault.TheVariants as file
 use Rattle.station_compare.specs.Directions.{HasNoDirections, HasNoTable, IsDirectionsText}
 use Rattle.station_compare.specs.Directions.{StatesDirections}
+use Rattle.station_compare.specs.Faults.{of_file}
 use Rattle.station_compare.specs.declared.fault.CompareFault.{CompareFault}
 use Rattle.station_compare.specs.declared.fault.CompareFault.TheVariants.{File, TableRead, Table}
 use Rattle.station_compare.specs.declared.fault.CompareFault.TheVariants.{Adjust, Apart, Write}
@@ -38,3 +43,17 @@ tells_by_station items limits lines name count its (Err (Adjust fault)) station 
 tells_by_station items limits lines name count its (Err (Apart apart)) station h = absurd h
 tells_by_station items limits lines name count its (Err Write) station h = absurd h
 tells_by_station items limits lines name count its (Err Memory) station h = tt
+
+-- What is answered of a fault of the field file.
+pub none_by_file : (limits : FaceLimits) (lines : FileAnswers) (name : List ℕ) (fault : Fault)
+    → IsOfFile fault → Surveys limits lines (Err fault)
+    → HasNoDirections limits lines name (of_file fault)
+none_by_file limits lines name (file.Gsi fault) o h = h
+none_by_file limits lines name (file.Book fault) o h = h
+none_by_file limits lines name file.SheetRead o h = absurd o
+none_by_file limits lines name (file.Sheet fault) o h = absurd o
+none_by_file limits lines name file.NoStation o h = absurd o
+none_by_file limits lines name (file.Means fault) o h = absurd o
+none_by_file limits lines name (file.Kernel fault) o h = absurd o
+none_by_file limits lines name file.Write o h = absurd o
+none_by_file limits lines name file.Memory o h = tt

@@ -1,14 +1,14 @@
--- What is answered of a field file and of a table of directions, and how the table's reader is
--- left.
-use Rattle.std.specs.Prelude.{◌≡◌, ℕ, Bool, true, List, Option, Some, Result, Ok, Err, ⊤}
-use Rattle.byte_ends.specs.Came.{IsReadOut}
+-- What is answered of a field file and of a table of directions, and how their readers are left.
+use Rattle.std.specs.Prelude.{ℕ, List, Result, Ok, Err, ⊤}
+use Rattle.byte_ends.specs.Came.{IsReadOut, HasBroken, NoReadFailed}
 use Rattle.byte_ends.specs.Input.{input_within}
-use Rattle.byte_ends.specs.Source.{Told, broken_off}
+use Rattle.byte_ends.specs.Source.{Told, ReaderChange, MayGive, HasGiven, given_then}
 use Rattle.direction_table.specs.declared.fault.TableFault.TheVariants as table
 use Rattle.direction_table.specs.declared.reading.TheConstants.{LONGEST_TABLE}
-use Rattle.gsi_file.specs.FileAnswers.{FileAnswers}
+use Rattle.gsi_file.specs.FileAnswers.{FileAnswers, file_answers}
 use Rattle.station_book.specs.Limits.{FaceLimits}
 use Rattle.station_book.specs.Stations.{SurveyedStation}
+use Rattle.station_check.specs.Answerable.{LeavesFile}
 use Rattle.station_check.specs.Means.{HasNoStation}
 use Rattle.station_check.specs.Outcomes.{FileComesTo}
 use Rattle.station_check.specs.StationOfFile.{IsStationOfFile}
@@ -40,20 +40,45 @@ Compares limits file stated name within (Err fault) =
     IsRefusedByTable limits file stated name within fault
 
 -- The table's reader is not asked where the field file has a fault, or no station of the name.
-abbrev pub IsUnreadAtFileFault : {Q : Type 0} → Result Agreement CompareFault → Q → Q → Type 0
-IsUnreadAtFileFault (Err (File fault)) old new = new ≡ old
-IsUnreadAtFileFault result old new = ⊤
+abbrev pub IsUnreadAtFileFault : {A : Type 0} → Result A CompareFault → ReaderChange → Type 0
+IsUnreadAtFileFault (Err (File fault)) table = table.is_unasked
+IsUnreadAtFileFault result table = ⊤
 
 -- How an answer leaves the table's reader: at `TableRead` a read of it failed, and it has broken
 -- off. At a fault of its bytes, but that there are too many, and at each answer that comes after,
 -- it has ended; and no read failed at any other.
-abbrev pub LeavesTable :
-    {A : Type 0} → Result A CompareFault → Option Told → Bool → Bool → Type 0
-LeavesTable (Ok a) told failed failed' = IsReadOut told failed failed'
-LeavesTable (Err TableRead) told failed failed' = (told ≡ Some broken_off) × (failed' ≡ true)
-LeavesTable (Err (Table (table.Row number kind))) told failed failed' =
-    IsReadOut told failed failed'
-LeavesTable (Err (Table (table.Missing target))) told failed failed' = IsReadOut told failed failed'
-LeavesTable (Err (Adjust fault)) told failed failed' = IsReadOut told failed failed'
-LeavesTable (Err (Apart apart)) told failed failed' = IsReadOut told failed failed'
-LeavesTable (Err fault) told failed failed' = failed' ≡ failed
+abbrev pub LeavesTable : {A : Type 0} → Result A CompareFault → ReaderChange → Type 0
+LeavesTable (Ok a) reader = IsReadOut reader
+LeavesTable (Err TableRead) reader = HasBroken reader
+LeavesTable (Err (Table (table.Row number kind))) reader = IsReadOut reader
+LeavesTable (Err (Table (table.Missing target))) reader = IsReadOut reader
+LeavesTable (Err (Adjust fault)) reader = IsReadOut reader
+LeavesTable (Err (Apart apart)) reader = IsReadOut reader
+LeavesTable (Err fault) reader = NoReadFailed reader
+
+-- How an answer leaves the field file's reader: as its own fault says; where memory ran out no read
+-- failed; and else it has ended.
+abbrev pub LeavesFieldFile : {A : Type 0} → Result A CompareFault → ReaderChange → Type 0
+LeavesFieldFile {A} (Err (File fault)) reader = LeavesFile {A = A} (Err fault) reader
+LeavesFieldFile (Err Memory) reader = NoReadFailed reader
+LeavesFieldFile r reader = IsReadOut reader
+
+-- The answer on what two readers gave, whatever they are, and how both are left.
+pub record IsComparison (limits : FaceLimits) (within : ℕ) (gsi table : ReaderChange)
+    (name : List ℕ) (r : Result Agreement CompareFault) : Type 0 where
+  -- The field file's reader gave these bytes, and the table's reader these.
+  pub gsi_bytes : List ℕ
+  pub gsi_reads : HasGiven gsi gsi_bytes
+  pub table_bytes : List ℕ
+  pub table_reads : HasGiven table table_bytes
+  -- Of these bytes, and whatever may be left in the readers after them, this is the answer.
+  pub compares : (gsi_left table_left : Told) → MayGive gsi.told' gsi_left
+      → MayGive table.told' table_left
+      → Compares limits (file_answers (given_then gsi_bytes gsi_left))
+      (given_then table_bytes table_left) name within r
+  -- The table's reader is not asked where the field file has a fault or no such station.
+  pub unread : IsUnreadAtFileFault r table
+  -- A failed read is never passed over; and where a table agrees both readers have ended, so that
+  -- nothing is left of them and the bytes that they gave are all.
+  pub gsi_reader : LeavesFieldFile r gsi
+  pub table_reader : LeavesTable r table

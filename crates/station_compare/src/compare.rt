@@ -1,11 +1,11 @@
 //! A field file and a table of directions, compared.
 ghost use Rattle.std.specs.Prelude.{◌≡◌};
 ghost use Rattle.adjust_kernel.specs.declared.bounds.TheConstants.{LARGEST_RESIDUAL_LIMIT};
-ghost use Rattle.station_check.specs.Came.{SomeBytesCame};
+ghost use Rattle.byte_ends.specs.Came.{BytesCame};
 ghost use Rattle.byte_ends.specs.Input.{input_within};
+ghost use Rattle.byte_ends.specs.Source.{reader_change, UntilDropped};
 ghost use Rattle.direction_table.specs.declared.reading.TheConstants.{LONGEST_TABLE};
-ghost use Rattle.station_check.specs.Came.{SomeLinesCame};
-ghost use Rattle.station_compare.specs.Answers.{Compares, IsUnreadAtFileFault, LeavesTable};
+ghost use Rattle.station_compare.specs.Answers.{IsComparison, LeavesTable};
 ghost use Rattle.station_compare.specs.Comparing.{ByInput, ByTable};
 
 use crate::agreement::Agreement;
@@ -39,24 +39,38 @@ pub fn compare_bytes<R: Source, Q: Source>(
     limits: Limits,
     within: u32,
 ) -> Result<Agreement, CompareFault>
-    // Of the lines that came of the field file, and of the bytes that came of the table's reader:
-    // whatever the two readers are.
-    ensures compares { SomeLinesCame (R.told gsi) (λ file.
-        SomeBytesCame (Q.told table.old) (λ stated.
-        Compares limits file stated name.now within result)) }
-    // The table's reader is not asked where the field file has a fault or no such station; a failed
-    // read of it is never passed over; and a table is compared only where its reader has ended.
-    ensures unread { IsUnreadAtFileFault result table.old table.new }
-    ensures reader { LeavesTable result (Q.told table.new)
-        (Q.failed table.old) (Q.failed table.new) }
+    // All of it is said of the very bytes that the two readers gave, whatever they are.
+    ensures { UntilDropped R.told R.failed R.gave gsi (λ gsi. IsComparison limits within gsi
+        (reader_change Q.told Q.failed Q.gave table.old table.new) name.now result) }
+{
+    let (answer, _gsi) = compare_sources(alloc, gsi, table, name, limits, within);
+    answer
+}
+
+/// Compares as [`compare_bytes`] does, and gives the field file's reader back.
+pub fn compare_sources<R: Source, Q: Source>(
+    alloc: Global,
+    gsi: R,
+    table: &mut Q,
+    name: &[u8],
+    limits: Limits,
+    within: u32,
+) -> (Result<Agreement, CompareFault>, R)
+    ensures { IsComparison limits within (reader_change R.told R.failed R.gave gsi result.1)
+        (reader_change Q.told Q.failed Q.gave table.old table.new) name.now result.0 }
 {
     // The promise rests on laws of limits that were made.
     limits.recall();
-    let stations = stations_of_file(alloc, gsi, limits)?;
-    let Some(surveyed) = stations.get(name) else {
-        return Err(CompareFault::File(Fault::NoStation));
+    let (surveyed, gsi) = stations_of_file(alloc, gsi, limits);
+    let stations = match surveyed {
+        Ok(stations) => stations,
+        Err(fault) => return (Err(CompareFault::from(fault)), gsi),
     };
-    compare_station(alloc, surveyed.station(), table, within)
+    let Some(surveyed) = stations.get(name) else {
+        return (Err(CompareFault::File(Fault::NoStation)), gsi);
+    };
+    let answer = compare_station(alloc, surveyed.station(), table, within);
+    (answer, gsi)
 }
 
 /// The same of what comes of the table's reader, for the station.
@@ -66,10 +80,10 @@ fn compare_station<Q: Source>(
     table: &mut Q,
     within: u32,
 ) -> Result<Agreement, CompareFault>
-    ensures compares { SomeBytesCame (Q.told table.old) (λ stated.
-        ByInput station.now within (input_within LONGEST_TABLE stated) result) }
-    ensures reader { LeavesTable result (Q.told table.new)
-        (Q.failed table.old) (Q.failed table.new) }
+    ensures compares { BytesCame (reader_change Q.told Q.failed Q.gave table.old table.new)
+        (λ stated. ByInput station.now within (input_within LONGEST_TABLE stated) result) }
+    ensures reader { LeavesTable result
+        (reader_change Q.told Q.failed Q.gave table.old table.new) }
 {
     let bytes = read_whole(alloc, table, LONGEST_TABLE)?;
     compare_table(alloc, station, &bytes, within)

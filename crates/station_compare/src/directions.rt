@@ -2,10 +2,11 @@
 ghost use Rattle.std.specs.Prelude.{◌≡◌, ◌≤◌, ◌%◌, length, map, MatchResult, IfOk};
 ghost use Rattle.sheet_apart.specs.declared.units.TheConstants.{CIRCLE};
 ghost use Rattle.direction_table.specs.Texts.{step_of};
-ghost use Rattle.station_check.specs.Came.{SomeLinesCame};
+ghost use Rattle.byte_ends.specs.Sink.{writer_change};
+ghost use Rattle.byte_ends.specs.Source.{UntilDropped};
 ghost use Rattle.station_compare.specs.Directions.{StatesDirections, HasNoDirections};
 ghost use Rattle.station_compare.specs.Directions.{IsDirectionsText, HasNoTable, numbers_of};
-ghost use Rattle.station_compare.specs.Runs.{IsDirectionsRun};
+ghost use Rattle.station_compare.specs.Runs.{IsDirectionsRun, ReadsFieldFile};
 
 use crate::compare::largest_limit;
 use crate::fault::CompareFault;
@@ -35,13 +36,15 @@ pub fn directions_text<R: Source>(
     limits: Limits,
     decimals: Decimals,
 ) -> Result<Vec<u8>, CompareFault>
-    ensures { SomeLinesCame (R.told gsi) (λ file. MatchResult result
+    ensures { UntilDropped R.told R.failed R.gave gsi (λ gsi. ReadsFieldFile gsi result
+        (λ file. MatchResult result
         (λ text. StatesDirections limits file name.now decimals text.items)
-        (HasNoDirections limits file name.now)) }
+        (HasNoDirections limits file name.now))) }
 {
     // The promise rests on laws of limits that were made.
     limits.recall();
-    let stations = stations_of_file(alloc, gsi, limits)?;
+    let (surveyed, _gsi) = stations_of_file(alloc, gsi, limits);
+    let stations = surveyed?;
     let Some(surveyed) = stations.get(name) else {
         return Err(CompareFault::File(Fault::NoStation));
     };
@@ -62,8 +65,8 @@ pub fn write_directions<R: Source, W: Sink>(
     decimals: Decimals,
     writer: &mut W,
 ) -> Result<(), CompareFault>
-    ensures { IsDirectionsRun limits (R.told gsi) name.now decimals
-        W.failed W.holds W.handed_on writer.old writer.new result }
+    ensures { UntilDropped R.told R.failed R.gave gsi (λ gsi. IsDirectionsRun limits gsi name.now
+        decimals result (writer_change W.failed W.holds W.handed_on writer.old writer.new)) }
 {
     let text = directions_text(alloc, gsi, name, limits, decimals)?;
     write_whole(writer, &text)?;

@@ -16,7 +16,7 @@ mod refused;
 mod runs;
 
 pub use agreement::{Agreement, agreement_line};
-pub use compare::compare_bytes;
+pub use compare::{compare_bytes, compare_sources};
 pub use directions::{directions_text, write_directions};
 pub use fault::CompareFault;
 pub use refused::refusal_line;

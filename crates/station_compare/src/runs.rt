@@ -2,10 +2,13 @@
 //! and answers the exit status.
 
 ghost use Rattle.std.specs.Prelude.{◌≡◌, ⊤};
-ghost use Rattle.station_check.specs.RunEndings.{EndsWith, WritesOrFails};
+ghost use Rattle.byte_ends.specs.Sink.{writer_change};
+ghost use Rattle.byte_ends.specs.Source.{reader_change, UntilDropped};
+ghost use Rattle.station_check.specs.RunEndings.{Run, PrintsAnswer, WritesOrFails};
 ghost use Rattle.station_compare.specs.FaultTexts.{refusal_line};
 ghost use Rattle.station_compare.specs.FaultTexts as spec;
-ghost use Rattle.station_compare.specs.Runs.{IsCompareRun, IsDirectionsRun, PrintsAnswer};
+ghost use Rattle.station_compare.specs.Runs.{IsCompareRun, IsDirectionsRun};
+ghost use Rattle.station_compare.specs.declared.fault.CompareFault.TheVariants.{Write};
 
 use crate::agreement::{Agreement, agreement_line};
 use crate::compare::compare_bytes;
@@ -32,10 +35,11 @@ pub fn run_compare<R: Source, Q: Source, W: Sink, E: Sink>(
     out: &mut W,
     err: &mut E,
 ) -> u8
-    ensures { EndsWith {A = ⊤} refusal_line (IsCompareRun limits within (R.told gsi)
-        Q.told Q.failed table.old table.new name.now
-        W.failed W.holds W.handed_on out.old out.new)
-        result E.failed E.holds err.old err.new }
+    ensures { UntilDropped R.told R.failed R.gave gsi (λ gsi. Run {A = ⊤} refusal_line
+        (IsCompareRun limits within gsi
+        (reader_change Q.told Q.failed Q.gave table.old table.new) name.now)
+        result (writer_change W.failed W.holds W.handed_on out.old out.new)
+        (writer_change E.failed E.holds E.handed_on err.old err.new)) }
 {
     let verdict = compare_bytes(alloc, gsi, table, name, limits, within);
     match print_verdict(verdict, out) {
@@ -56,9 +60,10 @@ pub fn run_directions<R: Source, W: Sink, E: Sink>(
     out: &mut W,
     err: &mut E,
 ) -> u8
-    ensures { EndsWith {A = ⊤} refusal_line (IsDirectionsRun limits (R.told gsi) name.now
-        decimals W.failed W.holds W.handed_on out.old out.new)
-        result E.failed E.holds err.old err.new }
+    ensures { UntilDropped R.told R.failed R.gave gsi (λ gsi. Run {A = ⊤} refusal_line
+        (IsDirectionsRun limits gsi name.now decimals)
+        result (writer_change W.failed W.holds W.handed_on out.old out.new)
+        (writer_change E.failed E.holds E.handed_on err.old err.new)) }
 {
     match write_directions(alloc, gsi, name, limits, decimals, out) {
         Ok(()) => DONE,
@@ -71,8 +76,8 @@ fn print_verdict<W: Sink>(
     verdict: Result<Agreement, CompareFault>,
     out: &mut W,
 ) -> Result<(), CompareFault>
-    ensures { PrintsAnswer spec.agreement_line verdict
-        W.failed W.holds W.handed_on out.old out.new result }
+    ensures { PrintsAnswer spec.agreement_line Write verdict result
+        (writer_change W.failed W.holds W.handed_on out.old out.new) }
 {
     let agreement = verdict?;
     write_whole(out, agreement_line(agreement).as_slice())?;
@@ -82,7 +87,8 @@ fn print_verdict<W: Sink>(
 /// Writes the line of a refusal, and answers its status.
 fn refuse<E: Sink>(fault: CompareFault, err: &mut E) -> u8
     ensures status { result ≡ 1 }
-    ensures line { WritesOrFails (refusal_line fault) E.failed E.holds err.old err.new }
+    ensures line { WritesOrFails (refusal_line fault)
+        (writer_change E.failed E.holds E.handed_on err.old err.new) }
 {
     // Where `err` fails, the line is lost.
     let _ = err.write_all(refusal_line(fault).as_slice());

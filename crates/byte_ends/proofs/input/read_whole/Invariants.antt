@@ -1,10 +1,11 @@
 use Rattle.std.proofs.Common.{◌≡◌, ◌+◌, ◌-◌, vec_len}
-use Rattle.byte_ends.specs.Source.{HasGiven}
+use Rattle.byte_ends.specs.Source.{HasGiven, reader_change}
 use Rattle.byte_ends.proofs.input.read_whole.Given as goal
 
 abbrev pub invariant-reading : goal.invariant-reading
 invariant-reading g l = record {
-  given : HasGiven g.S.Source.told g.S.Source.gave l.fn.source l.source l.bytes.items;
+  given : HasGiven (reader_change g.S.Source.told g.S.Source.failed g.S.Source.gave l.fn.source
+      l.source) l.bytes.items;
   unfailed : g.S.Source.failed l.source ≡ g.S.Source.failed l.fn.source;
 }
 

@@ -16,7 +16,7 @@ pub returns-clause-through : goal.returns-clause-through
 returns-clause-through g c =
     let s = c.args.buffer.now in
     let held = c.args.held in
-    through_so _ _ _ _ _ _ (reads_as g.R.Source.told g.R.Source.gave c.args.from.now
+    through_so _ _ _ (reads_as g.R.Source.told g.R.Source.failed g.R.Source.gave c.args.from.now
     c.read.new.self c.read.new.buf c.read.result c.read.ensures.reads c.read.ensures.over
     c.read.ensures.adds)
     (λ first last reads. reads_behind (Some first) (Some last) (take held s) c.read.new.buf _ held

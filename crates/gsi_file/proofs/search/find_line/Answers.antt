@@ -34,7 +34,7 @@ returns-then-not-is_blank-clause-finds g c =
 
 pub returns-then-not-is_blank-clause-through : goal.returns-then-not-is_blank-clause-through
 returns-then-not-is_blank-clause-through g c =
-    through_so _ _ _ _ _ _ c.search.invariant.through
+    through_so _ _ _ c.search.invariant.through
     (λ first after same.
     let told = g.R.Source.told in
     let line = c.line_end-end.result.place in
@@ -88,7 +88,7 @@ search-preserved-then-searched-seen g c =
             (ap not (sym (c.is_blank.ensures ∙ ap is_blank c.front.ensures)
             ∙ c.if-not-is_blank.false)) s);
       };
-      through = through_so _ _ _ _ _ _ c.search.invariant.through
+      through = through_so _ _ _ c.search.invariant.through
           (λ first after same.
           let t : Searching (Some first) (Some after) c.args.room c.args.buffer.now c.search.left line
           h = record {
@@ -120,7 +120,7 @@ returns-then-searched-gt-LONGEST_LINE-clause-finds g c = (
 pub returns-then-searched-gt-LONGEST_LINE-clause-through :
     goal.returns-then-searched-gt-LONGEST_LINE-clause-through
 returns-then-searched-gt-LONGEST_LINE-clause-through g c =
-    through_so _ _ _ _ _ _ c.search.invariant.through
+    through_so _ _ _ c.search.invariant.through
     (λ first after same.
     let before = c.search.invariant.searching in
     let s : Searching (Some first) (Some after) c.args.room c.args.buffer.now c.search.left
@@ -159,7 +159,7 @@ returns-then-searched-len-clause-finds g c =
 
 pub returns-then-searched-len-clause-through : goal.returns-then-searched-len-clause-through
 returns-then-searched-len-clause-through g c =
-    through_so _ _ _ _ _ _ c.search.invariant.through
+    through_so _ _ _ c.search.invariant.through
     (λ first after same.
     let told = g.R.Source.told in
     let line = c.line_end-end.result.place in
@@ -203,7 +203,7 @@ returns-then-not-is_blank-2-clause-finds g c =
 
 pub returns-then-not-is_blank-2-clause-through : goal.returns-then-not-is_blank-2-clause-through
 returns-then-not-is_blank-2-clause-through g c =
-    through_then _ _ _ _ _ _ _ _ c.search.invariant.through c.in-Ok-eq0.ensures.through
+    through_then g.R.Source.told g.R.Source.failed g.R.Source.gave _ _ _ _ _ _ c.search.invariant.through c.in-Ok-eq0.ensures.through
     (λ first middle after same filled.
     let told = g.R.Source.told in
     let line = c.line_end-end.result.place in
@@ -246,7 +246,7 @@ returns-in-Ok-eq0-clause-finds g c =
 
 pub returns-in-Ok-eq0-clause-through : goal.returns-in-Ok-eq0-clause-through
 returns-in-Ok-eq0-clause-through g c =
-    through_then _ _ _ _ _ _ _ _ c.search.invariant.through c.in-Ok-eq0.ensures.through
+    through_then g.R.Source.told g.R.Source.failed g.R.Source.gave _ _ _ _ _ _ c.search.invariant.through c.in-Ok-eq0.ensures.through
     (λ first middle after same filled.
     let told = g.R.Source.told in
     let line = c.line_end-end.result.place in
@@ -287,7 +287,7 @@ returns-in-Err-clause-finds g c =
 
 pub returns-in-Err-clause-through : goal.returns-in-Err-clause-through
 returns-in-Err-clause-through g c =
-    through_then _ _ _ _ _ _ _ _ c.search.invariant.through c.in-Err.ensures.through
+    through_then g.R.Source.told g.R.Source.failed g.R.Source.gave _ _ _ _ _ _ c.search.invariant.through c.in-Err.ensures.through
     (λ first middle after same filled.
     let told = g.R.Source.told in
     let line = c.line_end-end.result.place in
@@ -314,7 +314,7 @@ search-preserved g c = record {
   searching = goes_on _ _ _ _ _ _ _ _ _ _ c.in-Ok.field-0 (omega arith) (omega arith) (omega arith)
       (rw c.bytes.ensures at c.line_end-end.ensures.plain) c.search.invariant.searching
       c.in-Ok.ensures.fills;
-  through = through_then _ _ _ _ _ _ _ _ c.search.invariant.through c.in-Ok.ensures.through
+  through = through_then g.R.Source.told g.R.Source.failed g.R.Source.gave _ _ _ _ _ _ c.search.invariant.through c.in-Ok.ensures.through
       (λ first middle after same filled.
       still_same _ _ _ _ _ c.in-Ok.field-0 first middle after same filled);
   unfailed = search rules;

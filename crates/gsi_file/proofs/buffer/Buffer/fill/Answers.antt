@@ -19,7 +19,7 @@ returns-clause-through g c =
     let span = c.make_room.ensures.span in
     let hand = c.make_room.ensures.same ∙ ap (λ xs. slice_range xs w.start w.end)
     c.deref_mut.ensures.value ∙ c.self.view_is in
-    through_so _ _ _ _ _ _ c.in_ok-n.ensures.through
+    through_so _ _ _ c.in_ok-n.ensures.through
     (λ first last reads. grows_behind (Some first) (Some last) c.make_room.new.room
     c.read_behind.new.buffer c.args.self.now c.make_room.result.0 c.make_room.result.1
     c.in_ok-n.n span.0 (omega (arith, span.1)) hand reads)

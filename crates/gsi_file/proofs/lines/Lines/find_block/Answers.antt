@@ -8,7 +8,7 @@ use Rattle.gsi_file.proofs.lines.Lines.find_block.Goals as goal
 
 pub returns-in-Err-clause-through : goal.returns-in-Err-clause-through
 returns-in-Err-clause-through g c =
-    through_so _ _ _ _ _ _ c.in_ok-found.ensures.through
+    through_so _ _ _ c.in_ok-found.ensures.through
     (λ first after finds.
     let self = c.args.self.now in
     let found : HasFound (Some first) (Some after) self.room (unused self.window)

@@ -1,0 +1,10 @@
+//! The digest of the bytes that a reader gave.
+//!
+//! A [`Digesting`] is a source over a source. It gives what that gives, and feeds it to SHA-256, so
+//! that its first history is kept as a digest: whoever proves of any reader what it did with the
+//! bytes that came has proved it of the bytes that have this digest.
+#![tactic(auto)]
+
+mod digesting;
+
+pub use digesting::Digesting;
