@@ -5,6 +5,8 @@
 //! bytes that came has proved it of the bytes that have this digest.
 #![tactic(auto)]
 
+mod digest_line;
 mod digesting;
 
+pub use digest_line::write_digest_line;
 pub use digesting::Digesting;

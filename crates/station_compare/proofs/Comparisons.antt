@@ -1,6 +1,6 @@
 -- From the parts of a comparison to what it answers.
-use Rattle.std.proofs.Common.{◌≡◌, ◌-◌, ◌≤◌, ℕ, ℤ, List, length, Result, Ok, Err, refl, subst, inl}
-use Rattle.std.proofs.Common.{inr}
+use Rattle.std.proofs.Common.{◌≡◌, ◌-◌, ◌≤◌, ℕ, ℤ, List, length, Result, Ok, Err, refl, sym, subst, inl}
+use Rattle.std.proofs.Common.{inr, Some}
 use Rattle.std.specs.Prelude.{MatchResult}
 use Rattle.adjust_kernel.specs.Residuals.{Choice}
 use Rattle.adjust_kernel.specs.Stations.{StationValue}
@@ -8,10 +8,11 @@ use Rattle.adjust_kernel.specs.declared.bounds.TheConstants.{LARGEST_RESIDUAL_LI
 use Rattle.stated_directions.specs.Told.{IsTold}
 use Rattle.byte_ends.specs.Input.{Input, Ended, BrokeOff, RanPast, input_within}
 use Rattle.byte_ends.specs.Came.{IsReadOut}
-use Rattle.byte_ends.specs.Source.{Told, ReaderChange}
+use Rattle.byte_ends.proofs.Coming.{given_as_told, some_left}
+use Rattle.byte_ends.specs.Source.{Told, ReaderChange, given_then}
 use Rattle.direction_table.specs.Tables.{IsTableText}
 use Rattle.direction_table.specs.declared.reading.TheConstants.{LONGEST_TABLE}
-use Rattle.gsi_file.specs.FileAnswers.{FileAnswers}
+use Rattle.gsi_file.specs.FileAnswers.{FileAnswers, file_answers}
 use Rattle.sheet_apart.specs.Apart.{AreBroughtWithin, stated_by}
 use Rattle.station_book.specs.Limits.{FaceLimits}
 use Rattle.station_book.specs.Stations.{SurveyedStation}
@@ -23,7 +24,7 @@ use Rattle.station_check.specs.Surveys.{Surveys}
 use Rattle.station_check.specs.declared.fault.Fault.{Fault}
 use Rattle.station_check.specs.declared.fault.Fault.TheVariants as file
 use Rattle.station_compare.specs.Agreeing.{Agrees}
-use Rattle.station_compare.specs.Answers.{Compares, IsUnreadAtFileFault, LeavesFieldFile, LeavesTable}
+use Rattle.station_compare.specs.Answers.{Compares, IsComparison, IsUnreadAtFileFault, LeavesFieldFile, LeavesTable}
 use Rattle.station_compare.specs.Comparing.{ByInput, IsAgreement, IsComparedWith}
 use Rattle.station_compare.specs.Directions.{HasNoTable, IsDirectionsText}
 use Rattle.station_compare.specs.Faults.{of_file}
@@ -186,7 +187,7 @@ left_alone A file.Memory table e = e
 left_with : (A B : Type 0) (fault : Fault) (gsi : ReaderChange)
     → LeavesFile {A = A} (Err fault) gsi → LeavesFieldFile {A = B} (Err (of_file fault)) gsi
 left_with A B (file.Gsi fault) gsi h =
-    left_by {A} B (Err (file.Gsi fault)) (file.Gsi fault) gsi refl h
+    left_by {A = A} B (Err (file.Gsi fault)) (file.Gsi fault) gsi refl h
 left_with A B (file.Book fault) gsi h = h
 left_with A B file.SheetRead gsi h = h
 left_with A B (file.Sheet fault) gsi h = h
@@ -196,11 +197,12 @@ left_with A B (file.Kernel fault) gsi h = h
 left_with A B file.Write gsi h = h
 left_with A B file.Memory gsi h = h
 
-pub left_by_file : {A : Type 0} (B : Type 0) (r : Result A Fault) (fault : Fault)
-    (gsi : ReaderChange) → r ≡ Err fault → LeavesFile r gsi
-    → LeavesFieldFile {A = B} (Err (of_file fault)) gsi
-left_by_file {A} B r fault gsi e h =
-    left_with A B fault gsi (subst (λ (x : Result A Fault). LeavesFile x gsi) e h)
+pub left_by_file : {A B : Type 0} (s : Result A Fault) (fault : Fault) (r : Result B CompareFault)
+    (gsi : ReaderChange) → s ≡ Err fault → r ≡ Err (of_file fault) → LeavesFile s gsi
+    → LeavesFieldFile r gsi
+left_by_file {A} {B} s fault r gsi e f h =
+    subst (λ (x : Result B CompareFault). LeavesFieldFile x gsi) (sym f)
+    (left_with A B fault gsi (subst (λ (x : Result A Fault). LeavesFile x gsi) e h))
 
 -- So does a station that has no table.
 pub left_by_no_table : {T : Type 0} (items : T → List ℕ) (its : SurveyedStation) (count : ℕ)
@@ -215,3 +217,19 @@ left_by_no_table items its count (Err (Adjust fault)) gsi h out = out
 left_by_no_table items its count (Err (Apart apart)) gsi h out = absurd h
 left_by_no_table items its count (Err Write) gsi h out = absurd h
 left_by_no_table items its count (Err Memory) gsi h out = out.unfailed
+
+-- Of two readers that tell, the answer is of what they tell.
+pub comparison_as_told : (limits : FaceLimits) (within : ℕ) (gsi table : ReaderChange)
+    (name : List ℕ) (r : Result Agreement CompareFault)
+    → IsComparison limits within gsi table name r → (file stated : Told)
+    → gsi.told ≡ Some file → table.told ≡ Some stated
+    → Compares limits (file_answers file) stated name within r
+comparison_as_told limits within gsi table name r a file stated e f =
+    let gsi_left = some_left gsi.told' in
+    let table_left = some_left table.told' in
+    subst (λ (t : Told). Compares limits (file_answers file) t name within r)
+    (given_as_told table a.table_bytes a.table_reads stated f table_left.0 table_left.1)
+    (subst (λ (t : Told). Compares limits (file_answers t)
+    (given_then a.table_bytes table_left.0) name within r)
+    (given_as_told gsi a.gsi_bytes a.gsi_reads file e gsi_left.0 gsi_left.1)
+    (a.compares gsi_left.0 table_left.0 gsi_left.1 table_left.1))

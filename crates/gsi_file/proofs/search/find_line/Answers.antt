@@ -48,17 +48,17 @@ returns-then-not-is_blank-clause-through g c =
       plain = rw c.bytes.ensures at c.line_end-end.ensures.plain;
       same = same;
     } in
-      subst (λ (f : FoundLine). HasFound (Some first) (Some after) c.args.room c.args.buffer.now h f)
-          (sym c.ended.ensures)
-          (found_ended _ _ _ _ c.search.left line c.next_line_start-used.result
-          c.line_end-end.result.printable h (omega arith) (omega arith)
-          (omega (arith, c.next_line_start-used.ensures.within))
-          (omega (arith, c.next_line_start-used.ensures.within))
-          (rw c.bytes.ensures at (c.line_end-end.ensures.end c.if-searched-seen.true))
-          (ap not (sym (c.is_blank.ensures ∙ ap is_blank c.front.ensures)
-          ∙ c.if-not-is_blank.true)) (rw c.bytes.ensures at c.line_end-end.ensures.printable)
-          (rw c.bytes-then-not-is_blank.ensures at c.next_line_start-used.ensures.next)
-          s))
+    subst (λ (f : FoundLine). HasFound (Some first) (Some after) c.args.room c.args.buffer.now h f)
+    (sym c.ended.ensures)
+    (found_ended _ _ _ _ c.search.left line c.next_line_start-used.result
+    c.line_end-end.result.printable h (omega arith) (omega arith)
+    (omega (arith, c.next_line_start-used.ensures.within))
+    (omega (arith, c.next_line_start-used.ensures.within))
+    (rw c.bytes.ensures at (c.line_end-end.ensures.end c.if-searched-seen.true))
+    (ap not (sym (c.is_blank.ensures ∙ ap is_blank c.front.ensures)
+    ∙ c.if-not-is_blank.true)) (rw c.bytes.ensures at c.line_end-end.ensures.printable)
+    (rw c.bytes-then-not-is_blank.ensures at c.next_line_start-used.ensures.next)
+    s))
 
 pub search-preserved-then-searched-seen : goal.search-preserved-then-searched-seen
 search-preserved-then-searched-seen g c =
@@ -99,11 +99,11 @@ search-preserved-then-searched-seen g c =
             plain = rw c.bytes.ensures at c.line_end-end.ensures.plain;
             same = same;
           } in
-            rw c.drop_front.ensures (passes (Some first) (Some after) _ _ c.search.left line
-                h (omega arith) (omega arith)
-                (rw c.bytes.ensures at (c.line_end-end.ensures.end c.if-searched-seen.true))
-                (ap not (sym (c.is_blank.ensures ∙ ap is_blank c.front.ensures)
-                ∙ c.if-not-is_blank.false)) t));
+          rw c.drop_front.ensures (passes (Some first) (Some after) _ _ c.search.left line
+          h (omega arith) (omega arith)
+          (rw c.bytes.ensures at (c.line_end-end.ensures.end c.if-searched-seen.true))
+          (ap not (sym (c.is_blank.ensures ∙ ap is_blank c.front.ensures)
+          ∙ c.if-not-is_blank.false)) t));
       unfailed = c.search.invariant.unfailed;
     }
 
@@ -131,13 +131,12 @@ returns-then-searched-gt-LONGEST_LINE-clause-through g c =
       most = before.most;
       plain = before.plain;
       same = same;
-    } in
-      (
-        line_too_long _ _ _ _ c.search.left c.search.searched c.line_end-end.result.place
-            c.search.buffer c.if-searched-gt-LONGEST_LINE.true (omega arith) (omega arith)
-            (rw c.bytes.ensures at c.line_end-end.ensures.plain) s,
-        λ other. absurd other,
-      ))
+    } in (
+      line_too_long _ _ _ _ c.search.left c.search.searched c.line_end-end.result.place
+          c.search.buffer c.if-searched-gt-LONGEST_LINE.true (omega arith) (omega arith)
+          (rw c.bytes.ensures at c.line_end-end.ensures.plain) s,
+      λ other. absurd other,
+    ))
 
 pub returns-then-searched-len-clause-finds : goal.returns-then-searched-len-clause-finds
 returns-then-searched-len-clause-finds g c =
@@ -172,11 +171,10 @@ returns-then-searched-len-clause-through g c =
       most = c.search.invariant.searching.most;
       plain = rw c.bytes.ensures at c.line_end-end.ensures.plain;
       same = same;
-    } in
-      (
-        file_too_long _ _ _ _ c.search.left line h (omega arith) (omega arith) s,
-        λ other. absurd other,
-      ))
+    } in (
+      file_too_long _ _ _ _ c.search.left line h (omega arith) (omega arith) s,
+      λ other. absurd other,
+    ))
 
 pub returns-then-not-is_blank-2-clause-finds : goal.returns-then-not-is_blank-2-clause-finds
 returns-then-not-is_blank-2-clause-finds g c =
@@ -217,12 +215,12 @@ returns-then-not-is_blank-2-clause-through g c =
       plain = rw c.bytes.ensures at c.line_end-end.ensures.plain;
       same = same;
     } in
-      subst (λ (f : FoundLine). HasFound (Some first) (Some after) c.args.room c.args.buffer.now
-          c.fill.new.self f) (sym c.at_end.ensures)
-          (found_at_end (Some first) (Some middle) (Some after) _ _ c.search.left line h c.fill.new.self
-          c.in-Ok-eq0.field-0 (omega arith) c.in-Ok-eq0.field-0-test
-          (ap not (sym (c.is_blank-in-Ok-eq0.ensures ∙ ap is_blank c.front-in-Ok-eq0.ensures)
-          ∙ c.if-not-is_blank-2.true)) s filled))
+    subst (λ (f : FoundLine). HasFound (Some first) (Some after) c.args.room c.args.buffer.now
+    c.fill.new.self f) (sym c.at_end.ensures)
+    (found_at_end (Some first) (Some middle) (Some after) _ _ c.search.left line h c.fill.new.self
+    c.in-Ok-eq0.field-0 (omega arith) c.in-Ok-eq0.field-0-test
+    (ap not (sym (c.is_blank-in-Ok-eq0.ensures ∙ ap is_blank c.front-in-Ok-eq0.ensures)
+    ∙ c.if-not-is_blank-2.true)) s filled))
 
 pub returns-in-Ok-eq0-clause-finds : goal.returns-in-Ok-eq0-clause-finds
 returns-in-Ok-eq0-clause-finds g c =
@@ -260,10 +258,10 @@ returns-in-Ok-eq0-clause-through g c =
       plain = rw c.bytes.ensures at c.line_end-end.ensures.plain;
       same = same;
     } in
-      ends_by (Some first) (Some middle) (Some after) _ _ c.search.left line h c.fill.new.self
-          c.in-Ok-eq0.field-0 false (omega arith) c.in-Ok-eq0.field-0-test
-          (ap not (sym (c.is_blank-in-Ok-eq0.ensures ∙ ap is_blank c.front-in-Ok-eq0.ensures)
-          ∙ c.if-not-is_blank-2.false)) s filled)
+    ends_by (Some first) (Some middle) (Some after) _ _ c.search.left line h c.fill.new.self
+    c.in-Ok-eq0.field-0 false (omega arith) c.in-Ok-eq0.field-0-test
+    (ap not (sym (c.is_blank-in-Ok-eq0.ensures ∙ ap is_blank c.front-in-Ok-eq0.ensures)
+    ∙ c.if-not-is_blank-2.false)) s filled)
 
 pub returns-in-Err-clause-finds : goal.returns-in-Err-clause-finds
 returns-in-Err-clause-finds g c =
@@ -300,14 +298,12 @@ returns-in-Err-clause-through g c =
       most = c.search.invariant.searching.most;
       plain = rw c.bytes.ensures at c.line_end-end.ensures.plain;
       same = same;
-    } in
-      (
-        fails (Some first) (Some middle) (Some after) _ _ c.search.left line h (omega arith) s
-            filled.1,
-        λ read. breaks_off (Some first) (Some middle) (Some after) _ _ c.search.left line h s
-            filled.1,
-      ))
-
+    } in (
+      fails (Some first) (Some middle) (Some after) _ _ c.search.left line h (omega arith) s
+          filled.1,
+      λ read. breaks_off (Some first) (Some middle) (Some after) _ _ c.search.left line h s
+          filled.1,
+    ))
 
 pub search-preserved : goal.search-preserved
 search-preserved g c = record {

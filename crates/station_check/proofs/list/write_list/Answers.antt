@@ -36,9 +36,9 @@ returns g c =
         list = record {
           came = came_so _ _ _ read.came
               (λ gsi s. (
-              _,
-              record { stations = _; survey = s; text_is = refl },
-              c.in_ok-write_stations.ensures.ok,
+                _,
+                record { stations = _; survey = s; text_is = refl },
+                c.in_ok-write_stations.ensures.ok,
               ));
           left = read.left;
         };
@@ -59,9 +59,9 @@ returns-in_err-write_stations g c =
         list = record {
           came = came_so _ _ _ read.came
               (λ gsi s. (
-              _,
-              record { stations = _; survey = s; text_is = refl },
-              c.in_err-write_stations.ensures.err,
+                _,
+                record { stations = _; survey = s; text_is = refl },
+                c.in_err-write_stations.ensures.err,
               ));
           left = read.left;
         };

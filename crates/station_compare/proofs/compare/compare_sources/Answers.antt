@@ -89,7 +89,7 @@ returns-in-Err g c =
           compares_by_file c.args.limits _ _ c.args.name.now c.args.within fault of_file_fault
           (s.so gsi_left gsi_may);
       unread = unasked Agreement fault _ refl;
-      gsi_reader = left_by_file Agreement c.stations_of_file-surveyed.result.0 fault _ c.in-Err.is
-          c.stations_of_file-surveyed.ensures.surveys.left;
+      gsi_reader = left_by_file {B = Agreement} c.stations_of_file-surveyed.result.0 fault
+          (Err (of_file fault)) _ c.in-Err.is refl c.stations_of_file-surveyed.ensures.surveys.left;
       table_reader = left_alone Agreement fault _ refl;
     })

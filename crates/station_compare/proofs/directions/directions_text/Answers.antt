@@ -55,9 +55,9 @@ returns-in_default g c =
       record {
         came = came_so _ _ _ file.came
             (λ gsi survey. record {
-            stations = c.in_ok-stations.stations;
-            survey = survey;
-            none = sym c.get.ensures ∙ ap option_copied c.in_default.is;
+              stations = c.in_ok-stations.stations;
+              survey = survey;
+              none = sym c.get.ensures ∙ ap option_copied c.in_default.is;
             });
         left = file.left;
       },
@@ -68,14 +68,14 @@ returns-in_err-stations g c =
     let fault = c.in_err-stations.field-0.0 in
     let file = rw c.in_err-stations.was at c.stations_of_file-surveyed.ensures.surveys in
     let of_file_fault = rw c.in_err-stations.was at c.stations_of_file-surveyed.ensures.of_file in
-    let is_its : c.from_residual.result ≡ Err (of_file fault) = search rules in
-    rw is_its (
+    let is_its : c.from_residual.result ≡ Err (of_file fault) = search rules in (
       c.stations_of_file-surveyed.result.1,
       record {
         came = came_so _ _ _ file.came
-            (λ gsi survey.
-            none_by_file c.args.limits (file_answers gsi) c.args.name.now fault of_file_fault survey);
-        left = left_by_file _ _ fault _ c.in_err-stations.was
+            (λ gsi survey. rw is_its
+            (none_by_file c.args.limits (file_answers gsi) c.args.name.now fault of_file_fault
+            survey));
+        left = left_by_file _ fault c.from_residual.result _ c.in_err-stations.was is_its
             c.stations_of_file-surveyed.ensures.surveys.left;
       },
     )

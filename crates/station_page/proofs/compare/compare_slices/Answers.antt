@@ -1,13 +1,8 @@
-use Rattle.byte_ends.specs.Source.{Told}
-use Rattle.gsi_file.specs.FileAnswers.{file_answers}
-use Rattle.station_check.proofs.Coming.{both_told}
-use Rattle.station_compare.specs.Answers.{Compares}
+use Rattle.std.proofs.Common.{Some, ap}
+use Rattle.station_compare.proofs.Comparisons.{comparison_as_told}
 use Rattle.station_page.proofs.compare.compare_slices.Goals as goal
 
 pub returns : goal.returns
 returns c =
-    both_told _ _ _ _
-    (λ (gsi table : Told).
-    Compares c.args.limits
-    (file_answers gsi) table c.args.name.now c.args.within c.compare_bytes.result)
-    c.compare_bytes.ensures.compares c.handed_in.ensures c.handed_in-2.ensures
+    comparison_as_told c.args.limits c.args.within _ _ c.args.name.now c.compare_bytes.result
+    c.compare_bytes.ensures.1 _ _ (ap Some c.handed_in.ensures) (ap Some c.handed_in-2.ensures)

@@ -18,9 +18,9 @@ returns-in-Err-clause-through g c =
     subst (λ (line : List ℕ). IsFileFault line c.in-Err.kind) (c.line.ensures
     ∙ c.set_line.ensures.line) c.in-Err.ensures.fault in
     fault_to_come self.state self.count self.room c.in-Some.found.room
-        (unused self.window) c.find_line.new.buffer (unused c.set_line.new.self) first after
-        c.in-Some.found c.in-Err.kind c.requires (omega (arith, self.counted, found.takes)) found
-        fault)
+    (unused self.window) c.find_line.new.buffer (unused c.set_line.new.self) first after
+    c.in-Some.found c.in-Err.kind c.requires (omega (arith, self.counted, found.takes)) found
+    fault)
 
 pub returns-in-Err-clause-finds : goal.returns-in-Err-clause-finds
 returns-in-Err-clause-finds g c =
@@ -32,6 +32,6 @@ returns-in-Err-clause-finds g c =
     subst (λ (line : List ℕ). IsFileFault line c.in-Err.kind) (c.line.ensures
     ∙ c.set_line.ensures.line) c.in-Err.ensures.fault in
     told_fault_to_come self.state self.count self.room c.in-Some.found.room
-        (unused self.window) c.find_line.new.buffer (unused c.set_line.new.self) _ _
-        c.in-Some.found c.in-Err.kind c.requires (omega (arith, self.counted, found.takes)) found
-        fault
+    (unused self.window) c.find_line.new.buffer (unused c.set_line.new.self) _ _
+    c.in-Some.found c.in-Err.kind c.requires (omega (arith, self.counted, found.takes)) found
+    fault

@@ -1,0 +1,110 @@
+//! The line of a file's digest, as `sha256sum` prints it.
+
+ghost use Rattle.std.specs.Prelude.{◌≡◌, OnOk, OnErr};
+ghost use Rattle.std.specs.Io.KnownBytes.{Appends};
+ghost use Rattle.std.specs.List.{list_any, flat_map};
+ghost use Rattle.byte_digests.specs.DigestLines as spec;
+ghost use Rattle.byte_ends.specs.Sink.{AppendsSome, failed_after};
+
+use byte_ends::{Failed, Sink};
+
+/// The byte that an escaped byte of a name begins with, and the line of such a name.
+const BACKSLASH: u8 = b'\\';
+
+/// The byte that stands twice between the digits and the name.
+const BLANK: u8 = b' ';
+
+/// The byte that ends the line.
+const LINE_FEED: u8 = b'\n';
+
+/// A byte that is escaped in a name.
+const CARRIAGE_RETURN: u8 = b'\r';
+
+/// What stands for a line feed of a name, after a backslash.
+const LETTER_N: u8 = b'n';
+
+/// What stands for a carriage return of a name, after a backslash.
+const LETTER_R: u8 = b'r';
+
+/// Writes the line of a digest and of the name of its file, and flushes nothing.
+pub fn write_digest_line<W: Sink>(
+    digest: &[u8; 32],
+    name: &[u8],
+    writer: &mut W,
+) -> Result<(), Failed>
+    ensures failed { W.failed writer.new ≡ failed_after (W.failed writer.old) result }
+    ensures ok { OnOk result (Appends (W.holds writer.old) (W.holds writer.new)
+        (spec.digest_line digest.now name.now)) }
+    ensures err { OnErr result (AppendsSome (W.holds writer.old) (W.holds writer.new)
+        (spec.digest_line digest.now name.now)) }
+{
+    write_mark(name, writer)?;
+    write_digits(digest, writer)?;
+    write_name(name, writer)?;
+    writer.write_all(&[LINE_FEED])
+}
+
+/// Writes what the line of a name begins with.
+fn write_mark<W: Sink>(name: &[u8], writer: &mut W) -> Result<(), Failed>
+    ensures failed { W.failed writer.new ≡ failed_after (W.failed writer.old) result }
+    ensures ok { OnOk result (Appends (W.holds writer.old) (W.holds writer.new)
+        (spec.mark_of name.now)) }
+    ensures err { OnErr result (AppendsSome (W.holds writer.old) (W.holds writer.new)
+        (spec.mark_of name.now)) }
+{
+    let mark: &[u8] = if has_escapes(name) { &[BACKSLASH] } else { &[] };
+    writer.write_all(mark)
+}
+
+/// Writes the digits of a digest, and two blanks.
+fn write_digits<W: Sink>(digest: &[u8; 32], writer: &mut W) -> Result<(), Failed>
+    ensures failed { W.failed writer.new ≡ failed_after (W.failed writer.old) result }
+    ensures ok { OnOk result (Appends (W.holds writer.old) (W.holds writer.new)
+        (spec.digits_of digest.now)) }
+    ensures err { OnErr result (AppendsSome (W.holds writer.old) (W.holds writer.new)
+        (spec.digits_of digest.now)) }
+{
+    let mut text = [BLANK; 66];
+    hex::encode_to_slice(digest, &mut text[..64]).unwrap();
+    writer.write_all(&text)
+}
+
+/// Writes a name, with the bytes escaped that have to be.
+fn write_name<W: Sink>(name: &[u8], writer: &mut W) -> Result<(), Failed>
+    ensures failed { W.failed writer.new ≡ failed_after (W.failed writer.old) result }
+    ensures ok { OnOk result (Appends (W.holds writer.old) (W.holds writer.new)
+        (flat_map spec.escaped name.now)) }
+    ensures err { OnErr result (AppendsSome (W.holds writer.old) (W.holds writer.new)
+        (flat_map spec.escaped name.now)) }
+{
+    if !has_escapes(name) {
+        return writer.write_all(name);
+    }
+    'name: for &byte in name {
+        write_byte(byte, writer)?;
+    }
+    Ok(())
+}
+
+/// Writes a byte of a name, escaped where it has to be.
+fn write_byte<W: Sink>(byte: u8, writer: &mut W) -> Result<(), Failed>
+    ensures failed { W.failed writer.new ≡ failed_after (W.failed writer.old) result }
+    ensures ok { OnOk result (Appends (W.holds writer.old) (W.holds writer.new)
+        (spec.escaped byte)) }
+    ensures err { OnErr result (AppendsSome (W.holds writer.old) (W.holds writer.new)
+        (spec.escaped byte)) }
+{
+    match byte {
+        BACKSLASH => writer.write_all(&[BACKSLASH, BACKSLASH]),
+        LINE_FEED => writer.write_all(&[BACKSLASH, LETTER_N]),
+        CARRIAGE_RETURN => writer.write_all(&[BACKSLASH, LETTER_R]),
+        _ => writer.write_all(&[byte]),
+    }
+}
+
+/// Whether a name has a byte that is escaped.
+fn has_escapes(name: &[u8]) -> bool
+    ensures { result ≡ list_any spec.is_escaped name.now }
+{
+    name.iter().any(|&byte| byte == BACKSLASH || byte == LINE_FEED || byte == CARRIAGE_RETURN)
+}
