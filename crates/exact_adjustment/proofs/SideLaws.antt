@@ -1,0 +1,64 @@
+-- The two sides of a sum of residuals, one observation more.
+use Rattle.std.proofs.Common.{◌≡◌, ℕ, zero, suc, ◌+◌, ◌*◌, ◌≤◌, ◌<◌, List, [], ◌∷◌, map, length, get_or}
+use Rattle.std.proofs.Common.{ℤ, pos, arith, ap, refl, ◌∙◌}
+use Rattle.std.proofs.Math.IntN.{◌*ℤ◌, ◌-ℤ◌, ◌+ℤ◌}
+use Rattle.std.proofs.Math.Nat.{mul-le-mul_left}
+use Rattle.std.proofs.lemmas.Int.{ints}
+use Rattle.adjust_kernel.specs.declared.bounds.TheConstants.{TURN}
+use Rattle.adjust_kernel.specs.declared.obs.Obs.{Obs}
+use Rattle.adjust_kernel.specs.Pairs.{turned_by}
+use Rattle.adjust_kernel.specs.TurnedObservations.{TurnedObservation}
+use Rattle.adjust_kernel.proofs.Ring.{num, ◌⊖◌, ◌⊗◌, same_value}
+use Rattle.exact_adjustment.specs.Sides.{turned}
+
+pub length-turned : (obs : List Obs) (ks : List ℤ) → length ks ≡ length obs
+    → length (turned obs ks) ≡ length obs
+length-turned [] ks h = refl
+length-turned (o ∷ obs) [] h = absurd (omega (arith, h))
+length-turned (o ∷ obs) (k ∷ ks) h = omega (arith, length-turned obs ks (omega (arith, h)))
+
+pub get_or-turned : (obs : List Obs) (ks : List ℤ) (n : ℕ) (o : Obs) (k : ℤ)
+    (d : TurnedObservation) → length ks ≡ length obs → n < length obs
+    → get_or (turned obs ks) n d ≡ turned_by (get_or obs n o) (get_or ks n k)
+get_or-turned [] ks n o k d h l = absurd (omega (arith, l))
+get_or-turned (p ∷ obs) [] n o k d h l = absurd (omega (arith, h))
+get_or-turned (p ∷ obs) (j ∷ ks) zero o k d h l = refl
+get_or-turned (p ∷ obs) (j ∷ ks) (suc n) o k d h l =
+    get_or-turned obs ks n o k d (omega (arith, h)) (omega (arith, l))
+
+pub get_or-pos : (xs : List ℕ) (n : ℕ) → get_or (map pos xs) n (pos 0) ≡ pos (get_or xs n 0)
+get_or-pos [] n = refl
+get_or-pos (x ∷ xs) zero = refl
+get_or-pos (x ∷ xs) (suc n) = get_or-pos xs n
+
+pub same_inside : (xs : List ℕ) (n a b : ℕ) → n < length xs → get_or xs n a ≡ get_or xs n b
+same_inside [] n a b l = absurd (omega (arith, l))
+same_inside (x ∷ xs) zero a b l = refl
+same_inside (x ∷ xs) (suc n) a b l = same_inside xs n a b (omega (arith, l))
+
+scaled : (d m n : ℕ) → pos d *ℤ (pos m -ℤ pos n) ≡ pos (d * m) -ℤ pos (d * n)
+scaled d m n =
+    same_value (num (pos d) ⊗ (num (pos m) ⊖ num (pos n))) (num (pos (d * m)) ⊖ num (pos (d * n)))
+    (omega arith)
+
+-- What a residual adds to both sides.
+pub sides_step : (left right a o d v lifted lift left2 right2 : ℕ) (k : ℤ)
+    → left2 ≡ left + a + d * lift → right2 ≡ right + o + d * lifted
+    → pos lifted ≡ (pos v +ℤ pos TURN *ℤ k) +ℤ pos lift
+    → (pos left2 -ℤ pos right2)
+    ≡ (pos left -ℤ pos right) +ℤ (pos a -ℤ pos o -ℤ pos d *ℤ (pos v +ℤ pos TURN *ℤ k))
+sides_step left right a o d v lifted lift left2 right2 k e f g =
+    let y : (pos v +ℤ pos TURN *ℤ k) ≡ pos lifted -ℤ pos lift = omega (arith, ints, g) in
+    let z : pos d *ℤ (pos v +ℤ pos TURN *ℤ k) ≡ pos (d * lifted) -ℤ pos (d * lift) =
+    ap (λ x. pos d *ℤ x) y ∙ scaled d lifted lift in
+    omega (arith, ints, e, f, z)
+
+-- A side grows by less than 20 turns an observation.
+pub bound_step : (side a d lift i side2 : ℕ) → side2 ≡ side + a + d * lift
+    → side ≤ d * 1_600_000_000 * i → a < d * 80_000_000 → lift ≤ 1_520_000_000
+    → side2 ≤ d * 1_600_000_000 * (i + 1)
+bound_step side a d lift i side2 e h l m = omega (arith, e, h, l, mul-le-mul_left d m)
+
+-- Sides with no difference are equal.
+pub equal_sides : (m n : ℕ) → (pos m -ℤ pos n) ≡ pos 0 → m ≡ n
+equal_sides m n e = omega (arith, ints, e)

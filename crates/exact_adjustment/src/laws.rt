@@ -1,0 +1,24 @@
+//! Laws of the definitions that contracts cite. The functions do nothing.
+
+ghost use Rattle.std.specs.Prelude.{◌≤◌, ℕ, List, ℤ};
+ghost use Rattle.adjust_kernel.specs.declared.bounds.TheConstants.{LARGEST_RESIDUAL_LIMIT};
+ghost use Rattle.adjust_kernel.specs.Residuals.{Choice};
+ghost use Rattle.adjust_kernel.specs.Stations.{StationValue, IsStation};
+ghost use Rattle.exact_adjustment.specs.Adjustments.{AdjustmentValue, choice_by};
+ghost use Rattle.exact_adjustment.specs.LeastOf.{AreTied, IsLeastOf};
+ghost use Rattle.exact_adjustment.specs.Exact.{IsExact, IsSameButTurned, KeepsLimit};
+
+/// An adjustment with all sums of residuals 0, of a station that is held together, is least over
+/// all directions, orientations and full turns where it keeps the largest residual limit; so a
+/// least choice is there. And every other least choice is the same but for one rotation and whole
+/// turns.
+pub fn least()
+    ensures exists { (station : StationValue) (a : AdjustmentValue)
+        → IsStation station → AreTied station → IsExact station a
+        → KeepsLimit station a LARGEST_RESIDUAL_LIMIT
+        → IsLeastOf station (choice_by a) a.turns }
+    ensures one { (station : StationValue) (a : AdjustmentValue) (c : Choice) (turns : List ℤ)
+        → IsStation station → AreTied station → IsExact station a
+        → KeepsLimit station a LARGEST_RESIDUAL_LIMIT
+        → IsLeastOf station c turns → IsSameButTurned station a c turns }
+{}
