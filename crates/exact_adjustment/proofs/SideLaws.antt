@@ -9,6 +9,13 @@ use Rattle.adjust_kernel.specs.declared.obs.Obs.{Obs}
 use Rattle.adjust_kernel.specs.Pairs.{turned_by}
 use Rattle.adjust_kernel.specs.TurnedObservations.{TurnedObservation}
 use Rattle.adjust_kernel.proofs.Ring.{num, ◌⊖◌, ◌⊗◌, same_value}
+use Rattle.std.proofs.Common.{ap₂}
+use Rattle.std.specs.Int.RustNames.{unsigned_abs}
+use Rattle.std.proofs.lemmas.List.{get_or-map}
+use Rattle.adjust_kernel.specs.Residuals.{residual}
+use Rattle.adjust_kernel.specs.Stations.{StationValue}
+use Rattle.exact_adjustment.specs.Adjustments.{AdjustmentValue, choice_by}
+use Rattle.exact_adjustment.specs.Exact.{size_at}
 use Rattle.exact_adjustment.specs.Sides.{turned}
 
 pub length-turned : (obs : List Obs) (ks : List ℤ) → length ks ≡ length obs
@@ -62,3 +69,33 @@ bound_step side a d lift i side2 e h l m = omega (arith, e, h, l, mul-le-mul_lef
 -- Sides with no difference are equal.
 pub equal_sides : (m n : ℕ) → (pos m -ℤ pos n) ≡ pos 0 → m ≡ n
 equal_sides m n e = omega (arith, ints, e)
+
+-- A residual by the parts of an adjustment.
+pub residual_is : (a : AdjustmentValue) (o : Obs) (k : ℤ)
+    → residual (choice_by a) (turned_by o k)
+    ≡ (pos (get_or a.directions o.target 0) -ℤ pos (get_or a.orientations o.set 0)
+    -ℤ pos a.denominator *ℤ (pos o.value +ℤ pos TURN *ℤ k))
+residual_is a o k =
+    ap₂ (λ x y. x -ℤ y -ℤ pos a.denominator *ℤ (pos o.value +ℤ pos TURN *ℤ k))
+    (get_or-pos a.directions o.target) (get_or-pos a.orientations o.set)
+
+-- The sides of one residual.
+pub one_step : (a o d v lifted lift left right : ℕ) (k : ℤ) → left ≡ a + d * lift
+    → right ≡ o + d * lifted → pos lifted ≡ (pos v +ℤ pos TURN *ℤ k) +ℤ pos lift
+    → (pos left -ℤ pos right) ≡ (pos a -ℤ pos o -ℤ pos d *ℤ (pos v +ℤ pos TURN *ℤ k))
+one_step a o d v lifted lift left right k e f g =
+    let h = sides_step 0 0 a o d v lifted lift left right k (omega (arith, e)) (omega (arith, f)) g
+    in omega (arith, ints, h)
+
+-- The size of a residual at a place.
+pub size_at_place : (station : StationValue) (a : AdjustmentValue) (n : ℕ) (o : Obs) (k : ℤ)
+    → length a.turns ≡ length station.obs → n < length station.obs
+    → size_at station a n
+    ≡ unsigned_abs (residual (choice_by a)
+    (turned_by (get_or station.obs n o) (get_or a.turns n k)))
+size_at_place station a n o k each inside =
+    let d : TurnedObservation = record { set = 0; target = 0; value = 0; turn = pos 0 } in
+    let there : n < length (turned station.obs a.turns) =
+    omega (arith, inside, length-turned station.obs a.turns each) in
+    ap unsigned_abs (get_or-map (residual (choice_by a)) (turned station.obs a.turns) n d (pos 0) there
+    ∙ ap (residual (choice_by a)) (get_or-turned station.obs a.turns n o k d each inside))

@@ -17,7 +17,7 @@ use wide_number::Wide;
 const LIFT: u64 = LARGEST_TURN as u64 * TURN as u64;
 
 /// An observation with its full turns, lifted.
-fn lifted(value: u32, turn: i8) -> u64
+pub(crate) fn lifted(value: u32, turn: i8) -> u64
     requires value { value < TURN }
     requires turn { IsWithin LARGEST_TURN turn }
     ensures value { pos result ≡ (pos value +ℤ pos TURN *ℤ turn) +ℤ pos LIFT }
@@ -28,7 +28,7 @@ fn lifted(value: u32, turn: i8) -> u64
 }
 
 /// Adds a residual: what is positive to one side, what is negative to the other.
-fn add_sides(
+pub(crate) fn add_sides(
     left: &mut Wide,
     right: &mut Wide,
     denominator: &Wide,

@@ -4,7 +4,11 @@
 mod adjustment;
 mod bounds;
 mod certificate;
+mod exact;
 pub mod laws;
+mod residuals;
 
 pub use adjustment::Adjustment;
 pub use bounds::LARGEST_FACTOR;
+pub use exact::is_exact;
+pub use residuals::greatest_above;
