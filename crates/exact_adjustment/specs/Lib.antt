@@ -3,5 +3,7 @@
 pub mod Adjustments
 pub mod LeastOf
 pub mod Exact
+pub mod Nearest
+pub mod Faults
 -- The inside.
 pub mod Sides

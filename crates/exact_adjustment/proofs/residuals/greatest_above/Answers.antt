@@ -72,8 +72,11 @@ returns-then-is_below-2-clause-some c =
       above = omega (arith, more, most, reached);
       first = record {
         inside = inside;
-        here = λ m h. omega (arith, l.invariant.most m (omega (arith, h, count, c.loop-place-test.false)),
-            reached);
+        here = λ m h. omega (
+          arith,
+          l.invariant.most m (omega (arith, h, count, c.loop-place-test.false)),
+          reached,
+        );
         before = λ m h all. omega (arith, all l.at inside, l.invariant.first m h, reached);
       };
     }

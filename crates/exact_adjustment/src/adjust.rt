@@ -1,0 +1,88 @@
+//! The exact adjustment of a station.
+ghost use Rattle.std.specs.Prelude.{◌≡◌, IfErr, IfOk, OnOk};
+ghost use Rattle.adjust_kernel.specs.declared.bounds.TheConstants.{LARGEST_RESIDUAL_LIMIT};
+ghost use Rattle.exact_adjustment.specs.Adjustments.{AdjustmentValue};
+ghost use Rattle.exact_adjustment.specs.Exact.{IsExact, KeepsLimit};
+ghost use Rattle.exact_adjustment.specs.Faults.{IsAdjustFault};
+ghost use Rattle.exact_adjustment.specs.LeastOf.{AreTied};
+
+use crate::adjustment::Adjustment;
+use crate::exact::is_exact;
+use crate::fault::AdjustFault;
+use crate::nearest::are_nearest;
+use crate::residuals::greatest_above;
+use adjust_kernel::{LARGEST_RESIDUAL_LIMIT, ResidualLimit, Station, is_connected};
+use modular_solver::{Found, PRIMES, find};
+use std::alloc::Global;
+
+/// The largest residual limit: no observation may lie further from an adjustment that is answered.
+fn largest_limit() -> ResidualLimit
+    ensures { result ≡ LARGEST_RESIDUAL_LIMIT }
+{
+    ResidualLimit::new(LARGEST_RESIDUAL_LIMIT).unwrap()
+}
+
+/// The adjustment of a station that is held together, found by a solver that nothing rests on: what
+/// it found is tested.
+fn tested(alloc: Global, station: &Station) -> Result<Adjustment, AdjustFault>
+    requires { AreTied station.now }
+    ensures exact { IfOk result (IsExact station.now) }
+    ensures limited { IfOk result (λ a. KeepsLimit station.now a LARGEST_RESIDUAL_LIMIT) }
+    ensures fault { IfErr result (IsAdjustFault station.now) }
+{
+    let sets = station.sets().len();
+    let targets = station.targets().len();
+    let Some(found) = find(alloc, sets, targets, station.obs(), &PRIMES)? else {
+        return Err(AdjustFault::NotFound);
+    };
+    let Found {
+        denominator,
+        directions,
+        orientations,
+        turns,
+        first_directions,
+        first_orientations,
+    } = found;
+    let Some(adjustment) = Adjustment::new(denominator, directions, orientations, turns) else {
+        return Err(AdjustFault::NotFound);
+    };
+    if !is_exact(station, &adjustment) {
+        return Err(AdjustFault::NotFound);
+    }
+    let Some(place) = greatest_above(station, &adjustment, largest_limit()) else {
+        return Ok(adjustment);
+    };
+    let turns = adjustment.turns();
+    if !are_nearest(
+        alloc,
+        station,
+        turns,
+        &first_directions,
+        &first_orientations,
+    )? {
+        return Err(AdjustFault::NotFound);
+    }
+    Err(AdjustFault::Residual(place as u32 + 1))
+}
+
+/// The exact adjustment of a station, complete or not: the least-squares directions and
+/// orientations and the full turns, than which no others have a smaller sum of squared residuals
+/// (`laws::least`), over one denominator. Memory is linear in the observations.
+///
+/// # Errors
+///
+/// `NotConnected` where the observations don't hold all sets and targets together; else `Residual`
+/// where no directions and orientations, with whatever full turns, have all sums of residuals 0 and
+/// no residual above 2,000 half units; `NotFound` where no adjustment was found; `Memory` where
+/// memory ran out.
+pub fn adjust(alloc: Global, station: &Station) -> Result<Adjustment, AdjustFault>
+    ensures exact { IfOk result (IsExact station.now) }
+    ensures limited { IfOk result (λ a. KeepsLimit station.now a LARGEST_RESIDUAL_LIMIT) }
+    ensures tied { OnOk result (AreTied station.now) }
+    ensures fault { IfErr result (IsAdjustFault station.now) }
+{
+    if !is_connected(station.sets().len(), station.targets().len(), station.obs()) {
+        return Err(AdjustFault::NotConnected);
+    }
+    tested(alloc, station)
+}
