@@ -25,7 +25,7 @@ use Rattle.exact_adjustment.proofs.SideLaws.{get_or-pos}
 use Rattle.adjust_kernel.proofs.ObsLaws.{few_obs}
 
 -- Other turns take the place of earlier ones.
-turns_again : (rs : List TurnedObservation) (ks ls : List ℤ) → length ks ≡ length rs
+pub turns_again : (rs : List TurnedObservation) (ks ls : List ℤ) → length ks ≡ length rs
     → with_turns (with_turns rs ks) ls ≡ with_turns rs ls
 turns_again [] ks ls h = refl
 turns_again (r ∷ rs) [] ls h = absurd (omega (arith, h))
@@ -33,13 +33,13 @@ turns_again (r ∷ rs) (k ∷ ks) [] h = refl
 turns_again (r ∷ rs) (k ∷ ks) (l ∷ ls) h =
     ap (λ xs. record r { turn = l } ∷ xs) (turns_again rs ks ls (omega (arith, h)))
 
-as_many : (rs : List TurnedObservation) (ks : List ℤ) → length ks ≡ length rs
+pub as_many : (rs : List TurnedObservation) (ks : List ℤ) → length ks ≡ length rs
     → length (with_turns rs ks) ≡ length rs
 as_many [] ks h = refl
 as_many (r ∷ rs) [] h = absurd (omega (arith, h))
 as_many (r ∷ rs) (k ∷ ks) h = omega (arith, as_many rs ks (omega (arith, h)))
 
-placed : (sets targets : ℕ) (obs : List Obs) (ks : List ℤ) → All (IsObs sets targets) obs
+pub placed : (sets targets : ℕ) (obs : List Obs) (ks : List ℤ) → All (IsObs sets targets) obs
     → All (IsPlaced sets targets) (with_turns (map (λ o. turned_by o (pos 0)) obs) ks)
 placed sets targets [] ks h = λ k d inside. absurd (omega arith)
 placed sets targets (o ∷ obs) [] h = λ k d inside. absurd (omega arith)
@@ -50,16 +50,15 @@ placed sets targets (o ∷ obs) (k ∷ ks) h =
     (placed sets targets obs ks (λ k d inside. h (suc k) d (omega (arith, inside))))
 
 module _ (station : StationValue) (a : AdjustmentValue) (is_station : IsStation station)
-    (tied : AreTied station) (exact : IsExact station a)
-    (limited : KeepsLimit station a LARGEST_RESIDUAL_LIMIT) where
-  long : length a.turns ≡ length (map (λ o. turned_by o (pos 0)) station.obs)
+    (tied : AreTied station) (exact : IsExact station a) where
+  pub long : length a.turns ≡ length (map (λ o. turned_by o (pos 0)) station.obs)
   long = exact.each ∙ sym (length-map station.obs (λ o. turned_by o (pos 0)))
 
-  count : length (observed_by station a) ≡ length station.obs
+  pub count : length (observed_by station a) ≡ length station.obs
   count = as_many (map (λ o. turned_by o (pos 0)) station.obs) a.turns long
       ∙ length-map station.obs (λ o. turned_by o (pos 0))
 
-  few : length station.obs ≤ MOST_ROWS
+  pub few : length station.obs ≤ MOST_ROWS
   few = few_obs (length station.sets) (length station.targets) station.obs is_station.obs
       is_station.sets.few is_station.targets.few
 
@@ -81,57 +80,58 @@ module _ (station : StationValue) (a : AdjustmentValue) (is_station : IsStation 
   adjusted = accepted_is_adjusted (length station.sets) (length station.targets) (choice_by a)
       (observed_by station a) accepted
 
-  pub over_turns : IsAdjustedOverTurns (choice_by a) (observed_by station a)
-  over_turns = limited_is_adjusted_over_turns (length station.sets) (length station.targets)
-      (choice_by a) (observed_by station a) LARGEST_RESIDUAL_LIMIT (record {
-        sets_in = is_station.sets.few;
-        targets_in = is_station.targets.few;
-        observations_in = omega (arith, count, few);
-        limit_in = omega arith;
-      }) accepted limited
+  module _ (limited : KeepsLimit station a LARGEST_RESIDUAL_LIMIT) where
+    pub over_turns : IsAdjustedOverTurns (choice_by a) (observed_by station a)
+    over_turns = limited_is_adjusted_over_turns (length station.sets) (length station.targets)
+        (choice_by a) (observed_by station a) LARGEST_RESIDUAL_LIMIT (record {
+          sets_in = is_station.sets.few;
+          targets_in = is_station.targets.few;
+          observations_in = omega (arith, count, few);
+          limit_in = omega arith;
+        }) accepted limited
 
-  pub is_least : IsLeastOf station (choice_by a) a.turns
-  is_least = record {
-    each = exact.each;
-    positive = exact.rules.positive;
-    least = λ other others h positive. subst (λ rs. IsNoLargerSum (choice_by a)
-        (observed_by station a) other rs)
-        (turns_again (map (λ o. turned_by o (pos 0)) station.obs) a.turns others long)
-        (over_turns.least other others (h ∙ sym count) positive);
-  }
+    pub is_least : IsLeastOf station (choice_by a) a.turns
+    is_least = record {
+      each = exact.each;
+      positive = exact.rules.positive;
+      least = λ other others h positive. subst (λ rs. IsNoLargerSum (choice_by a)
+          (observed_by station a) other rs)
+          (turns_again (map (λ o. turned_by o (pos 0)) station.obs) a.turns others long)
+          (over_turns.least other others (h ∙ sym count) positive);
+    }
 
-  module _ (c : Choice) (turns : List ℤ) (least : IsLeastOf station c turns) where
-    again : with_turns (observed_by station a) turns ≡ observed_with station turns
-    again = turns_again (map (λ o. turned_by o (pos 0)) station.obs) a.turns turns long
+    module _ (c : Choice) (turns : List ℤ) (least : IsLeastOf station c turns) where
+      again : with_turns (observed_by station a) turns ≡ observed_with station turns
+      again = turns_again (map (λ o. turned_by o (pos 0)) station.obs) a.turns turns long
 
-    same_sum : IsSameSum (choice_by a) (observed_by station a) c
-        (with_turns (observed_by station a) turns)
-    same_sum =
-        let low : IsNoLargerSum (choice_by a) (observed_by station a) c
-        (with_turns (observed_by station a) turns) =
-        over_turns.least c turns (least.each ∙ sym count) least.positive in
-        let high : IsNoLargerSum c (with_turns (observed_by station a) turns) (choice_by a)
-        (observed_by station a) =
-        subst (λ rs. IsNoLargerSum c rs (choice_by a) (observed_by station a)) (sym again)
-        (least.least (choice_by a) a.turns exact.each exact.rules.positive) in
-        omega (arith, ints, low, high)
+      same_sum : IsSameSum (choice_by a) (observed_by station a) c
+          (with_turns (observed_by station a) turns)
+      same_sum =
+          let low : IsNoLargerSum (choice_by a) (observed_by station a) c
+          (with_turns (observed_by station a) turns) =
+          over_turns.least c turns (least.each ∙ sym count) least.positive in
+          let high : IsNoLargerSum c (with_turns (observed_by station a) turns) (choice_by a)
+          (observed_by station a) =
+          subst (λ rs. IsNoLargerSum c rs (choice_by a) (observed_by station a)) (sym again)
+          (least.least (choice_by a) a.turns exact.each exact.rules.positive) in
+          omega (arith, ints, low, high)
 
-    turned : AreTurnedWhole (observed_by station a) turns
-    turned = over_turns.only c turns (least.each ∙ sym count) least.positive same_sum
+      turned : AreTurnedWhole (observed_by station a) turns
+      turned = over_turns.only c turns (least.each ∙ sym count) least.positive same_sum
 
-    pub same_but_turned : IsSameButTurned station a c turns
-    same_but_turned =
-        let other = taken c turned.of_target turned.of_set in
-        let e : sum_beside (choice_by a) other (observed_by station a)
-        ≡ sum_beside (choice_by a) c (with_turns (observed_by station a) turns) =
-        ap (λ z. pos (a.denominator * a.denominator) *ℤ z)
-        (taken_squares c turned.of_target turned.of_set (observed_by station a)
-        ∙ ap (λ (ks : List ℤ). sum_of_squares c (with_turns (observed_by station a) ks))
-        (sym turned.turns_are)) in
-        let d = adjusted.unique other least.positive (same_sum ∙ sym e) in
-        record {
-          turned = turned;
-          rotation = d.rotation;
-          directions = d.directions;
-          orientations = d.orientations;
-        }
+      pub same_but_turned : IsSameButTurned station a c turns
+      same_but_turned =
+          let other = taken c turned.of_target turned.of_set in
+          let e : sum_beside (choice_by a) other (observed_by station a)
+          ≡ sum_beside (choice_by a) c (with_turns (observed_by station a) turns) =
+          ap (λ z. pos (a.denominator * a.denominator) *ℤ z)
+          (taken_squares c turned.of_target turned.of_set (observed_by station a)
+          ∙ ap (λ (ks : List ℤ). sum_of_squares c (with_turns (observed_by station a) ks))
+          (sym turned.turns_are)) in
+          let d = adjusted.unique other least.positive (same_sum ∙ sym e) in
+          record {
+            turned = turned;
+            rotation = d.rotation;
+            directions = d.directions;
+            orientations = d.orientations;
+          }

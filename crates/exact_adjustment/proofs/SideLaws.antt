@@ -1,6 +1,6 @@
 -- The two sides of a sum of residuals, one observation more.
 use Rattle.std.proofs.Common.{◌≡◌, ℕ, zero, suc, ◌+◌, ◌*◌, ◌≤◌, ◌<◌, List, [], ◌∷◌, map, length, get_or}
-use Rattle.std.proofs.Common.{ℤ, pos, arith, ap, refl, ◌∙◌}
+use Rattle.std.proofs.Common.{ℤ, pos, negsuc, arith, ap, refl, ◌∙◌}
 use Rattle.std.proofs.Math.IntN.{◌*ℤ◌, ◌-ℤ◌, ◌+ℤ◌}
 use Rattle.std.proofs.Math.Nat.{mul-le-mul_left}
 use Rattle.std.proofs.lemmas.Int.{ints}
@@ -15,7 +15,8 @@ use Rattle.std.proofs.lemmas.List.{get_or-map}
 use Rattle.adjust_kernel.specs.Residuals.{residual}
 use Rattle.adjust_kernel.specs.Stations.{StationValue}
 use Rattle.exact_adjustment.specs.Adjustments.{AdjustmentValue, choice_by}
-use Rattle.exact_adjustment.specs.Exact.{size_at}
+use Rattle.exact_adjustment.specs.Exact.{IsGreatestAbove, KeepsLimit, size_at}
+use Rattle.adjust_kernel.proofs.GreatestLaws.{size_within}
 use Rattle.exact_adjustment.specs.Sides.{turned}
 
 pub length-turned : (obs : List Obs) (ks : List ℤ) → length ks ≡ length obs
@@ -99,3 +100,27 @@ size_at_place station a n o k each inside =
     omega (arith, inside, length-turned station.obs a.turns each) in
     ap unsigned_abs (get_or-map (residual (choice_by a)) (turned station.obs a.turns) n d (pos 0) there
     ∙ ap (residual (choice_by a)) (get_or-turned station.obs a.turns n o k d each inside))
+
+-- Where some residual is above a limit, it is not kept.
+pub above_is_not_kept : (station : StationValue) (a : AdjustmentValue) (limit place : ℕ)
+    → length a.turns ≡ length station.obs → IsGreatestAbove station a limit place
+    → KeepsLimit station a limit → ⊥
+above_is_not_kept station a limit place each g k =
+    let d : TurnedObservation = record { set = 0; target = 0; value = 0; turn = pos 0 } in
+    let there : place < length (turned station.obs a.turns) =
+    omega (arith, g.first.inside, length-turned station.obs a.turns each) in
+    let e : size_at station a place ≡ unsigned_abs (residual (choice_by a)
+    (get_or (turned station.obs a.turns) place d)) =
+    ap unsigned_abs
+    (get_or-map (residual (choice_by a)) (turned station.obs a.turns) place d (pos 0) there) in
+    omega (arith, g.above, e, size_within (limit * a.denominator) _ (k place d there))
+
+-- What agrees with an observation, by angles in whole half units.
+pub whole_residual : (x y v : ℤ) → x -ℤ y -ℤ v ≡ x -ℤ y -ℤ pos 1 *ℤ v
+whole_residual x y v = same_value (num x ⊖ num y ⊖ num v) (num x ⊖ num y ⊖ num (pos 1) ⊗ num v)
+    (omega arith)
+
+pub none_by_size : (z : ℤ) → unsigned_abs z ≡ 0 → z ≡ pos 0
+none_by_size (pos zero) e = refl
+none_by_size (pos (suc n)) e = absurd (omega (arith, e))
+none_by_size (negsuc n) e = absurd (omega (arith, e))

@@ -7,6 +7,8 @@ ghost use Rattle.adjust_kernel.specs.Stations.{StationValue, IsStation};
 ghost use Rattle.exact_adjustment.specs.Adjustments.{AdjustmentValue, choice_by};
 ghost use Rattle.exact_adjustment.specs.LeastOf.{AreTied, IsLeastOf};
 ghost use Rattle.exact_adjustment.specs.Exact.{IsExact, IsSameButTurned, KeepsLimit};
+ghost use Rattle.exact_adjustment.specs.Faults.{NoneKeepsLimit};
+ghost use Rattle.exact_adjustment.specs.Nearest.{HasNearestTurns};
 
 /// An adjustment with all sums of residuals 0, of a station that is held together, is least over
 /// all directions, orientations and full turns where it keeps the largest residual limit; so a
@@ -21,4 +23,14 @@ pub fn least()
         → IsStation station → AreTied station → IsExact station a
         → KeepsLimit station a LARGEST_RESIDUAL_LIMIT
         → IsLeastOf station c turns → IsSameButTurned station a c turns }
+{}
+
+/// Where an exact adjustment with nearest full turns does not keep the largest residual limit, no
+/// directions and orientations do, with whatever full turns, whose sums of residuals are all 0.
+pub fn far()
+    ensures { (station : StationValue) (a : AdjustmentValue)
+        → IsStation station → AreTied station → IsExact station a
+        → HasNearestTurns station a.turns
+        → ¬ KeepsLimit station a LARGEST_RESIDUAL_LIMIT
+        → NoneKeepsLimit station LARGEST_RESIDUAL_LIMIT }
 {}

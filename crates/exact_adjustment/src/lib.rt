@@ -6,7 +6,7 @@
 //! nothing rests on finds it, and [`is_exact`] tests it.
 #![tactic(auto)]
 
-mod adjust;
+mod adjusting;
 mod adjustment;
 mod bounds;
 mod certificate;
@@ -16,7 +16,7 @@ pub mod laws;
 mod nearest;
 mod residuals;
 
-pub use adjust::adjust;
+pub use adjusting::adjust;
 pub use adjustment::Adjustment;
 pub use bounds::LARGEST_FACTOR;
 pub use exact::is_exact;

@@ -28,6 +28,7 @@ fn tested(alloc: Global, station: &Station) -> Result<Adjustment, AdjustFault>
     requires { AreTied station.now }
     ensures exact { IfOk result (IsExact station.now) }
     ensures limited { IfOk result (λ a. KeepsLimit station.now a LARGEST_RESIDUAL_LIMIT) }
+    ensures tied { OnOk result (AreTied station.now) }
     ensures fault { IfErr result (IsAdjustFault station.now) }
 {
     let sets = station.sets().len();

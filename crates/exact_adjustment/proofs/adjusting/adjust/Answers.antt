@@ -1,0 +1,21 @@
+use Rattle.std.proofs.Common.{rules, refl, Ok, Err, Result}
+use Rattle.std.specs.Prelude.{OnOk}
+use Rattle.exact_adjustment.specs.Adjustments.{AdjustmentValue}
+use Rattle.exact_adjustment.specs.LeastOf.{AreTied}
+use Rattle.exact_adjustment.specs.declared.fault.AdjustFault.{AdjustFault}
+use Rattle.exact_adjustment.proofs.TieLaws.{divided_is_untied, tied_by_rows}
+use Rattle.exact_adjustment.proofs.adjusting.adjust.Goals as goal
+
+pub returns-then-not-is_connected-clause-fault : goal.returns-then-not-is_connected-clause-fault
+returns-then-not-is_connected-clause-fault c =
+    let station = c.args.station.now in
+    let divided = rw (c.sets.ensures.value, c.targets.ensures.value, c.obs.ensures.value)
+    at c.if-not-is_connected.ensures.divided in
+    divided_is_untied station divided
+
+pub tested-requires : goal.tested-requires
+tested-requires c =
+    let station = c.args.station.now in
+    let connected = rw (c.sets.ensures.value, c.targets.ensures.value, c.obs.ensures.value)
+    at c.if-not-is_connected.ensures.connected in
+    tied_by_rows station connected
