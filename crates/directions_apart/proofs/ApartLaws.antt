@@ -1,0 +1,219 @@
+-- Half the spread of the differences is how near a rotation brings stated directions, and what one
+-- brings near a choice is brought as near to each that is the same but for turns and a rotation.
+use Rattle.std.proofs.Common.{◌≡◌, ℕ, zero, suc, ◌+◌, ◌*◌, ◌≤◌, ◌<◌, ◌≤ℤ◌, ◌+ℤ◌, ℤ, pos, negsuc}
+use Rattle.std.proofs.Common.{arith, ap, sym, ◌∙◌, subst}
+use Rattle.std.proofs.Math.IntN.{◌*ℤ◌, ◌-ℤ◌}
+use Rattle.std.specs.Prelude.{neg_ℤ}
+use Rattle.std.proofs.Math.Nat.{le_of_mul-le-mul_left, mul-le-mul, mul-le-mul_left}
+use Rattle.std.proofs.lemmas.Int.{ints}
+use native.Mathlib.Decide.{dec_le}
+use Rattle.adjust_kernel.specs.Residuals.{Choice}
+use Rattle.adjust_kernel.specs.Within.{IsWithin}
+use Rattle.adjust_kernel.proofs.Ring.{num, ◌⊕◌, ◌⊖◌, ◌⊗◌, same_value}
+use Rattle.directions_apart.specs.Apart.{AreBroughtNear, AreBroughtWithin, IsApart, IsHalfSpread}
+use Rattle.directions_apart.specs.Apart.{circle_of, difference}
+use Rattle.directions_apart.specs.Arcs.{IsArc}
+
+-- A fraction that is rounded up has some parts.
+some_parts : (d numerator w : ℕ) → numerator ≤ w * (2_000 * d)
+    → w * (2_000 * d) < numerator + 2_000 * d → 1 ≤ d
+some_parts zero numerator w a b = absurd (omega (arith, a, b))
+some_parts (suc d) numerator w a b = omega arith
+
+-- A number within a bound, some times.
+pub times_within : (k m : ℕ) (z : ℤ) → IsWithin (pos m) z → IsWithin (pos (k * m)) (pos k *ℤ z)
+times_within k m (pos a) h =
+    let high = h.high in
+    let e : k * a ≤ k * m = mul-le-mul_left k (omega (arith, ints, high)) in
+    record { low = omega (arith, ints, e); high = omega (arith, ints, e) }
+times_within k m (negsuc a) h =
+    let low = h.low in
+    let e : k * suc a ≤ k * m = mul-le-mul_left k (omega (arith, ints, low)) in
+    let is : pos k *ℤ negsuc a ≡ pos 0 -ℤ pos (k * suc a) =
+    same_value (num (pos k) ⊗ num (negsuc a)) (num (pos 0) ⊖ num (pos (k * suc a)))
+    (omega arith) in
+    record { low = omega (arith, ints, e, is); high = omega (arith, ints, e, is) }
+
+once : (z : ℤ) → pos 1 *ℤ z ≡ z
+once z = same_value (num (pos 1) ⊗ num z) (num z) (omega arith)
+
+-- An angle in an arc is within half its width of the middle.
+in_middle : (w d spread : ℕ) (x start : ℤ) → spread ≤ w * (2_000 * d)
+    → start ≤ℤ (pos 1 *ℤ x) → (pos 1 *ℤ x) ≤ℤ (start +ℤ pos spread)
+    → IsWithin (pos (2_000 * w * (d * 2))) (pos 2 *ℤ (pos 2 *ℤ x -ℤ (pos 2 *ℤ start +ℤ pos spread)))
+in_middle w d spread x start wide low high =
+    let e = once x in
+    record {
+      low = omega (arith, ints, wide, low, high, e);
+      high = omega (arith, ints, wide, low, high, e);
+    }
+
+-- What is so near a rotation lies in an arc about it.
+around_low : (m q : ℕ) (x p : ℤ) → IsWithin (pos m) (pos 2 *ℤ (pos q *ℤ x -ℤ p))
+    → (pos 2 *ℤ p -ℤ pos m) ≤ℤ (pos (2 * q) *ℤ x)
+around_low m q x p h =
+    let low = h.low in
+    let e : pos 2 *ℤ (pos q *ℤ x -ℤ p) ≡ pos (2 * q) *ℤ x -ℤ pos 2 *ℤ p =
+    same_value (num (pos 2) ⊗ (num (pos q) ⊗ num x ⊖ num p))
+    (num (pos (2 * q)) ⊗ num x ⊖ num (pos 2) ⊗ num p) (omega arith) in
+    omega (arith, ints, e, low)
+
+around_high : (m q : ℕ) (x p : ℤ) → IsWithin (pos m) (pos 2 *ℤ (pos q *ℤ x -ℤ p))
+    → (pos (2 * q) *ℤ x) ≤ℤ ((pos 2 *ℤ p -ℤ pos m) +ℤ pos (2 * m))
+around_high m q x p h =
+    let high = h.high in
+    let e : pos 2 *ℤ (pos q *ℤ x -ℤ p) ≡ pos (2 * q) *ℤ x -ℤ pos 2 *ℤ p =
+    same_value (num (pos 2) ⊗ (num (pos q) ⊗ num x ⊖ num p))
+    (num (pos (2 * q)) ⊗ num x ⊖ num (pos 2) ⊗ num p) (omega arith) in
+    omega (arith, ints, e, high)
+
+-- Half a spread that is so narrow is not rounded up beyond it.
+no_more : (d q n w spread : ℕ) → 1 ≤ q → 2 * q * spread ≤ 2 * (2_000 * n * (d * q))
+    → w * (2_000 * d) < spread + 2_000 * d → ¬ (n < w)
+no_more d q n w spread some short least fewer =
+    let h : q * spread ≤ q * (2_000 * n * d) = omega (arith, short) in
+    let narrow : spread ≤ 2_000 * n * d = le_of_mul-le-mul_left h some in
+    let more : 2_000 * d * (n + 1) ≤ 2_000 * d * w =
+    mul-le-mul_left (2_000 * d) (omega (arith, fewer)) in
+    omega (arith, narrow, more, least)
+
+module _ (targets : ℕ) (c : Choice) (stated : ℕ → ℤ) (apart : ℕ)
+    (is : IsHalfSpread targets c stated apart) where
+  abbrev arc : IsArc (circle_of c) (difference c stated) targets 1 is.spread
+  arc = is.is_spread.held
+
+  -- One rotation brings the middle of the arc to 0.
+  brought : AreBroughtWithin targets c stated apart
+  brought = record {
+    parts = 2;
+    positive = omega arith;
+    rotation = pos 2 *ℤ arc.start +ℤ pos is.spread;
+    circles = arc.circles;
+    each = λ t h. in_middle apart c.denominator is.spread
+        (difference c stated t +ℤ pos (circle_of c) *ℤ arc.circles t) arc.start
+        is.rounded_up.not_below (arc.low t h) (arc.high t h);
+  }
+
+  module _ (most : ℕ) (b : AreBroughtNear targets c stated most) where
+    abbrev reach : ℕ
+    reach = most * (c.denominator * b.parts)
+
+    reached : IsArc (circle_of c) (difference c stated) targets (2 * b.parts) (2 * reach)
+    reached = record {
+      start = pos 2 *ℤ b.rotation -ℤ pos reach;
+      circles = b.circles;
+      low = λ t h. around_low reach b.parts _ b.rotation (b.each t h);
+      high = λ t h. around_high reach b.parts _ b.rotation (b.each t h);
+    }
+
+    pub narrowest : 2 * b.parts * is.spread ≤ 2 * reach
+    narrowest =
+        let some = b.positive in
+        is.is_spread.narrowest (2 * b.parts) (2 * reach) (omega (arith, some)) reached
+
+  -- Half the spread is how far they are apart.
+  pub half_spread_is_apart : IsApart targets c stated apart
+  half_spread_is_apart = record {
+    brought = brought;
+    no_nearer = λ n fewer b. no_more c.denominator b.parts n apart is.spread b.positive
+        (narrowest (2_000 * n) b) is.rounded_up.least fewer;
+  }
+
+-- How far directions are apart is one number.
+pub one_apart : (targets : ℕ) (c : Choice) (stated : ℕ → ℤ) (a b : ℕ) → IsApart targets c stated a
+    → IsApart targets c stated b → a ≡ b
+one_apart targets c stated a b p q = by (dec_le (suc a) b) (dec_le (suc b) a)
+  where
+    by : Dec (suc a ≤ b) → Dec (suc b ≤ a) → a ≡ b
+    by (yes h) other = absurd (q.no_nearer a h p.brought)
+    by (no h) (yes k) = absurd (p.no_nearer b k q.brought)
+    by (no h) (no k) = omega (arith, h, k)
+
+-- Another choice is the same but for whole turns of the targets and one rotation.
+pub record AreTurned (targets : ℕ) (c other : Choice) : Type 0 where
+  pub turns : ℕ → ℤ
+  pub rotation : ℤ
+  pub directions : (t : ℕ) → t < targets
+      → pos other.denominator *ℤ c.direction t
+      -ℤ pos c.denominator
+      *ℤ (other.direction t -ℤ pos (other.denominator * 80_000_000) *ℤ turns t) ≡ rotation
+
+turned_round : (d e : ℕ) (a b t : ℤ)
+    → pos d *ℤ b -ℤ pos e *ℤ (a -ℤ pos (d * 80_000_000) *ℤ neg_ℤ t)
+    ≡ pos 0 -ℤ (pos e *ℤ a -ℤ pos d *ℤ (b -ℤ pos (e * 80_000_000) *ℤ t))
+turned_round d e a b t =
+    (λ i. pos d *ℤ b -ℤ pos e *ℤ (a -ℤ pos (d * 80_000_000) *ℤ minus i))
+    ∙ same_value
+    (num (pos d) ⊗ num b ⊖ num (pos e) ⊗ (num a ⊖ num (pos (d * 80_000_000)) ⊗ (num (pos 0) ⊖ num t)))
+    (num (pos 0) ⊖ (num (pos e) ⊗ num a ⊖ num (pos d) ⊗ (num b ⊖ num (pos (e * 80_000_000)) ⊗ num t)))
+    (omega arith)
+  where
+    minus : neg_ℤ t ≡ pos 0 -ℤ t
+    minus = omega (arith, ints)
+
+pub turned_back : (targets : ℕ) (c other : Choice) → AreTurned targets c other
+    → AreTurned targets other c
+turned_back targets c other s = record {
+  turns = λ t. neg_ℤ (s.turns t);
+  rotation = pos 0 -ℤ s.rotation;
+  directions = λ t h. turned_round c.denominator other.denominator (c.direction t)
+      (other.direction t) (s.turns t) ∙ ap (λ z. pos 0 -ℤ z) (s.directions t h);
+}
+
+-- Twice what a rotated difference from the other choice is, by that from the one.
+from_other : (d e q : ℕ) (a b s k t p r : ℤ)
+    → pos 2 *ℤ (pos (q * d) *ℤ ((pos e *ℤ s -ℤ pos 5_000 *ℤ b) +ℤ pos (e * 400_000_000_000) *ℤ (k +ℤ t))
+    -ℤ (pos e *ℤ p +ℤ pos (5_000 * q) *ℤ r))
+    ≡ pos e *ℤ (pos 2 *ℤ (pos q *ℤ ((pos d *ℤ s -ℤ pos 5_000 *ℤ a) +ℤ pos (d * 400_000_000_000) *ℤ k) -ℤ p))
+    +ℤ pos (10_000 * q) *ℤ ((pos e *ℤ a -ℤ pos d *ℤ (b -ℤ pos (e * 80_000_000) *ℤ t)) -ℤ r)
+from_other d e q a b s k t p r =
+    let d' = num (pos d) in
+    let e' = num (pos e) in
+    same_value
+    (num (pos 2) ⊗ (num (pos (q * d)) ⊗ ((e' ⊗ num s ⊖ num (pos 5_000) ⊗ num b)
+    ⊕ num (pos (e * 400_000_000_000)) ⊗ (num k ⊕ num t)) ⊖ (e' ⊗ num p ⊕ num (pos (5_000 * q)) ⊗ num r)))
+    (e' ⊗ (num (pos 2) ⊗ (num (pos q) ⊗ ((d' ⊗ num s ⊖ num (pos 5_000) ⊗ num a)
+    ⊕ num (pos (d * 400_000_000_000)) ⊗ num k) ⊖ num p))
+    ⊕ num (pos (10_000 * q)) ⊗ ((e' ⊗ num a ⊖ d' ⊗ (num b ⊖ num (pos (e * 80_000_000)) ⊗ num t)) ⊖ num r))
+    (omega arith)
+
+nothing_left : (m : ℕ) (x y z r : ℤ) → x ≡ y +ℤ pos m *ℤ (z -ℤ r) → z ≡ r → x ≡ y
+nothing_left m x y z r is e =
+    let none : pos m *ℤ (r -ℤ r) ≡ pos 0 =
+    same_value (num (pos m) ⊗ (num r ⊖ num r)) (num (pos 0)) (omega arith) in
+    let here = ap (λ u. pos m *ℤ (u -ℤ r)) e ∙ none in
+    omega (arith, ints, is, here)
+
+-- What is brought near a choice is brought as near to the other.
+pub as_near : (targets : ℕ) (c other : Choice) (stated : ℕ → ℤ) (most : ℕ) → 1 ≤ c.denominator
+    → AreTurned targets c other → AreBroughtNear targets c stated most
+    → AreBroughtNear targets other stated most
+as_near targets c other stated most some s b =
+    let d = c.denominator in
+    let e = other.denominator in
+    let q = b.parts in
+    record {
+      parts = q * d;
+      positive = mul-le-mul b.positive some;
+      rotation = pos e *ℤ b.rotation +ℤ pos (5_000 * q) *ℤ s.rotation;
+      circles = λ t. b.circles t +ℤ s.turns t;
+      each = λ t h.
+          (let bound : e * (most * (d * q)) ≡ most * (e * (q * d)) = omega arith in
+          let same = nothing_left (10_000 * q) _ _ _ s.rotation
+          (from_other d e q (c.direction t) (other.direction t) (stated t) (b.circles t) (s.turns t)
+          b.rotation s.rotation) (s.directions t h) in
+          subst (λ z. IsWithin (pos (most * (e * (q * d)))) z) (sym same)
+          (subst (λ m. IsWithin (pos m) (pos e *ℤ (pos 2 *ℤ (pos q
+          *ℤ (difference c stated t +ℤ pos (circle_of c) *ℤ b.circles t) -ℤ b.rotation)))) bound
+          (times_within e (most * (d * q)) _ (b.each t h))));
+    }
+
+-- They are as far apart from the other choice.
+pub as_far_apart : (targets : ℕ) (c other : Choice) (stated : ℕ → ℤ) (apart : ℕ) → 1 ≤ c.denominator
+    → 1 ≤ other.denominator → AreTurned targets c other → IsApart targets c stated apart
+    → IsApart targets other stated apart
+as_far_apart targets c other stated apart some others s is = record {
+  brought = as_near targets c other stated (2_000 * apart) some s is.brought;
+  no_nearer = λ n fewer b. is.no_nearer n fewer
+      (as_near targets other c stated (2_000 * n) others (turned_back targets c other s) b);
+}

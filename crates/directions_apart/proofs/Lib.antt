@@ -1,0 +1,5 @@
+pub mod ArcLaws
+pub mod SpreadLaws
+pub mod ApartLaws
+pub mod RoundingLaws
+pub mod LeastLaws

@@ -1,0 +1,52 @@
+-- How far stated directions are apart from those of a choice (profile). Stated directions are whole
+-- numbers of 0.000000001 gon, a choice's are half units over its denominator.
+use Rattle.std.specs.Prelude.{ℕ, ◌+◌, ◌*◌, ◌≤◌, ◌<◌, List, ℤ, pos, ◌+ℤ◌, ◌-ℤ◌, ◌*ℤ◌, slice_index_or}
+use Rattle.adjust_kernel.specs.Residuals.{Choice}
+use Rattle.adjust_kernel.specs.Within.{IsWithin}
+use Rattle.directions_apart.specs.Arcs.{IsSpread}
+use Rattle.directions_apart.specs.declared.units.TheConstants.{CIRCLE, HALF_UNIT, UNIT}
+
+-- the direction that a list states for a target
+abbrev pub stated_by : List ℤ → ℕ → ℤ
+stated_by stated t = slice_index_or stated t (pos 0)
+
+-- the stated direction of a target less the choice's, in 0.000000001 gon times the denominator
+abbrev pub difference : Choice → (ℕ → ℤ) → ℕ → ℤ
+difference c stated t = pos c.denominator *ℤ stated t -ℤ pos HALF_UNIT *ℤ c.direction t
+
+-- a full circle in the same unit
+abbrev pub circle_of : Choice → ℕ
+circle_of c = c.denominator * CIRCLE
+
+-- One rotation, over any denominator, and full circles bring each stated direction so near the
+-- choice's: within so many halves of 0.000000001 gon.
+pub record AreBroughtNear (targets : ℕ) (c : Choice) (stated : ℕ → ℤ) (most : ℕ) : Type 0 where
+  pub parts : ℕ
+  pub positive : 1 ≤ parts
+  pub rotation : ℤ
+  pub circles : ℕ → ℤ
+  pub each : (t : ℕ) → t < targets
+      → IsWithin (pos (most * (c.denominator * parts)))
+      (pos 2
+      *ℤ (pos parts *ℤ (difference c stated t +ℤ pos (circle_of c) *ℤ circles t) -ℤ rotation))
+
+-- The same, within so many units of 0.000001 gon.
+abbrev pub AreBroughtWithin : ℕ → Choice → (ℕ → ℤ) → ℕ → Type 0
+AreBroughtWithin targets c stated most = AreBroughtNear targets c stated (2 * UNIT * most)
+
+-- So far apart, in units of 0.000001 gon, are stated directions from a choice's: one rotation brings
+-- each within that, and none brings them nearer by a unit or more.
+pub record IsApart (targets : ℕ) (c : Choice) (stated : ℕ → ℤ) (apart : ℕ) : Type 0 where
+  pub brought : AreBroughtWithin targets c stated apart
+  pub no_nearer : (nearer : ℕ) → nearer < apart → ¬ AreBroughtWithin targets c stated nearer
+
+-- the least whole number that is not below a fraction
+pub record IsRoundedUp (numerator denominator whole : ℕ) : Type 0 where
+  pub not_below : numerator ≤ whole * denominator
+  pub least : whole * denominator < numerator + denominator
+
+-- Half the spread of the differences on the circle, rounded up to whole units of 0.000001 gon.
+pub record IsHalfSpread (targets : ℕ) (c : Choice) (stated : ℕ → ℤ) (apart : ℕ) : Type 0 where
+  pub spread : ℕ
+  pub is_spread : IsSpread (circle_of c) (difference c stated) targets spread
+  pub rounded_up : IsRoundedUp spread (2 * UNIT * c.denominator) apart

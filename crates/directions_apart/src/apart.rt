@@ -1,0 +1,48 @@
+//! How far stated directions are apart from those of an adjustment.
+ghost use Rattle.std.specs.Prelude.{◌≡◌, ◌≤◌, ◌<◌, ◌*◌, length};
+ghost use Rattle.directions_apart.specs.Apart.{IsApart, IsHalfSpread, IsRoundedUp, stated_by};
+ghost use Rattle.exact_adjustment.specs.Adjustments.{choice_by};
+ghost use Rattle.wide_number.specs.Limbs.{WIDE_LIMIT};
+
+use crate::arc::spread;
+use crate::units::{CIRCLE, UNIT};
+use exact_adjustment::Adjustment;
+use wide_number::{Wide, quotient};
+
+/// No directions are further apart than half a circle, in units of 0.000001 gon.
+pub const MOST_APART: u64 = CIRCLE / (2 * UNIT);
+
+/// The least whole number that is not below a fraction of what is less than a circle.
+fn rounded_up(numerator: &Wide, denominator: &Wide) -> u32
+    requires below { numerator.now < denominator.now * MOST_APART }
+    requires fits { denominator.now * MOST_APART < WIDE_LIMIT }
+    ensures value { IsRoundedUp numerator.now denominator.now result }
+    ensures bound { result ≤ MOST_APART }
+{
+    let whole = quotient(numerator, denominator, MOST_APART);
+    if denominator.times(whole).is_below(numerator) {
+        (whole + 1) as u32
+    } else {
+        whole as u32
+    }
+}
+
+/// How far stated directions, one for each target, are apart from those of an adjustment, in units
+/// of 0.000001 gon: one rotation brings each within that, and none brings them nearer by a unit.
+/// That is half the spread of the differences on the circle, rounded up. Stated directions are in
+/// units of 0.000000001 gon.
+///
+/// What that says of every least-squares choice of the station, `laws::each_least` tells.
+pub fn apart_of(adjustment: &Adjustment, stated: &[i64]) -> u32
+    requires { length stated.now ≡ length adjustment.now.directions }
+    ensures apart { IsApart (length stated.now) (choice_by adjustment.now)
+        (stated_by stated.now) result }
+    ensures half_spread { IsHalfSpread (length stated.now) (choice_by adjustment.now)
+        (stated_by stated.now) result }
+    ensures bound { result ≤ MOST_APART }
+{
+    rounded_up(
+        &spread(adjustment, stated),
+        &adjustment.denominator().times(2 * UNIT),
+    )
+}

@@ -1,0 +1,74 @@
+//! Laws of the definitions that contracts cite. The functions do nothing.
+
+ghost use Rattle.std.specs.Prelude.{◌≡◌, ◌≤◌, ◌<◌, ◌*◌, ◌%◌, ℕ, List, ℤ, pos, length};
+ghost use Rattle.adjust_kernel.specs.declared.bounds.TheConstants.{LARGEST_RESIDUAL_LIMIT};
+ghost use Rattle.adjust_kernel.specs.Residuals.{Choice};
+ghost use Rattle.adjust_kernel.specs.Stations.{StationValue, IsStation};
+ghost use Rattle.exact_adjustment.specs.LeastOf.{AreTied, IsLeastOf};
+ghost use Rattle.exact_adjustment.specs.Adjustments.{AdjustmentValue, choice_by};
+ghost use Rattle.exact_adjustment.specs.Exact.{IsExact, KeepsLimit};
+ghost use Rattle.directions_apart.specs.Apart.{AreBroughtNear, IsApart};
+ghost use Rattle.directions_apart.specs.Rounding.{IsRounded, from_first};
+ghost use Rattle.directions_apart.specs.declared.units.TheConstants.{CIRCLE, HALF_UNIT, UNIT};
+
+/// What is said of an exact adjustment's directions is so of every least-squares choice of the
+/// station, over any denominator and with any full turns: stated directions are as far apart from
+/// it, what a rotation brings near the one it brings as near to the other, and directions counted
+/// from that of the first target are rounded to the same.
+pub fn each_least()
+    ensures apart { (station : StationValue) (a : AdjustmentValue) (stated : ℕ → ℤ) (apart : ℕ)
+        (c : Choice) (turns : List ℤ)
+        → IsStation station → AreTied station → IsExact station a
+        → KeepsLimit station a LARGEST_RESIDUAL_LIMIT → IsLeastOf station c turns
+        → IsApart (length station.targets) (choice_by a) stated apart
+        → IsApart (length station.targets) c stated apart }
+    ensures near { (station : StationValue) (a : AdjustmentValue) (stated : ℕ → ℤ) (most : ℕ)
+        (c : Choice) (turns : List ℤ)
+        → IsStation station → AreTied station → IsExact station a
+        → KeepsLimit station a LARGEST_RESIDUAL_LIMIT → IsLeastOf station c turns
+        → AreBroughtNear (length station.targets) (choice_by a) stated most
+        → AreBroughtNear (length station.targets) c stated most }
+    ensures rounded { (station : StationValue) (a : AdjustmentValue) (t step rounded : ℕ)
+        (c : Choice) (turns : List ℤ)
+        → IsStation station → AreTied station → IsExact station a
+        → KeepsLimit station a LARGEST_RESIDUAL_LIMIT → IsLeastOf station c turns
+        → 1 ≤ step → t < length station.targets
+        → IsRounded (choice_by a) t step rounded → IsRounded (from_first c) t step rounded }
+{}
+
+/// How far directions are apart is one number.
+pub fn one_apart()
+    ensures { (targets : ℕ) (c : Choice) (stated : ℕ → ℤ) (a b : ℕ)
+        → IsApart targets c stated a → IsApart targets c stated b → a ≡ b }
+{}
+
+/// A rounded direction is one number: with whole steps in a circle, no other is that direction
+/// rounded. That of 0 is 0.
+pub fn one_rounded()
+    ensures one { (c : Choice) (t step a b : ℕ)
+        → 1 ≤ c.denominator → 1 ≤ step → CIRCLE % step ≡ 0
+        → IsRounded c t step a → IsRounded c t step b → a ≡ b }
+    ensures of_0 { (c : Choice) (t step rounded : ℕ)
+        → 1 ≤ c.denominator → 1 ≤ step → CIRCLE % step ≡ 0 → c.direction t ≡ pos 0
+        → IsRounded c t step rounded → rounded ≡ 0 }
+{}
+
+/// Rounded directions are within half a step of those that they were rounded from, with no
+/// rotation; so they are apart by half a step at most, rounded up to whole units.
+pub fn rounded()
+    ensures near { (targets step : ℕ) (c : Choice) (stated : ℕ → ℕ)
+        → ((t : ℕ) → t < targets → IsRounded c t step (stated t))
+        → AreBroughtNear targets c (λ t. pos (stated t)) step }
+    ensures apart { (targets step most apart : ℕ) (c : Choice) (stated : ℕ → ℕ)
+        → step ≤ 2 * UNIT * most
+        → ((t : ℕ) → t < targets → IsRounded c t step (stated t))
+        → IsApart targets c (λ t. pos (stated t)) apart → apart ≤ most }
+{}
+
+/// The units in digits: a half unit, the unit of answers, and a full circle, each in units of
+/// 0.000000001 gon.
+pub fn units()
+    ensures half_unit { HALF_UNIT ≡ 5_000 }
+    ensures unit { UNIT ≡ 1_000 }
+    ensures circle { CIRCLE ≡ 400_000_000_000 }
+{}

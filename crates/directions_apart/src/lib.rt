@@ -1,0 +1,20 @@
+//! How far stated directions are apart from the least-squares ones of a station, and these, rounded.
+//!
+//! A program prints directions as decimals of a gon. `apart_of` tells how near one rotation brings
+//! them to the directions of an exact adjustment: exactly, in whole units of 0.000001 gon, rounded
+//! up. `rounded` answers a direction of the adjustment as tables print it, exactly rounded.
+//!
+//! Stated directions are in units of 0.000000001 gon, so that 9 decimals are whole.
+#![tactic(auto)]
+
+mod apart;
+mod arc;
+mod circle;
+mod difference;
+pub mod laws;
+mod rounding;
+mod units;
+
+pub use apart::apart_of;
+pub use rounding::rounded;
+pub use units::{CIRCLE, HALF_UNIT, UNIT};

@@ -1,0 +1,12 @@
+//! The units of stated directions.
+
+use adjust_kernel::TURN;
+
+/// A half unit (0.005 mgon), in which directions are adjusted, in units of 0.000000001 gon.
+pub const HALF_UNIT: u64 = 5_000;
+
+/// A full circle, in units of 0.000000001 gon.
+pub const CIRCLE: u64 = TURN as u64 * HALF_UNIT;
+
+/// 0.000001 gon, in which differences are told, in units of 0.000000001 gon.
+pub const UNIT: u64 = 1_000;
