@@ -1,0 +1,169 @@
+-- What is said of the directions of an exact adjustment is said of every least choice.
+use Rattle.std.proofs.Common.{◌≡◌, ℕ, zero, suc, ◌+◌, ◌*◌, ◌%◌, ◌≤◌, ◌<◌, List, [], ◌∷◌, All, length}
+use Rattle.std.proofs.Common.{get_or, ℤ, pos, arith, ap, refl, sym, subst, ◌∙◌}
+use Rattle.std.proofs.Math.IntN.{◌*ℤ◌, ◌-ℤ◌}
+use Rattle.std.proofs.lemmas.List.{get_or_default, get_or_past}
+use native.Mathlib.Decide.{dec_le}
+use Rattle.adjust_kernel.specs.Residuals.{Choice}
+use Rattle.adjust_kernel.specs.Stations.{StationValue, IsStation}
+use Rattle.adjust_kernel.specs.declared.bounds.TheConstants.{LARGEST_RESIDUAL_LIMIT}
+use Rattle.adjust_kernel.proofs.Ring.{num, ◌⊖◌, ◌⊗◌, same_value}
+use Rattle.directions_apart.proofs.ApartLaws.{AreTurned, as_far_apart, as_near, one_apart}
+use Rattle.directions_apart.proofs.LeastLaws.{are_turned, first_is_0}
+use Rattle.directions_apart.proofs.RoundingLaws.{as_rounded, less_near, one_rounded, rounded_near}
+use Rattle.directions_apart.proofs.RoundingLaws.{rounded_of_0}
+use Rattle.directions_apart.specs.Apart.{AreBroughtNear, IsApart, stated_by}
+use Rattle.directions_apart.specs.Rounding.{IsRounded, from_first}
+use Rattle.directions_apart.specs.declared.units.TheConstants.{CIRCLE}
+use Rattle.exact_adjustment.proofs.ExactLaws.{is_least}
+use Rattle.exact_adjustment.specs.Adjustments.{AdjustmentValue, choice_by}
+use Rattle.exact_adjustment.specs.Exact.{IsExact, KeepsLimit}
+use Rattle.exact_adjustment.specs.LeastOf.{AreTied, IsLeastOf}
+use Rattle.least_directions.specs.LeastDirections.{AreApart, AreRounded, IsAdjustable, as_stated}
+
+module _ (station : StationValue) (s : IsStation station) (a : AdjustmentValue)
+    (tied : AreTied station) (exact : IsExact station a)
+    (limited : KeepsLimit station a LARGEST_RESIDUAL_LIMIT) where
+  adjustable : IsAdjustable station
+  adjustable = record { rules = s; tied = tied; adjustment = a; exact = exact; limited = limited }
+
+  -- What is apart from an exact adjustment is so from the least-squares directions.
+  pub are_apart : (stated : ℕ → ℤ) (apart : ℕ)
+      → IsApart (length station.targets) (choice_by a) stated apart
+      → AreApart station stated apart
+  are_apart stated apart is = record {
+    adjustable = adjustable;
+    from_each = λ c turns least. as_far_apart (length station.targets) (choice_by a) c stated apart
+        exact.rules.positive least.positive
+        (are_turned station a s tied exact limited c turns least) is;
+  }
+
+  -- Its directions rounded are the least-squares directions rounded.
+  pub are_rounded : (step : ℕ) (directions : List ℕ) → 1 ≤ step
+      → length directions ≡ length station.targets
+      → ((t : ℕ) → t < length directions → IsRounded (choice_by a) t step (get_or directions t 0))
+      → AreRounded station step directions
+  are_rounded step directions some count each = record {
+    adjustable = adjustable;
+    count = count;
+    each = λ t inside c turns least. as_rounded (length station.targets) (choice_by a) c t step
+        (get_or directions t 0) exact.rules.positive least.positive some inside
+        (are_turned station a s tied exact limited c turns least) (first_is_0 a exact.rules)
+        (each t (omega (arith, inside, count)));
+  }
+
+-- Where a station is adjustable, its adjustment is least.
+pub least_of : (station : StationValue) (a : IsAdjustable station)
+    → IsLeastOf station (choice_by a.adjustment) a.adjustment.turns
+least_of station a = is_least station a.adjustment a.rules a.tied a.exact a.limited
+
+-- How far directions are apart is one number.
+pub one_distance : (station : StationValue) (stated : ℕ → ℤ) (a b : ℕ)
+    → AreApart station stated a → AreApart station stated b → a ≡ b
+one_distance station stated a b p q =
+    let least = least_of station p.adjustable in
+    let c = choice_by p.adjustable.adjustment in
+    let turns = p.adjustable.adjustment.turns in
+    one_apart (length station.targets) c stated a b (p.from_each c turns least)
+    (q.from_each c turns least)
+
+-- Lists of a length are one where they have the same at each place.
+same_lists : (xs ys : List ℕ) → length xs ≡ length ys
+    → ((t : ℕ) → t < length xs → get_or xs t 0 ≡ get_or ys t 0) → xs ≡ ys
+same_lists [] [] h each = refl
+same_lists [] (y ∷ ys) h each = absurd (omega (arith, h))
+same_lists (x ∷ xs) [] h each = absurd (omega (arith, h))
+same_lists (x ∷ xs) (y ∷ ys) h each =
+    let first : x ≡ y = each 0 (omega arith) in
+    let rest : xs ≡ ys =
+    same_lists xs ys (omega (arith, h)) (λ t inside. each (suc t) (omega (arith, inside))) in
+    (λ i. first i ∷ rest i)
+
+-- Rounded directions are one list.
+pub one_list : (station : StationValue) (step : ℕ) (a b : List ℕ) → 1 ≤ step
+    → CIRCLE % step ≡ 0 → AreRounded station step a → AreRounded station step b → a ≡ b
+one_list station step a b some whole p q =
+    let least = least_of station p.adjustable in
+    let c = choice_by p.adjustable.adjustment in
+    let turns = p.adjustable.adjustment.turns in
+    let p_count = p.count in
+    let q_count = q.count in
+    same_lists a b (omega (arith, p_count, q_count)) (λ t inside.
+    one_rounded (from_first c) t step (get_or a t 0) (get_or b t 0) least.positive some whole
+    (p.each t (omega (arith, inside, p_count)) c turns least)
+    (q.each t (omega (arith, inside, p_count)) c turns least))
+
+back_from_first : (d : ℕ) (a first : ℤ)
+    → pos d *ℤ (a -ℤ first) -ℤ pos d *ℤ (a -ℤ pos (d * 80_000_000) *ℤ pos 0)
+    ≡ pos 0 -ℤ pos d *ℤ first
+back_from_first d a first =
+    same_value
+    (num (pos d) ⊗ (num a ⊖ num first)
+    ⊖ num (pos d) ⊗ (num a ⊖ num (pos (d * 80_000_000)) ⊗ num (pos 0)))
+    (num (pos 0) ⊖ num (pos d) ⊗ num first) (omega arith)
+
+-- Directions counted from the first are the same but for one rotation.
+from_first_turned : (targets : ℕ) (c : Choice) → AreTurned targets (from_first c) c
+from_first_turned targets c = record {
+  turns = λ t. pos 0;
+  rotation = pos 0 -ℤ pos c.denominator *ℤ c.direction 0;
+  directions = λ t h. back_from_first c.denominator (c.direction t) (c.direction 0);
+}
+
+as_stated_at : (directions : List ℕ) (t : ℕ) → pos (get_or directions t 0) ≡ as_stated directions t
+as_stated_at [] zero = refl
+as_stated_at [] (suc t) = refl
+as_stated_at (d ∷ directions) zero = refl
+as_stated_at (d ∷ directions) (suc t) = as_stated_at directions t
+
+-- Rounded directions as stated, target by target.
+as_stated_is : (directions : List ℕ) → (λ t. pos (get_or directions t 0)) ≡ as_stated directions
+as_stated_is directions = λ i. λ t. as_stated_at directions t i
+
+-- Rounded directions are near every least choice.
+pub rounded_is_near : (station : StationValue) (step : ℕ) (directions : List ℕ) (c : Choice)
+    (turns : List ℤ) → AreRounded station step directions → IsLeastOf station c turns
+    → AreBroughtNear (length station.targets) c (as_stated directions) step
+rounded_is_near station step directions c turns r least =
+    subst (λ stated. AreBroughtNear (length station.targets) c stated step)
+    (as_stated_is directions)
+    (as_near (length station.targets) (from_first c) c (λ t. pos (get_or directions t 0)) step
+    least.positive (from_first_turned (length station.targets) c)
+    (rounded_near (length station.targets) step (from_first c) (λ t. get_or directions t 0)
+    (λ t inside. r.each t inside c turns least)))
+
+-- And apart by half a step at most.
+pub rounded_is_apart : (station : StationValue) (step most apart : ℕ) (directions : List ℕ)
+    → AreRounded station step directions → step ≤ 2_000 * most
+    → AreApart station (as_stated directions) apart → apart ≤ most
+rounded_is_apart station step most apart directions r small is = by (dec_le apart most)
+  where
+    by : Dec (apart ≤ most) → apart ≤ most
+    by (yes h) = h
+    by (no h) =
+        let least = least_of station r.adjustable in
+        let c = choice_by r.adjustable.adjustment in
+        let turns = r.adjustable.adjustment.turns in
+        absurd ((is.from_each c turns least).no_nearer most (omega (arith, h))
+        (less_near (length station.targets) c (as_stated directions) step (2_000 * most) small
+        (rounded_is_near station step directions c turns r least)))
+
+-- Rounded directions of an adjustment are whole steps on the circle, and the first is 0.
+pub each_whole : (a : AdjustmentValue) (step : ℕ) (directions : List ℕ)
+    → ((t : ℕ) → t < length directions → IsRounded (choice_by a) t step (get_or directions t 0))
+    → All (λ d. (d < CIRCLE) × (d % step ≡ 0)) directions
+each_whole a step directions each = λ t other h.
+    let r = each t h in
+    subst (λ d. (d < CIRCLE) × (d % step ≡ 0)) (get_or_default directions t 0 other h)
+    (r.below, r.whole)
+
+pub first_rounded : (station : StationValue) (a : AdjustmentValue) (step : ℕ) (directions : List ℕ)
+    → IsExact station a → 1 ≤ step → CIRCLE % step ≡ 0
+    → ((t : ℕ) → t < length directions → IsRounded (choice_by a) t step (get_or directions t 0))
+    → get_or directions 0 0 ≡ 0
+first_rounded station a step directions exact some whole each = by (dec_le 1 (length directions))
+  where
+    by : Dec (1 ≤ length directions) → get_or directions 0 0 ≡ 0
+    by (yes h) = rounded_of_0 (choice_by a) 0 step (get_or directions 0 0) exact.rules.positive
+        some whole (first_is_0 a exact.rules) (each 0 h)
+    by (no h) = get_or_past directions 0 0 (omega (arith, h))

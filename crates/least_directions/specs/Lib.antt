@@ -1,0 +1,2 @@
+-- The public definitions, which public contracts and laws cite.
+pub mod LeastDirections

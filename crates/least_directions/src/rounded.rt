@@ -1,0 +1,59 @@
+//! A station's least-squares directions, rounded as tables print them.
+ghost use Rattle.std.specs.Prelude.{◌≡◌, ◌≤◌, ◌<◌, ◌%◌, ℕ, All, length, slice_index_or, IfErr, IfOk};
+ghost use Rattle.directions_apart.specs.Rounding.{IsRounded};
+ghost use Rattle.directions_apart.specs.declared.units.TheConstants.{CIRCLE};
+ghost use Rattle.exact_adjustment.specs.Adjustments.{choice_by};
+ghost use Rattle.exact_adjustment.specs.Faults.{IsAdjustFault};
+ghost use Rattle.least_directions.specs.LeastDirections.{AreRounded};
+
+use crate::adjusted::adjusted;
+use adjust_kernel::Station;
+use directions_apart::{CIRCLE, rounded};
+use exact_adjustment::{AdjustFault, Adjustment};
+use std::alloc::{AllocError, Global};
+
+/// The directions of an adjustment's targets, rounded to whole steps.
+fn rounded_to_steps(
+    alloc: Global,
+    adjustment: &Adjustment,
+    step: u32,
+) -> Result<Vec<u64>, AllocError>
+    requires some { 1 ≤ step }
+    requires circle { CIRCLE % step ≡ 0 }
+    ensures count { IfOk result (λ directions.
+        length directions.items ≡ length adjustment.now.directions) }
+    ensures each { IfOk result (λ directions. (t : ℕ) → t < length directions.items
+        → IsRounded (choice_by adjustment.now) t step (slice_index_or directions.items t 0)) }
+{
+    let targets = adjustment.directions().len();
+    let mut directions = Vec::with_capacity(alloc, targets)?;
+    for target in 0..targets {
+        directions.push(rounded(adjustment, target, step))?;
+    }
+    Ok(directions)
+}
+
+/// The least-squares directions of a station's targets, in their order, rounded to whole steps, the
+/// middle of two upwards: the first is 0, and each is from 0 and below a full circle. Steps and
+/// directions are in units of 0.000000001 gon. No residual may be above 2,000 half units (0.005
+/// mgon each). Memory is linear in the observations.
+///
+/// # Errors
+///
+/// Those of `exact_adjustment::adjust`: `NotConnected`, `Residual`, `NotFound` and `Memory`.
+pub fn rounded_directions(
+    alloc: Global,
+    station: &Station,
+    step: u32,
+) -> Result<Vec<u64>, AdjustFault>
+    requires some { 1 ≤ step }
+    requires circle { CIRCLE % step ≡ 0 }
+    ensures rounded { IfOk result (λ directions. AreRounded station.now step directions.items) }
+    ensures first { IfOk result (λ directions. slice_index_or directions.items 0 0 ≡ 0) }
+    ensures whole { IfOk result (λ directions.
+        All (λ direction. (direction < CIRCLE) × (direction % step ≡ 0)) directions.items) }
+    ensures fault { IfErr result (IsAdjustFault station.now) }
+{
+    let adjustment = adjusted(alloc, station)?;
+    Ok(rounded_to_steps(alloc, &adjustment, step)?)
+}

@@ -1,0 +1,336 @@
+//! Stated directions of stations worked by hand, and where memory is refused.
+
+use adjust_kernel::{Name, Obs, Station};
+use directions_apart::CIRCLE;
+use exact_adjustment::AdjustFault;
+use least_directions::{apart_from_least, rounded_directions};
+use std::alloc::Global;
+use std::process::Abort;
+use std::test::Fail;
+
+fn name(rt: &impl Abort, letter: u8) -> Name {
+    Name::new(&[letter]).expect(rt, "a name")
+}
+
+/// A station of targets A, B and so on, and of this many sets, with these observations: set,
+/// target, value in half units.
+fn station_of(
+    rt: &impl Abort,
+    alloc: Global,
+    sets: u16,
+    letters: &[u8],
+    observed: &[(u32, u32, u32)],
+) -> Result<Station, Fail> {
+    let mut names = Vec::new(alloc);
+    for letter in letters {
+        names.push(name(rt, *letter))?;
+    }
+    let mut numbers = Vec::new(alloc);
+    for number in 1..=sets {
+        numbers.push(number)?;
+    }
+    let mut obs = Vec::new(alloc);
+    for (set, target, value) in observed {
+        obs.push(Obs {
+            set: *set,
+            target: *target,
+            value: *value,
+        })?;
+    }
+    let station = Station::new(name(rt, b'S'), names, numbers, obs);
+    Ok(station.expect(rt, "a station"))
+}
+
+fn apart(
+    rt: &impl Abort,
+    alloc: Global,
+    station: &Station,
+    stated: &[i64],
+) -> Result<u32, AdjustFault> {
+    assert_eq!(rt; stated.len(), station.targets().len());
+    apart_from_least(alloc, station, stated)
+}
+
+/// Two sets of two targets, 50 gon and some apart: 10,000,004 and 10,000,008 half units.
+const TWO_SETS: [(u32, u32, u32); 4] = [
+    (0, 0, 6),
+    (0, 1, 10_000_010),
+    (1, 0, 20_000_004),
+    (1, 1, 30_000_012),
+];
+
+#[test]
+fn stated_directions_lie_beside_the_least_ones(rt: HostRuntime) -> Result<(), Fail> {
+    let station = station_of(&rt, rt.alloc(), 2, b"AB", &TWO_SETS)?;
+    // The least direction of B is 10,000,006 half units: 50.00003 gon.
+    let cases = [
+        ([0, 50_000_030_000], 0),
+        ([100_000_100_000, 150_000_100_000], 15),
+        ([399_999_990_000, 50_000_020_000], 0),
+        ([0, 50_000_020_000], 5),
+        ([0, 50_000_130_000], 50),
+        ([0, 150_000_030_000], 50_000_000),
+        // a whole unit is not rounded up, and what is more is
+        ([0, 50_000_028_000], 1),
+        ([0, 50_000_027_999], 2),
+    ];
+    for (stated, want) in cases {
+        assert_eq!(rt; apart(&rt, rt.alloc(), &station, &stated), Ok(want));
+    }
+    Ok(())
+}
+
+#[test]
+fn what_holds_nothing_or_lies_far_off_is_refused(rt: HostRuntime) -> Result<(), Fail> {
+    let parts = station_of(&rt, rt.alloc(), 2, b"AB", &[(0, 0, 0), (1, 1, 4)])?;
+    let tie = station_of(
+        &rt,
+        rt.alloc(),
+        2,
+        b"AB",
+        &[(0, 0, 0), (0, 1, 0), (1, 0, 0), (1, 1, 40_000_000)],
+    )?;
+    let cases = [
+        (parts, AdjustFault::NotConnected),
+        (tie, AdjustFault::Residual(1)),
+    ];
+    for (station, want) in &cases {
+        assert_eq!(rt; apart(&rt, rt.alloc(), station, &[0, 0]), Err(*want));
+    }
+    Ok(())
+}
+
+/// Three sets of two of three targets in a ring, 400.06 gon round and some more: each residual is a
+/// sixth of what is more than 400 gon.
+const fn ring(more: u32) -> [(u32, u32, u32); 6] {
+    [
+        (0, 0, 0),
+        (0, 1, 20_012_000 + more),
+        (1, 1, 0),
+        (1, 2, 30_000_000),
+        (2, 0, 30_000_000),
+        (2, 2, 0),
+    ]
+}
+
+#[test]
+fn the_largest_residual_is_kept_and_a_sixth_more_is_not(rt: HostRuntime) -> Result<(), Fail> {
+    let kept = station_of(&rt, rt.alloc(), 3, b"ABC", &ring(0))?;
+    assert_rounded(
+        &rt,
+        rt.alloc(),
+        &kept,
+        10,
+        &[0, 100_040_000_000, 250_020_000_000],
+    );
+    let stated = [0, 100_040_000_000, 250_020_000_000];
+    assert_eq!(rt; apart(&rt, rt.alloc(), &kept, &stated), Ok(0));
+    let above = station_of(&rt, rt.alloc(), 3, b"ABC", &ring(1))?;
+    assert_eq!(rt;
+        apart(&rt, rt.alloc(), &above, &stated),
+        Err(AdjustFault::Residual(1))
+    );
+    Ok(())
+}
+
+/// Four targets 25 gon apart, in three sets, complete.
+const WHOLE: [(u32, u32, u32); 12] = [
+    (0, 0, 0),
+    (0, 1, 5_000_000),
+    (0, 2, 10_000_000),
+    (0, 3, 15_000_000),
+    (1, 0, 20_000_000),
+    (1, 1, 25_000_000),
+    (1, 2, 30_000_000),
+    (1, 3, 35_000_000),
+    (2, 0, 70_000_000),
+    (2, 1, 75_000_000),
+    (2, 2, 0),
+    (2, 3, 5_000_000),
+];
+
+/// The same with a gap in each set.
+const GAPS: [(u32, u32, u32); 6] = [
+    (0, 0, 0),
+    (0, 1, 5_000_000),
+    (1, 1, 25_000_000),
+    (1, 2, 30_000_000),
+    (2, 2, 0),
+    (2, 3, 5_000_000),
+];
+
+#[test]
+fn more_targets_and_gaps_take_no_more_than_they_need(rt: HostRuntime) -> Result<(), Fail> {
+    let stated = [0, 25_000_000_000, 50_000_000_000, 75_000_000_000];
+    let cases: [&[(u32, u32, u32)]; 2] = [&WHOLE, &GAPS];
+    for observed in cases {
+        let station = station_of(&rt, rt.alloc(), 3, b"ABCD", observed)?;
+        let answer = apart(&rt, rt.alloc(), &station, &stated);
+        assert_eq!(rt; answer, Ok(0));
+    }
+    Ok(())
+}
+
+/// The directions of a station, rounded.
+fn rounded(
+    rt: &impl Abort,
+    alloc: Global,
+    station: &Station,
+    step: u32,
+) -> Result<Vec<u64>, AdjustFault> {
+    assert!(rt; step > 0);
+    assert_eq!(rt; CIRCLE % u64::from(step), 0);
+    rounded_directions(alloc, station, step)
+}
+
+/// Whether an answer is these directions.
+fn assert_rounded(rt: &impl Abort, alloc: Global, station: &Station, step: u32, want: &[u64]) {
+    match rounded(rt, alloc, station, step) {
+        Ok(directions) => assert_eq!(rt; directions.as_slice(), want),
+        Err(fault) => assert!(rt; false, "{fault}"),
+    }
+}
+
+#[test]
+fn least_directions_are_rounded_to_steps(rt: HostRuntime) -> Result<(), Fail> {
+    // B lies 50.00003 gon from A.
+    let station = station_of(&rt, rt.alloc(), 2, b"AB", &TWO_SETS)?;
+    let cases = [
+        (1_000, [0, 50_000_030_000]),
+        (10_000, [0, 50_000_030_000]),
+        (100_000, [0, 50_000_000_000]),
+        (100_000_000, [0, 50_000_000_000]),
+    ];
+    for (step, want) in cases {
+        assert_rounded(&rt, rt.alloc(), &station, step, &want);
+    }
+    Ok(())
+}
+
+#[test]
+fn directions_stand_on_the_circle_from_0(rt: HostRuntime) -> Result<(), Fail> {
+    // What A and B read, in half units of 0.000005 gon, the step, and B's direction.
+    let cases = [
+        // B lies 25 gon, or 0.00001 gon, before A.
+        ((5_000_000, 0), 1_000, 375_000_000_000),
+        ((2, 0), 1_000, 399_999_990_000),
+        ((0, 79_999_998), 1_000, 399_999_990_000),
+        ((0, 79_999_998), 10_000, 399_999_990_000),
+        // up to a full circle
+        ((0, 79_999_998), 100_000, 0),
+        ((79_999_998, 0), 1_000, 10_000),
+        // the middle of two steps goes up
+        ((0, 10_000_005), 10_000, 50_000_030_000),
+    ];
+    for ((first, second), step, want) in cases {
+        let station = station_of(&rt, rt.alloc(), 1, b"AB", &[(0, 0, first), (0, 1, second)])?;
+        assert_rounded(&rt, rt.alloc(), &station, step, &[0, want]);
+    }
+    Ok(())
+}
+
+/// Three sets of two targets, 1, 2 and 2 half units apart: 5/3 of 0.000005 gon, 0.000008333.. gon.
+const THIRDS: [(u32, u32, u32); 6] = [
+    (0, 0, 0),
+    (0, 1, 1),
+    (1, 0, 0),
+    (1, 1, 2),
+    (2, 0, 0),
+    (2, 1, 2),
+];
+
+#[test]
+fn the_nearest_step_is_taken(rt: HostRuntime) -> Result<(), Fail> {
+    let station = station_of(&rt, rt.alloc(), 3, b"AB", &THIRDS)?;
+    let cases = [(1, 8_333), (10, 8_330), (1_000, 8_000), (10_000, 10_000)];
+    for (step, want) in cases {
+        assert_rounded(&rt, rt.alloc(), &station, step, &[0, want]);
+    }
+    Ok(())
+}
+
+#[test]
+fn what_was_rounded_is_apart_by_half_of_what_it_is_off(rt: HostRuntime) -> Result<(), Fail> {
+    // 8,333.3.. units of 0.000000001 gon: off by 0.3.., 333.3.., 1,666.6.. and 2,666.6..
+    let station = station_of(&rt, rt.alloc(), 3, b"AB", &THIRDS)?;
+    let cases = [(8_333, 1), (8_000, 1), (10_000, 1), (11_000, 2)];
+    for (second, want) in cases {
+        let stated = [0, second];
+        let answer = apart(&rt, rt.alloc(), &station, &stated);
+        assert_eq!(rt; answer, Ok(want));
+    }
+    Ok(())
+}
+
+/// How many blocks of memory are held at most.
+const BLOCKS: usize = 60_000;
+
+/// How many sizes of blocks are tried, each half of the one before: from 2^40 bytes down to 16.
+const SIZES: usize = 37;
+
+/// The bytes by which the memory that is left grows from try to try: fewer than any list takes.
+const STEP: usize = 16;
+
+/// Holds all memory that there is, but for a spare block that it gives back at the end.
+fn hoard_of_all_but(alloc: Global, spare: Vec<u8>) -> Vec<Vec<u8>> {
+    let mut hoard: Vec<Vec<u8>> = Vec::new(alloc);
+    if hoard.reserve(BLOCKS).is_err() {
+        return hoard;
+    }
+    let mut size: usize = 1 << 40;
+    for _ in 0..SIZES {
+        for _ in 0..BLOCKS {
+            match Vec::<u8>::with_capacity(alloc, size) {
+                Ok(block) => {
+                    if hoard.push(block).is_err() {
+                        return hoard;
+                    }
+                }
+                Err(_) => break,
+            }
+        }
+        size /= 2;
+    }
+    drop(spare);
+    hoard
+}
+
+/// With too little memory for these observations of four targets the answer is `Memory`, until
+/// there is enough.
+fn assert_each_refusal(
+    rt: &impl Abort,
+    alloc: Global,
+    observed: &[(u32, u32, u32)],
+) -> Result<(), Fail> {
+    let station = station_of(rt, alloc, 3, b"ABCD", observed)?;
+    for tries in 0..200usize {
+        let spare = Vec::<u8>::with_capacity(alloc, STEP * tries)?;
+        let held = hoard_of_all_but(alloc, spare);
+        let answer = rounded(rt, alloc, &station, 1_000);
+        drop(held);
+        match answer {
+            Err(fault) => assert_eq!(rt; fault, AdjustFault::Memory),
+            Ok(directions) => {
+                let want = [0, 25_000_000_000, 50_000_000_000, 75_000_000_000];
+                assert_eq!(rt; directions.as_slice(), want.as_slice());
+                assert!(rt; tries > 0);
+                return Ok(());
+            }
+        }
+    }
+    assert!(rt; false, "refused however much memory there was");
+    Ok(())
+}
+
+/// `rt test` runs it. `rt try --test` watches over memory itself, and ends the test in place of
+/// refusing.
+#[test]
+fn each_refused_growth_is_answered_by_memory(rt: HostRuntime) -> Result<(), Fail> {
+    assert_each_refusal(&rt, rt.alloc(), &WHOLE)
+}
+
+/// `rt test` runs it, as above.
+#[test]
+fn each_refused_growth_for_a_station_with_gaps_is_too(rt: HostRuntime) -> Result<(), Fail> {
+    assert_each_refusal(&rt, rt.alloc(), &GAPS)
+}
