@@ -30,16 +30,7 @@ A contract is as good as its definitions, so they are short and are not the prog
 HOW_NEAR = """\
 ### How the program knows it
 
-The least-squares choices themselves are not computed. The program makes a sheet of the station, in whole numbers over the denominator D = 10^12, and measures the table beside that sheet. Four quantities lead from there to what an agreement says; to believe it, none of them need be known:
-
-| | Where | What it is |
-|---|---|---|
-| S | `size_of_sums` in [`Nearness`](../crates/sheet_nearness/specs/Nearness.antt) | what the sheet's sums of residuals leave: the sizes of the sums of all targets and of all sets, added up. It is 0 exactly where the sheet is least with its full turns |
-| h | `AreWithin` in [`Levels`](../crates/sheet_nearness/specs/Levels.antt) | how many observations in a row lead from the first target to the target or set that is furthest from it, each by the fewest: 2 where the first target was observed in every set |
-| near | `most_apart` in [`Nearness`](../crates/sheet_nearness/specs/Nearness.antt) | 2 h S: where no residual of the sheet is above 2,000 half units, every choice of directions, orientations and full turns with no larger sum of squares, so every least one, is within so many half units, divided by D, of the sheet, but for whole turns and one rotation. Where that is not below an eighth of 0.000001 gon the answer is `Unclear` |
-| apart | `IsApart` in [`Apart`](../crates/sheet_apart/specs/Apart.antt) | half the spread on the circle of what is stated less what the sheet has, and near, rounded up to whole units of 0.000001 gon: the W of an agreement |
-
-So the bound is told each time, of the very sheet that was made. That this sheet comes out near is tested, and nothing rests on it. That there is a least choice is textbook, and not proved here: what is proved holds of each that is least.
+The program finds the exact adjustment of the station by a solver that nothing rests on: directions and orientations in whole numbers over one denominator, of any size, and full turns. Then it adds up the residuals. Where those of each target and of each set are exactly 0 and none is above 2,000 half units, this is the least-squares choice, over all directions, orientations and full turns, and every other that is least is the same but for one rotation and whole turns ([`laws`](../crates/exact_adjustment/src/laws.rt)). So a least choice is there, and W and the printed digits are functions of the station alone ([`laws`](../crates/least_directions/src/laws.rt)).
 """
 
 EVERY_READER = """\

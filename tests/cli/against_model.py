@@ -27,24 +27,20 @@ class Case(NamedTuple):
     decimals: int = model.USUAL_DECIMALS
     within: int = model.USUAL_WITHIN
 
-    def answers(self):
-        """What the model answers: one answer, or a few that are all right."""
+    def expected(self):
+        """What the model answers."""
         name = self.station.encode()
         if self.command == "words":
-            return [model.words(self.gsi)]
+            return model.words(self.gsi)
         if self.command == "list":
-            return [model.listed(self.gsi, self.limits)]
+            return model.listed(self.gsi, self.limits)
         if self.command == "means":
-            return [model.means(self.gsi, name, self.limits)]
+            return model.means(self.gsi, name, self.limits)
         if self.command == "directions":
             return model.directions(self.gsi, name, self.limits, self.decimals)
         if self.command == "compare":
             return model.compared(self.gsi, name, self.sheet, self.limits, self.within)
-        return [model.check(self.gsi, self.sheet, self.limits, self.residual)]
-
-    def expected(self):
-        """The first of these."""
-        return self.answers()[0]
+        return model.check(self.gsi, self.sheet, self.limits, self.residual)
 
     def args(self, gsi, sheet):
         """The words of its command line, over these paths."""
@@ -83,12 +79,11 @@ class AgainstModel(ProgramTest):
         return answer
 
     def compare(self, cases):
-        """Runs all cases and gives the program's answers; fails where the model has others."""
+        """Runs all cases and gives the program's answers; fails where the model has another."""
         cases, found = list(cases), []
         self.assertTrue(cases)
         for case, answer in zip(cases, side_by_side(self.answer, range(len(cases)), cases)):
             found.append(answer)
-            if answer not in (right := case.answers()):
-                with self.subTest(case.name, gsi=case.gsi[:2000], sheet=case.sheet[:2000]):
-                    self.assertEqual(right[0], answer)
+            with self.subTest(case.name, gsi=case.gsi[:2000], sheet=case.sheet[:2000]):
+                self.assertEqual(case.expected(), answer)
         return found

@@ -313,7 +313,7 @@ def direction_text(direction, decimals):
 def stated_of(random, station):
     """Directions that a program could state of a station, all turned by some angle."""
     try:
-        directions = model.least_of(station).directions
+        directions = model.least_of(station)
     except model.Refusal:
         directions = [Fraction(random.randrange(CIRCLE), 10**5) for _ in station.targets]
     turned = random.choice([0, 0, Fraction(random.randrange(CIRCLE), 10**5)])

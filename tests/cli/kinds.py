@@ -43,7 +43,7 @@ OF_BYTES = ["block n: FileTooLong", "sheet: TooLong", "table: TooLong"]
 OF_READS = ["block n: Read", "sheet: Read", "table: Read"]
 
 # Those that no run is known to have.
-NEVER_MET = ["adjust: Unclear"]
+NEVER_MET = ["adjust: NotFound"]
 
 
 def kind_of(answer):

@@ -41,8 +41,8 @@ def command_line():
 FILES = {"check": [0, 1], "compare": [0, 2]}
 
 
-def model_answers(case):
-    """What the model answers, all that is right; a folder is a file whose first read fails."""
+def model_answer(case):
+    """What the model answers; a folder is a file whose first read fails."""
     asked = command_line().parse_intermixed_args(case.args)
     limits = model.Limits(asked.two_c, asked.two_i)
     paths = [
@@ -52,20 +52,20 @@ def model_answers(case):
     ]
     for path in paths:
         if not path.exists():
-            return [(2, b"", f"cannot open {path.name}\n".encode())]
+            return (2, b"", f"cannot open {path.name}\n".encode())
     files = [b"" if path.is_dir() else path.read_bytes() for path in paths]
     fails = [path.is_dir() for path in paths]
     if asked.command is None:
-        return [model.words(case.stdin)]
+        return model.words(case.stdin)
     if asked.command == "words":
-        return [model.words(files[0], fails[0])]
+        return model.words(files[0], fails[0])
     if asked.command == "list":
-        return [model.listed(files[0], limits, fails[0])]
+        return model.listed(files[0], limits, fails[0])
     if asked.command == "check":
-        return [model.check(*files, limits, asked.residual, fails)]
+        return model.check(*files, limits, asked.residual, fails)
     station = asked.operands[1].encode()
     if asked.command == "means":
-        return [model.means(files[0], station, limits, fails[0])]
+        return model.means(files[0], station, limits, fails[0])
     if asked.command == "directions":
         return model.directions(files[0], station, limits, asked.decimals, fails[0])
     return model.compared(files[0], station, files[1], limits, asked.within, fails)
@@ -85,7 +85,7 @@ class ConformanceTest(unittest.TestCase):
             if case.name.endswith("_of_the_largest_station"):
                 continue
             with self.subTest(case.name):
-                self.assertEqual([case.expected], model_answers(case))
+                self.assertEqual(case.expected, model_answer(case))
 
     def test_each_refusal_has_a_case(self):
         met = {kind_of(case.expected) for case in run.cases() if case.expected[0] == 1}

@@ -31,8 +31,8 @@ WHOLE = {
     "list": model.listed(FIELD),
     "means": model.means(FIELD, b"S1"),
     "check": model.check(FIELD, SHEET),
-    "directions": model.directions(FIELD, b"S1")[0],
-    "compare": model.compared(FIELD, b"S1", TABLE)[0],
+    "directions": model.directions(FIELD, b"S1"),
+    "compare": model.compared(FIELD, b"S1", TABLE),
 }
 
 REFUSED_WRITE = b"refused: write failed\n"
@@ -48,8 +48,8 @@ def expected_of_field(command, room, field=FIELD, fails=True):
         "list": lambda: model.listed(given, fails=fails),
         "means": lambda: model.means(given, b"S1", fails=fails),
         "check": lambda: model.check(given, SHEET, fails=(fails, False)),
-        "directions": lambda: model.directions(given, b"S1", fails=fails)[0],
-        "compare": lambda: model.compared(given, b"S1", TABLE, fails=(fails, False))[0],
+        "directions": lambda: model.directions(given, b"S1", fails=fails),
+        "compare": lambda: model.compared(given, b"S1", TABLE, fails=(fails, False)),
     }[command]()
 
 
@@ -195,7 +195,7 @@ class FailingEndsTest(ProgramTest):
         """Two runs over a table of directions of which one read fails, or one ends."""
         limits = {"READ_PATH": self.table, "READ_ROOM": room, "READ_MOST": most, "READ_STOPS": 1}
         for error in [errno.EIO, 0]:
-            expected = model.compared(FIELD, b"S1", table[:room], fails=(False, error != 0))[0]
+            expected = model.compared(FIELD, b"S1", table[:room], fails=(False, error != 0))
             yield "compare", {"READ_ERROR": error, **limits}, expected
 
     def test_a_sheet_of_which_one_read_fails_or_ends(self):

@@ -187,7 +187,7 @@ class SizesTest(ProgramTest):
             for asked, targets in others:
                 field = lines(named_station(asked, targets)) + b"\n"
                 sheet = model.means(field, asked.encode())[1]
-                table = model.directions(field, asked.encode())[0][1]
+                table = model.directions(field, asked.encode())[1]
                 for command in ["words", "list", "means", "check", "directions", "compare"]:
                     second = table if command == "compare" else sheet
                     paths = self.file("field.gsi", field), self.file("second.csv", second)

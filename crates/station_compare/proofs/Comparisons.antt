@@ -1,22 +1,18 @@
 -- From the parts of a comparison to what it answers.
-use Rattle.std.proofs.Common.{◌≡◌, ◌-◌, ◌≤◌, ℕ, ℤ, List, length, Result, Ok, Err, refl, sym, subst, inl}
-use Rattle.std.proofs.Common.{inr, Some}
+use Rattle.std.proofs.Common.{◌≡◌, ℕ, ℤ, List, Result, Ok, Err, refl, sym, subst, inl, inr, Some}
 use Rattle.std.specs.Prelude.{MatchResult}
-use Rattle.adjust_kernel.specs.Residuals.{Choice}
 use Rattle.adjust_kernel.specs.Stations.{StationValue}
-use Rattle.adjust_kernel.specs.declared.bounds.TheConstants.{LARGEST_RESIDUAL_LIMIT}
-use Rattle.stated_directions.specs.Told.{IsTold}
 use Rattle.byte_ends.specs.Input.{Input, Ended, BrokeOff, RanPast, input_within}
 use Rattle.byte_ends.specs.Came.{IsReadOut}
 use Rattle.byte_ends.proofs.Coming.{given_as_told, some_left}
 use Rattle.byte_ends.specs.Source.{Told, ReaderChange, given_then}
 use Rattle.direction_table.specs.Tables.{IsTableText}
 use Rattle.direction_table.specs.declared.reading.TheConstants.{LONGEST_TABLE}
+use Rattle.directions_apart.specs.Apart.{stated_by}
 use Rattle.gsi_file.specs.FileAnswers.{FileAnswers, file_answers}
-use Rattle.sheet_apart.specs.Apart.{AreBroughtWithin, stated_by}
+use Rattle.least_directions.specs.LeastDirections.{AreApart}
 use Rattle.station_book.specs.Limits.{FaceLimits}
 use Rattle.station_book.specs.Stations.{SurveyedStation}
-use Rattle.stated_directions.specs.LeastOf.{IsLeastOf}
 use Rattle.station_check.specs.Answerable.{IsOfFile, LeavesFile}
 use Rattle.station_check.proofs.Leaving.{left_by}
 use Rattle.station_check.specs.StationOfFile.{IsStationOfFile}
@@ -56,9 +52,10 @@ agrees_of limits lines stated name within its a station ended = record {
   whole = ended.1;
   directions = ended.2.compared.directions;
   states = ended.2.compared.states;
-  brought = ended.2.compared.brought;
-  no_nearer = ended.2.compared.no_nearer;
-  told = ended.2.compared.told;
+  adjustable = ended.2.compared.are_apart.adjustable;
+  brought = λ c turns least. (ended.2.compared.are_apart.from_each c turns least).brought;
+  no_nearer = λ n fewer c turns least.
+      (ended.2.compared.are_apart.from_each c turns least).no_nearer n fewer;
   agrees = ended.2.agrees;
   named = ended.2.named;
   counted = ended.2.counted;
@@ -113,24 +110,13 @@ compares_by_file limits lines stated name within file.Memory o h = tt
 -- What a table's directions and how far they are apart say of its bytes.
 pub compared : (station : StationValue) (bytes : List ℕ) (targets : List (List ℕ))
     (directions stated : List ℤ) (apart : ℕ) → targets ≡ station.targets → stated ≡ directions
-    → IsTableText targets bytes directions
-    → ((c : Choice) (turns : List ℤ) → IsLeastOf station c turns
-    → AreBroughtWithin (length station.targets) c (stated_by stated) apart)
-    → (2 ≤ apart → (c : Choice) (turns : List ℤ) → IsLeastOf station c turns
-    → AreBroughtWithin (length station.targets) c (stated_by stated) (apart - 2) → ⊥)
-    → IsTold station LARGEST_RESIDUAL_LIMIT (stated_by stated) apart
+    → IsTableText targets bytes directions → AreApart station (stated_by stated) apart
     → IsComparedWith station bytes apart
-compared station bytes targets directions stated apart same_targets same states brought no_nearer
-    told = record {
-      directions = directions;
-      states = subst (λ names. IsTableText names bytes directions) same_targets states;
-      brought = subst (λ s. (c : Choice) (turns : List ℤ) → IsLeastOf station c turns
-          → AreBroughtWithin (length station.targets) c (stated_by s) apart) same brought;
-      no_nearer = subst (λ s. 2 ≤ apart → (c : Choice) (turns : List ℤ) → IsLeastOf station c turns
-          → AreBroughtWithin (length station.targets) c (stated_by s) (apart - 2)
-          → ⊥) same no_nearer;
-      told = subst (λ s. IsTold station LARGEST_RESIDUAL_LIMIT (stated_by s) apart) same told;
-    }
+compared station bytes targets directions stated apart same_targets same states are_apart = record {
+  directions = directions;
+  states = subst (λ names. IsTableText names bytes directions) same_targets states;
+  are_apart = subst (λ s. AreApart station (stated_by s) apart) same are_apart;
+}
 
 -- What comes of the table is no fault of the field file, which has ended before.
 pub asked : (its : SurveyedStation) (within : ℕ) (r : Result Agreement CompareFault)

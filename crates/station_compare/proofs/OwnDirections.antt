@@ -4,12 +4,6 @@ use Rattle.std.proofs.Common.{length, map, ℤ, pos, Err, arith, refl, ap, sym, 
 use Rattle.std.proofs.Common.{if◌then◌else◌}
 use Rattle.std.proofs.lemmas.Bool.{le-ltb}
 use Rattle.adjust_kernel.specs.Stations.{StationValue}
-use Rattle.adjust_kernel.specs.declared.kernel_fault.KernelFault.TheVariants.{Name, TargetRow}
-use Rattle.adjust_kernel.specs.declared.kernel_fault.KernelFault.TheVariants.{SetRow, ObsRow, Datum}
-use Rattle.adjust_kernel.specs.declared.kernel_fault.KernelFault.TheVariants.{TargetSum, SetSum}
-use Rattle.adjust_kernel.specs.declared.kernel_fault.KernelFault.TheVariants.{NotConnected}
-use Rattle.adjust_kernel.specs.declared.kernel_fault.KernelFault.TheVariants.{Residual}
-use Rattle.adjust_kernel.specs.declared.bounds.TheConstants.{LARGEST_RESIDUAL_LIMIT}
 use Rattle.byte_ends.specs.Input.{Input, Ended, RanPast, input_within}
 use Rattle.byte_ends.specs.Source.{Told}
 use Rattle.direction_table.proofs.LawLemmas.{never_both, one_table}
@@ -19,13 +13,12 @@ use Rattle.direction_table.specs.Texts.{step_of}
 use Rattle.direction_table.specs.declared.reading.TheConstants.{LONGEST_TABLE}
 use Rattle.direction_table.specs.declared.table.TargetDirection.{TargetDirection}
 use Rattle.gsi_file.specs.FileAnswers.{FileAnswers}
-use Rattle.sheet_apart.specs.Apart.{stated_by}
-use Rattle.stated_directions.proofs.LawLemmas.{rounded}
-use Rattle.stated_directions.proofs.TiesLaws.{measured_is_tied}
-use Rattle.stated_directions.specs.Faults.{IsAdjustFault}
-use Rattle.stated_directions.specs.Told.{IsTold}
-use Rattle.stated_directions.specs.declared.fault.AdjustFault.{AdjustFault}
-use Rattle.stated_directions.specs.declared.fault.AdjustFault.TheVariants as adjust
+use Rattle.directions_apart.specs.Apart.{stated_by}
+use Rattle.exact_adjustment.specs.Adjustments.{choice_by}
+use Rattle.exact_adjustment.specs.declared.fault.AdjustFault.{AdjustFault}
+use Rattle.exact_adjustment.specs.declared.fault.AdjustFault.TheVariants as adjust
+use Rattle.least_directions.proofs.LawLemmas.{rounded}
+use Rattle.least_directions.specs.LeastDirections.{AreApart}
 use Rattle.station_book.specs.Limits.{AreLimits, FaceLimits}
 use Rattle.station_book.specs.Stations.{SurveyedStation}
 use Rattle.station_check.specs.StationOfFile.{IsStationOfFile}
@@ -70,34 +63,30 @@ module _ (count : ℕ) (text : List ℕ) (many : 6 ≤ count) where
   -- Own directions beside their station.
   module _ (station : StationValue) (own : IsDirectionsText station count text) where
     own_apart : (directions : List ℤ) (apart : ℕ) → IsTableText station.targets text directions
-        → IsTold station LARGEST_RESIDUAL_LIMIT (stated_by directions) apart → apart ≤ 1
-    own_apart directions apart states told =
+        → AreApart station (stated_by directions) apart → apart ≤ 1
+    own_apart directions apart states is =
         let same : directions ≡ map pos (numbers_of own.stated) =
         one_table station.targets text directions (directions_of own.stated) states own.reads
         ∙ read_as own.stated in
-        rounded station LARGEST_RESIDUAL_LIMIT LARGEST_RESIDUAL_LIMIT (step_of count) apart
-        (numbers_of own.stated) own.told
-        (subst (λ ds. IsTold station LARGEST_RESIDUAL_LIMIT (stated_by ds) apart) same told)
-        (small_step count many)
+        let small = small_step count many in
+        rounded station (step_of count) 1 apart (numbers_of own.stated) own.rounded
+        (omega (arith, small))
+        (subst (λ ds. AreApart station (stated_by ds) apart) same is)
 
     no_more : (within apart : ℕ) → within < apart → apart ≤ 1 → (within ≡ 0) × (apart ≡ 1)
     no_more within apart more few = (omega (arith, more, few), omega (arith, more, few))
 
-    unadjusted : (within : ℕ) (fault : AdjustFault)
-        → IsAdjustFault station LARGEST_RESIDUAL_LIMIT fault → MayRefuse within (Adjust fault)
-    unadjusted within (adjust.Kernel NotConnected) h =
-        h (measured_is_tied station LARGEST_RESIDUAL_LIMIT own.told.sheet own.told.nearness
-        own.told.measured)
-    unadjusted within (adjust.Kernel (Residual n)) h = tt
-    unadjusted within (adjust.Kernel Name) h = h
-    unadjusted within (adjust.Kernel (TargetRow n)) h = h
-    unadjusted within (adjust.Kernel (SetRow n)) h = h
-    unadjusted within (adjust.Kernel (ObsRow n)) h = h
-    unadjusted within (adjust.Kernel Datum) h = h
-    unadjusted within (adjust.Kernel (TargetSum n)) h = h
-    unadjusted within (adjust.Kernel (SetSum n)) h = h
-    unadjusted within adjust.Unclear h = tt
-    unadjusted within adjust.Memory h = tt
+    -- Whose adjustment keeps the limit is not refused for it.
+    unadjusted : (within : ℕ) (fault : AdjustFault) → ByTable station within text (Err (Adjust fault))
+        → MayRefuse within (Adjust fault)
+    unadjusted within adjust.NotConnected h =
+        absurd (h.fault_stands own.rounded.adjustable.tied)
+    unadjusted within (adjust.Residual n) h =
+        let a = own.rounded.adjustable in
+        absurd (h.fault_stands.1.0 (choice_by a.adjustment) a.adjustment.turns a.exact.each
+        a.exact.rules.positive a.exact.sums a.limited)
+    unadjusted within adjust.NotFound h = tt
+    unadjusted within adjust.Memory h = absurd h
 
     by_table : (within : ℕ) (fault : CompareFault) → ByTable station within text (Err fault)
         → MayRefuse within fault
@@ -105,9 +94,9 @@ module _ (count : ℕ) (text : List ℕ) (many : 6 ≤ count) where
     by_table within TableRead h = h
     by_table within (Table fault) h =
         absurd (never_both station.targets text (directions_of own.stated) fault own.reads h)
-    by_table within (Adjust fault) h = unadjusted within fault h.fault_stands
+    by_table within (Adjust fault) h = unadjusted within fault h
     by_table within (Apart apart) h =
-        no_more within apart h.0 (own_apart h.1.directions apart h.1.states h.1.told)
+        no_more within apart h.0 (own_apart h.1.directions apart h.1.states h.1.are_apart)
     by_table within Write h = h
     by_table within Memory h = tt
 
@@ -134,7 +123,10 @@ module _ (count : ℕ) (text : List ℕ) (many : 6 ≤ count) where
         let same : text ≡ h.bytes = cc in
         own_apart h.its.station (its h.its h.station) h.directions a.apart
         (subst (λ bytes. IsTableText h.its.station.targets bytes h.directions)
-        (sym same) h.states) h.told
+        (sym same) h.states) (record { adjustable = h.adjustable; from_each = λ c turns least. record {
+        brought = h.brought c turns least;
+        no_nearer = λ n fewer. h.no_nearer n fewer c turns least;
+        } })
 
     refused_by_table : (within : ℕ) (fault : CompareFault)
         → IsRefusedByTable limits file whole name within fault → MayRefuse within fault

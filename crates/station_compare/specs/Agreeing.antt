@@ -1,18 +1,17 @@
 -- What an agreement says, in the order of the sentence: of the station of this name in the field
 -- file, whose observations are its two-face directions within the limits, one rotation brings every
 -- direction that the table states within so many units of 0.000001 gon of the least-squares one,
--- least over all directions, orientations and full turns.
-use Rattle.std.specs.Prelude.{◌≡◌, ℕ, ◌≤◌, ◌-◌, List, length, ℤ}
+-- least over all directions, orientations and full turns, and none brings them nearer by a unit.
+use Rattle.std.specs.Prelude.{◌≡◌, ℕ, ◌≤◌, ◌<◌, List, length, ℤ}
 use Rattle.adjust_kernel.specs.Residuals.{Choice}
-use Rattle.adjust_kernel.specs.declared.bounds.TheConstants.{LARGEST_RESIDUAL_LIMIT}
 use Rattle.byte_ends.specs.Input.{input_within, Ended}
 use Rattle.byte_ends.specs.Source.{Told}
 use Rattle.direction_table.specs.Tables.{IsTableText}
 use Rattle.direction_table.specs.declared.reading.TheConstants.{LONGEST_TABLE}
+use Rattle.directions_apart.specs.Apart.{AreBroughtWithin, stated_by}
+use Rattle.exact_adjustment.specs.LeastOf.{IsLeastOf}
 use Rattle.gsi_file.specs.FileAnswers.{FileAnswers}
-use Rattle.sheet_apart.specs.Apart.{AreBroughtWithin, stated_by}
-use Rattle.stated_directions.specs.LeastOf.{IsLeastOf}
-use Rattle.stated_directions.specs.Told.{IsTold}
+use Rattle.least_directions.specs.LeastDirections.{IsAdjustable}
 use Rattle.station_book.specs.Limits.{FaceLimits}
 use Rattle.station_book.specs.Stations.{SurveyedStation}
 use Rattle.station_check.specs.StationOfFile.{IsStationOfFile}
@@ -31,16 +30,18 @@ pub record Agrees (limits : FaceLimits) (file : FileAnswers) (stated : Told) (na
   pub whole : input_within LONGEST_TABLE stated ≡ Ended bytes
   pub directions : List ℤ
   pub states : IsTableText its.station.targets bytes directions
+  -- The station's observations hold all sets and targets together, and its exact adjustment keeps
+  -- the residual limit: so a least-squares choice of directions, orientations and full turns, over
+  -- any denominator, is there.
+  pub adjustable : IsAdjustable its.station
   -- One rotation brings every stated direction so near to the least-squares one, whichever choice
-  -- of directions, orientations and full turns, over any denominator, is least.
+  -- is least.
   pub brought : (c : Choice) (turns : List ℤ) → IsLeastOf its.station c turns
       → AreBroughtWithin (length its.station.targets) c (stated_by directions) a.apart
-  -- And no rotation brings them nearer by 2 units.
-  pub no_nearer : 2 ≤ a.apart → (c : Choice) (turns : List ℤ) → IsLeastOf its.station c turns
-      → ¬ AreBroughtWithin (length its.station.targets) c (stated_by directions) (a.apart - 2)
-  -- It is half the spread of the differences from a near sheet of the station, and what that sheet
-  -- leaves open, rounded up; and no residual of the sheet is above the limit.
-  pub told : IsTold its.station LARGEST_RESIDUAL_LIMIT (stated_by directions) a.apart
+  -- And no rotation brings them nearer by a unit.
+  pub no_nearer : (nearer : ℕ) → nearer < a.apart → (c : Choice) (turns : List ℤ)
+      → IsLeastOf its.station c turns
+      → ¬ AreBroughtWithin (length its.station.targets) c (stated_by directions) nearer
   -- That is no further than is asked for.
   pub agrees : a.apart ≤ within
   pub named : a.name ≡ its.station.name

@@ -1,16 +1,14 @@
 -- How a table of directions and a station compare.
-use Rattle.std.specs.Prelude.{◌≡◌, ◌⊎◌, ℕ, ◌≤◌, ◌<◌, ◌-◌, List, length, ℤ, Result, Ok, Err, ⊤}
-use Rattle.adjust_kernel.specs.Residuals.{Choice}
+use Rattle.std.specs.Prelude.{◌≡◌, ◌⊎◌, ℕ, ◌≤◌, ◌<◌, List, length, ℤ, Result, Ok, Err, ⊤}
 use Rattle.adjust_kernel.specs.Stations.{StationValue}
-use Rattle.adjust_kernel.specs.declared.bounds.TheConstants.{LARGEST_RESIDUAL_LIMIT}
 use Rattle.byte_ends.specs.Input.{Input, Ended, BrokeOff, RanPast}
 use Rattle.direction_table.specs.Tables.{IsTableFault, IsTableText}
 use Rattle.direction_table.specs.declared.fault.TableFault.TheVariants.{TooLong}
-use Rattle.sheet_apart.specs.Apart.{AreBroughtWithin, stated_by}
-use Rattle.stated_directions.specs.Faults.{IsAdjustFault}
-use Rattle.stated_directions.specs.LeastOf.{IsLeastOf}
-use Rattle.stated_directions.specs.Told.{IsTold}
-use Rattle.stated_directions.specs.declared.fault.AdjustFault.{AdjustFault}
+use Rattle.directions_apart.specs.Apart.{stated_by}
+use Rattle.exact_adjustment.specs.Faults.{IsAdjustFault}
+use Rattle.exact_adjustment.specs.declared.fault.AdjustFault.{AdjustFault}
+use Rattle.exact_adjustment.specs.declared.fault.AdjustFault.TheVariants as adjust
+use Rattle.least_directions.specs.LeastDirections.{AreApart}
 use Rattle.station_compare.specs.declared.agreement.Agreement.{Agreement}
 use Rattle.station_compare.specs.declared.fault.CompareFault.{CompareFault}
 use Rattle.station_compare.specs.declared.fault.CompareFault.TheVariants.{TableRead, Table}
@@ -18,17 +16,11 @@ use Rattle.station_compare.specs.declared.fault.CompareFault.TheVariants.{Adjust
 
 -- So far are the directions of a table apart from the least-squares directions of a station: one
 -- rotation brings every stated direction within so many units of 0.000001 gon of every
--- least-squares choice, and none brings them nearer by 2 units.
+-- least-squares choice, and none brings them nearer by a unit.
 pub record IsComparedWith (station : StationValue) (bytes : List ℕ) (apart : ℕ) : Type 0 where
   pub directions : List ℤ
   pub states : IsTableText station.targets bytes directions
-  pub brought : (c : Choice) (turns : List ℤ) → IsLeastOf station c turns
-      → AreBroughtWithin (length station.targets) c (stated_by directions) apart
-  pub no_nearer : 2 ≤ apart → (c : Choice) (turns : List ℤ) → IsLeastOf station c turns
-      → ¬ AreBroughtWithin (length station.targets) c (stated_by directions) (apart - 2)
-  -- By a near sheet of the station that keeps the residual limit: half the spread, and what that
-  -- sheet leaves open, rounded up.
-  pub told : IsTold station LARGEST_RESIDUAL_LIMIT (stated_by directions) apart
+  pub are_apart : AreApart station (stated_by directions) apart
 
 -- The table agrees: its directions are no further apart than is asked for.
 pub record IsAgreement (station : StationValue) (bytes : List ℕ) (within : ℕ) (a : Agreement)
@@ -43,13 +35,15 @@ pub record IsUnadjusted (station : StationValue) (bytes : List ℕ) (fault : Adj
     : Type 0 where
   pub directions : List ℤ
   pub states : IsTableText station.targets bytes directions
-  pub fault_stands : IsAdjustFault station LARGEST_RESIDUAL_LIMIT fault
+  pub fault_stands : IsAdjustFault station fault
 
--- What is answered of a station and the bytes of a table.
+-- What is answered of a station and the bytes of a table. Where memory runs out in the adjustment,
+-- that is no fault of it.
 abbrev pub ByTable :
     StationValue → ℕ → List ℕ → Result Agreement CompareFault → Type 0
 ByTable station within bytes (Ok a) = IsAgreement station bytes within a
 ByTable station within bytes (Err (Table fault)) = IsTableFault station.targets bytes fault
+ByTable station within bytes (Err (Adjust adjust.Memory)) = ⊥
 ByTable station within bytes (Err (Adjust fault)) = IsUnadjusted station bytes fault
 ByTable station within bytes (Err (Apart apart)) =
     (within < apart) × IsComparedWith station bytes apart

@@ -1,19 +1,14 @@
 -- The table of a station's least-squares directions, as it is printed, and why there is none.
-use Rattle.std.specs.Prelude.{◌≡◌, ℕ, ◌+◌, ◌*◌, List, All, length, map, slice_index_or, ℤ, Result}
-use Rattle.std.specs.Prelude.{Ok, Err, ⊤}
-use Rattle.adjust_kernel.specs.Residuals.{Choice}
+use Rattle.std.specs.Prelude.{◌≡◌, ℕ, List, All, map, slice_index_or, Result, Ok, Err, ⊤}
 use Rattle.adjust_kernel.specs.Stations.{StationValue}
-use Rattle.adjust_kernel.specs.declared.bounds.TheConstants.{LARGEST_RESIDUAL_LIMIT}
 use Rattle.direction_table.specs.TableTexts.{directions_of, names_of, table_text}
 use Rattle.direction_table.specs.Tables.{IsTableText}
 use Rattle.direction_table.specs.Texts.{IsWhole, step_of}
 use Rattle.direction_table.specs.declared.table.TargetDirection.{TargetDirection}
 use Rattle.gsi_file.specs.FileAnswers.{FileAnswers}
-use Rattle.sheet_apart.specs.Apart.{AreBroughtNear}
-use Rattle.sheet_apart.specs.declared.units.TheConstants.{CLEAR_BELOW}
-use Rattle.stated_directions.specs.Faults.{IsAdjustFault}
-use Rattle.stated_directions.specs.LeastOf.{IsLeastOf}
-use Rattle.stated_directions.specs.Told.{AreTold, as_stated}
+use Rattle.exact_adjustment.specs.Faults.{IsAdjustFault}
+use Rattle.exact_adjustment.specs.declared.fault.AdjustFault.TheVariants as adjust
+use Rattle.least_directions.specs.LeastDirections.{AreRounded}
 use Rattle.station_book.specs.Limits.{FaceLimits}
 use Rattle.station_book.specs.Stations.{SurveyedStation}
 use Rattle.station_check.specs.Means.{HasNoStation}
@@ -36,15 +31,10 @@ pub record IsDirectionsText (station : StationValue) (count : ℕ) (text : List 
   -- The first direction is 0; and each is from 0 and below a full circle, and written exactly.
   pub first : slice_index_or (numbers_of stated) 0 0 ≡ 0
   pub whole : All (IsWhole count) (numbers_of stated)
-  -- One rotation brings every direction within half a unit of the last decimal, and an eighth of
-  -- 0.000001 gon, of the least-squares one, whichever choice of directions, orientations and full
-  -- turns, over any denominator, is least.
-  pub near : (c : Choice) (turns : List ℤ) → IsLeastOf station c turns
-      → AreBroughtNear (length station.targets) c (as_stated (numbers_of stated))
-      (step_of count + 2 * CLEAR_BELOW)
-  -- They are those of a near sheet of the station that keeps the residual limit, each rounded to
-  -- its last decimal; the middle of two goes up.
-  pub told : AreTold station LARGEST_RESIDUAL_LIMIT (step_of count) (numbers_of stated)
+  -- Each is the least-squares direction, counted from the first and rounded to its last decimal,
+  -- the middle of two upwards, whichever choice of directions, orientations and full turns, over
+  -- any denominator, is least.
+  pub rounded : AreRounded station (step_of count) (numbers_of stated)
   -- And the text is read as the table of these very directions.
   pub reads : IsTableText station.targets text (directions_of stated)
 
@@ -57,7 +47,8 @@ pub record StatesDirections (limits : FaceLimits) (file : FileAnswers) (name : L
 
 -- Why a station has no table: what its adjustment has, or that there was no memory.
 abbrev pub HasNoTable : StationValue → CompareFault → Type 0
-HasNoTable station (Adjust fault) = IsAdjustFault station LARGEST_RESIDUAL_LIMIT fault
+HasNoTable station (Adjust adjust.Memory) = ⊥
+HasNoTable station (Adjust fault) = IsAdjustFault station fault
 HasNoTable station Memory = ⊤
 HasNoTable station fault = ⊥
 

@@ -1,9 +1,8 @@
 -- The text of a fault, as the line of a refusal has it: where it is, its name, and what it carries;
 -- and the line of a table that agrees (profile).
 use Rattle.std.specs.Prelude.{ℕ, List, Some, [], ◌++◌, codes, decimal}
-use Rattle.adjust_kernel.specs.FaultNames.{kernel_fault_number}
 use Rattle.direction_table.specs.declared.fault.TableFault.TheVariants as table
-use Rattle.stated_directions.specs.declared.fault.AdjustFault.TheVariants as adjust
+use Rattle.exact_adjustment.specs.declared.fault.AdjustFault.TheVariants as adjust
 use Rattle.station_check.specs.FaultTexts.{numbered_place, place_text, number_text, carried_text}
 use Rattle.station_compare.specs.FaultNames.{compare_fault_name}
 use Rattle.station_compare.specs.declared.agreement.Agreement.{Agreement}
@@ -19,8 +18,7 @@ compare_place_text TableRead = codes "table: "
 compare_place_text (Table table.TooLong) = codes "table: "
 compare_place_text (Table (table.Row number _)) = numbered_place (codes "table row ") number
 compare_place_text (Table (table.Missing target)) = codes "table: "
-compare_place_text (Adjust (adjust.Kernel fault)) = codes "adjust: "
-compare_place_text (Adjust adjust.Unclear) = codes "adjust: "
+compare_place_text (Adjust fault) = codes "adjust: "
 compare_place_text (Apart apart) = codes "compare: "
 compare_place_text fault = []
 
@@ -28,7 +26,7 @@ compare_place_text fault = []
 abbrev pub compare_carried_text : CompareFault → List ℕ
 compare_carried_text (File fault) = carried_text fault
 compare_carried_text (Table (table.Missing target)) = number_text (Some target)
-compare_carried_text (Adjust (adjust.Kernel fault)) = number_text (kernel_fault_number fault)
+compare_carried_text (Adjust (adjust.Residual number)) = number_text (Some number)
 compare_carried_text (Apart apart) = number_text (Some apart)
 compare_carried_text fault = []
 

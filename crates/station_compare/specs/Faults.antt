@@ -3,8 +3,8 @@ use Rattle.byte_ends.specs.declared.input.InputFault.{InputFault}
 use Rattle.byte_ends.specs.declared.input.InputFault.TheVariants as input
 use Rattle.direction_table.specs.declared.fault.TableFault.{TableFault}
 use Rattle.direction_table.specs.declared.fault.TableFault.TheVariants as table
-use Rattle.stated_directions.specs.declared.fault.AdjustFault.{AdjustFault}
-use Rattle.stated_directions.specs.declared.fault.AdjustFault.TheVariants as adjust
+use Rattle.exact_adjustment.specs.declared.fault.AdjustFault.{AdjustFault}
+use Rattle.exact_adjustment.specs.declared.fault.AdjustFault.TheVariants as adjust
 use Rattle.station_check.specs.declared.fault.Fault.{Fault}
 use Rattle.station_check.specs.declared.fault.Fault.TheVariants as file
 use Rattle.station_compare.specs.declared.fault.CompareFault.{CompareFault}

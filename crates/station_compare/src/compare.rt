@@ -1,6 +1,5 @@
 //! A field file and a table of directions, compared.
 ghost use Rattle.std.specs.Prelude.{◌≡◌};
-ghost use Rattle.adjust_kernel.specs.declared.bounds.TheConstants.{LARGEST_RESIDUAL_LIMIT};
 ghost use Rattle.byte_ends.specs.Came.{BytesCame};
 ghost use Rattle.byte_ends.specs.Input.{input_within};
 ghost use Rattle.byte_ends.specs.Source.{reader_change, UntilDropped};
@@ -10,10 +9,10 @@ ghost use Rattle.station_compare.specs.Comparing.{ByInput, ByTable};
 
 use crate::agreement::Agreement;
 use crate::fault::CompareFault;
-use adjust_kernel::{LARGEST_RESIDUAL_LIMIT, ResidualLimit, Station};
+use adjust_kernel::Station;
 use byte_ends::{Source, read_whole};
 use direction_table::{LONGEST_TABLE, read_table};
-use stated_directions::apart_from_least;
+use least_directions::apart_from_least;
 use station_book::Limits;
 use station_check::{Fault, stations_of_file};
 use std::alloc::Global;
@@ -22,8 +21,8 @@ use std::alloc::Global;
 /// station of this name, within so many units of 0.000001 gon.
 ///
 /// Where they agree, one rotation brings every stated direction so near to the least-squares one,
-/// least over all directions, orientations and full turns, and none brings them nearer by 2 units.
-/// No observation may lie further from the adjustment than 2,000 half units (0.005 mgon each).
+/// least over all directions, orientations and full turns, and none brings them nearer by a unit.
+/// No least-squares residual may be above 2,000 half units (0.005 mgon each).
 ///
 /// The field file is read to its end first, and the table's reader is not asked before.
 ///
@@ -99,7 +98,7 @@ fn compare_table(
     ensures { ByTable station.now within bytes.now result }
 {
     let directions = read_table(alloc, station.targets(), bytes)?;
-    let apart = apart_from_least(alloc, station, &directions, largest_limit())?;
+    let apart = apart_from_least(alloc, station, &directions)?;
     if apart > within {
         return Err(CompareFault::Apart(apart));
     }
@@ -108,11 +107,4 @@ fn compare_table(
         targets: station.targets().len() as u32,
         apart,
     })
-}
-
-/// The largest residual limit: no observation may lie further from an adjustment that is told.
-pub(crate) fn largest_limit() -> ResidualLimit
-    ensures { result ≡ LARGEST_RESIDUAL_LIMIT }
-{
-    ResidualLimit::new(LARGEST_RESIDUAL_LIMIT).unwrap()
 }

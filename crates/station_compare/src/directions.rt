@@ -1,6 +1,6 @@
 //! The table of a station's least-squares directions.
 ghost use Rattle.std.specs.Prelude.{◌≡◌, ◌≤◌, ◌%◌, length, map, MatchResult, IfOk};
-ghost use Rattle.sheet_apart.specs.declared.units.TheConstants.{CIRCLE};
+ghost use Rattle.directions_apart.specs.declared.units.TheConstants.{CIRCLE};
 ghost use Rattle.direction_table.specs.Texts.{step_of};
 ghost use Rattle.byte_ends.specs.Sink.{writer_change};
 ghost use Rattle.byte_ends.specs.Source.{UntilDropped};
@@ -8,12 +8,11 @@ ghost use Rattle.station_compare.specs.Directions.{StatesDirections, HasNoDirect
 ghost use Rattle.station_compare.specs.Directions.{IsDirectionsText, HasNoTable, numbers_of};
 ghost use Rattle.station_compare.specs.Runs.{IsDirectionsRun, ReadsFieldFile};
 
-use crate::compare::largest_limit;
 use crate::fault::CompareFault;
 use adjust_kernel::{Name, Station};
 use byte_ends::{Sink, Source};
 use direction_table::{Decimals, TargetDirection, table_text};
-use stated_directions::rounded_directions;
+use least_directions::rounded_directions;
 use station_book::Limits;
 use station_check::{Fault, stations_of_file, write_whole};
 use std::alloc::{AllocError, Global};
@@ -21,9 +20,8 @@ use std::alloc::{AllocError, Global};
 /// The text of the table of the least-squares directions of the station of this name: a row for
 /// each target in their order, the first 0, each rounded to so many decimals of a gon.
 ///
-/// One rotation brings every direction within half a unit of the last decimal, and an eighth of
-/// 0.000001 gon, of the least-squares one, least over all directions, orientations and full turns.
-/// No observation may lie further from the adjustment than 2,000 half units (0.005 mgon each).
+/// Each is exactly rounded, the middle of two upwards: least over all directions, orientations and
+/// full turns. No least-squares residual may be above 2,000 half units (0.005 mgon each).
 ///
 /// # Errors
 ///
@@ -83,7 +81,7 @@ fn text_of_station(
         (λ text. IsDirectionsText station.now decimals text.items)
         (HasNoTable station.now) }
 {
-    let directions = rounded_directions(alloc, station, step_of(decimals), largest_limit())?;
+    let directions = rounded_directions(alloc, station, step_of(decimals))?;
     let stated = rows_of(alloc, station.targets(), &directions)?;
     Ok(table_text(alloc, &stated, decimals)?)
 }

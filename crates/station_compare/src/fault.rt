@@ -1,12 +1,12 @@
 //! Why stated directions don't agree, or aren't compared.
 ghost use Rattle.std.specs.Prelude.{◌≡◌, ◌≤◌, length};
-ghost use Rattle.station_compare.specs.FaultNames.{compare_fault_name};
+ghost use Rattle.station_compare.specs.FaultNames as names;
 ghost use Rattle.station_compare.specs.Faults.{of_adjust, of_file, of_input, of_table};
 ghost use Rattle.station_compare.specs.declared.fault.CompareFault.TheVariants.{Memory, Write};
 
 use byte_ends::{Failed, InputFault};
 use direction_table::TableFault;
-use stated_directions::AdjustFault;
+use exact_adjustment::AdjustFault;
 use station_check::Fault;
 use std::alloc::AllocError;
 use thiserror::Error;
@@ -42,18 +42,31 @@ pub enum CompareFault {
 impl CompareFault {
     /// Its name, as the line of a refusal has it.
     pub fn name(self) -> &'static str
-        ensures name { result.now ≡ compare_fault_name self }
+        ensures name { result.now ≡ names.compare_fault_name self }
         ensures short { length result.now ≤ 16 }
     {
         match self {
             CompareFault::File(fault) => fault.name(),
             CompareFault::TableRead => "Read",
             CompareFault::Table(fault) => fault.name(),
-            CompareFault::Adjust(fault) => fault.name(),
+            CompareFault::Adjust(fault) => adjust_fault_name(fault),
             CompareFault::Apart(_) => "Apart",
             CompareFault::Write => "write failed",
             CompareFault::Memory => "out of memory",
         }
+    }
+}
+
+/// The name of why a station has no adjustment.
+fn adjust_fault_name(fault: AdjustFault) -> &'static str
+    ensures name { result.now ≡ names.adjust_fault_name fault }
+    ensures short { length result.now ≤ 16 }
+{
+    match fault {
+        AdjustFault::NotConnected => "NotConnected",
+        AdjustFault::Residual(_) => "Residual",
+        AdjustFault::NotFound => "NotFound",
+        AdjustFault::Memory => "out of memory",
     }
 }
 

@@ -12,9 +12,8 @@ ghost use Rattle.station_compare.specs.declared.fault.CompareFault.{CompareFault
 
 /// What `write_directions` writes with 6 decimals or more, `compare_bytes` finds apart by 1 unit at
 /// most, of the same lines and by the same limits, whatever is asked for. It refuses it for no
-/// fault of the lines or of the table and not as `NotConnected`, and within 1 or more not as
-/// `Apart`. By the contracts alone it may go by another sheet of the station than the directions
-/// do, and refuse that (`Residual`, `Unclear`); and memory may run out.
+/// fault of the lines or of the table, not as `NotConnected` or `Residual`, and within 1 or more not
+/// as `Apart`. No contract excludes that the adjustment is not found again, or that memory runs out.
 pub fn directions_agree()
     ensures agrees { (limits : FaceLimits) (file : FileAnswers) (name text : List ℕ)
         (count within : ℕ) (a : Agreement) → AreLimits limits

@@ -6,7 +6,7 @@ ghost use Rattle.station_compare.specs.FaultTexts as spec;
 
 use crate::fault::CompareFault;
 use direction_table::TableFault;
-use stated_directions::AdjustFault;
+use exact_adjustment::AdjustFault;
 use station_check::{
     LONGEST_CARRIED, LONGEST_PLACE, LONGEST_VERDICT_LINE, VerdictLine, add, add_carried,
     add_number, add_numbered_place, add_place,
@@ -40,9 +40,7 @@ fn add_compare_place(line: &mut VerdictLine, fault: CompareFault)
         | CompareFault::Table(TableFault::TooLong | TableFault::Missing(_)) => {
             add(line, b"table: ");
         }
-        CompareFault::Adjust(AdjustFault::Kernel(_) | AdjustFault::Unclear) => {
-            add(line, b"adjust: ");
-        }
+        CompareFault::Adjust(_) => add(line, b"adjust: "),
         CompareFault::Apart(_) => add(line, b"compare: "),
         _ => {}
     }
@@ -57,7 +55,7 @@ fn add_compare_carried(line: &mut VerdictLine, fault: CompareFault)
     match fault {
         CompareFault::File(fault) => add_carried(line, fault),
         CompareFault::Table(TableFault::Missing(target)) => add_number(line, Some(target)),
-        CompareFault::Adjust(AdjustFault::Kernel(fault)) => add_number(line, fault.number()),
+        CompareFault::Adjust(AdjustFault::Residual(number)) => add_number(line, Some(number)),
         CompareFault::Apart(apart) => add_number(line, Some(apart)),
         _ => {}
     }

@@ -2,10 +2,10 @@
 
 mod ends;
 
-use adjust_kernel::{KernelFault, Name};
+use adjust_kernel::Name;
 use byte_ends::{Held, Script};
 use direction_table::{RowKind, TableFault};
-use stated_directions::AdjustFault;
+use exact_adjustment::AdjustFault;
 use station_book::Limits;
 use station_check::Fault;
 use station_compare::{
@@ -124,13 +124,13 @@ fn the_first_fault_is_answered(rt: HostRuntime) -> Result<(), Fail> {
             PARTS,
             b"S2",
             b"A,0\nB,0\n",
-            CompareFault::Adjust(AdjustFault::Kernel(KernelFault::NotConnected)),
+            CompareFault::Adjust(AdjustFault::NotConnected),
         ),
         (
             TIE,
             b"S3",
             b"A,0\nB,0\n",
-            CompareFault::Adjust(AdjustFault::Kernel(KernelFault::Residual(1))),
+            CompareFault::Adjust(AdjustFault::Residual(1)),
         ),
     ];
     for (gsi, name, table, want) in cases {
@@ -167,12 +167,12 @@ fn lines_are_as_the_formats_have_them(rt: HostRuntime) -> Result<(), Fail> {
             b"refused: table: Missing 3\n",
         ),
         (
-            CompareFault::Adjust(AdjustFault::Kernel(KernelFault::Residual(1))),
+            CompareFault::Adjust(AdjustFault::Residual(1)),
             b"refused: adjust: Residual 1\n",
         ),
         (
-            CompareFault::Adjust(AdjustFault::Unclear),
-            b"refused: adjust: Unclear\n",
+            CompareFault::Adjust(AdjustFault::NotFound),
+            b"refused: adjust: NotFound\n",
         ),
         (CompareFault::Apart(15), b"refused: compare: Apart 15\n"),
     ];

@@ -682,9 +682,10 @@ its own.",
             meaning: "a residual is above its limit",
             when: "\
 As 'kernel: Residual', the residual of the obs row of this number, from 1, is above N half units of
-0.005 mgon, where '--residual N' was stated. As 'adjust: Residual', in the adjustment of 'compare'
-or 'directions' the residual of the observation of this number, from 1, is above 2000 half units.
-The observations of a station are counted in the order in which 'station_check list GSI' has them.",
+0.005 mgon, where '--residual N' was stated. As 'adjust: Residual', some least-squares residual is
+above 2000 half units in the adjustment of 'compare' or 'directions', and that of the observation of
+this number, from 1, is the greatest. The observations of a station are counted in the order in
+which 'station_check list GSI' has them.",
             example: "refused: kernel: Residual 1",
             remedy: "\
 Look at that observation: one that stands out comes of a wrong target or a wrong name in
@@ -732,13 +733,13 @@ Add the row of that target. 'station_check directions GSI STATION' prints all of
 in their order. To compare fewer targets, check a copy of the field file without the others.",
         },
         Explanation {
-            names: &["Unclear"],
-            meaning: "the adjustment cannot be told nearly enough",
+            names: &["NotFound"],
+            meaning: "no exact adjustment was found",
             when: "\
-'compare' and 'directions' make an adjustment of their own, and tell how near it is to each that is
-least. Here it leaves an eighth of 0.000001 gon open, or more. No station is known of which this
+'compare' and 'directions' look for the exact adjustment of the station, and test it. Here none was
+found, though the observations hold all sets and targets together. No station is known of which this
 is so.",
-            example: "refused: adjust: Unclear",
+            example: "refused: adjust: NotFound",
             remedy: "\
 Have another program adjust the station, as adjust.py of the examples, and check its
 sheet with 'station_check check'.",

@@ -7,16 +7,14 @@ returns-then-apart-within c = (
   search rules,
   compared c.args.station.now c.args.bytes.now _ c.in_ok-directions.directions.items _
       c.in_ok-apart.apart c.targets.ensures.value c.deref.ensures.value
-      c.in_ok-directions.ensures.table c.in_ok-apart.ensures.within c.in_ok-apart.ensures.no_nearer
-      (rw c.largest_limit.ensures at c.in_ok-apart.ensures.told),
+      c.in_ok-directions.ensures.table c.in_ok-apart.ensures.apart,
 )
 
 pub returns : goal.returns
 returns c = record {
   compared = compared c.args.station.now c.args.bytes.now _ c.in_ok-directions.directions.items _
       c.in_ok-apart.apart c.targets.ensures.value c.deref.ensures.value
-      c.in_ok-directions.ensures.table c.in_ok-apart.ensures.within c.in_ok-apart.ensures.no_nearer
-      (rw c.largest_limit.ensures at c.in_ok-apart.ensures.told);
+      c.in_ok-directions.ensures.table c.in_ok-apart.ensures.apart;
   agrees = search rules;
   named = search rules;
   counted = search rules;

@@ -1,5 +1,5 @@
 use Rattle.std.proofs.Common.{◌≡◌, ◌≤◌, ◌%◌, ℕ, subst, sym, rules}
-use Rattle.sheet_apart.specs.declared.units.TheConstants.{CIRCLE}
+use Rattle.directions_apart.specs.declared.units.TheConstants.{CIRCLE}
 use Rattle.station_compare.proofs.Steps.{fits}
 use Rattle.station_compare.proofs.directions.step_of.Goals as goal
 

@@ -22,8 +22,7 @@ returns c =
       named = named;
       first = search rules;
       whole = whole;
-      near = search rules;
-      told = search rules;
+      rounded = search rules;
       reads = subst (λ (t : List ℕ). IsTableText station.targets t (directions_of rows))
           (sym text_is)
           (table_reads_back station.targets count rows c.targets.ensures.valid.targets named
