@@ -1,4 +1,0 @@
-pub mod ArcLaws
-pub mod SpreadLaws
-pub mod ApartLaws
-pub mod RoundingLaws

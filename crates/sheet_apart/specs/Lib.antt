@@ -1,5 +1,0 @@
--- The public definitions, which public contracts and laws cite, in the order in which a reader
--- needs them.
-pub mod Arcs
-pub mod Apart
-pub mod Rounding

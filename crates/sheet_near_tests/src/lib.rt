@@ -1,8 +1,0 @@
-//! The tests of `sheet_near`, by its public calls alone.
-//!
-//! They stand apart from it, since a check of a crate's tests proves the crate's own functions once
-//! more.
-#![tactic(auto)]
-
-#[cfg(test)]
-mod tests;

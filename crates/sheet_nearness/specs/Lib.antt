@@ -1,4 +1,0 @@
--- The public definitions, which public contracts and laws cite, in the order in which a reader
--- needs them.
-pub mod Levels
-pub mod Nearness

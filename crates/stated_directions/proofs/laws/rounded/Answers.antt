@@ -1,5 +1,0 @@
-use Rattle.stated_directions.proofs.LawLemmas.{rounded}
-use Rattle.stated_directions.proofs.laws.rounded.Goals as goal
-
-pub returns : goal.returns
-returns c = rounded
