@@ -1,10 +1,10 @@
 -- Texts that are written one after the other.
 use Rattle.std.proofs.Common.{◌≡◌, ℕ, List, [], ◌∷◌, ◌++◌, take, drop, length, Option, refl, sym, ap}
-use Rattle.std.proofs.Common.{subst, ◌∙◌, append_assoc, Bool, true, false, flat_map}
+use Rattle.std.proofs.Common.{subst, ◌∙◌, append_assoc, Bool, true, false, flat_map, drop-cons, add-one}
 use Rattle.std.specs.Io.KnownBytes.{Appends}
 use Rattle.std.proofs.KnownBytes.{Appends-nil, Appends-trans}
 use Rattle.std.proofs.lemmas.List.{append-nil, take-append-drop, take_at}
-use Rattle.std.specs.Prelude.{◌||◌, Result, Ok, Err, OnOk, OnErr}
+use Rattle.std.specs.Prelude.{◌||◌, ◌==◌, ◌+◌, ◌<◌, slice_index, Result, Ok, Err, OnOk, OnErr}
 use Rattle.std.specs.List.{list_any}
 use Rattle.byte_digests.specs.DigestLines.{escaped, is_escaped}
 use Rattle.byte_ends.specs.Sink.{AppendsSome}
@@ -57,7 +57,8 @@ neither false q e = (refl, e)
 
 plain_byte : (x : ℕ) → is_escaped x ≡ false → escaped x ≡ x ∷ []
 plain_byte x e =
-    let one = neither _ _ e in let two = neither _ _ one.1 in rw (one.0, two.0, two.1) refl
+    let one = neither (x == 92) ((x == 10) || (x == 13)) e in
+    let two = neither (x == 10) (x == 13) one.1 in rw (one.0, two.0, two.1) refl
 
 -- A name without such a byte stands as it is.
 pub plain_name : (name : List ℕ) → list_any is_escaped name ≡ false
@@ -67,3 +68,46 @@ plain_name (x ∷ xs) e =
     let here = neither (is_escaped x) (list_any is_escaped xs) e in
     ap (λ (t : List ℕ). t ++ flat_map escaped xs) (plain_byte x here.0)
     ∙ ap (λ (t : List ℕ). x ∷ t) (plain_name xs here.1)
+
+-- Of a text all but this rest was written.
+pub record Partly (text rest : List ℕ) (old now : Option (List ℕ)) : Type 0 where
+  pub done : List ℕ
+  pub split : done ++ rest ≡ text
+  pub got : Appends old now done
+
+pub partly_none : (text : List ℕ) (old : Option (List ℕ)) → Partly text text old old
+partly_none text old = record { done = []; split = refl; got = Appends-nil old }
+
+-- One piece more.
+pub partly_then : (text rest piece after : List ℕ) (old now new : Option (List ℕ))
+    → Partly text rest old now → Appends now new piece → rest ≡ piece ++ after
+    → Partly text after old new
+partly_then text rest piece after old now new p h e = record {
+  done = p.done ++ piece;
+  split = append_assoc p.done piece after ∙ ap (λ (r : List ℕ). p.done ++ r) (sym e) ∙ p.split;
+  got = Appends-trans old now new p.done piece p.got h;
+}
+
+-- Some of one piece more.
+pub partly_some : (text rest piece after : List ℕ) (old now new : Option (List ℕ))
+    → Partly text rest old now → AppendsSome now new piece → rest ≡ piece ++ after
+    → AppendsSome old new text
+partly_some text rest piece after old now new p h e =
+    subst (λ (t : List ℕ). AppendsSome old new t)
+    (ap (λ (r : List ℕ). p.done ++ r) (sym e) ∙ p.split)
+    (then_some old now new p.done (piece ++ after) p.got (some_of_longer now new piece after h))
+
+-- All of it.
+pub partly_all : (text rest : List ℕ) (old now : Option (List ℕ)) → Partly text rest old now
+    → rest ≡ [] → Appends old now text
+partly_all text rest old now p e =
+    subst (λ (t : List ℕ). Appends old now t)
+    (sym (append-nil p.done) ∙ ap (λ (r : List ℕ). p.done ++ r) (sym e) ∙ p.split) p.got
+
+-- What is left of a name begins with its next byte.
+pub next_byte : (name : List ℕ) (i : ℕ) → i < length name
+    → flat_map escaped (drop i name)
+    ≡ escaped (slice_index name i) ++ flat_map escaped (drop (i + 1) name)
+next_byte name i lt =
+    ap (λ (rest : List ℕ). flat_map escaped rest)
+    (drop-cons name i 0 lt ∙ ap (λ k. slice_index name i ∷ drop k name) (sym (add-one i)))
