@@ -1,11 +1,11 @@
 -- What is printed of faults, and what the answer of a run that explains them says.
-use Rattle.std.specs.Prelude.{◌≡◌, ◌-◌, ◌∷◌, ◌++◌, [], ℕ, Bool, List, Option, Some, None, Result}
+use Rattle.std.specs.Prelude.{◌≡◌, ◌-◌, ◌∷◌, ◌++◌, [], ℕ, List, Option, Some, None, Result}
 use Rattle.std.specs.Prelude.{OnOk, OnErr, IfErr, codes, ⊤}
 use Rattle.std.specs.Borrow.{Bor}
 use Rattle.std.specs.Fmt.{char_count}
 use Rattle.std.specs.List.{join_by, flat_map, repeat}
 use Rattle.std.specs.Io.KnownBytes.{Appends}
-use Rattle.byte_ends.specs.Sink.{AppendsSome}
+use Rattle.byte_ends.specs.Sink.{AppendsSome, WriterChange}
 use Rattle.station_check.specs.declared.fault.Fault.{Fault}
 use Rattle.station_check.specs.declared.fault.Fault.TheVariants.{Write, Memory}
 use Rattle.station_check.specs.Answerable.{FailsAtWrite, IsUnwritten, HandsOn}
@@ -50,14 +50,13 @@ IsOfExplain fault = ⊥
 -- A run that prints this text: with Ok it was written whole and handed on; where a call of `out`
 -- failed, and only there the answer says so, some of its first bytes were; at any other refusal
 -- nothing was asked of `out`.
-pub record IsExplainRun {A W : Type 0} (table : List (Bor (List Explanation)))
-    (fault : Option Explanation) (failed : W → Bool) (holds : W → Option (List ℕ))
-    (handed_on : W → Bool) (out out' : W) (r : Result A Fault) : Type 0 where
+pub record IsExplainRun {A : Type 0} (table : List (Bor (List Explanation)))
+    (fault : Option Explanation) (r : Result A Fault) (out : WriterChange) : Type 0 where
   pub text : List ℕ
   pub of_fault : Explains table fault text
   pub of_explain : IfErr r IsOfExplain
-  pub written : OnOk r (Appends (holds out) (holds out') text)
-  pub handed : HandsOn r (handed_on out')
-  pub cut_short : OnErr r (AppendsSome (holds out) (holds out') text)
-  pub fails : FailsAtWrite r (failed out) (failed out')
-  pub unwritten : IsUnwritten r out out'
+  pub written : OnOk r (Appends out.holds out.holds' text)
+  pub handed : HandsOn r out.is_handed_on
+  pub cut_short : OnErr r (AppendsSome out.holds out.holds' text)
+  pub fails : FailsAtWrite r out
+  pub unwritten : IsUnwritten r out

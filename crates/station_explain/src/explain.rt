@@ -2,7 +2,8 @@
 
 ghost use Rattle.std.specs.Prelude.{◌≡◌, ◌++◌, IfOk, OnOk, IfNone, option_map, string_bytes, ⊤};
 ghost use Rattle.std.specs.List.{flat_map};
-ghost use Rattle.station_check.specs.RunEndings.{EndsWith};
+ghost use Rattle.byte_ends.specs.Sink.{writer_change};
+ghost use Rattle.station_check.specs.RunEndings.{Run};
 ghost use Rattle.station_check.specs.VerdictLines.{refusal_line};
 ghost use Rattle.station_explain.specs.Explaining.{meaning_text, name_line, name_lines, list_text};
 ghost use Rattle.station_explain.specs.Explaining.{Explains, IsExplainRun};
@@ -24,10 +25,10 @@ pub fn run_explain<W: Sink, E: Sink>(
     out: &mut W,
     err: &mut E,
 ) -> u8
-    ensures { EndsWith {A = ⊤} refusal_line
-        (IsExplainRun table.now (option_map (λ e. e.now) fault.entry)
-        W.failed W.holds W.handed_on out.old out.new)
-        result E.failed E.holds err.old err.new }
+    ensures { Run {A = ⊤} refusal_line
+        (IsExplainRun table.now (option_map (λ e. e.now) fault.entry))
+        result (writer_change W.failed W.holds W.handed_on out.old out.new)
+        (writer_change E.failed E.holds E.handed_on err.old err.new) }
 {
     match print(alloc, table, fault, out) {
         Ok(()) => DONE,
@@ -43,8 +44,8 @@ fn print<W: Sink>(
     fault: Option<&Explanation>,
     out: &mut W,
 ) -> Result<(), Fault>
-    ensures { IsExplainRun table.now (option_map (λ e. e.now) fault.entry)
-        W.failed W.holds W.handed_on out.old out.new result }
+    ensures { IsExplainRun table.now (option_map (λ e. e.now) fault.entry) result
+        (writer_change W.failed W.holds W.handed_on out.old out.new) }
 {
     let text = match explaining_text(alloc, table, fault) {
         Ok(text) => text,
