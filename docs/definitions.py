@@ -12,6 +12,12 @@ from typing import NamedTuple
 ROOT = Path(__file__).resolve().parents[1]
 PAGE = ROOT / "docs" / "DEFINITIONS.md"
 ACCEPTANCE = ("station_check", "Accepted")
+CONTRACT = [
+    ("byte_ends", "Came"),
+    ("station_check", "Answerable"),
+    ("station_check", "SheetInput"),
+    ("station_check", "Promise"),
+]
 AGREEMENT = ("station_compare", "Agreeing")
 
 USE = re.compile(r"^use Rattle\.(\w+)\.specs\.(\w+)(?:\.|$| as)", re.MULTILINE)
@@ -36,11 +42,13 @@ The program finds the exact adjustment of the station by a solver that nothing r
 EVERY_READER = """\
 ## Every reader, files included
 
-A source may *tell* contracts which bytes it still gives, and whether it then fails. A file of the system or a terminal tells nothing beforehand. Why what is promised of sources that tell is true of these too:
+A source may *tell* contracts which bytes it still gives, and whether it then fails. A slice does; a file of the system or a terminal tells nothing beforehand. What is promised is said of each alike, and of the very bytes that it gave:
 
-Watch a run over any source. Each read gave some bytes, or the end, or failed. Write down, in order, the bytes that came, and at the end whether the source ended or failed. By `TellsOver` nothing comes after an end or a failure: a source that answered one tells from then on that no byte is left, and by `Reads` it answers the same again. So the list is finished there. A source that tells exactly this list from the beginning could have given each of the answers: its next bytes, cut in the same way, and after the last of them its end or its failure. If the run stopped before an end, any end will do. The code can't see what a source tells, so it did the same over both, and what is promised over the one is true of the other, with the bytes that came in the place of those told.
+Every source has *histories*: by number, which bytes it may have given since it was made. `Adds` says that they have grown by some bytes, and the contract of `read` says that each read adds to all of them what it gave. No other call makes them grow. So `HasGiven` says of a reader, before and after some reads, that these were the bytes: its histories have grown by them, and whatever it may give now, it might then have given these bytes and after them that. The contract of `check_bytes` names bytes of the field file and of the sheet that their readers have given so, and keeps the promise of these bytes and of whatever may be left in the readers after them. Where it accepts, both readers have ended, so nothing is left and the bytes are all; where it answers a failed read, that reader has broken off, and else no read failed.
 
-Where a clause has `Through` or `SomeBytesCame`, that is said in the contract itself: there are bytes that came, those that the reader tells where it tells, of which all of this holds.
+`check_bytes` is one function for every source. It can't tell which histories a source keeps, nor whether it tells its bytes, so what is proved of it holds of a reader that keeps each byte as of a file, for which the standard library's contract says nothing of what was read. The field file's reader is taken in and dropped: `UntilDropped` says that the promise is of it as it was when it was dropped; `check_sources` gives it back.
+
+A source over a source can keep a history of its own: `Digesting` of [`byte_digests`](../crates/byte_digests/README.md) feeds what it gives to SHA-256, so that its first history is what a digest stands for.
 """
 
 
@@ -147,6 +155,18 @@ def belief(specs):
     yield from in_words(specs)
 
 
+def belief_of_contract(specs):
+    yield "### Of which bytes it is said\n"
+    yield (
+        f"The contract of `check_bytes`, by which a caller has that page, is {Spec(*CONTRACT[-1]).link}. "
+        "An acceptance rests on its fields `gsi_bytes`, `sheet_bytes`, `promise`, `gsi_reader` and "
+        f"`sheet_reader`, and so on what these {len(specs)} files say of an acceptance besides:\n"
+    )
+    for spec in specs:
+        yield f"- {spec.link}: {sentence(spec.head())}"
+    yield ""
+
+
 def belief_of_agreement(specs, known):
     shared = sum(1 for spec in specs if spec in known)
     more = [spec for spec in specs if spec not in known]
@@ -194,8 +214,10 @@ def others(specs):
 
 def page():
     accepted, agreed = closure(Spec(*ACCEPTANCE)), closure(Spec(*AGREEMENT))
-    believed = [*belief(accepted), *belief_of_agreement(agreed, accepted)]
-    return "\n".join([INTRODUCTION, *believed, EVERY_READER, *others([*accepted, *agreed])])
+    contract = [Spec(*pair) for pair in CONTRACT]
+    known = [*accepted, *contract]
+    believed = [*belief(accepted), *belief_of_contract(contract), *belief_of_agreement(agreed, known)]
+    return "\n".join([INTRODUCTION, *believed, EVERY_READER, *others([*known, *agreed])])
 
 
 if __name__ == "__main__":
