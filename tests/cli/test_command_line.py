@@ -260,7 +260,7 @@ class CommandLineTest(ProgramTest):
             *(([command, "--help"], FACE_DIFFERENCES) for command in LIMITED),
             (["words", "--help"], [b"GSI-8, GSI-16 or both"]),
             (["help", "words"], [b"GSI-8, GSI-16 or both"]),
-            (["check", "-h"], [b"Usage: station_check check [OPTIONS] <GSI> <SHEET>\n"]),
+            (["check", "-h"], [f"Usage: {PROGRAM.name} check [OPTIONS] <GSI> <SHEET>\n".encode()]),
         ]:
             with self.subTest(args=args):
                 status, stdout, stderr = answer_of(args)

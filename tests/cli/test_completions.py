@@ -107,9 +107,12 @@ class CompletionsTest(ProgramTest):
         self.assertEqual("_station_check\n", printed(command, env={**os.environ, "HOME": str(self.folder)}))
 
     def of_fish(self, line):
-        """What fish proposes for a line."""
-        home = str(self.folder / "home")
-        path = f"{PROGRAM.parent}:{os.environ['PATH']}"
+        """What fish proposes for a line, where the program is found by the name that users call it by."""
+        home, found_in = str(self.folder / "home"), self.folder / "bin"
+        if not found_in.exists():
+            found_in.mkdir()
+            (found_in / "station_check").symlink_to(PROGRAM.resolve())
+        path = f"{found_in}:{os.environ['PATH']}"
         env = {**os.environ, "HOME": home, "XDG_CONFIG_HOME": home, "XDG_DATA_HOME": home, "PATH": path}
         command = ["fish", "--no-config", "-c", f"source '{FISH}'; complete -C '{line}'"]
         lines = printed(command, cwd=self.folder, env=env).splitlines()

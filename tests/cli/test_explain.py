@@ -186,7 +186,7 @@ class ExplainTest(ProgramTest):
         self.assertEqual((2, b""), (status, stdout))
         start = f"error: no fault has the name '{' '.join(words)}'; "
         self.assertTrue(stderr.decode().startswith(start), stderr)
-        said, usage, _ = stderr.decode().removeprefix(start).partition("\n\nUsage: station_check ")
+        said, usage, _ = stderr.decode().removeprefix(start).partition(f"\n\nUsage: {PROGRAM.name} ")
         self.assertNotEqual("", usage)
         self.assertFalse(said.endswith("\n"), said)
         return f"{said}\n"

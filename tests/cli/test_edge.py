@@ -1,0 +1,217 @@
+"""The edge of the program: each option in each order and form, with a value that changes the answer;
+command lines of 1 to 20 words; paths of many forms, beside files of like names that would answer
+otherwise."""
+
+import itertools
+import random
+import shutil
+import unittest
+from typing import NamedTuple
+
+from program import EXAMPLE, EXAMPLE_SHEET, SWEEP, ProgramTest, answer_of, side_by_side
+from worked import ACCEPTED, LIST, SHEET, STATION, TABLE, edited, refused
+
+# How many command lines of each command are run, where not all are.
+SAMPLE = 250
+
+# The station's table with one of its two directions 30 units off: one rotation leaves each 15 off.
+TABLE_OFF = edited(TABLE, (b"50.000030", b"50.000060"))
+
+WITHIN_15 = b"agrees S1: 2 targets, within 15\n"
+
+
+class Option(NamedTuple):
+    """An option, with a value that changes nothing and one that is answered so."""
+
+    name: str
+    kept: str
+    changed: str
+    answer: tuple
+
+
+def refusal(fault):
+    return 1, b"", refused(fault)
+
+
+# In the order in which their faults are looked for.
+LIMITS = [
+    Option("--two-c", "10", "9", refusal("block 5: TwoC")),
+    Option("--two-i", "2", "1", refusal("block 6: TwoI")),
+]
+
+RESIDUAL = Option("--residual", "1", "0", refusal("kernel: Residual 1"))
+
+WITHIN = Option("--within", "15", "14", refusal("compare: Apart 15"))
+
+DECIMALS = Option("--decimals", "6", "4", (0, b"A,0.0000\nB,50.0000\n", b""))
+
+# The words of each command, its options, and what it answers where none changes anything.
+COMMANDS = {
+    "check": ([str(EXAMPLE), str(EXAMPLE_SHEET)], [*LIMITS, RESIDUAL], ACCEPTED),
+    "compare": ([str(EXAMPLE), "S1", "{table}"], [*LIMITS, WITHIN], WITHIN_15),
+    "directions": ([str(EXAMPLE), "S1"], [*LIMITS, DECIMALS], TABLE),
+    "means": ([str(EXAMPLE), "S1"], LIMITS, SHEET),
+    "list": ([str(EXAMPLE)], LIMITS, LIST),
+}
+
+# What a number may be written as.
+SPELLINGS = [str, "+{}".format, "000{}".format]
+
+# The ends of names of files, and whole names.
+ENDINGS = ["", ".gsi", ".GSI", ".csv", ".txt", ".bak", ".gsi.bak", ".gz", "~", ".1", " ", ".tmp"]
+
+NAMES = [
+    "a", "A", "0", "1", "-a", "--help", "-", "--", "a b", " a", "a\nb", "a\\b", "a'b", 'a"b', "*", "?", "~", "$HOME",
+    "%s", "{}", "@a", "#a", "a=b", "a:b", "a,b", "a;b", "...", ".a", "check", "S1", "station_check", "é", "日本", "\x7f",
+    "a" * 100, "a" * 199, "a" * 201, "a" * 255,
+]  # fmt: skip
+
+
+def orders(words, options):
+    """The words in their order with each option somewhere, as two words or as one; and the same with
+    `--` after the last option."""
+    for ordered in itertools.permutations(options):
+        for joined in itertools.product([False, True], repeat=len(ordered)):
+            forms = [[f"{o}={v}"] if one else [o, v] for (o, v), one in zip(ordered, joined)]
+            for places in itertools.combinations(range(len(words) + len(forms)), len(forms)):
+                line, left, rest = [], list(forms), list(words)
+                for place in range(len(words) + len(forms)):
+                    if place in places:
+                        line += left.pop(0)
+                    else:
+                        line.append(rest.pop(0))
+                yield line
+                after = len(words) - (places[-1] - len(forms) + 1 if places else 0)
+                for at in range(after + 1):
+                    yield [*line[: len(line) - at], "--", *line[len(line) - at :]]
+
+
+def runs_of(words, options, stdout):
+    """Each command line of a command, and what it answers."""
+    for given in itertools.product(["absent", "kept", "changed"], repeat=len(options)):
+        stated = [(o, value) for o, value in zip(options, given) if value != "absent"]
+        changed = [o.answer for o, value in stated if value == "changed"]
+        expected = changed[0] if changed else (0, stdout, b"")
+        for line in orders(words, [(o.name, getattr(o, value)) for o, value in stated]):
+            yield line, expected
+
+
+class EdgeTest(ProgramTest):
+    def assert_answers(self, runs):
+        """The answer of each run of a list of command lines and what they answer."""
+        answers = side_by_side(answer_of, [args for args, _ in runs])
+        for (args, expected), answer in zip(runs, answers):
+            with self.subTest(args=args):
+                self.assertEqual(expected, answer)
+
+    def test_each_option_counts_in_each_order_and_form(self):
+        table = self.folder / "table.csv"
+        table.write_bytes(TABLE_OFF)
+        draw = random.Random(36)
+        for command, (words, options, stdout) in COMMANDS.items():
+            words = [word.format(table=table) for word in words]
+            runs = list(runs_of(words, options, stdout))
+            if WITHIN in options:  # where it is left out, 10 is too near
+                runs = [run for run in runs if any(word.startswith("--within") for word in run[0])]
+            longest = max(runs, key=lambda run: len(run[0]))
+            chosen = runs if SWEEP else [*draw.sample(runs, min(SAMPLE, len(runs))), longest]
+            self.assert_answers([([command, *line], expected) for line, expected in chosen])
+
+    def test_a_number_counts_however_it_is_written(self):
+        for command in ["check", "list"]:
+            words, options, stdout = COMMANDS[command]
+            for option in options:
+                for spelled in SPELLINGS:
+                    for value, expected in [(option.kept, (0, stdout, b"")), (option.changed, option.answer)]:
+                        number = spelled(value)
+                        lines = [[option.name, number, *words], [*words, f"{option.name}={number}"]]
+                        self.assert_answers([([command, *line], expected) for line in lines])
+
+    def test_each_number_of_words_is_read_to_its_last(self):
+        explained = answer_of(["explain", "TwoC"])
+        self.assertEqual((0, b""), explained[::2])
+        for before in range(19):
+            line = ["explain", *["block"] * before, "4:", "TwoC"]
+            self.assertEqual(explained, answer_of(line), line)
+            status, stdout, stderr = answer_of([*line, "9x"])
+            self.assertEqual((2, b""), (status, stdout))
+            self.assertIn(b"no fault has the name", stderr)
+            status, stdout, stderr = answer_of(["list", str(EXAMPLE), *["--two-c=10"][: before % 2], *["more"] * before])
+            self.assertEqual((2, b"") if before else (0, LIST), (status, stdout))
+
+    def empty_folder(self):
+        """A folder of its own, with nothing in it."""
+        folder = self.folder / "files"
+        shutil.rmtree(folder, ignore_errors=True)
+        folder.mkdir()
+        return folder
+
+    def test_the_file_of_a_path_is_read_and_no_other(self):
+        """Beside each file lie others whose names are like its own, and which would answer otherwise."""
+        for stem in ["field", "a"]:
+            for ending in ENDINGS:
+                name = stem + ending
+                others = {stem + other for other in ENDINGS} - {name}
+                for field, answer in [
+                    (STATION, (0, LIST, b"")),
+                    (b"Z" + STATION, refusal("block 1: Word 1")),
+                    (STATION[1:], refusal("block 1: Word 1")),
+                    (None, (2, b"", f"cannot open {{}}\n".encode())),
+                ]:
+                    with self.subTest(name=name, field=field):
+                        folder = self.empty_folder()
+                        for other in others:
+                            (folder / other).write_bytes(b"x" if field == STATION else STATION)
+                        if field is not None:
+                            (folder / name).write_bytes(field)
+                        path = str(folder / name)
+                        status, stdout, stderr = answer
+                        stderr = stderr.replace(b"{}", path.encode())
+                        self.assertEqual((status, stdout, stderr), answer_of(["list", path]))
+
+    def test_the_field_file_is_the_first_path_whatever_its_name(self):
+        for first, second in itertools.product([f"a{ending}" for ending in ENDINGS], [f"b{e}" for e in ENDINGS]):
+            gsi, sheet = self.folder / first, self.folder / second
+            gsi.write_bytes(STATION)
+            sheet.write_bytes(SHEET)
+            with self.subTest(first=first, second=second):
+                self.assertEqual((0, ACCEPTED, b""), answer_of(["check", str(gsi), str(sheet)]))
+                self.assertEqual(refusal("block 1: Word 1"), answer_of(["check", str(sheet), str(gsi)]))
+                sheet.write_bytes(TABLE_OFF)
+                self.assertEqual(
+                    (0, WITHIN_15, b""), answer_of(["compare", "--within=15", str(gsi), "S1", str(sheet)])
+                )
+                self.assertEqual(refusal("block 1: Word 1"), answer_of(["compare", str(sheet), "S1", str(gsi)]))
+            gsi.unlink()
+            sheet.unlink()
+
+    def test_a_path_of_any_form_is_opened(self):
+        for name in NAMES:
+            with self.subTest(name=name):
+                path = self.empty_folder() / name
+                path.write_bytes(STATION)
+                forms = [str(path), f"{path.parent}//{name}", f"{path.parent}/../files/./{name}"]
+                for form in forms:
+                    self.assertEqual((0, LIST, b""), answer_of(["list", form]))
+                self.assertEqual((0, LIST, b""), answer_of(["list", "--", name], cwd=path.parent))
+                self.assertEqual((0, LIST, b""), answer_of(["list", f"./{name}"], cwd=path.parent))
+                path.write_bytes(b"x")
+                self.assertEqual(refusal("block 1: Word 1"), answer_of(["list", "--", name], cwd=path.parent))
+
+    def test_a_path_of_any_length_is_opened(self):
+        """Each length up to a hundred, and up to the longest that the system takes."""
+        field = self.folder / "f"
+        field.write_bytes(STATION)
+        longest = 4_095
+        for length in [*range(3, 100), *range(190, 260), 1_000, 2_000, longest - 1, longest]:
+            path = "./" * (length // 2 - 1 + length % 2) + ("f" if length % 2 else "/f")
+            with self.subTest(length=length):
+                self.assertEqual(length, len(path))
+                self.assertEqual((0, LIST, b""), answer_of(["list", path], cwd=self.folder))
+        too_long = "./" * 2_047 + "/f"
+        said = f"cannot open {too_long}\n".encode()
+        self.assertEqual((2, b"", said), answer_of(["list", too_long], cwd=self.folder))
+
+
+if __name__ == "__main__":
+    unittest.main()
