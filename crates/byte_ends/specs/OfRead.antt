@@ -10,6 +10,11 @@ use Rattle.byte_ends.specs.Source.{Told, ended, broken_off}
 abbrev pub reader_of : {R : Type 0} → OfRead R → R
 reader_of s = s.reader
 
+-- A new one: its reader, of which more may come, and nothing else. So there is nothing beside the
+-- state by which its reads could go.
+abbrev pub made_of : {R : Type 0} → R → OfRead R
+made_of reader = record { reader = reader; state = Open }
+
 -- What it tells in a state: nothing, until the reader has ended or failed.
 abbrev pub told_in : State → Option Told
 told_in Open = None

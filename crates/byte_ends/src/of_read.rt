@@ -20,7 +20,10 @@ enum State {
 
 /// A reader of std's. It tells nothing until it is over.
 ///
-/// Once the reader has ended or failed it is not asked again.
+/// A read after the one that ended or failed asks the reader no more. That each read before is one
+/// call of the reader no clause can say, since std's readers don't show how often they are called:
+/// it is what `read` is seen to do, and tested. What it goes by is the state alone, and `made` says
+/// with which a reader is new.
 #[derive(Drop)]
 pub struct OfRead<R> {
     reader: R,
@@ -29,9 +32,10 @@ pub struct OfRead<R> {
 
 impl<R: Read + Drop> OfRead<R> {
     ghost use Rattle.std.specs.Prelude.{false};
-    ghost use Rattle.byte_ends.specs.OfRead.{reader_of};
+    ghost use Rattle.byte_ends.specs.OfRead.{reader_of, made_of};
 
     pub fn new(reader: R) -> OfRead<R>
+        ensures made { result ≡ made_of reader }
         ensures reader { reader_of result ≡ reader }
         ensures untold { ⟦<OfRead<R> as Source>⟧.told result ≡ None }
         ensures unfailed { ⟦<OfRead<R> as Source>⟧.failed result ≡ false }
@@ -69,7 +73,7 @@ impl<R: Read + Drop> Source for OfRead<R> {
         ensures told { read_told self.old ≡ None
             → read_told self.new ≡ told_after result (length buf.new) }
 
-        // It is asked while it is not over, and not again after.
+        // It is asked while it is not over, and not by a later read.
         ensures passes_on { read_told self.old ≡ None
             → ReadConsumes (R.remaining (reader_of self.old))
             (R.remaining (reader_of self.new)) result buf.new }

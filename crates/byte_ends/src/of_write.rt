@@ -7,6 +7,9 @@ use crate::sink::Sink;
 use std::io::Write;
 
 /// A writer of std's. It tells no bytes. A write of some bytes that takes none is `Failed`.
+///
+/// That each write and each flush is one call of the writer no clause can say, since std's writers
+/// don't show how often they are called: it is what the two are seen to do, and tested.
 #[derive(Drop)]
 pub struct OfWrite<W> {
     writer: W,
@@ -17,9 +20,10 @@ pub struct OfWrite<W> {
 
 impl<W: Write + Drop> OfWrite<W> {
     ghost use Rattle.std.specs.Prelude.{true, false};
-    ghost use Rattle.byte_ends.specs.OfWrite.{writer_of};
+    ghost use Rattle.byte_ends.specs.OfWrite.{writer_of, made_of};
 
     pub fn new(writer: W) -> OfWrite<W>
+        ensures made { result ≡ made_of writer }
         ensures writer { writer_of result ≡ writer }
         ensures unfailed { ⟦<OfWrite<W> as Sink>⟧.failed result ≡ false }
         ensures handed_on { ⟦<OfWrite<W> as Sink>⟧.handed_on result ≡ true }

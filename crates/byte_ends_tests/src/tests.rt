@@ -190,6 +190,164 @@ fn a_write_of_any_length_is_one_call(rt: HostRuntime) -> Result<(), Fail> {
     Ok(())
 }
 
+/// A reader or writer that moves whole pieces, fails or moves no byte once after so many bytes, then
+/// goes on, and counts its calls and bytes.
+#[derive(Drop)]
+struct StopsAfter {
+    bytes: usize,
+    fails: bool,
+    has_stopped: bool,
+    calls: usize,
+    moved: usize,
+}
+
+impl StopsAfter {
+    fn new(bytes: usize, fails: bool) -> StopsAfter {
+        StopsAfter {
+            bytes,
+            fails,
+            has_stopped: false,
+            calls: 0,
+            moved: 0,
+        }
+    }
+
+    fn answer(&mut self, piece: usize) -> io::Result<usize> {
+        self.calls = self.calls.saturating_add(1);
+        let before_stop = self.bytes.saturating_sub(self.moved);
+        if before_stop == 0 && !self.has_stopped {
+            self.has_stopped = true;
+            if self.fails {
+                return Err(Error::from(ErrorKind::WouldBlock));
+            }
+            return Ok(0);
+        }
+        let moved = if self.has_stopped {
+            piece
+        } else {
+            piece.min(before_stop)
+        };
+        self.moved = self.moved.saturating_add(moved);
+        Ok(moved)
+    }
+}
+
+impl Read for StopsAfter {
+    fn read(&mut self, buf: &mut [u8]) -> io::Result<usize> {
+        Ok(self.answer(buf.len())?.min(buf.len()))
+    }
+}
+
+impl Write for StopsAfter {
+    fn write(&mut self, buf: &[u8]) -> io::Result<usize> {
+        Ok(self.answer(buf.len())?.min(buf.len()))
+    }
+
+    fn flush(&mut self) -> io::Result<()> {
+        self.answer(0).map(|_| ())
+    }
+}
+
+/// Bytes of a room, or of a piece.
+const PIECE: usize = 4_096;
+
+/// More bytes than the largest field file has.
+const LARGE: usize = 17_000_000;
+
+/// Pieces of `LARGE` bytes, some cut by a stop, and calls that find a stop or come after it.
+const MOST_CALLS: usize = 4_200;
+
+/// Each power of two up to 16 MiB, and `LARGE`: after so many bytes a stop comes.
+fn stops() -> [usize; 26] {
+    let mut stops = [LARGE; 26];
+    let mut bytes = 1usize;
+    for stop in stops.iter_mut().take(25) {
+        *stop = bytes;
+        bytes = bytes.saturating_mul(2);
+    }
+    stops
+}
+
+#[test]
+fn each_of_many_reads_is_one_call_until_the_reader_is_over(rt: HostRuntime) {
+    let mut room = [0u8; PIECE];
+    for bytes in stops() {
+        for fails in [false, true] {
+            let over = if fails { Err(Failed) } else { Ok(0) };
+            let mut source = OfRead::new(StopsAfter::new(bytes, fails));
+            let (mut calls, mut given) = (0usize, 0usize);
+            for _ in 0..MOST_CALLS {
+                calls = calls.saturating_add(1);
+                match source.read(&mut room) {
+                    Ok(n) if n > 0 => given = given.saturating_add(n),
+                    answer => {
+                        assert_eq!(rt; answer, over, "after {bytes} bytes");
+                        break;
+                    }
+                }
+            }
+            for _ in 0..3u32 {
+                assert_eq!(rt; source.read(&mut room), over, "after {bytes} bytes");
+            }
+            let reader = source.into_inner();
+            assert_eq!(rt; given, bytes);
+            assert_eq!(rt; reader.moved, bytes);
+            assert_eq!(rt; reader.calls, calls, "after {bytes} bytes");
+        }
+    }
+}
+
+#[test]
+fn each_of_many_writes_is_one_call(rt: HostRuntime) {
+    let piece = [0u8; PIECE];
+    for bytes in stops() {
+        for fails in [false, true] {
+            let mut sink = OfWrite::new(StopsAfter::new(bytes, fails));
+            let (mut failed, mut taken) = (0u32, 0usize);
+            for _ in 0..MOST_CALLS {
+                match sink.write(&piece) {
+                    Ok(n) => taken = taken.saturating_add(n),
+                    Err(Failed) => {
+                        assert_eq!(rt; taken, bytes);
+                        failed = failed.saturating_add(1);
+                    }
+                }
+            }
+            let writer = sink.into_inner();
+            assert_eq!(rt; failed, 1, "after {bytes} bytes");
+            assert_eq!(rt; writer.moved, taken, "after {bytes} bytes");
+            assert_eq!(rt; writer.calls, MOST_CALLS, "after {bytes} bytes");
+        }
+    }
+}
+
+#[test]
+fn each_flush_is_one_call_however_much_was_written(rt: HostRuntime) {
+    let piece = [0u8; PIECE];
+    for bytes in stops() {
+        for fails in [false, true] {
+            let mut sink = OfWrite::new(StopsAfter::new(bytes, fails));
+            let (mut calls, mut taken) = (0usize, 0usize);
+            for _ in 0..MOST_CALLS {
+                if taken >= bytes {
+                    break;
+                }
+                calls = calls.saturating_add(1);
+                taken = taken.saturating_add(sink.write(&piece).unwrap_or(0));
+            }
+            let stopped = if fails { Err(Failed) } else { Ok(()) };
+            assert_eq!(rt; taken, bytes);
+            assert_eq!(rt; sink.flush(), stopped, "after {bytes} bytes");
+            assert_eq!(rt; sink.flush(), Ok(()), "after {bytes} bytes");
+            assert_eq!(rt;
+                sink.into_inner().calls,
+                calls.saturating_add(2),
+                "after {bytes} bytes"
+            );
+        }
+    }
+}
+
 #[test]
 fn a_script_gives_its_bytes_and_then_ends_or_fails(rt: HostRuntime) -> Result<(), Fail> {
     for step in [1, 2, 3, 7, 10, 100] {
