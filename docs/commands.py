@@ -8,7 +8,7 @@ import re
 import subprocess
 import sys
 from pathlib import Path
-from typing import NamedTuple
+from typing import NamedTuple, Optional
 
 from faults import MAN_PAGE, PROGRAM, ROOT, escaped, man_text, sentence
 from parts import with_part
@@ -38,20 +38,25 @@ GENERAL = ["--help", "--version"]
 
 class Option(NamedTuple):
     name: str
-    value: str  # what stands for its number
+    value: str  # what stands for its number or its text
     text: str
-    usual: str  # its number where none is stated, or that there is no limit
+    usual: Optional[str]  # its number where none is stated, or that there is no limit; of a text none
 
     def summary(self):
         return first_sentence(self.text)
 
     def where_none_is_stated(self):
+        if self.usual is None:
+            return ""
         if self.usual == NO_LIMIT:
             return "Where none is stated there is none."
         return f"It is {self.usual} where none is stated."
 
-    def range(self):
-        return "number from {} to {}".format(*RANGE.search(self.text).groups())
+    def wanted(self):
+        """What its value is, as a completion says."""
+        if found := RANGE.search(self.text):
+            return "number from {} to {}".format(*found.groups())
+        return self.value.lower()
 
 
 class Command(NamedTuple):
@@ -84,7 +89,8 @@ def entries(part):
 def options_in(part):
     for name, value, text in entries(part):
         if name not in GENERAL:
-            yield Option(name, value, DEFAULT.sub("", text), DEFAULT.search(text)[1])
+            usual = DEFAULT.search(text)
+            yield Option(name, value, DEFAULT.sub("", text), usual and usual[1])
 
 
 def command_of(program, name, summary):
@@ -164,7 +170,7 @@ def man_page(text, found):
 def bash_part(found):
     names = " ".join(command.name for command in found)
     yield f"_station_check_commands='{names} help'"
-    yield f"_station_check_numbers='{' '.join(option.name for option in options_of(found))}'"
+    yield f"_station_check_valued='{' '.join(option.name for option in options_of(found))}'"
     yield "declare -gA _station_check_options=("
     for command in found:
         if command.options:
@@ -208,7 +214,7 @@ def zsh_part(found):
         yield f"    {command.name})"
         yield "      _arguments '(-h --help)'{-h,--help}'[print help]' \\"
         for option in command.options:
-            yield f"        '{option.name}=[{lowered(option.summary()).replace(':', ',')}]:{option.range()}' \\"
+            yield f"        '{option.name}=[{lowered(option.summary()).replace(':', ',')}]:{option.wanted()}' \\"
         operands = [zsh_operand(place, *operand) for place, operand in enumerate(command.operands, 1)]
         yield f"        {' '.join(operands)}"
         yield "      ;;"
