@@ -83,7 +83,7 @@ module _ (count : ℕ) (text : List ℕ) (many : 6 ≤ count) where
         absurd (h.fault_stands own.rounded.adjustable.tied)
     unadjusted within (adjust.Residual n) h =
         let a = own.rounded.adjustable in
-        absurd (h.fault_stands.1.0 (choice_by a.adjustment) a.adjustment.turns a.exact.each
+        absurd (h.fault_stands.1 (choice_by a.adjustment) a.adjustment.turns a.exact.each
         a.exact.rules.positive a.exact.sums a.limited)
     unadjusted within adjust.NotFound h = tt
     unadjusted within adjust.Memory h = absurd h
