@@ -1,0 +1,187 @@
+//! Numbers at the edges of words and of the width; the values are from Python's integers.
+
+use std::process::Abort;
+use std::test::Fail;
+use wide_number::{Wide, quotient};
+
+/// 2^64 - 1.
+const LARGEST: u64 = u64::MAX;
+
+/// The number with these digits of 32 bits, the highest first.
+fn wide(rt: &impl Abort, digits: &[u64]) -> Wide {
+    let mut number = Wide::zero();
+    for digit in digits {
+        number = number
+            .checked_mul_add(4_294_967_296, *digit)
+            .expect(rt, "a number that fits");
+    }
+    number
+}
+
+/// 2^832 - 1, the largest number.
+fn largest(rt: &impl Abort) -> Wide {
+    wide(rt, &[0xffff_ffff; 26])
+}
+
+#[test]
+fn products_carry_from_word_to_word(rt: HostRuntime) -> Result<(), Fail> {
+    // The powers of 2^64 - 1 from the first to the fifth.
+    let powers: [&[u64]; 5] = [
+        &[0xffffffff, 0xffffffff],
+        &[0xffffffff, 0xfffffffe, 0x00000000, 0x00000001],
+        &[
+            0xffffffff, 0xfffffffd, 0x00000000, 0x00000002, 0xffffffff, 0xffffffff,
+        ],
+        &[
+            0xffffffff, 0xfffffffc, 0x00000000, 0x00000005, 0xffffffff, 0xfffffffc, 0x00000000,
+            0x00000001,
+        ],
+        &[
+            0xffffffff, 0xfffffffb, 0x00000000, 0x00000009, 0xffffffff, 0xfffffff6, 0x00000000,
+            0x00000004, 0xffffffff, 0xffffffff,
+        ],
+    ];
+    let mut power = Wide::new(1);
+    for digits in powers {
+        power = power.times(LARGEST);
+        assert!(rt; power.is_same(&wide(&rt, digits)));
+    }
+    let mut sum = Wide::new(LARGEST);
+    sum.add_product(&Wide::new(LARGEST), LARGEST);
+    // (2^64 - 1) * 2^64.
+    assert!(rt; sum.is_same(&wide(&rt, &[0xffffffff, 0xffffffff, 0x00000000, 0x00000000])));
+    sum.add_product(&sum.times(1), LARGEST);
+    assert!(rt;
+        sum.is_same(&wide(
+            &rt,
+            &[
+                0xffffffff, 0xffffffff, 0x00000000, 0x00000000, 0x00000000, 0x00000000
+            ]
+        ))
+    );
+    Ok(())
+}
+
+#[test]
+fn what_does_not_fit_is_refused(rt: HostRuntime) -> Result<(), Fail> {
+    let largest = largest(&rt);
+    let same = largest.checked_mul_add(1, 0).expect(&rt, "the same");
+    assert!(rt; same.is_same(&largest));
+    for (factor, addend) in [(1, 1), (1, LARGEST), (2, 0), (LARGEST, LARGEST)] {
+        assert!(rt; largest.checked_mul_add(factor, addend).is_none());
+    }
+    assert!(rt;
+        largest
+            .checked_mul_add(0, LARGEST)
+            .expect(&rt, "a word")
+            .is_same(&Wide::new(LARGEST))
+    );
+    // (2^832 - 1) / 5 is a whole number, and 5 of it fit just so.
+    let fifth = wide(
+        &rt,
+        &[
+            0x33333333, 0x33333333, 0x33333333, 0x33333333, 0x33333333, 0x33333333, 0x33333333,
+            0x33333333, 0x33333333, 0x33333333, 0x33333333, 0x33333333, 0x33333333, 0x33333333,
+            0x33333333, 0x33333333, 0x33333333, 0x33333333, 0x33333333, 0x33333333, 0x33333333,
+            0x33333333, 0x33333333, 0x33333333, 0x33333333, 0x33333333,
+        ],
+    );
+    assert!(rt;
+        fifth
+            .checked_mul_add(5, 0)
+            .expect(&rt, "the largest")
+            .is_same(&largest)
+    );
+    assert!(rt; fifth.checked_mul_add(5, 1).is_none());
+    Ok(())
+}
+
+#[test]
+fn differences_borrow_from_word_to_word(rt: HostRuntime) -> Result<(), Fail> {
+    let mut rest = largest(&rt);
+    rest.subtract(&Wide::new(LARGEST));
+    assert!(rt;
+        rest.is_same(&wide(
+            &rt,
+            &[
+                0xffffffff, 0xffffffff, 0xffffffff, 0xffffffff, 0xffffffff, 0xffffffff, 0xffffffff,
+                0xffffffff, 0xffffffff, 0xffffffff, 0xffffffff, 0xffffffff, 0xffffffff, 0xffffffff,
+                0xffffffff, 0xffffffff, 0xffffffff, 0xffffffff, 0xffffffff, 0xffffffff, 0xffffffff,
+                0xffffffff, 0xffffffff, 0xffffffff, 0x00000000, 0x00000000
+            ]
+        ))
+    );
+    // 2^768 less 1.
+    let mut power = wide(
+        &rt,
+        &[
+            0x00000001, 0x00000000, 0x00000000, 0x00000000, 0x00000000, 0x00000000, 0x00000000,
+            0x00000000, 0x00000000, 0x00000000, 0x00000000, 0x00000000, 0x00000000, 0x00000000,
+            0x00000000, 0x00000000, 0x00000000, 0x00000000, 0x00000000, 0x00000000, 0x00000000,
+            0x00000000, 0x00000000, 0x00000000, 0x00000000,
+        ],
+    );
+    power.subtract(&Wide::new(1));
+    assert!(rt; power.is_same(&wide(&rt, &[0xffff_ffff; 24])));
+    let mut none = largest(&rt);
+    none.subtract(&largest(&rt));
+    assert!(rt; none.is_same(&Wide::zero()));
+    Ok(())
+}
+
+#[test]
+fn the_highest_words_that_differ_decide(rt: HostRuntime) -> Result<(), Fail> {
+    // Each is below all later ones.
+    let numbers: [&[u64]; 7] = [
+        &[],
+        &[1],
+        &[0xffffffff, 0xffffffff],
+        &[0x00000001, 0x00000000, 0x00000000],
+        &[0xffffffff, 0xffffffff, 0x00000000, 0x00000000],
+        &[
+            0xffffffff, 0xffffffff, 0xffffffff, 0xffffffff, 0xffffffff, 0xffffffff, 0xffffffff,
+            0xffffffff, 0xffffffff, 0xffffffff, 0xffffffff, 0xffffffff, 0xffffffff, 0xffffffff,
+            0xffffffff, 0xffffffff, 0xffffffff, 0xffffffff, 0xffffffff, 0xffffffff, 0xffffffff,
+            0xffffffff, 0xffffffff, 0xffffffff,
+        ],
+        &[
+            0x00000001, 0x00000000, 0x00000000, 0x00000000, 0x00000000, 0x00000000, 0x00000000,
+            0x00000000, 0x00000000, 0x00000000, 0x00000000, 0x00000000, 0x00000000, 0x00000000,
+            0x00000000, 0x00000000, 0x00000000, 0x00000000, 0x00000000, 0x00000000, 0x00000000,
+            0x00000000, 0x00000000, 0x00000000, 0x00000000,
+        ],
+    ];
+    for below in 0..numbers.len() {
+        for place in 0..numbers.len() {
+            let a = wide(&rt, numbers[below]);
+            let b = wide(&rt, numbers[place]);
+            assert_eq!(rt; a.is_below(&b), below < place);
+            assert_eq!(rt; a.is_same(&b), below == place);
+        }
+    }
+    Ok(())
+}
+
+#[test]
+fn quotients_are_cut(rt: HostRuntime) -> Result<(), Fail> {
+    let unit = Wide::new(LARGEST).times(LARGEST);
+    for (times, more, expected) in [
+        (0, 0, 0),
+        (0, LARGEST, 0),
+        (5, 0, 5),
+        (5, 1, 5),
+        (999, 9, 999),
+    ] {
+        let mut number = unit.times(times);
+        number.add_product(&Wide::new(more), 1);
+        assert_eq!(rt; quotient(&number, &unit, 1_000), expected);
+    }
+    let mut below = unit.times(7);
+    below.subtract(&Wide::new(1));
+    assert_eq!(rt; quotient(&below, &unit, 7), 6);
+    assert_eq!(rt;
+        quotient(&Wide::new(LARGEST), &Wide::new(2), LARGEST),
+        LARGEST / 2
+    );
+    Ok(())
+}
