@@ -1,6 +1,6 @@
 -- What is said of the directions of an exact adjustment is said of every least choice.
-use Rattle.std.proofs.Common.{◌≡◌, ℕ, zero, suc, ◌+◌, ◌*◌, ◌%◌, ◌≤◌, ◌<◌, List, [], ◌∷◌, All, length}
-use Rattle.std.proofs.Common.{get_or, ℤ, pos, arith, ap, refl, sym, subst, ◌∙◌}
+use Rattle.std.proofs.Common.{◌≡◌, ℕ, zero, suc, ◌*◌, ◌%◌, ◌≤◌, ◌<◌, List, [], ◌∷◌, All, length}
+use Rattle.std.proofs.Common.{get_or, ℤ, pos, arith, refl, subst}
 use Rattle.std.proofs.Math.IntN.{◌*ℤ◌, ◌-ℤ◌}
 use Rattle.std.proofs.lemmas.List.{get_or_default, get_or_past}
 use native.Mathlib.Decide.{dec_le}
@@ -12,7 +12,7 @@ use Rattle.directions_apart.proofs.ApartLaws.{AreTurned, as_far_apart, as_near, 
 use Rattle.directions_apart.proofs.LeastLaws.{are_turned, first_is_0}
 use Rattle.directions_apart.proofs.RoundingLaws.{as_rounded, less_near, one_rounded, rounded_near}
 use Rattle.directions_apart.proofs.RoundingLaws.{rounded_of_0}
-use Rattle.directions_apart.specs.Apart.{AreBroughtNear, IsApart, stated_by}
+use Rattle.directions_apart.specs.Apart.{AreBroughtNear, IsApart}
 use Rattle.directions_apart.specs.Rounding.{IsRounded, from_first}
 use Rattle.directions_apart.specs.declared.units.TheConstants.{CIRCLE}
 use Rattle.exact_adjustment.proofs.ExactLaws.{is_least}

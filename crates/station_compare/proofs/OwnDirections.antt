@@ -123,10 +123,13 @@ module _ (count : ℕ) (text : List ℕ) (many : 6 ≤ count) where
         let same : text ≡ h.bytes = cc in
         own_apart h.its.station (its h.its h.station) h.directions a.apart
         (subst (λ bytes. IsTableText h.its.station.targets bytes h.directions)
-        (sym same) h.states) (record { adjustable = h.adjustable; from_each = λ c turns least. record {
-        brought = h.brought c turns least;
-        no_nearer = λ n fewer. h.no_nearer n fewer c turns least;
-        } })
+        (sym same) h.states) (record {
+          adjustable = h.adjustable;
+          from_each = λ c turns least. record {
+            brought = h.brought c turns least;
+            no_nearer = λ n fewer. h.no_nearer n fewer c turns least;
+          };
+        })
 
     refused_by_table : (within : ℕ) (fault : CompareFault)
         → IsRefusedByTable limits file whole name within fault → MayRefuse within fault

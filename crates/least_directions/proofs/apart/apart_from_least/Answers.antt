@@ -1,4 +1,4 @@
-use Rattle.std.proofs.Common.{◌≡◌, length, subst}
+use Rattle.std.proofs.Common.{subst}
 use Rattle.directions_apart.specs.Apart.{IsApart, stated_by}
 use Rattle.exact_adjustment.specs.Adjustments.{choice_by}
 use Rattle.least_directions.proofs.LeastLaws.{are_apart}

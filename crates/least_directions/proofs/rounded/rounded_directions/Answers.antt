@@ -1,4 +1,4 @@
-use Rattle.std.proofs.Common.{◌≡◌, ◌∙◌, length}
+use Rattle.std.proofs.Common.{◌∙◌}
 use Rattle.least_directions.proofs.LeastLaws.{are_rounded, each_whole, first_rounded}
 use Rattle.least_directions.proofs.rounded.rounded_directions.Goals as goal
 
