@@ -1,0 +1,48 @@
+use Rattle.std.proofs.Common.{◌≡◌, List, ℕ, Option, sym, subst}
+use Rattle.std.specs.Io.KnownBytes.{Appends}
+use Rattle.std.proofs.KnownBytes.{Appends-trans}
+use Rattle.byte_digests.proofs.Written.{in_any_case, some_of_longer, then_some}
+use Rattle.byte_digests.specs.DigestLines.{digest_line}
+use Rattle.station_check.proofs.Partway.{some_of_all}
+use Rattle.station_record.proofs.Undigested.{always_ok}
+use Rattle.station_record.specs.Recorded.{recorded_text}
+use Rattle.station_record.proofs.lines.write_recorded.Goals as goal
+
+pub returns-in_err-write_all-clause-err : goal.returns-in_err-write_all-clause-err
+returns-in_err-write_all-clause-err g c =
+    in_any_case c.from_residual.result
+    (some_of_longer _ _ c.args.line.now _ c.in_err-write_all.ensures.err)
+
+pub returns-in_err-write_digest_line-clause-err : goal.returns-in_err-write_digest_line-clause-err
+returns-in_err-write_digest_line-clause-err g c =
+    in_any_case c.from_residual-in_err-write_digest_line.result
+    (then_some _ _ _ c.args.line.now _ c.in_ok-write_all.ensures.ok
+    (some_of_longer _ _ (digest_line c.args.gsi.now c.args.gsi_name.now) _
+    c.in_err-write_digest_line.ensures.err))
+
+pub returns-in_err-write_digest_line-2-clause-err :
+    goal.returns-in_err-write_digest_line-2-clause-err
+returns-in_err-write_digest_line-2-clause-err g c =
+    in_any_case c.from_residual-in_err-write_digest_line-2.result
+    (then_some _ _ _ c.args.line.now _ c.in_ok-write_all.ensures.ok
+    (then_some _ _ _ (digest_line c.args.gsi.now c.args.gsi_name.now) _
+    c.in_ok-write_digest_line.ensures.ok c.in_err-write_digest_line-2.ensures.err))
+
+pub returns-clause-ok : goal.returns-clause-ok
+returns-clause-ok g c =
+    always_ok c.flush.result
+    (subst (λ (now : Option (List ℕ)). Appends (g.W.Sink.holds c.args.out.now) now
+    (recorded_text c.args.line.now c.args.gsi.now c.args.gsi_name.now c.args.other.now
+    c.args.other_name.now)) (sym c.flush.ensures.holds)
+    (Appends-trans _ _ _ c.args.line.now _ c.in_ok-write_all.ensures.ok
+    (Appends-trans _ _ _ (digest_line c.args.gsi.now c.args.gsi_name.now) _
+    c.in_ok-write_digest_line.ensures.ok c.in_ok-write_digest_line-2.ensures.ok)))
+
+pub returns-clause-err : goal.returns-clause-err
+returns-clause-err g c =
+    in_any_case c.flush.result
+    (some_of_all _ _ _ _
+    (Appends-trans _ _ _ c.args.line.now _ c.in_ok-write_all.ensures.ok
+    (Appends-trans _ _ _ (digest_line c.args.gsi.now c.args.gsi_name.now) _
+    c.in_ok-write_digest_line.ensures.ok c.in_ok-write_digest_line-2.ensures.ok))
+    c.flush.ensures.holds)

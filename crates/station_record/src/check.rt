@@ -1,0 +1,69 @@
+//! The check, with the digests of what it judged.
+
+ghost use Rattle.std.specs.Prelude.{◌≡◌, ⊤};
+ghost use Rattle.byte_ends.specs.Sink.{writer_change};
+ghost use Rattle.byte_ends.specs.Source.{UntilDropped};
+ghost use Rattle.station_check.specs.RunEndings.{PrintsAnswer, Run};
+ghost use Rattle.station_check.specs.VerdictLines.{refusal_line};
+ghost use Rattle.station_check.specs.VerdictLines as spec;
+ghost use Rattle.station_check.specs.declared.fault.Fault.TheVariants.{Write};
+ghost use Rattle.station_record.specs.Recorded.{IsRecordedCheck, recorded_text};
+
+use crate::lines::write_recorded;
+use adjust_kernel::{Accepted, ResidualLimit};
+use byte_digests::Digesting;
+use byte_ends::{Sink, Source};
+use station_book::Limits;
+use station_check::{DONE, Fault, accepted_line, check_sources, refuse};
+use std::alloc::Global;
+
+/// Checks a sheet against a field file as `run_check` does, and answers its exit status. After the
+/// line of an acceptance it writes one line for the field file and one for the sheet, as `sha256sum`
+/// prints them: the digest of the bytes that were read, and the name.
+pub fn run_check_recorded<R: Source, Q: Source, W: Sink, E: Sink>(
+    alloc: Global,
+    gsi: R,
+    gsi_name: &[u8],
+    sheet: Q,
+    sheet_name: &[u8],
+    limits: Limits,
+    residual: Option<ResidualLimit>,
+    out: &mut W,
+    err: &mut E,
+) -> u8
+    ensures { UntilDropped R.told R.failed R.gave gsi (λ gsi.
+        UntilDropped Q.told Q.failed Q.gave sheet (λ sheet. Run {A = ⊤} refusal_line
+        (IsRecordedCheck limits residual gsi gsi_name.now sheet sheet_name.now)
+        result (writer_change W.failed W.holds W.handed_on out.old out.new)
+        (writer_change E.failed E.holds E.handed_on err.old err.new))) }
+{
+    let gsi = Digesting::new(gsi);
+    let mut sheet = Digesting::new(sheet);
+    let (verdict, gsi) = check_sources(alloc, gsi, &mut sheet, limits, residual);
+    let gsi_digest = gsi.digest();
+    let sheet_digest = sheet.digest();
+    let printed = print_verdict(verdict, gsi_digest, gsi_name, sheet_digest, sheet_name, out);
+    match printed {
+        Ok(()) => DONE,
+        Err(fault) => refuse(fault, err),
+    }
+}
+
+/// Prints the lines of an accepted sheet and of the two files, and hands on a refusal.
+fn print_verdict<W: Sink>(
+    verdict: Result<Accepted, Fault>,
+    gsi: [u8; 32],
+    gsi_name: &[u8],
+    sheet: [u8; 32],
+    sheet_name: &[u8],
+    out: &mut W,
+) -> Result<(), Fault>
+    ensures { PrintsAnswer (λ a. recorded_text (spec.accepted_line a) gsi gsi_name.now
+        sheet sheet_name.now) Write verdict result
+        (writer_change W.failed W.holds W.handed_on out.old out.new) }
+{
+    let accepted = verdict?;
+    let line = accepted_line(accepted);
+    write_recorded(line.as_slice(), &gsi, gsi_name, &sheet, sheet_name, out)?;
+    Ok(())
+}
