@@ -11,8 +11,9 @@ from typing import NamedTuple
 from program import EXAMPLE, EXAMPLE_SHEET, SWEEP, ProgramTest, answer_of, side_by_side
 from worked import ACCEPTED, LIST, SHEET, STATION, TABLE, edited, refused
 
-# How many command lines of each command are run, where not all are.
-SAMPLE = 250
+# How many command lines of each command are run beside those that change one option, where not all
+# are.
+SAMPLE = 100
 
 # The station's table with one of its two directions 30 units off: one rotation leaves each 15 off.
 TABLE_OFF = edited(TABLE, (b"50.000030", b"50.000060"))
@@ -96,6 +97,13 @@ def runs_of(words, options, stdout):
             yield line, expected
 
 
+def changes_one(line, options):
+    """Whether all these options stand in a line, each as two words, and one has its other value."""
+    if not all(option.name in line for option in options):
+        return False
+    return 1 == sum(line[line.index(option.name) + 1] == option.changed for option in options)
+
+
 class EdgeTest(ProgramTest):
     def assert_answers(self, runs):
         """The answer of each run of a list of command lines and what they answer."""
@@ -113,8 +121,8 @@ class EdgeTest(ProgramTest):
             runs = list(runs_of(words, options, stdout))
             if WITHIN in options:  # where it is left out, 10 is too near
                 runs = [run for run in runs if any(word.startswith("--within") for word in run[0])]
-            longest = max(runs, key=lambda run: len(run[0]))
-            chosen = runs if SWEEP else [*draw.sample(runs, min(SAMPLE, len(runs))), longest]
+            plain = [run for run in runs if changes_one(run[0], options)]
+            chosen = runs if SWEEP else [*plain, *draw.sample(runs, min(SAMPLE, len(runs)))]
             self.assert_answers([([command, *line], expected) for line, expected in chosen])
 
     def test_a_number_counts_however_it_is_written(self):
