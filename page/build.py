@@ -17,6 +17,7 @@ import shutil
 import subprocess
 import sys
 import tempfile
+from collections import Counter
 from pathlib import Path
 
 import retarget
@@ -28,8 +29,23 @@ CRATE = ROOT / "crates" / "station_page"
 LIBRARIES = ["station_compare", "station_explain"]
 RT = os.environ.get("RT", "rt")
 
-# The scripts that stand in the page.
-SCRIPTS = ["calls.js", "picture.js", "page.js"]
+# The modules of each script that stands in the page, in the order in which they need each other: of the
+# worker, which needs no page around it, and of the page.
+SCRIPTS = {
+    "calls": ["calls.js", "numbers.js", "records.js", "worker.js"],
+    "page": [
+        "texts.js", "numbers.js", "records.js", "files.js", "work.js", "limits.js", "place.js",
+        "answers.js", "elements.js", "tables.js", "headlines.js", "results.js", "protocol.js",
+        "cards.js", "page.js",
+    ],
+}
+
+# What a module says of its names for others: it is left out where all stand in one script.
+IMPORT = re.compile(r"^import \{[^}]*\} from '\./(\w+\.js)';\n", re.MULTILINE)
+EXPORT = re.compile(r"^export (?=(?:async )?(?:const|let|class|function)\b)", re.MULTILINE)
+
+# A name that a module declares for all of itself.
+NAME = re.compile(r"^(?:export )?(?:async )?(?:const|let|class|function) (\$|\w+)", re.MULTILINE)
 
 # Where what is made on the way stays: the tests link it again with another heap.
 ROOM = ROOT / "build" / "page"
@@ -153,11 +169,21 @@ def version():
     return (git("rev-parse", "--short=12", "HEAD") or "not known") + changed
 
 
+def joined(modules):
+    """The modules of a script in one text; stops where a name stands for two things in it."""
+    texts = [(HERE / name).read_text() for name in modules]
+    counts = Counter(name for text in texts for name in {*NAME.findall(text)})
+    if twice := [name for name, count in counts.items() if count > 1]:
+        sys.exit(f"page: these names stand in two modules of one script: {', '.join(twice)}")
+    return "'use strict';\n\n" + "\n".join(EXPORT.sub("", IMPORT.sub("", text)) for text in texts)
+
+
 def page(module):
-    """The text of the page around a module, with its scripts in it."""
+    """The text of the page around a module, with its style and its scripts in it."""
     text = (HERE / "station_check.html").read_text()
     words = {
-        **{f"@{name}@": (HERE / name).read_text() for name in SCRIPTS},
+        **{f"@{name}@": joined(modules) for name, modules in SCRIPTS.items()},
+        "@style.css@": (HERE / "style.css").read_text(),
         "@MODULE@": base64.b64encode(module).decode(),
         "@SHA256@": hashlib.sha256(module).hexdigest(),
         "@COMMIT@": version(),

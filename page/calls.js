@@ -1,10 +1,9 @@
 // The proved calls of the module: files in, a status and texts out.
 //
 // Each call copies its inputs into memory, calls, and copies the texts out. Nothing proves this part.
-'use strict';
 
-// Statuses of a call: those of the program's command, and the call's own.
-const ACCEPTED = 0, REFUSED = 1, OUT_OF_RANGE = 2, TOO_LITTLE_ROOM = 3;
+// The status of a call whose text has no room.
+const NO_ROOM = 3;
 const MEMORY_PAGE = 65536, LENGTH = 8, LEAST_ROOM = 65536, MOST_ROOM = 2 ** 30;
 
 // Adds pages to a memory, and answers where they begin. Node before 24 counts them in numbers.
@@ -22,7 +21,8 @@ const bytesOfAll = inputs => inputs.reduce((sum, input) => sum + input.length, 0
 // One call of the core, in a new instance: its inputs, and then room for each text and its length,
 // lie in pages of their own, which nothing of the module uses.
 async function callWithin(room, core, name, inputs, numbers, texts) {
-  const { memory, [name]: call } = (await WebAssembly.instantiate(core, {})).exports;
+  const { exports } = /** @type {any} */ (await WebAssembly.instantiate(core, {}));
+  const { memory, [name]: call } = exports;
   const bytes = bytesOfAll(inputs) + texts * (LENGTH + room);
   let at = grow(memory, Math.ceil(bytes / MEMORY_PAGE));
   const lengths = Array.from({ length: texts }, (_, nth) => at + nth * LENGTH);
@@ -46,14 +46,14 @@ async function callWithin(room, core, name, inputs, numbers, texts) {
 async function callOf(core, name, inputs, numbers, texts = 1) {
   for (let room = Math.max(LEAST_ROOM, 2 * bytesOfAll(inputs)); ; room *= 8) {
     const answer = await callWithin(room, core, name, inputs, numbers, texts);
-    if (answer.status !== TOO_LITTLE_ROOM || room > MOST_ROOM) return answer;
+    if (answer.status !== NO_ROOM || room > MOST_ROOM) return answer;
   }
 }
 
 // A residual limit: whether one is stated, and which.
 const stated = limit => [Number(limit !== null), limit ?? 0];
 
-const calls = {
+export const calls = {
   check: (core, gsi, sheet, twoC, twoI, residual) =>
     callOf(core, 'station_page_check', [gsi, sheet], [twoC, twoI, ...stated(residual)]),
   list: (core, gsi, twoC, twoI) => callOf(core, 'station_page_list', [gsi], [twoC, twoI]),
@@ -64,5 +64,6 @@ const calls = {
     callOf(core, 'station_page_directions', [gsi, name], [twoC, twoI, decimals]),
   compare: (core, gsi, table, name, twoC, twoI, within) =>
     callOf(core, 'station_page_compare', [gsi, table, name], [twoC, twoI, within]),
+  mark: (core, gsi, name) => callOf(core, 'station_page_mark', [gsi, name], [], 2),
   explain: (core, line) => callOf(core, 'station_page_explain', [line], []),
 };

@@ -73,7 +73,8 @@ class PagesTest(TimedTest):
 
     def test_the_lines_of_what_is_trusted_are_counted(self):
         parts = PART.findall(TRUSTED.read_text())
-        self.assertEqual(5, len(parts))
+        scripts = [path.name for path in TRUSTED.parent.glob("*.js")]
+        self.assertEqual(sorted([*scripts, "build.py", "heap.c", "retarget.py"]), sorted(name for name, _ in parts))
         for name, lines in parts:
             with self.subTest(name):
                 text = (TRUSTED.parent / name).read_text()

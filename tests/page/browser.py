@@ -8,10 +8,11 @@ import shutil
 import subprocess
 import tempfile
 import time
+from contextlib import contextmanager
 from typing import NamedTuple
 
 NAMES = ["chromium", "chromium-browser", "google-chrome", "chrome"]
-FLAGS = ["--headless=new", "--no-sandbox", "--disable-gpu", "--disable-dev-shm-usage"]
+FLAGS = ["--headless=new", "--no-sandbox", "--disable-gpu", "--disable-dev-shm-usage", "--accept-lang=en"]
 
 # How long the browser may take for an answer, in seconds.
 PATIENCE = 60
@@ -37,7 +38,7 @@ class Part(NamedTuple):
 class Page:
     """A page that is open in a browser of its own."""
 
-    def __init__(self, path, width=1000, height=1400):
+    def __init__(self, path, width=1000, height=1400, scheme="light"):
         self.folder = tempfile.TemporaryDirectory(prefix="page-browser-", ignore_cleanup_errors=True)
         self.downloads = os.path.join(self.folder.name, "downloads")
         self.count, self.events, self.rest, self.session = 0, [], b"", None
@@ -49,8 +50,10 @@ class Page:
             self.call(f"{domain}.enable")
         screen = {"width": width, "height": height, "deviceScaleFactor": 1, "mobile": False}
         self.call("Emulation.setDeviceMetricsOverride", **screen)
+        self.call("Emulation.setEmulatedMedia", features=[{"name": "prefers-color-scheme", "value": scheme}])
         self.call("Page.navigate", url=path.as_uri())
         self.wait("document.readyState === 'complete'")
+        self.settle()
 
     def start(self):
         (asked, self.asks), (self.hears, told) = os.pipe(), os.pipe()
@@ -116,33 +119,44 @@ class Page:
             time.sleep(0.02)
         return found
 
-    def give(self, kind, *paths):
-        """Hands files to a field; the page has answered when this returns."""
-        self.js(f"$('file-{kind}').onclick()")
+    def give(self, *paths):
+        """Chooses files by the button; the page has answered when this returns."""
+        self.js("$('choose').onclick()")
         root = self.call("DOM.getDocument")["root"]["nodeId"]
-        field = self.call("DOM.querySelector", nodeId=root, selector=f"#file-{kind}")["nodeId"]
-        self.call("DOM.setFileInputFiles", nodeId=field, files=[str(path) for path in paths])
-        self.settle()
+        field = self.call("DOM.querySelector", nodeId=root, selector="#choose")["nodeId"]
+        with self.answered():
+            self.call("DOM.setFileInputFiles", nodeId=field, files=[str(path) for path in paths])
 
-    def drop(self, selector, *paths):
-        """Drops files onto an element."""
-        where = self.js(
-            f"(({{ x, y, width, height }}) => [x + width / 2, y + height / 2])"
-            f"(document.querySelector({json.dumps(selector)}).getBoundingClientRect())"
-        )
+    def drop(self, *paths):
+        """Drops files onto the middle of the window."""
+        where = self.js("[innerWidth / 2, innerHeight / 2]")
         data = {"items": [], "files": [str(path) for path in paths], "dragOperationsMask": 1}
-        for kind in ("dragEnter", "dragOver", "drop"):
-            self.call("Input.dispatchDragEvent", type=kind, x=where[0], y=where[1], data=data)
-        self.settle()
+        with self.answered():
+            for kind in ("dragEnter", "dragOver", "drop"):
+                self.call("Input.dispatchDragEvent", type=kind, x=where[0], y=where[1], data=data)
 
     def fill(self, name, value):
         """Types a number into a field."""
-        self.js(f"$('{name}').value = {json.dumps(str(value))}; $('{name}').onchange()")
+        with self.answered():
+            self.js(f"$('{name}').value = {json.dumps(str(value))}; $('{name}').onchange()")
+
+    def empty(self):
+        """Takes all files away."""
+        with self.answered():
+            self.js("$('remove-all').onclick()")
+
+    @contextmanager
+    def answered(self):
+        """What is done in it changes what is asked: waits until that is answered."""
+        before = self.js("state")
+        yield
+        self.wait(f"state > {before}")
         self.settle()
 
     def settle(self):
-        """Waits until the page has done all that was asked of it."""
-        self.js("last.then(() => true)")
+        """Waits until the page has done all that was asked of it, opened results included."""
+        self.wait("$('main').getAttribute('aria-busy') === 'false' && "
+                  "document.querySelector('details.results[open]:not(.filled)') === null")
 
     def text(self, selector):
         return self.js(f"document.querySelector({json.dumps(selector)})?.textContent")
@@ -185,10 +199,16 @@ class Page:
         sent = [one for one in self.events if one.get("method") == "Network.requestWillBeSent"]
         return [one["params"]["request"]["url"] for one in sent]
 
-    def picture(self, path, above):
-        """Puts a picture of the page as far as the top of an element at a path."""
-        find = f"document.querySelector({json.dumps(above)})"
-        clip = {"x": 0, "y": 0, "scale": 1, "width": self.js("innerWidth")}
-        clip["height"] = self.js(f"{find}.getBoundingClientRect().top")
+    def printed(self):
+        """The bytes of the page as it is printed, in PDF."""
+        data = self.call("Page.printToPDF", preferCSSPageSize=True)["data"]
+        return base64.b64decode(data)
+
+    def picture(self, path, above=None):
+        """Puts a picture of the page, as far as the top of an element, at a path."""
+        below = "document.documentElement.scrollHeight"
+        if above:
+            below = f"document.querySelector({json.dumps(above)}).getBoundingClientRect().top"
+        clip = {"x": 0, "y": 0, "scale": 1, "width": self.js("innerWidth"), "height": self.js(below)}
         data = self.call("Page.captureScreenshot", captureBeyondViewport=True, clip=clip)["data"]
         path.write_bytes(base64.b64decode(data))

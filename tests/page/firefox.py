@@ -1,5 +1,6 @@
 """Drives a headless Firefox by its own protocol, Marionette, as a user at the page does."""
 
+import base64
 import json
 import os
 import shutil
@@ -94,10 +95,25 @@ class Page:
         found = self.call("WebDriver:FindElement", using="css selector", value=selector)["value"]
         return next(iter(found.values()))
 
-    def give(self, kind, path):
-        """Hands a file to a field, in the place of those that it has."""
-        self.js(f"document.querySelector('#file-{kind}').value = ''")
-        self.call("WebDriver:ElementSendKeys", id=self.element(f"#file-{kind}"), text=str(path))
+    def give(self, path):
+        """Chooses a file, beside those that are there."""
+        self.js("document.querySelector('#choose').value = ''")
+        self.call("WebDriver:ElementSendKeys", id=self.element("#choose"), text=str(path))
+
+    def drop(self, *paths):
+        """Drops files onto the window: its protocol has no drop of its own, so the page is told of one."""
+        files = [[path.name, base64.b64encode(path.read_bytes()).decode()] for path in paths]
+        self.js(
+            "const data = new DataTransfer();"
+            f"for (const [name, text] of {json.dumps(files)})"
+            "  data.items.add(new File([Uint8Array.from(atob(text), letter => letter.charCodeAt(0))], name));"
+            "const drop = kind => document.body.dispatchEvent("
+            "  new DragEvent(kind, { bubbles: true, cancelable: true, dataTransfer: data }));"
+            "['dragenter', 'dragover', 'drop'].forEach(drop);"
+        )
+
+    def press(self, selector):
+        self.js(f"document.querySelector({json.dumps(selector)}).click()")
 
     def fill(self, name, value):
         """Types a number into a field, and leaves it."""

@@ -12,16 +12,15 @@ PAGE = ROOT / "build" / "station_check.html"
 EXAMPLE = ROOT / "examples" / "station_p7"
 PICTURE = ROOT / "docs" / "page.png"
 
-# What is below the first table is left out.
-BELOW = "#tables .wide + .wide"
+# What is below the face differences is left out.
+BELOW = ".digests"
 
-WIDTH, HEIGHT = 960, 1400
+WIDTH, HEIGHT = 1100, 1400
 
 
 def main():
     page = browser.Page(PAGE, WIDTH, HEIGHT)
-    page.give("gsi", EXAMPLE.with_suffix(".gsi"))
-    page.give("sheet", EXAMPLE.with_suffix(".csv"))
+    page.give(EXAMPLE.with_suffix(".gsi"), EXAMPLE.with_suffix(".csv"))
     page.picture(PICTURE, BELOW)
     page.close()
     print(f"{PICTURE}: {PICTURE.stat().st_size} bytes")

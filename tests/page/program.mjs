@@ -1,9 +1,9 @@
 // The program's command line over the calls of the page: node program.mjs PAGE WORD..
 //
-// Scripts and module are taken out of the page as it is. Beside the program's commands, `picture GSI
-// SHEET` gives the picture of an accepted sheet, `explain-bytes FILE` explains the bytes of a file, and
-// `time COMMAND WORD..` gives the milliseconds that the fastest of some runs takes. With `--room=N`
-// each text has room for so many bytes, and a call is not made again with more.
+// The worker's script and the module are taken out of the page as it is. Beside the program's commands, `residuals GSI
+// SHEET` gives those of an accepted sheet as fractions of a half unit, `explain-bytes FILE` explains the
+// bytes of a file, and `time COMMAND WORD..` gives the milliseconds that the fastest of some runs takes.
+// With `--room=N` each text has room for so many bytes, and a call is not made again with more.
 import fs from 'node:fs';
 import vm from 'node:vm';
 
@@ -16,8 +16,9 @@ const [page, ...words] = process.argv.slice(2);
 const text = fs.readFileSync(page, 'utf8');
 const part = id => text.match(new RegExp(`<script id="${id}"[^>]*>([^]*?)</script>`))[1];
 
-for (const id of ['calls', 'picture']) vm.runInThisContext(part(id));
-const [calls, pictureOf] = ['calls', 'pictureOf'].map(name => vm.runInThisContext(name));
+globalThis.onmessage = null; // what a worker hears by
+vm.runInThisContext(part('calls'));
+const [calls, residualsOf] = ['calls', 'residualsOf'].map(name => vm.runInThisContext(name));
 const core = await WebAssembly.compile(Buffer.from(part('module'), 'base64'));
 
 const options = { ...DEFAULTS }, operands = [];
@@ -47,10 +48,11 @@ const answers = {
     calls.compare(core, bytesOf(gsi), bytesOf(table), nameOf(name), ...faces, options['--within']),
   explain: (line = '') => calls.explain(core, nameOf(line)),
   'explain-bytes': file => calls.explain(core, bytesOf(file)),
-  picture: async (gsi, sheet) => {
+  residuals: async (gsi, sheet) => {
     const { status, shown: [line] } = await answers.check(gsi, sheet);
-    const picture = pictureOf(fs.readFileSync(sheet, 'utf8'), new TextDecoder().decode(line).trimEnd());
-    return { status, shown: [nameOf(picture ?? '')] };
+    const found = residualsOf(fs.readFileSync(sheet, 'utf8'), new TextDecoder().decode(line).trimEnd());
+    const rows = found.rows.map(({ set, target, size }) => `${set} ${size}/${found.scale} ${target}\n`);
+    return { status, shown: [nameOf(rows.join(''))] };
   },
   time: async (command, ...rest) => {
     const took = [];

@@ -9,18 +9,19 @@ import subprocess
 import sys
 import tempfile
 import unittest
+from fractions import Fraction
 from pathlib import Path
 
 from program import EXAMPLE, PROGRAM, ROOT, SWEEP, TimedTest, answer_to
 
-sys.path[:0] = [str(ROOT / "conformance"), str(ROOT / "page")]
+sys.path[:0] = [str(ROOT / name) for name in ("conformance", "examples", "page")]
 import build  # noqa: E402
+import residuals  # noqa: E402
 import run  # noqa: E402
 
 PAGE = ROOT / "build" / "station_check.html"
 COMMAND_LINE = Path(__file__).with_name("program.mjs")
 EXAMPLES = [ROOT / "examples" / f"station_p7{end}" for end in (".gsi", ".csv", "_directions.csv")]
-DRAWN = ROOT / "examples" / "residuals.py"
 
 RT = os.environ.get("RT", "rt")
 
@@ -187,16 +188,17 @@ class PageCallsTest(TimedTest):
                     answer = answer_to([*self.command(), f"--room={room}", *words])
                     self.assertEqual(expected, answer)
 
-    def test_the_picture_is_the_one_that_is_drawn_beside_the_program(self):
+    def test_the_residuals_are_those_that_are_drawn_beside_the_program(self):
         checks = [case for case in run.cases() if case.args[:1] == ["check"] and len(case.args) == 3]
         accepted = [case for case in checks if case.expected[0] == 0]
         self.assertGreater(len(accepted), 15)
         pairs = [[run.FOLDER / case.name / word for word in case.args[1:]] for case in accepted]
         for gsi, sheet in [EXAMPLES[:2], *pairs]:
-            line = answer_to([*self.command(), "check", gsi, sheet])[1]
-            drawn = answer_to([sys.executable, DRAWN, sheet], input=line)
+            status, shown, _ = answer_to([*self.command(), "residuals", gsi, sheet])
+            rows = [row.split(" ", 2) for row in shown.decode().splitlines()]
+            ours = {(int(number), target): Fraction(size) * residuals.MGON for number, size, target in rows}
             with self.subTest(sheet):
-                self.assertEqual(drawn, answer_to([*self.command(), "picture", gsi, sheet]))
+                self.assertEqual((0, residuals.read_sheet(sheet).residuals), (status, ours))
 
     @unittest.skipUnless(PROGRAM.exists(), "the program is not built")
     def test_changed_files_have_the_answers_of_the_program(self):

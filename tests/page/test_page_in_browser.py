@@ -1,12 +1,16 @@
-"""The page in a browser, as a user sees it: what is shown of each answer, what is saved, what is sent."""
+"""The page in a browser, as a user sees it: what is shown of each answer, what is saved, printed and sent."""
 
 import base64
+import csv
 import hashlib
+import re
 import shutil
+import subprocess
 import sys
 import tempfile
 import unittest
 from collections import Counter
+from fractions import Fraction
 from pathlib import Path
 
 import browser
@@ -18,41 +22,65 @@ import bench  # noqa: E402
 
 EXAMPLES = ROOT / "examples"
 FIELD, SHEET, TABLE = (EXAMPLES / f"station_s1{end}" for end in (".gsi", ".csv", "_directions.csv"))
+P7_FIELD, P7_SHEET, P7_TABLE = (EXAMPLES / f"station_p7{end}" for end in (".gsi", ".csv", "_directions.csv"))
 CASES = ROOT / "conformance"
 
-ACCEPTED = "accepted S1: 2 sets, 2 targets, 4 directions, greatest residual 4/4"
+P7_LINE = "accepted P7: 4 sets, 6 targets, 22 directions, greatest residual 85967/1344"
+P7_HEADLINE = "Accepted. Greatest residual 0.32 mgon, set 4, TOWER."
 
-# A width and a height in pixels: a screen's, and a phone's.
-SCREEN, PHONE = (1000, 1400), (360, 640)
+# The directions of P7 as a controller shows them, with four decimals.
+FOUR_DECIMALS = b"TOWER,0.0000\nP3,64.5213\nMAST,139.4045\nP8,212.7572\nCHURCH,278.8606\nP12,345.2092\n"
 
-# Stations, sets and targets of a large field file, and the time of an answer to it, in milliseconds, on
-# a machine that is slow and busy; page/README.md has times that were measured.
-LARGE, SOON = (400, 40, 10), 5_000
+# A width and a height in pixels: a small screen's, and a phone's.
+SCREEN, PHONE = (1366, 768), (360, 740)
 
-FILES = {"gsi": FIELD, "sheet": SHEET, "table": TABLE}
+# How many pixels the smallest letter has.
+SMALLEST_LETTER = 11
+
+# Stations, sets and targets of a large field file; the time of an answer to it, and the longest time
+# for which the window is held meanwhile, in milliseconds, on a machine that is slow and busy;
+# page/README.md has times that were measured.
+LARGE, SOON, HELD = (400, 40, 10), 20_000, 1_500
+
+# Stations, sets and targets of a wide station, for print.
+WIDE = (1, 40, 30)
+
+FILES = {"field": FIELD, "sheet": SHEET, "table": TABLE}
 LAST_LINE = "410012+00000030\r\n"
 TAB = "\N{SYMBOL FOR HORIZONTAL TABULATION}"
 
 # A fault of a file: of which kind it is, the old and the new text; and what is then shown: the refusal,
-# the place that it names, and what stands there.
+# the place that it names, and what is marked there.
 FAULTS = [
     (
-        ("gsi", "110004+0", "   \r\n110004X0"),
+        ("field", "110004+0", "   \r\n110004X0"),
         "refused: block 4: Word 1",
         "Line 5 of fault.gsi, block 4:",
-        "110004X0000000B 21.102+05000000 22.102+10000000",
+        "110004X0000000B",
     ),
     (
-        ("gsi", "25000010 22.102+30000000", "25000010 22.102+3000000\t"),
+        ("field", "25000010 22.102+30000000", "25000010 22.102+3000000\t"),
         "refused: block 5: Byte 47",
         "Line 5 of fault.gsi, block 5:",
-        f"110005+0000000B 21.102+25000010 22.102+3000000{TAB}",
+        TAB,
     ),
     (
-        ("gsi", LAST_LINE, "410012+00000020 42....+00000003\r\n"),
+        ("field", "25000010 22.102+30000000", "2500001X 22.102+30000000"),
+        "refused: block 5: Hz Digits",
+        "Line 5 of fault.gsi, block 5:",
+        "21.102+2500001X",
+    ),
+    (
+        ("field", "25000010 22.102+30000000", "25100010 22.102+30000000"),
+        "refused: block 5: TwoC",
+        "Line 5 of fault.gsi, block 5:",
+        "21.102+25100010",
+    ),
+    (
+        ("field", LAST_LINE, "410012+00000020 42....+00000003\r\n"),
         "refused: block 13: EmptySet",
         "The end of fault.gsi:",
-        "",
+        None,
     ),
     (
         ("sheet", "obs,1,B,10000010,0", "\n\nobs,1,B,x,0"),
@@ -92,6 +120,51 @@ FAULTS = [
     ),
 ]
 
+# Files that hold no results, and what is said of each.
+UNUSED = [
+    ("notes.txt", b"as agreed by telephone\n", "neither a field file"),
+    ("book.xlsx", b"PK\x03\x04", "a spreadsheet"),
+    ("none.csv", b"", "empty"),
+    ("photo.jpg", b"\xff\xd8\xff\xe0\0\x10JFIF\0\x01,12", "neither a field file"),
+]
+
+# Every text of the page's own in brackets; what is a number, a name or the program's stands without.
+BRACKETS = (
+    "for (const one of Object.values(TEXTS))"
+    " one.en = one.en.split('|').map(text => `\u27e6${text}\u27e7`).join('|');"
+    " languages.onchange()"
+)
+
+# The texts that are seen and are in no brackets: not those of the program, of files and of numbers.
+PLAIN_TEXTS = """(() => {
+  const walk = document.createTreeWalker(document.body, NodeFilter.SHOW_TEXT), found = [];
+  while (walk.nextNode()) {
+    const node = walk.currentNode, parent = node.parentElement;
+    if (parent.closest('script, style, noscript, pre, code, samp, [lang=en]:not(html), .name, tbody, option'))
+      continue;
+    if (!parent.checkVisibility()) continue;
+    const left = node.data.replace(/\u27e6[^]*?\u27e7/g, '');
+    if (/\\p{L}{2}/u.test(left)) found.push(left.trim());
+  }
+  return found;
+})()"""
+
+# The names that a screen reader is told and that are in no brackets.
+PLAIN_LABELS = (
+    "[...document.querySelectorAll('[aria-label]')].map(one => one.getAttribute('aria-label'))"
+    r".filter(label => !/\u27e6/.test(label))"
+)
+
+# The time for which the window did not answer at the longest.
+WATCH = """{
+  let last = performance.now();
+  longest = 0;
+  setInterval(() => {
+    longest = Math.max(longest, performance.now() - last);
+    last = performance.now();
+  }, 20);
+}"""
+
 
 class PageInBrowserTest(TimedTest):
     maxDiff = None
@@ -110,12 +183,12 @@ class PageInBrowserTest(TimedTest):
         self.addCleanup(folder.cleanup)
         self.folder = Path(folder.name)
 
-    def page(self, size=SCREEN, **files):
-        """The page in a browser of its own, that was handed these files, by their kinds."""
-        page = browser.Page(PAGE, *size)
+    def page(self, *files, size=SCREEN, scheme="light"):
+        """The page in a browser of its own, that was handed these files."""
+        page = browser.Page(PAGE, *size, scheme)
         self.addCleanup(page.close)
-        for kind, path in files.items():
-            page.give(kind, path)
+        if files:
+            page.give(*files)
         return page
 
     def file(self, name, data):
@@ -123,136 +196,504 @@ class PageInBrowserTest(TimedTest):
         path.write_bytes(data)
         return path
 
-    def test_an_accepted_sheet_is_shown_with_its_picture_and_nothing_is_sent(self):
-        page = self.page(gsi=EXAMPLES / "station_p7.gsi")
-        self.assertEqual("The field file has 1 station and no fault.", page.text("#verdict"))
-        page.give("sheet", EXAMPLES / "station_p7.csv")
-        picture = (EXAMPLES / "station_p7.svg").read_bytes()
-        self.assertIn(page.text("#verdict").encode(), picture)
-        self.assertEqual("accepted", page.js("$('verdict').className"))
-        self.assertEqual(picture, page.saved("Save the picture", "station_p7.svg"))
-        self.assertEqual("station_check check station_p7.gsi station_p7.csv", page.text("code"))
-        # The greatest 2c and 2i, and a target that was not observed in set 2.
-        self.assertEqual(["216", "167"], page.texts("td.greatest"))
-        self.assertEqual(2, page.texts("tbody tr:nth-child(2) td").count(""))
-        self.assertEqual([PAGE.as_uri()], page.requests())
+    def cards(self, page):
+        """Of each card its kind, its title and its headlines."""
+        return page.js(
+            "[...document.querySelectorAll('.card')].map(card => [card.classList[1],"
+            " card.querySelector('h2').textContent,"
+            " ...[...card.querySelectorAll('.headline')].map(e => e.textContent)])"
+        )
+
+    # ------------------------------------------------------------ answers
+
+    def test_the_answer_comes_first_and_nothing_is_sent(self):
+        page = self.page(P7_FIELD, P7_SHEET)
+        self.assertEqual([["good", "Station P7", P7_HEADLINE]], self.cards(page))
+        self.assertLess(page.js("document.querySelector('.headline').getBoundingClientRect().top"), 320)
+        self.assertEqual(f"Station P7: {P7_HEADLINE}", page.text("#verdict"))
+        self.assertEqual(P7_LINE, page.text(".exact samp"))
+        command = "station_check check --residual 2000 station_p7.gsi station_p7.csv"
+        self.assertEqual(command, page.text(".exact code"))
+        digest = hashlib.sha256(P7_FIELD.read_bytes()).hexdigest()
+        self.assertIn(digest, page.text(".digests"))
+        self.assertEqual([PAGE.as_uri()], [url for url in page.requests() if not url.startswith("blob:")])
         with self.assertRaises(RuntimeError):
             page.js("fetch('https://example.org')")
+        self.assertEqual("refused", page.js(
+            "new Promise(told => { const script = new Blob([`fetch('https://example.org')"
+            ".then(() => postMessage('sent'), () => postMessage('refused'))`]);"
+            " new Worker(URL.createObjectURL(script)).onmessage = event => told(event.data) })"
+        ))
 
-    def test_a_table_is_compared_with_the_station_that_is_chosen(self):
-        page = self.page()
-        page.give("gsi", FIELD, EXAMPLES / "station_p7.gsi")
-        page.give("table", TABLE)
-        self.assertEqual("agrees S1: 2 targets, within 0", page.text("#verdict"))
-        self.assertEqual(f"station_check compare {FIELD.name} S1 {TABLE.name}", page.text("code"))
-        page.js("$('station').selectedIndex = 1; $('station').onchange()")
-        page.settle()
-        self.assertEqual("refused: table row 1: Unknown", page.text("#verdict"))
+    def test_results_have_targets_as_rows_and_sets_as_columns(self):
+        page = self.page(P7_FIELD, P7_SHEET)
+        rows = page.js(
+            "[...document.querySelectorAll('.results table')].map(table => [...table.rows]"
+            ".map(row => [...row.cells].map(cell => cell.textContent)))"
+        )
+        directions, residuals, two_c, two_i = rows
+        self.assertEqual(["Target", "Direction", "Observed in"], directions[0])
+        self.assertEqual(["MAST", "139.404538", "3 of 4 sets"], directions[3])
+        self.assertEqual(["Target", "Set 1", "Set 2", "Set 3", "Set 4"], residuals[0])
+        self.assertEqual(["TOWER", "\u22120.13", "\u22120.17", "\u22120.02", "+0.32"], residuals[1])
+        self.assertEqual(["CHURCH", "\u22120.11", "\u00d7", "\u22120.16", "+0.27"], residuals[5])
+        self.assertEqual(["MAST", "+1.25", "+0.91", "\u00d7", "+2.16"], two_c[3])
+        self.assertEqual(["CHURCH", "+1.08", "\u00d7", "+0.93", "0.00"], two_i[5])
+        self.assertEqual(["+0.32", "+2.16", "+1.67"], page.texts("td.greatest"))
+        # The longest bar is that of the greatest residual.
+        parts = page.js("[...document.querySelectorAll('.bar')].map(bar => Number(bar.style.getPropertyValue('--part')))")
+        self.assertEqual((22, 1, 1), (len(parts), max(parts), parts.count(1)))
+        # The sheet is named that they rest on.
+        self.assertIn(f"Of station_p7.csv: {P7_LINE}", page.texts(".results .quiet"))
 
-    def test_a_number_is_handed_on_and_one_out_of_its_range_is_told(self):
-        page = self.page(gsi=FIELD, sheet=SHEET)
-        page.fill("residual", 0)
-        self.assertEqual("refused: kernel: Residual 1", page.text("#verdict"))
-        command = f"station_check check --residual 0 {FIELD.name} {SHEET.name}"
-        self.assertEqual(command, page.text("code"))
-        for name, value, largest in [("two-c", -1, 1_000_000), ("residual", 2001, 2000), ("two-i", 1.5, 1_000_000)]:
-            before = page.js(f"$('{name}').value")
-            page.fill(name, value)
-            with self.subTest(name):
-                self.assertTrue(page.text("#verdict").endswith(f": a whole number of 0 to {largest}"))
-            page.fill(name, before)
-        page.fill("residual", 1)
-        self.assertEqual(ACCEPTED, page.text("#verdict"))
+    def test_residuals_of_a_complete_station_need_no_sheet(self):
+        page = self.page(FIELD)
+        self.assertEqual(["open", "Station S1"], self.cards(page)[0][:2])
+        self.assertIn("No results of your program were given yet", page.text(".card"))
+        line = "accepted S1: 2 sets, 2 targets, 4 directions, greatest residual 4/4"
+        self.assertTrue(any(said.endswith(line) for said in page.texts(".results .quiet")))
+        page.empty()
+        page.give(P7_FIELD)
+        self.assertIn("This station has gaps", page.text(".results"))
+
+    def plain(self):
+        """The field file of P7 as an instrument's own program for sets writes it: without codes."""
+        lines = P7_FIELD.read_bytes().splitlines(True)
+        return self.file("plain.gsi", b"".join(line for line in lines if not line.startswith(b"*41")))
+
+    def test_a_job_without_codes_is_marked_and_says_what_it_recognized(self):
+        page = self.page(self.plain())
+        if not page.js("has('mark')"):
+            self.assertIn("mark_sets.py --station NAME plain.gsi plain_marked.gsi", page.text(".card"))
+            self.skipTest("the module has no call that marks")
+        with page.answered():
+            page.js("document.querySelector('form input').value = 'P7'; document.querySelector('form').requestSubmit()")
+        self.assertEqual(["open", "Station P7"], self.cards(page)[0][:2])
+        self.assertIn("Station P7: 4 sets, 6 targets.", page.text(".marked"))
+        # What was recognized stands before the answer.
+        page.give(self.file("plain.csv", P7_SHEET.read_bytes()))
+        self.assertEqual([["good", "Station P7", P7_HEADLINE]], self.cards(page))
+        self.assertTrue(page.js(
+            "document.querySelector('.marked').compareDocumentPosition(document.querySelector('.headline')) & 4"
+        ))
+        copy = page.saved("Save the copy with codes", "plain_marked.gsi")
+        kept = [line for line in copy.splitlines(True) if not line.lstrip(b"*").startswith(b"41")]
+        self.assertEqual((self.folder / "plain.gsi").read_bytes(), b"".join(kept))
+
+    def test_what_was_not_checked_is_never_green(self):
+        page = self.page(self.plain())
+        headline = "Nothing was checked: no code 20 opens a set in this file."
+        self.assertEqual([["open", "plain.gsi", headline]], self.cards(page))
+        self.assertIn("45 readings with directions stand outside of sets.", page.text(".card"))
+        page.give(P7_SHEET)
+        self.assertIn("Not checked, since the field file has no station: station_p7.csv.", page.text(".card"))
+        page.empty()
+        page.give(self.file("level.gsi", b"110001+000000P1 331.28+00123456\r\n"))
+        self.assertIn("levelling", page.text(".card"))
+        page.empty()
+        page.give(P7_SHEET)
+        self.assertEqual("open", page.js("$('verdict').className"))
+        for unsure in ("plain.gsi", "level.gsi"):
+            page.empty()
+            page.give(self.folder / unsure, FIELD, SHEET)
+            self.assertEqual("2 answers: 1 in order, 0 refused, 1 with something to do", page.text("#verdict"))
+            self.assertEqual("open", page.js("$('verdict').className"))
 
     def test_a_refusal_shows_the_place_that_it_names(self):
         page = self.page()
         for (kind, old, new), *expected in FAULTS:
             text = FILES[kind].read_bytes().decode()
             self.assertEqual(1, text.count(old))
-            page.js("for (const kind of KINDS) files[kind] = []")
-            for whole in ["gsi", "sheet" if kind == "gsi" else kind]:
-                page.give(whole, FILES[whole])
-            page.give(kind, self.file(f"fault{FILES[kind].suffix}", text.replace(old, new).encode()))
+            fault = self.file(f"fault{FILES[kind].suffix}", text.replace(old, new).encode())
+            page.give(*{fault, FIELD} if kind != "field" else {fault})
             with self.subTest(expected[0]):
-                where = page.texts("#answers p")[-1]
-                self.assertEqual(expected, [page.text("#verdict"), where, page.text("pre")])
-                name = expected[0].rsplit(": ", 1)[1].split()[0]
-                self.assertIn(name, page.text(".explanation"))
-                self.assertIn("\n\nWhat to do: ", page.text(".explanation"))
+                shown = [page.text(selector) for selector in (".exact samp", ".where", "mark")]
+                self.assertEqual(expected, shown)
+                refused = [card for card in self.cards(page) if card[0] == "bad"]
+                self.assertRegex(refused[0][2], r"^Refused\. [A-Z][^:]*\.$")
+                # What it means is shown as flowing text, without the line that is its sample.
+                paragraphs = page.texts(".explanation p:not(.label)")
+                self.assertTrue(paragraphs[-1].startswith("What to do: "))
+                self.assertFalse([text for text in paragraphs if "\n" in text or text.startswith("refused:")])
+            page.empty()
 
-    def test_of_several_files_there_is_a_table_of_verdicts(self):
+    def test_a_table_of_four_decimals_is_offered_its_limit(self):
+        page = self.page(P7_FIELD, self.file("four.csv", FOUR_DECIMALS))
+        refused = "Refused. The directions are 0.025 mgon apart; the limit is 0.01 mgon."
+        self.assertEqual([["bad", "Station P7", refused]], self.cards(page))
+        self.assertIn("This table has 4 decimals: rounding alone can put it up to 0.05 mgon apart.", page.text(".card"))
+        with page.answered():
+            page.press("Compare within 0.051 mgon")
+        agrees = "Agrees. 6 targets within 0.025 mgon of the least-squares directions."
+        self.assertEqual([["good", "Station P7", agrees]], self.cards(page))
+        self.assertEqual("station_check compare --within 51 station_p7.gsi P7 four.csv", page.text(".exact code"))
+        self.assertIn("tables within 0.051 mgon", page.text("#in-force"))
+
+    def test_the_differences_of_a_table_are_shown_by_target(self):
+        other = P7_TABLE.read_text().replace("CHURCH,278.86059", "CHURCH,278.86065")
+        page = self.page(P7_FIELD, self.file("one.csv", other.encode()))
+        # The least-squares directions, as the sheet of the station has them exactly, in gon.
+        rows = [row.split(",") for row in P7_SHEET.read_text().splitlines()]
+        least = {row[2]: Fraction(int(row[3]), int(rows[0][3])) / 200_000 for row in rows if row[0] == "target"}
+        stated = {name: Fraction(gon) for name, gon in csv.reader((self.folder / "one.csv").read_text().splitlines())}
+        apart = {name: stated[name] - least[name] for name in least}
+        middle = (max(apart.values()) + min(apart.values())) / 2
+        expected = {name: float((one - middle) * 1000) for name, one in apart.items()}
+        saved = page.saved("Save differences (CSV)", "one_differences.csv").decode().splitlines()
+        self.assertEqual("target,stated,least squares,difference mgon", saved[0])
+        shown = {row[0]: float(row[3]) for row in csv.reader(saved[1:])}
+        self.assertEqual(list(expected), list(shown))
+        for name, value in expected.items():
+            self.assertAlmostEqual(value, shown[name], delta=0.0006)
+        self.assertEqual("Differences of one.csv", page.text(".results h3"))
+        self.assertEqual(["\u22120.029", "+0.029"], page.texts(".results section:first-child td.greatest"))
+        # Turned by nearly a full circle the differences are the same.
+        turned = "".join(f"{name},{(float(gon) + 399.9) % 400:.5f}\n" for name, gon in csv.reader(other.splitlines()))
+        page.empty()
+        page.give(P7_FIELD, self.file("one.csv", turned.encode()))
+        self.assertEqual(["\u22120.029", "+0.029"], page.texts(".results section:first-child td.greatest"))
+
+    # ------------------------------------------------------------ files
+
+    def test_files_are_sorted_by_what_they_hold_wherever_they_are_dropped(self):
         page = self.page()
-        fields = [EXAMPLES / "station_p7.gsi", FIELD]
-        sheets = [EXAMPLES / "station_p7.csv", SHEET, self.file("other.csv", SHEET.read_bytes())]
-        page.give("gsi", *fields)
-        page.give("sheet", *sheets)
-        self.assertEqual("3 answers: 1 refused", page.text("#verdict"))
-        answers = page.texts("table.words td")
-        self.assertEqual(ACCEPTED, answers[1])
-        self.assertEqual("refused by the page: of several field files none has the beginning of its name", answers[2])
-        page.js("document.querySelector('#answers details').open = true")
-        page.wait("document.querySelector('#answers svg') !== null")
+        page.drop(*(self.file(name, data) for name, data, _ in UNUSED), P7_FIELD, P7_SHEET, P7_TABLE)
+        kinds = dict(zip(page.texts("#inputs .name"), page.texts("#inputs .kind")))
+        self.assertEqual("field file", kinds[P7_FIELD.name])
+        self.assertEqual("sheet of P7", kinds[P7_SHEET.name])
+        self.assertEqual("table of directions", kinds[P7_TABLE.name])
+        for name, _, said in UNUSED:
+            self.assertTrue(kinds[name].startswith("not used: ") and said in kinds[name], kinds[name])
+        agrees = "Agrees. 6 targets within 0.004 mgon of the least-squares directions."
+        self.assertEqual([["good", "Station P7", P7_HEADLINE, agrees]], self.cards(page))
+
+    def test_what_belongs_together_is_found_by_name_and_by_station(self):
+        page = self.page(P7_FIELD, FIELD, P7_TABLE, TABLE, P7_SHEET, SHEET)
+        self.assertEqual([("good", "Station P7", 4), ("good", "Station S1", 4)], [
+            (mood, title, 2 + len(said)) for mood, title, *said in self.cards(page)
+        ])
+        self.assertEqual("2 answers: 2 in order, 0 refused, 0 with something to do", page.text("#verdict"))
+        # Both stations in one file, with names that say nothing: the station of a sheet, the targets of a table.
+        page.empty()
+        both = self.file("job.gsi", P7_FIELD.read_bytes() + FIELD.read_bytes())
+        others = [P7_TABLE, TABLE, P7_SHEET, SHEET]
+        page.give(both, *(self.file(f"{nth}.csv", path.read_bytes()) for nth, path in enumerate(others)))
+        self.assertEqual(["good", "good"], [card[0] for card in self.cards(page)])
+        self.assertEqual([4, 4], [len(card) for card in self.cards(page)])
+        # A table without any target of the stations waits until it has one by choice.
+        page.empty()
+        page.give(both, self.file("odd.csv", b"X,0\nY,1\n"))
+        self.assertEqual(["open", "odd.csv"], self.cards(page)[2][:2])
+        with page.answered():
+            page.js("{ const s = document.querySelector('#inputs select'); s.value = 'job.gsi: S1'; s.onchange() }")
+        self.assertEqual("refused: table row 1: Unknown", page.text(".exact samp"))
+
+    def test_of_several_field_files_a_sheet_goes_to_the_longest_name_that_fits(self):
+        fields = [self.file(name, FIELD.read_bytes()) for name in ("2026.gsi", "2026.11.GSI")]
+        page = self.page(*fields, self.file("2026.11.csv", SHEET.read_bytes()), self.file("week.csv", SHEET.read_bytes()))
+        moods = [(card[0], card[1]) for card in self.cards(page)]
+        self.assertEqual([("open", "Station S1"), ("good", "Station S1"), ("open", "week.csv")], moods)
+        self.assertEqual(["2026.gsi", "2026.11.GSI"], page.texts(".card header .name"))
+
+    def test_cancel_empties_nothing_and_a_file_can_be_taken_away(self):
+        page = self.page(FIELD, SHEET)
+        page.js("$('choose').onclick(); $('choose').dispatchEvent(new Event('cancel')); $('choose').onchange()")
+        page.settle()
+        self.assertEqual(["station_s1.gsi", "station_s1.csv"], page.texts("#inputs .name"))
+        self.assertEqual("good", self.cards(page)[0][0])
+        with page.answered():
+            page.js("document.querySelectorAll('#inputs button')[1].click()")
+        self.assertEqual("open", self.cards(page)[0][0])
+        # One of the same name takes the place of the older.
+        page.give(self.file(FIELD.name, P7_FIELD.read_bytes()))
+        self.assertEqual([FIELD.name], page.texts("#inputs .name"))
+        self.assertEqual("Station P7", self.cards(page)[0][1])
+
+    # ------------------------------------------------------------ limits
+
+    def test_limits_are_stated_in_mgon_and_those_in_force_are_shown(self):
+        page = self.page(FIELD, SHEET)
+        self.assertEqual("2c 20, 2i 20, residuals 10, tables within 0.01 mgon", page.text("#in-force"))
+        page.fill("residual", "0")
+        self.assertEqual("refused: kernel: Residual 1", page.text(".exact samp"))
+        page.fill("residual", "0,005")
+        self.assertEqual("accepted S1: 2 sets, 2 targets, 4 directions, greatest residual 4/4", page.text(".exact samp"))
+        command = f"station_check check --residual 1 {FIELD.name} {SHEET.name}"
+        self.assertEqual(command, page.text(".exact code"))
+        page.fill("two-c", "0.07")
+        self.assertEqual("refused: block 5: TwoC", page.text(".exact samp"))
+        self.assertIn("2c 0.07, 2i 20, residuals 0.005,", page.text("#in-force"))
+        page.fill("two-c", "")
+        self.assertIn("2c 20,", page.text("#in-force"))
+        for name, value, ends in [
+            ("two-c", "-1", "0 to 10000, in steps of 0.01"),
+            ("residual", "10.005", "0 to 10, in steps of 0.005"),
+            ("residual", "0.001", "0 to 10, in steps of 0.005"),
+            ("within", "ten", "0 to 1000, in steps of 0.001"),
+            ("decimals", "9", "1 to 8, in steps of 1"),
+        ]:
+            before = page.js(f"$('{name}').value")
+            page.fill(name, value)
+            with self.subTest(name, value=value):
+                self.assertTrue(page.text("#verdict").endswith(f": a number from {ends}"), page.text("#verdict"))
+                self.assertEqual([], self.cards(page))
+            page.fill(name, before)
+        self.assertEqual(1, len(self.cards(page)))
+
+    def test_numbers_are_rounded_and_read_exactly(self):
+        page = self.page()
+        for numerator, denominator, decimals, text in [
+            (85967 * 5, 1344 * 1000, 2, "0.32"),
+            (-1, 2, 0, "-1"),
+            (1, 2, 0, "1"),
+            (5, 1000, 2, "0.01"),
+            (-4, 1000, 2, "0.00"),
+            (10**30 + 5, 10, 0, f"{10**29 + 1}"),
+            (1999, 1000, 2, "2.00"),
+        ]:
+            self.assertEqual(text, page.js(f"decimal({numerator}n, {denominator}n, {decimals})"))
+        for text, per, units in [
+            ("0.3", 200, 60), ("0,3", 100, 30), ("20", 100, 2000), (" 7.5 ", 100, 750), ("0.005", 200, 1), ("1.", 1000, 1000),
+            ("0.001", 200, None), ("-1", 100, None), ("1e3", 100, None), ("", 100, None), (".5", 100, None), ("1.5", 1, None),
+        ]:
+            self.assertEqual(units, page.js(f"unitsIn('{text}', {per})"), text)
+
+    # ------------------------------------------------------------ what is kept
 
     def test_what_is_saved_is_what_the_program_prints(self):
-        page = self.page(gsi=FIELD)
+        page = self.page(FIELD)
         for button, name, case in [
-            ("Save the sheet of means of S1", "S1.csv", "means_of_the_example"),
-            ("Save the directions of S1", "S1_directions.csv", "directions_of_the_example"),
+            ("Save sheet of means", "S1.csv", "means_of_the_example"),
+            ("Save directions (CSV)", "S1_directions.csv", "directions_of_the_example"),
         ]:
             with self.subTest(name):
                 self.assertEqual((CASES / case / "stdout").read_bytes(), page.saved(button, name))
-        page.give("gsi", CASES / "fault_incomplete" / "field.gsi")
-        page.press(page.texts("button")[0])
-        self.assertEqual("refused: means: Incomplete", page.texts("[role=status]")[-1])
+        residuals = "set,target,residual mgon\n1,A,-0.005\n1,B,0.005\n2,A,0.005\n2,B,-0.005\n"
+        self.assertEqual(residuals.encode(), page.saved("Save residuals (CSV)", "S1_residuals.csv"))
+        faces = "set,target,2c mgon,2i mgon\n1,A,0.06,-0.02\n1,B,0.10,0.00\n"
+        self.assertTrue(page.saved("Save 2c and 2i (CSV)", "S1_faces.csv").decode().startswith(faces))
+        page.empty()
+        page.give(P7_FIELD)
+        self.assertNotIn("Save sheet of means", page.texts("button"))
 
-    def test_a_file_that_is_dropped_is_taken(self):
-        page = self.page()
-        for kind, path in [("gsi", FIELD), ("sheet", SHEET)]:
-            page.drop(f"#drop-{kind}", path)
-        self.assertEqual(ACCEPTED, page.text("#verdict"))
+    def test_the_protocol_is_saved_as_a_page_of_its_own(self):
+        page = self.page(P7_FIELD, P7_SHEET)
+        saved = page.saved("Save protocol", "station_p7_P7.html")
+        self.assertNotIn(b"<script", saved)
+        path = self.file("saved.html", saved)
+        page.call("Page.navigate", url=path.as_uri())
+        page.wait("document.readyState === 'complete' && document.querySelector('.protocol') !== null")
+        self.assertEqual("Protocol of sets: Station P7", page.text("h1"))
+        self.assertTrue(page.js("document.querySelector('.protocol').checkVisibility()"))
 
-    def test_nothing_is_wider_than_a_phone(self):
-        page = self.page(PHONE, gsi=EXAMPLES / "station_p7.gsi", sheet=EXAMPLES / "station_p7.csv")
-        self.assertLessEqual(page.js("document.documentElement.scrollWidth"), PHONE[0])
+    def test_the_protocol_is_printed_with_all_that_an_office_files(self):
+        page = self.page(self.file("wide.gsi", bench.field_file(*WIDE).encode()))
+        page.call("Emulation.setEmulatedMedia", media="print")
+        page.js("onbeforeprint()")
+        facts = page.text(".facts")
+        for said in ("wide.gsi", hashlib.sha256((self.folder / "wide.gsi").read_bytes()).hexdigest(), "residuals 10"):
+            self.assertIn(said, facts)
+        self.assertEqual(["Observer, instrument", "Checked by: place, date, signature"], page.texts(".signs p"))
+        # Nothing is wider than the paper between its margins, of 182 mm.
+        widths = page.js("[...document.querySelectorAll('#protocol table')].map(table => table.offsetWidth)")
+        self.assertLess(max(widths), 182 / 25.4 * 96)
+        # Each table has all rows; the sets stand in groups, each once in each kind of table.
+        heads = page.texts("#protocol .bars thead th:not(:first-child)")
+        self.assertEqual([f"Set {nth + 1}" for nth in range(WIDE[1])], heads)
+        self.assertEqual(WIDE[1] * WIDE[2], page.js("document.querySelectorAll('#protocol .bars tbody td').length"))
+        self.assertEqual("none", page.js("getComputedStyle($('main')).display"))
 
-    def test_each_field_has_a_label_and_is_reached_by_keyboard(self):
-        page = self.page(gsi=FIELD)
-        fields = "[...document.querySelectorAll('input, select')]"
-        self.assertTrue(page.js(f"{fields}.every(field => field.labels.length === 1 && field.tabIndex === 0)"))
+    @unittest.skipUnless(shutil.which("pdftotext"), "no pdftotext is found")
+    def test_the_printed_pages_repeat_the_heads_of_tables_and_lose_nothing(self):
+        page = self.page(self.file("wide.gsi", bench.field_file(*WIDE).encode()))
+        path = self.file("printed.pdf", page.printed())
+        text = subprocess.run(["pdftotext", "-layout", path, "-"], capture_output=True, text=True).stdout
+        pages = text.split("\f")[:-1]
+        shown = page.texts(".results td > span:first-child")
+        counts = Counter(re.findall(r"(?<![\d.])[+\u2212]\d+\.\d\d(?!\d)", text))
+        self.assertEqual(Counter(value for value in shown if value[0] in "+\u2212"), counts)
+        for number, one in enumerate(pages, 1):
+            self.assertIn(f"{number} / {len(pages)}", one)
+            if re.search(r"^ *P\d+ +[+\u2212]", one, re.MULTILINE):
+                first = re.search(r"^ *(Target|P\d+) ", one, re.MULTILINE)
+                self.assertEqual("Target", first[1], one[:300])
+
+    # ------------------------------------------------------------ everyone
+
+    def test_what_is_hidden_is_not_shown(self):
+        page = self.page(FIELD)
+        self.assertEqual([], page.js(
+            "[...document.querySelectorAll('[hidden]')].filter(e => getComputedStyle(e).display !== 'none').map(e => e.id)"
+        ))
+
+    def test_on_a_phone_nothing_is_wider_and_letters_can_be_read(self):
+        for scheme in ("light", "dark"):
+            page = self.page(P7_FIELD, P7_SHEET, size=PHONE, scheme=scheme)
+            page.js("$('limits').open = true")
+            for code in page.js("Object.keys(LANGUAGES)"):
+                page.js(f"languages.value = '{code}'; languages.onchange()")
+                page.settle()
+                with self.subTest(scheme=scheme, language=code):
+                    self.assertLessEqual(page.js("document.documentElement.scrollWidth"), PHONE[0])
+            smallest = page.js(
+                "Math.min(...[...document.querySelectorAll('body *')].filter(e => e.checkVisibility() &&"
+                " [...e.childNodes].some(n => n.nodeType === 3 && n.data.trim())).map(e => parseFloat(getComputedStyle(e).fontSize)))"
+            )
+            self.assertGreaterEqual(smallest, SMALLEST_LETTER)
+            # A table that is wider has a shadow at its side, and its targets stay in sight.
+            wide = "[...document.querySelectorAll('.wide')].filter(e => e.scrollWidth > e.clientWidth)"
+            self.assertTrue(page.js(f"{wide}.length > 0 && {wide}.every(e => getComputedStyle(e).backgroundImage !== 'none')"))
+            self.assertEqual("sticky", page.js("getComputedStyle(document.querySelector('.bars tbody th')).position"))
+
+    def test_the_text_stands_out_in_light_and_in_dark(self):
+        """Of each text on its background the contrast is 4.5 at least."""
+        for scheme in ("light", "dark"):
+            page = self.page(P7_FIELD, P7_SHEET, self.file("four.csv", FOUR_DECIMALS), self.file(*UNUSED[0][:2]), scheme=scheme)
+            with self.subTest(scheme):
+                self.assertEqual([], page.js(CONTRASTS))
+
+    def test_all_is_reached_by_keyboard(self):
+        page = self.page(FIELD, P7_FIELD, SHEET)
+        page.js("document.querySelectorAll('details').forEach(part => { part.open = true })")
+        page.settle()
+        page.js("document.activeElement.blur()")
+        reached = []
+        for _ in range(page.js("document.querySelectorAll('*').length")):
+            for kind in ("keyDown", "keyUp"):
+                page.call("Input.dispatchKeyEvent", type=kind, key="Tab", code="Tab", windowsVirtualKeyCode=9)
+            here = page.js("{ const e = document.activeElement; e.id || e.textContent || e.tagName }")
+            if reached and here == reached[0]:
+                break
+            reached.append(here)
+        wanted = "[...document.querySelectorAll('button, input, select, summary')].filter(e => e.checkVisibility())"
+        for name in page.js(f"{wanted}.map(e => e.id || e.textContent || e.tagName)"):
+            self.assertIn(name, reached)
 
     def test_a_screen_reader_is_told_of_all_that_is_reached_and_of_each_verdict(self):
-        page = self.page(gsi=FIELD, sheet=SHEET)
-        page.fill("residual", 0)
-        reached = [part for part in page.parts() if part.states.get("focusable")]
-        kinds = Counter(part.role for part in reached if part.name)
-        self.assertEqual(len(reached), kinds.total(), reached)
-        # Of the numbers, the choice of a station, fields of files and buttons none is passed over.
-        self.assertEqual((5, 1), (kinds["spinbutton"], kinds["combobox"]))
-        self.assertEqual(page.js("document.querySelectorAll('button, input[type=file]').length"), kinds["button"])
-        told = [part for part in page.parts() if part.states.get("live") == "polite"]
-        self.assertIn(("status", "refused: kernel: Residual 1", True), [
-            (part.role, part.text, part.states["atomic"]) for part in told
-        ])
-        page.fill("two-c", -1)
-        numbers = [part for part in page.parts() if part.role == "spinbutton"]
-        self.assertEqual(["true"] + 4 * ["false"], [part.states["invalid"] for part in numbers])
+        page = self.page(FIELD, SHEET)
+        page.js("$('limits').open = true")
+        page.fill("residual", "0")
+        reached = [part for part in page.parts() if part.states.get("focusable") and part.role != "RootWebArea"]
+        self.assertEqual([], [part for part in reached if not part.name])
+        kinds = Counter(part.role for part in reached)
+        self.assertEqual((5, 1), (kinds["textbox"], kinds["combobox"]))
+        told = [part for part in page.parts() if part.states.get("live") == "polite" and part.role == "status"]
+        self.assertTrue(any(part.text.startswith("Station S1: Refused.") and part.states["atomic"] for part in told), told)
+        page.fill("two-c", "-1")
+        fields = [part for part in page.parts() if part.role == "textbox"]
+        self.assertEqual(["true"] + 4 * ["false"], [part.states["invalid"] for part in fields])
 
-    def test_a_field_file_of_16_megabytes_is_answered_soon(self):
+    # ------------------------------------------------------------ languages
+
+    def test_every_text_is_spoken_in_each_language(self):
+        page = self.page()
+        texts, languages = page.js("TEXTS"), list(page.js("LANGUAGES"))
+        self.assertEqual(["en", "de", "fr"], languages)
+        for name, one in texts.items():
+            with self.subTest(name):
+                self.assertEqual(languages, list(one))
+                self.assertTrue(all(one.values()))
+                holes = [Counter(re.findall(r"\{\w+\}", text)) for text in one.values()]
+                self.assertEqual(1, len({*map(str, map(sorted, holes))}), one)
+                self.assertEqual(1, len({text.count("|") for text in one.values()}))
+        used = {word for script in (ROOT / "page").glob("*.js") for word in re.findall(r"\w+", script.read_text())}
+        self.assertEqual(set(), {*texts} - used - {*re.findall(r'data-(?:text|label)="(\w+)"', PAGE.read_text())})
+
+    def test_no_text_of_the_page_is_without_its_translations(self):
+        page = self.page(P7_FIELD, P7_SHEET, self.file("four.csv", FOUR_DECIMALS), self.file(*UNUSED[0][:2]))
+        for part in ("details", "#again", "#release"):
+            page.js(f"document.querySelectorAll('{part}').forEach(e => {{ e.open = true; e.hidden = false }})")
+        page.js(BRACKETS)
+        page.settle()
+        self.assertEqual([], page.js(PLAIN_TEXTS))
+        self.assertEqual([], [label for label in page.js(PLAIN_LABELS) if label])
+
+    def test_the_language_is_chosen_by_hand(self):
+        page = self.page(P7_FIELD, P7_SHEET)
+        for code, headline in [
+            ("de", "Angenommen. Größte Verbesserung 0.32 mgon, Satz 4, TOWER."),
+            ("fr", "Accepté. Plus grand résidu 0.32 mgon, série 4, TOWER."),
+            ("en", P7_HEADLINE),
+        ]:
+            page.js(f"languages.value = '{code}'; languages.onchange()")
+            page.settle()
+            self.assertEqual((headline, code), (page.text(".headline"), page.js("document.documentElement.lang")))
+            # What the program says stays as it is, and is said to be English.
+            self.assertEqual((P7_LINE, "en"), (page.text(".exact samp"), page.js("document.querySelector('samp').lang")))
+
+    # ------------------------------------------------------------ large files
+
+    def test_a_field_file_of_16_megabytes_does_not_hold_the_window(self):
         data = bench.field_file(*LARGE).encode()
         self.assertGreater(len(data), 16_000_000)
-        page = self.page(gsi=self.file("large.gsi", data))
-        means = "core.then(core => calls.means(core, files.gsi[0].bytes, bytesOf('S1'), 2000, 2000))"
-        sheet = page.js(f"{means}.then(answer => textOf(answer.shown[0]))")
-        page.give("sheet", self.file("large.csv", sheet.encode()))
-        self.assertTrue(page.text("#verdict").startswith("accepted S1: 40 sets, 10 targets, 400 directions"))
-        page.js("start = performance.now()")
-        took = page.js("answerAnew().then(() => performance.now() - start)")
-        self.assertLess(took, SOON)
+        large = self.file("large.gsi", data)
+        page = self.page()
+        page.js(WATCH)
+        start = page.js("performance.now()")
+        page.give(large)
+        self.assertLess(page.js("performance.now()") - start, SOON)
+        self.assertEqual(LARGE[0], len(page.texts(".card")))
+        self.assertLess(page.js("longest"), HELD)
+
+    def test_what_is_under_way_can_be_stopped(self):
+        large = self.file("large.gsi", bench.field_file(*LARGE).encode())
+        page = self.page(FIELD, SHEET)
+        page.js(
+            "new MutationObserver((_, seen) => { if (!$('progress').hidden && $('progress-text').textContent.includes('large'))"
+            " { seen.disconnect(); $('stop').onclick() } }).observe($('progress'), { subtree: true, childList: true, attributes: true })"
+        )
+        page.give(large)
+        self.assertEqual("Stopped. What was not answered was not checked.", page.text("#verdict"))
+        with page.answered():
+            page.js("$('again').onclick()")
+        self.assertEqual(LARGE[0] + 1, len(page.texts(".card")))
+
+    def test_a_browser_that_cannot_run_the_module_is_told_so(self):
+        text, module = PAGE.read_text(), base64.b64encode(b"\0asm\1\0\0\0\5\3\1\4").decode()
+        start = text.index('base64">') + len('base64">')
+        broken = text[:start] + module + text[text.index("</script>", start) :]
+        page = browser.Page(self.file("broken.html", broken.encode()))
+        self.addCleanup(page.close)
+        for files in [(), (FIELD,)]:
+            if files:
+                page.give(*files)
+            self.assertTrue(page.text("#verdict").startswith("This browser cannot run the check: it needs WebAssembly"))
 
     def test_the_page_names_the_module_that_is_in_it(self):
         page = self.page()
         module = base64.b64decode(page.text("#module"))
-        self.assertIn(hashlib.sha256(module).hexdigest(), page.text("small"))
+        self.assertIn(hashlib.sha256(module).hexdigest(), page.text("footer small"))
+
+
+# The texts whose contrast to what is behind them is below 4.5.
+CONTRASTS = """(() => {
+  const paint = document.createElement('canvas').getContext('2d', { willReadFrequently: true });
+  const rgba = colour => {
+    paint.clearRect(0, 0, 1, 1);
+    paint.fillStyle = colour;
+    paint.fillRect(0, 0, 1, 1);
+    return [...paint.getImageData(0, 0, 1, 1).data];
+  };
+  const light = ([r, g, b]) => [r, g, b].map(v => v / 255)
+    .map(v => v <= 0.04045 ? v / 12.92 : ((v + 0.055) / 1.055) ** 2.4)
+    .reduce((sum, v, nth) => sum + v * [0.2126, 0.7152, 0.0722][nth], 0);
+  const behind = e => {
+    for (; e; e = e.parentElement) {
+      const found = rgba(getComputedStyle(e).backgroundColor);
+      if (found[3] > 250) return found;
+    }
+    return [255, 255, 255];
+  };
+  const weak = [];
+  for (const e of document.querySelectorAll('body *')) {
+    if (!e.checkVisibility() || e.closest('#release')) continue;
+    if (![...e.childNodes].some(node => node.nodeType === 3 && node.data.trim())) continue;
+    const [a, b] = [light(rgba(getComputedStyle(e).color)), light(behind(e))];
+    const contrast = (Math.max(a, b) + 0.05) / (Math.min(a, b) + 0.05);
+    if (contrast < 4.5) weak.push(`${e.tagName} ${e.className}: ${contrast.toFixed(2)}: ${e.textContent.slice(0, 40)}`);
+  }
+  return weak;
+})()"""
 
 
 if __name__ == "__main__":

@@ -7,18 +7,26 @@ import firefox
 from program import EXAMPLE, EXAMPLE_SHEET, EXAMPLE_TABLE, TimedTest
 from test_page_calls import EXAMPLES, PAGE, RT, make_page
 
-# What is done at the page, and the verdict that is then shown.
+P7 = "Station P7: Accepted. Greatest residual 0.32 mgon, set 4, TOWER."
+S1 = "Station S1: Accepted. Greatest residual 0.005 mgon, set 1, A."
+WRONG = "\u201cResiduals of a sheet at most, in mgon\u201d: a number from 0 to 10, in steps of 0.005"
+
+# What is done at the page, and the verdict that is then told.
 STEPS = [
-    (("give", "gsi", EXAMPLES[0]), "The field file has 1 station and no fault."),
-    (("give", "sheet", EXAMPLES[1]), "accepted P7: 4 sets, 6 targets, 22 directions, greatest residual 85967/1344"),
-    (("give", "gsi", EXAMPLE), "refused: no station"),
-    (("give", "sheet", EXAMPLE_SHEET), "accepted S1: 2 sets, 2 targets, 4 directions, greatest residual 4/4"),
-    (("fill", "residual", 0), "refused: kernel: Residual 1"),
-    (("fill", "residual", 2001), "residuals of a sheet at most, in 0.005 mgon: a whole number of 0 to 2000"),
-    (("fill", "residual", 1), "accepted S1: 2 sets, 2 targets, 4 directions, greatest residual 4/4"),
-    (("give", "table", EXAMPLE_TABLE), "2 answers: none refused"),
-    (("give", "table", EXAMPLES[2]), "2 answers: 1 refused"),
-    (("give", "sheet", EXAMPLES[1]), "2 answers: 2 refused"),
+    (("give", EXAMPLES[0]), "Station P7: Read without a fault: 4 sets, 6 targets, 22 directions."),
+    (("give", EXAMPLES[1]), P7),
+    (("press", "#remove-all"), "Ready for your files."),
+    (("drop", *EXAMPLES[:2]), P7),
+    (("press", "#remove-all"), "Ready for your files."),
+    (("give", EXAMPLE_SHEET), "Add the field file (GSI) too: without it nothing can be checked."),
+    (("give", EXAMPLE), S1),
+    (("press", "#limits summary"), S1),
+    (("fill", "residual", 0), "Station S1: Refused. A residual is above its limit."),
+    (("fill", "residual", 11), WRONG),
+    (("fill", "residual", "0.005"), S1),
+    (("give", EXAMPLE_TABLE), "Station S1: Agrees. 2 targets within 0 mgon of the least-squares directions."),
+    (("give", EXAMPLES[0]), "2 answers: 1 in order, 0 refused, 1 with something to do"),
+    (("give", EXAMPLES[2]), "2 answers: 2 in order, 0 refused, 0 with something to do"),
 ]
 
 

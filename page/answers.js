@@ -1,0 +1,210 @@
+// Which call is asked for which files, and what it answered: a card for each station, and for each file
+// that belongs to none. Nothing here decides a verdict.
+import { ask, digestOf, has } from './work.js';
+import { fieldOfSheet, stationOfSheet, stationOfTable, stemOf, textOf } from './files.js';
+import { commandOf } from './limits.js';
+import { differencesOf, each, isComplete, residualsOf, stationsOf } from './records.js';
+
+/**
+ * @typedef {import('./files.js').Input} Input
+ * @typedef {import('./files.js').Station} Station
+ * @typedef {import('./records.js').Residuals} Residuals
+ * How a card looks: all is in order, something was refused, or something is to be done first.
+ * @typedef {'good' | 'bad' | 'open'} Mood
+ * The answer of a command: its line, the fault in the words of the program where it is a refusal, the
+ * residuals where it accepts a sheet, the differences by target where it compares a table.
+ * @typedef {{ command: string, asked: string, status: number, line: string, explanation: string,
+ *   field: Input, other?: Input, station?: Station, residuals: Residuals | null,
+ *   differences?: import('./records.js').Difference[] | null }} Answer
+ * What is shown of a station, or of a file without one: `readings` counts those of a file without sets,
+ * `waiting` has the files that can't be checked yet, `unplaced` the text that says why a file has no place,
+ * `marked` what was told when codes were put into a copy.
+ * @typedef {{ title: string, mood: Mood, field?: Input, station?: Station, answers: Answer[],
+ *   waiting: Input[], readings?: number, unplaced?: string, marked?: Answer, results?: Results }} Card
+ * The results of a station: its directions, its residuals with the line that they rest on.
+ * @typedef {{ directions: Answer, residuals: Residuals | null, basis: Answer | null }} Results
+ */
+
+/** Statuses of a call: those of the program's command, and the call's own. */
+export const ACCEPTED = 0, REFUSED = 1, OUT_OF_RANGE = 2, TOO_LITTLE_ROOM = 3;
+
+/** What the fault of a refusal means, in the words of the program. */
+async function explanationOf(/** @type {string} */ line) {
+  const { status, text } = await ask('explain', line);
+  return status === ACCEPTED ? text : '';
+}
+
+/**
+ * An answer, with what its line speaks of.
+ * @param {{ status: number, text: string }} reply
+ * @param {Omit<Answer, 'status' | 'line' | 'explanation' | 'residuals' | 'differences'>} about
+ * @returns {Promise<Answer>}
+ */
+async function answered({ status, text }, about) {
+  const line = text.trimEnd();
+  const explanation = status === REFUSED ? await explanationOf(line) : '';
+  return { ...about, status, line, explanation, residuals: null };
+}
+
+/** The files that a card speaks of: a marked copy stands after the field file that it is of. */
+export const filesOf = (/** @type {Card} */ { field, answers }) =>
+  [field?.original, field, ...answers.map(answer => answer.other)].filter(file => file !== undefined);
+
+// ---------------------------------------------------------------- field files
+
+/**
+ * The cards of a field file: of its fault, of each of its stations, or that it has none.
+ * @returns {Promise<Card[]>}
+ */
+async function cardsOfField(/** @type {Input} */ field, limits) {
+  const { twoC, twoI } = limits, about = { title: field.name, field, answers: [], waiting: [] };
+  const reply = await ask('list', field.bytes, twoC, twoI);
+  const command = commandOf('list', ['twoC', 'twoI'], limits, [field.name]);
+  if (reply.status !== ACCEPTED)
+    return [{ ...about, mood: 'bad', answers: [await answered(reply, { command, asked: 'list', field })] }];
+  const stations = stationsOf(reply.text);
+  if (stations.length === 0) return cardsWithoutSets(field, limits);
+  return stations.map(listed => ({
+    title: listed.name, mood: 'open', field, station: { field, listed }, answers: [], waiting: [],
+  }));
+}
+
+/** The cards of a field file without sets: those of a copy with codes, where the sets are recognized. */
+async function cardsWithoutSets(/** @type {Input} */ field, limits) {
+  const { text } = await ask('readings', field.bytes), readings = Number(text);
+  /** @type {Card} */
+  const card = { title: field.name, field, mood: 'open', answers: [], waiting: [], readings };
+  if (readings === 0 || field.original || !has('mark')) return [card];
+  const marked = await answerOfMark(field);
+  if (marked.status !== ACCEPTED) return [{ ...card, marked }];
+  const cards = await cardsOfField(marked.other, limits);
+  return cards.map(one => ({ ...one, marked }));
+}
+
+/** The answer of putting codes into a copy of a field file: the copy is its other file. */
+async function answerOfMark(/** @type {Input} */ field) {
+  const { station = '' } = field, copy = `${stemOf(field)}_marked.gsi`;
+  const { status, bytes, beside } = await ask('mark', field.bytes, station);
+  const named = station ? ['--station', station] : [];
+  const command = `${commandOf('mark', [], {}, [field.name], named)} > ${copy}`;
+  const answer = await answered({ status, text: beside }, { asked: 'mark', command, field });
+  if (status !== ACCEPTED) return answer;
+  const digest = await digestOf(bytes);
+  return { ...answer, other: { name: copy, bytes, kind: /** @type {const} */ ('field'), digest, original: field } };
+}
+
+// ---------------------------------------------------------------- sheets and tables
+
+async function answerOfSheet(sheet, field, station, limits) {
+  const { twoC, twoI, residual } = limits;
+  const answer = await answered(await ask('check', field.bytes, sheet.bytes, twoC, twoI, residual), {
+    asked: 'check', field, other: sheet, station,
+    command: commandOf('check', ['twoC', 'twoI', 'residual'], limits, [field.name, sheet.name]),
+  });
+  if (answer.status === ACCEPTED) answer.residuals = residualsOf(textOf(sheet.bytes), answer.line);
+  return answer;
+}
+
+/** So many decimals of a gon are the most that the least-squares directions are asked with. */
+const MOST_DECIMALS = 8;
+
+async function answerOfTable(table, station, limits) {
+  const { field, listed: { name } } = station, { twoC, twoI, within } = limits;
+  const answer = await answered(await ask('compare', field.bytes, table.bytes, name, twoC, twoI, within), {
+    asked: 'compare', field, other: table, station,
+    command: commandOf('compare', ['twoC', 'twoI', 'within'], limits, [field.name, name, table.name]),
+  });
+  if (answer.status !== ACCEPTED && !/^refused: compare: /.test(answer.line)) return answer;
+  const least = await ask('directions', field.bytes, name, twoC, twoI, MOST_DECIMALS);
+  if (least.status === ACCEPTED) answer.differences = differencesOf(textOf(table.bytes), least.text);
+  return answer;
+}
+
+/** The card that an answer belongs to takes it; it is good only where all its answers are. */
+function take(/** @type {Card} */ card, /** @type {Answer} */ answer) {
+  card.answers.push(answer);
+  card.mood = card.answers.every(one => one.status === ACCEPTED) ? 'good' : 'bad';
+}
+
+/** A card of a file that belongs to no station. */
+const cardOfFile = (/** @type {Input} */ file) =>
+  /** @type {Card} */ ({ title: file.name, mood: 'open', answers: [], waiting: [] });
+
+/**
+ * Makes the cards of all files, one after the other, so that those that are made stay where it is stopped;
+ * `told` hears before each file how far it is.
+ * @param {Input[]} inputs
+ * @param {Record<string, number>} limits
+ * @param {Card[]} cards where they are put
+ * @param {(done: number, all: number, name: string) => void} told
+ */
+export async function makeCards(inputs, limits, cards, told) {
+  const of = kind => inputs.filter(input => input.kind === kind);
+  const fields = of('field'), others = [...of('sheet'), ...of('table')];
+  if (fields.length === 0) return;
+  let done = 0;
+  const tell = file => told(++done, fields.length + others.length, file.name);
+  for (const field of fields) {
+    tell(field);
+    cards.push(...await cardsOfField(field, limits));
+  }
+  const stations = cards.flatMap(card => card.station ?? []);
+  const read = each(cards.map(card => card.field));
+  for (const file of others) {
+    tell(file);
+    await placeFile(file, cards, read, stations, limits);
+  }
+}
+
+/** Asks for the answer to a sheet or a table, and puts it onto the card where it belongs. */
+async function placeFile(file, cards, fields, stations, limits) {
+  const isSheet = file.kind === 'sheet';
+  const compared = isSheet ? undefined : stationOfTable(file, fields, stations);
+  const field = isSheet ? fieldOfSheet(file, fields, stations) : compared?.field;
+  const isOfSheet = one => one.field === field && one.listed.name === stationOfSheet(file);
+  const station = isSheet ? stations.find(isOfSheet) : compared;
+  const lone = field ?? (fields.length === 1 ? fields[0] : undefined);
+  const blocked = lone && !stations.some(one => one.field === lone);
+  if (blocked) {
+    cards.find(card => card.field === lone).waiting.push(file);
+  } else if (isSheet ? !field : !station) {
+    const unplaced = isSheet || stations.length === 0 ? 'noFieldFor' : 'noStationFor';
+    cards.push({ ...cardOfFile(file), unplaced });
+  } else {
+    const answer = isSheet
+      ? await answerOfSheet(file, field, station, limits) : await answerOfTable(file, station, limits);
+    let card = cards.find(one => station && one.station === station);
+    if (!card) cards.push(card = { ...cardOfFile(file), field });
+    take(card, answer);
+  }
+}
+
+// ---------------------------------------------------------------- results
+
+/** The sheet of means of a station whose sets are complete. */
+export const meansOf = (/** @type {Station} */ { field, listed }, limits) =>
+  ask('means', field.bytes, listed.name, limits.twoC, limits.twoI);
+
+/** The answer of the check to the sheet of means: residuals rest on it where no other sheet is there. */
+async function answerOfMeans(station, limits) {
+  const means = await meansOf(station, limits);
+  if (means.status !== ACCEPTED) return null;
+  const sheet = { name: '', bytes: new TextEncoder().encode(means.text), kind: 'sheet', digest: '' };
+  return answerOfSheet(sheet, station.field, station, limits);
+}
+
+/**
+ * The results of a station: asked for when they are first shown.
+ * @param {Card} card
+ * @returns {Promise<Results>}
+ */
+export async function resultsOf(card, limits) {
+  const { station, field } = card, { name } = station.listed, { twoC, twoI, decimals } = limits;
+  const directions = await answered(await ask('directions', field.bytes, name, twoC, twoI, decimals), {
+    asked: 'directions', field, station,
+    command: commandOf('directions', ['twoC', 'twoI', 'decimals'], limits, [field.name, name]),
+  });
+  const accepted = card.answers.find(answer => answer.residuals);
+  const basis = accepted ?? (isComplete(station.listed) ? await answerOfMeans(station, limits) : null);
+  return { directions, residuals: basis?.residuals ?? null, basis };
+}

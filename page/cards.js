@@ -1,0 +1,252 @@
+// A card of a station: the answer first, then the fault or the results.
+import { ACCEPTED, REFUSED, filesOf, meansOf } from './answers.js';
+import { button, element, ofProgram, save } from './elements.js';
+import { stemOf, textOf } from './files.js';
+import { apartIn, headlineOf, headlineOfCard, meaningOf } from './headlines.js';
+import { APART, mgonOf } from './numbers.js';
+import { placeOf } from './place.js';
+import { protocolFile } from './protocol.js';
+import { decimalsIn, isComplete, recognizedIn } from './records.js';
+import { showResults } from './results.js';
+import { differencesFile, facesFile, residualsFile } from './tables.js';
+import { text } from './texts.js';
+
+/**
+ * @typedef {import('./answers.js').Card} Card
+ * @typedef {import('./answers.js').Answer} Answer
+ * What a card asks of the page: the limits, to load its results, to print it, to state another limit, to
+ * name the station of a field file.
+ * @typedef {{ limits: Record<string, number>, load: (card: Card) => Promise<void>,
+ *   print: (card: Card) => void, state: (name: string, units: number) => void,
+ *   name: (field: import('./files.js').Input, station: string) => void }} Desk
+ */
+
+const MOODS = { good: 'moodGood', bad: 'moodBad', open: 'moodOpen' };
+
+// ---------------------------------------------------------------- refusals
+
+/** The lines around a fault, with its place marked. */
+function showPlace(/** @type {import('./place.js').Place} */ { where, lines, first, end }, parent) {
+  element('p', `${where}:`, parent, { className: 'where' });
+  if (lines.length === 0) return;
+  const around = element('pre', '', parent, { className: 'lines', tabIndex: 0 });
+  around.setAttribute('aria-label', where);
+  for (const { number, text: line, isMeant } of lines) {
+    const row = element('span', '', around, { className: isMeant ? 'line meant' : 'line' });
+    if (number) element('span', number, row, { className: 'number' });
+    const content = element('span', '', row, { className: 'content' });
+    if (!isMeant) content.textContent = line;
+    else {
+      content.append(line.slice(0, first));
+      element('mark', line.slice(first, end), content);
+      content.append(line.slice(end));
+    }
+    around.append('\n');
+  }
+}
+
+/**
+ * The paragraphs of an explanation, as flowing text without its sample line.
+ * @returns {string[]}
+ */
+export const paragraphsOf = (/** @type {string} */ explanation) => explanation.trim().split(/\n\s*\n/)
+  .filter(paragraph => !/^ +refused: /.test(paragraph))
+  .map(paragraph => paragraph.split('\n').map(line => line.trim()).join(' '));
+
+function showExplanation(/** @type {string} */ explanation, parent) {
+  const part = element('div', '', parent, { className: 'explanation' });
+  part.setAttribute('role', 'note');
+  part.setAttribute('aria-label', text('whatItMeans'));
+  element('p', text('whatItMeans'), part, { className: 'label' });
+  const [, ...paragraphs] = paragraphsOf(explanation);
+  for (const paragraph of paragraphs) {
+    const [, lead, rest] = paragraph.match(/^(What to do: )?([^]*)$/);
+    const said = ofProgram('p', '', part);
+    if (lead) element('strong', lead, said);
+    said.append(rest);
+  }
+}
+
+/** Where rounding to the table's decimals can explain how far it is apart: a wider limit, by a button. */
+function offerWider(/** @type {Answer} */ { line, other }, desk, parent) {
+  const decimals = decimalsIn(textOf(other.bytes));
+  const most = Math.ceil(10 ** (6 - decimals) / 2), wider = most + 1;
+  if (!(apartIn(line) <= wider) || desk.limits.within >= wider) return;
+  element('p', text('rounding', { decimals, most: mgonOf(most, APART) }), parent);
+  button(text('compareWithin', { within: mgonOf(wider, APART) }), parent, () => desk.state('within', wider));
+}
+
+// ---------------------------------------------------------------- an answer
+
+function showCommand(/** @type {Answer} */ { line, command, status }, parent) {
+  const part = element('dl', '', parent, { className: 'exact' });
+  if (status <= REFUSED) {
+    element('dt', text('program'), part);
+    ofProgram('samp', line, element('dd', '', part));
+  }
+  element('dt', text('sameCommand'), part);
+  ofProgram('code', command, element('dd', '', part));
+}
+
+function showAnswer(/** @type {Answer} */ answer, desk, parent) {
+  const { status, line, field, other, station, explanation } = answer;
+  const mood = status === ACCEPTED ? 'good' : 'bad';
+  const part = element('div', '', parent, { className: `answer ${mood}` });
+  if (other) element('p', other.name, part, { className: 'label name' });
+  const headline = element('p', headlineOf(answer, desk.limits), part, { className: 'headline' });
+  if (status === REFUSED && !apartIn(line) && explanation) {
+    headline.append(' ');
+    ofProgram('span', meaningOf(answer), headline);
+  }
+  if (apartIn(line)) offerWider(answer, desk, part);
+  const place = status === REFUSED ? placeOf(line, field, other, station) : null;
+  if (place) showPlace(place, part);
+  if (explanation) showExplanation(explanation, part);
+  showCommand(answer, part);
+}
+
+// ---------------------------------------------------------------- results
+
+/** What can be saved of a station, and printed. */
+function showButtons(/** @type {Card} */ card, desk, parent) {
+  const { station, results, field } = card, { listed } = station, name = listed.name;
+  const part = element('div', '', parent, { className: 'buttons' });
+  const said = element('p', '', parent, { className: 'quiet' });
+  said.setAttribute('role', 'status');
+  const offer = (label, file, content, type = 'text/csv') => button(text(label), part, async () => {
+    const whole = await content();
+    if (whole === null) return;
+    save(file, whole, type);
+    said.textContent = text('saved', { name: file });
+  });
+  button(text('printProtocol'), part, () => desk.print(card), 'button primary');
+  const protocol = `${stemOf(field)}_${name}.html`;
+  offer('saveProtocol', protocol, () => protocolFile(card, desk.limits), 'text/html');
+  if (results.directions.status === ACCEPTED)
+    offer('saveDirections', `${name}_directions.csv`, () => `${results.directions.line}\n`);
+  if (results.residuals)
+    offer('saveResiduals', `${name}_residuals.csv`, () => residualsFile(results.residuals));
+  for (const { differences, other } of card.answers)
+    if (differences) offer('saveDifferences', `${stemOf(other)}_differences.csv`, () => differencesFile(differences));
+  offer('saveFaces', `${name}_faces.csv`, () => facesFile(station));
+  if (isComplete(listed)) offer('saveMeans', `${name}.csv`, async () => {
+    const { status, text: sheet } = await meansOf(station, desk.limits);
+    if (status !== ACCEPTED) said.textContent = sheet.trimEnd();
+    return status === ACCEPTED ? sheet : null;
+  });
+}
+
+/** The results, which are asked for when they are first opened. */
+function showOpening(/** @type {Card} */ card, desk, isOpen, parent) {
+  const part = /** @type {HTMLDetailsElement} */ (element('details', '', parent, { className: 'results' }));
+  const names = ['directions', 'residuals', 'faces'].map(name => text(name));
+  element('summary', names.join(' · '), part);
+  let isFilled = false;
+  part.ontoggle = async () => {
+    if (!part.open || isFilled) return;
+    isFilled = true;
+    await desk.load(card);
+    part.classList.add('filled');
+    isFilled = card.results !== undefined;
+    if (!isFilled) return;
+    showButtons(card, desk, part);
+    showResults(card, part);
+  };
+  part.open = isOpen;
+}
+
+// ---------------------------------------------------------------- jobs without codes
+
+/** What was recognized in a job without codes, to be compared with the field book, and the copy to be saved. */
+function showMarked(/** @type {Card} */ { marked: { line, other, field, command }, station }, parent) {
+  const part = element('div', '', parent, { className: 'marked' });
+  element('p', text('markedCopy', { name: field.name }), part, { className: 'label' });
+  for (const one of recognizedIn(line))
+    if (!station || one.station === station.listed.name) element('p', text('recognized', { ...one }), part);
+  element('p', text('compareBook'), part);
+  button(text('saveMarked'), part, () => save(other.name, other.bytes, 'text/plain'));
+  const exact = element('details', '', part);
+  element('summary', text('program'), exact);
+  ofProgram('pre', `${command}\n${line}`, exact);
+}
+
+/** Asks for the name of the station, which no line of the job has. */
+function askName(/** @type {Card} */ { field }, desk, parent) {
+  element('p', text('needName'), parent);
+  const form = element('form', '', parent, { className: 'buttons' });
+  const label = element('label', `${text('stationName')} `, form);
+  const name = /** @type {HTMLInputElement} */ (element('input', '', label, { type: 'text', maxLength: 16 }));
+  name.value = field.station ?? '';
+  element('button', text('markSets'), form, { type: 'submit', className: 'button primary' });
+  form.onsubmit = event => {
+    event.preventDefault();
+    desk.name(field, name.value.trim());
+  };
+}
+
+/** Why the sets of a job without codes are not recognized, and what to do. */
+function showUnmarked(/** @type {Card} */ card, desk, parent) {
+  const { marked } = card;
+  element('p', text('outside', { n: card.readings }), parent);
+  if (/: mark: NoSetUp/.test(marked.line)) askName(card, desk, parent);
+  else {
+    element('p', text('notRecognized'), parent);
+    if (marked.explanation) ofProgram('p', meaningOf(marked), parent);
+    const place = placeOf(marked.line, marked.field);
+    if (place) showPlace(place, parent);
+    if (marked.explanation) showExplanation(marked.explanation, parent);
+  }
+  showCommand(marked, parent);
+}
+
+// ---------------------------------------------------------------- a card
+
+/** What is to be done of a field file without sets. */
+function showTodo(/** @type {Card} */ card, desk, parent) {
+  const { field, readings } = card;
+  if (readings === 0) return void element('p', text('noReadings'), parent);
+  if (card.marked) return showUnmarked(card, desk, parent);
+  element('p', text('outside', { n: readings }), parent);
+  element('p', text('howToMark'), parent);
+  const copy = `${stemOf(field)}_marked.gsi`;
+  ofProgram('code', `python3 mark_sets.py --station NAME ${field.name} ${copy}`, element('p', '', parent));
+  element('p', text('howToRecord'), parent, { className: 'quiet' });
+}
+
+function showDigests(/** @type {Card} */ card, parent) {
+  const files = filesOf(card).filter(file => file.digest);
+  if (files.length === 0) return;
+  const list = element('ul', '', parent, { className: 'digests quiet' });
+  for (const { name, digest } of files) {
+    const item = element('li', '', list);
+    element('span', `${name}: `, item, { className: 'name' });
+    ofProgram('code', text('digest', { digest }), item);
+  }
+}
+
+/**
+ * Shows a card; its results are open where there are few.
+ * @param {Card} card
+ * @param {Desk} desk
+ */
+export function showCard(card, desk, isOpen, parent) {
+  const part = element('article', '', parent, { className: `card ${card.mood}` });
+  const head = element('header', '', part);
+  element('span', text(MOODS[card.mood]), head, { className: 'mood' });
+  const title = card.station ? text('station', { name: card.title }) : card.title;
+  part.setAttribute('aria-label', title);
+  element('h2', title, head);
+  if (card.station) element('span', card.field.name, head, { className: 'quiet name' });
+  if (card.marked?.other) showMarked(card, part);
+  for (const answer of card.answers) showAnswer(answer, desk, part);
+  if (card.answers.length === 0)
+    element('p', headlineOfCard(card), part, { className: 'headline' });
+  if (card.station && card.answers.length === 0) element('p', text('nothingCompared'), part);
+  if (card.readings !== undefined) showTodo(card, desk, part);
+  if (card.waiting.length > 0) {
+    const names = card.waiting.map(file => file.name).join(', ');
+    element('p', text(card.mood === 'bad' ? 'waiting' : 'waitingForSets', { names }), part);
+  }
+  if (card.station) showOpening(card, desk, isOpen, part);
+  showDigests(card, part);
+}

@@ -1,0 +1,75 @@
+// Elements of the page, made with their texts.
+
+/**
+ * Makes an element at the end of another.
+ * @param {string} tag
+ * @param {string} content
+ * @param {Element} parent
+ * @param {Record<string, any>} [more] properties
+ * @returns {HTMLElement}
+ */
+export function element(tag, content, parent, more = {}) {
+  const made = Object.assign(document.createElement(tag), more);
+  if (content) made.textContent = content;
+  return parent.appendChild(made);
+}
+
+/** An element with what the program says, which is English. */
+export const ofProgram = (tag, content, parent, className = '') =>
+  element(tag, content, parent, { lang: 'en', translate: false, className });
+
+/** A button that does this work. */
+export function button(content, parent, work, className = 'button') {
+  return element('button', content, parent, { type: 'button', className, onclick: work });
+}
+
+/**
+ * A cell of a table: its text, how it is marked, and the bar in it, from -1 to 1.
+ * @typedef {{ text: string, mark?: string, bar?: number }} Cell
+ */
+
+function cellOf(/** @type {Cell} */ { text: content, mark = '', bar }, row) {
+  const cell = element('td', '', row, { className: mark });
+  element('span', content, cell);
+  if (bar === undefined) return;
+  const line = element('span', '', cell, { className: bar < 0 ? 'bar below' : 'bar' });
+  line.style.setProperty('--part', String(Math.abs(bar)));
+  line.setAttribute('aria-hidden', 'true');
+}
+
+/**
+ * A table with these headings and rows, whose first cells are headings too. It can be scrolled where
+ * it is wider than the page.
+ * @param {string} caption
+ * @param {string[]} headings
+ * @param {[string, ...Cell[]][]} rows
+ * @param {Element} parent
+ */
+export function tableOf(caption, headings, rows, parent, className = '') {
+  element('p', caption, parent, { className: 'caption' });
+  const around = element('div', '', parent, { className: 'wide', tabIndex: 0 });
+  const table = element('table', '', around, { className });
+  around.setAttribute('role', 'group');
+  for (const named of [around, table]) named.setAttribute('aria-label', caption);
+  const head = element('tr', '', element('thead', '', table)), body = element('tbody', '', table);
+  for (const heading of headings) element('th', heading, head, { scope: 'col' });
+  for (const [first, ...cells] of rows) {
+    const row = element('tr', '', body);
+    element('th', first, row, { scope: 'row' });
+    for (const cell of cells) cellOf(cell, row);
+  }
+}
+
+/**
+ * Hands a file to the user's folder of downloads.
+ * @param {string} name
+ * @param {BlobPart} content
+ * @param {string} type
+ */
+export function save(name, content, type) {
+  const address = URL.createObjectURL(new Blob([content], { type }));
+  const link = element('a', '', document.body, { href: address, download: name });
+  link.click();
+  link.remove();
+  setTimeout(() => URL.revokeObjectURL(address), 60_000);
+}

@@ -1,0 +1,117 @@
+// What a file is, by what it holds, and which station a result belongs to, by names and by content.
+import { each, recordsOf } from './records.js';
+
+/**
+ * What a file is: a field file, a sheet or a table; or why it is none of them.
+ * @typedef {'field' | 'sheet' | 'table' | 'spreadsheet' | 'empty' | 'unread' | 'other'} Kind
+ * A file that was handed in: `choice` is the place that the user chose for it, `station` the name that the
+ * user gave to a field file without one, and `original` the field file that a marked copy is of.
+ * @typedef {{ name: string, bytes: Uint8Array, kind: Kind, digest: string, choice?: string,
+ *   station?: string, original?: Input }} Input
+ * A station of a field file.
+ * @typedef {{ field: Input, listed: import('./records.js').Listed, results?: any }} Station
+ */
+
+/** So many bytes at the beginning of a file tell what it is. */
+const HEAD = 4096;
+
+const EXTENSION = /\.[^.]*$/;
+/** The text of bytes; what is no text shows as a sign. */
+export const textOf = (/** @type {Uint8Array} */ bytes) => new TextDecoder().decode(bytes);
+
+/** The name of a file without what stands after its last point. */
+export const stemOf = (/** @type {{ name: string }} */ file) => file.name.replace(EXTENSION, '');
+
+/** The rows of a sheet or a table, without the mark that some editors put before them. */
+export const rowsOf = (/** @type {{ bytes: Uint8Array }} */ file) =>
+  recordsOf(textOf(file.bytes)).map(record => record.fields);
+
+/**
+ * What a file is. Field files have GSI words in their lines, sheets begin with 'sheet', tables have a
+ * number at the end of a line.
+ * @returns {Kind}
+ */
+export function kindOf(/** @type {string} */ name, /** @type {Uint8Array} */ bytes) {
+  if (bytes.length === 0) return 'empty';
+  const head = textOf(bytes.subarray(0, HEAD));
+  const lines = head.split(/[\r\n]+/).filter(line => line.trim() !== '');
+  if (/\.gsi$/i.test(name) || lines.some(line => /^\*?\d\d[\d.?]{4}[+-]/.test(line))) return 'field';
+  if (head.startsWith('PK') || /\.(xlsx?|ods)$/i.test(name)) return 'spreadsheet';
+  if (/[\0-\x08\x0e-\x1f]/.test(head)) return 'other';
+  if (/^"?sheet"?,/.test(head)) return 'sheet';
+  if (lines.some(line => /[,;\t ]\s*"?[+-]?\d[\d.,'"°-]*"?[,;\s]*$/.test(line))) return 'table';
+  return 'other';
+}
+
+// ---------------------------------------------------------------- what belongs together
+
+/** The station that a sheet is of, by its first row. */
+export const stationOfSheet = (/** @type {Input} */ sheet) => rowsOf(sheet)[0]?.[2] ?? '';
+
+/** The field files with the longest name that begins this one, as in a folder: `NAME.STATION.csv`. */
+function fieldsByName(/** @type {string} */ name, /** @type {Input[]} */ fields) {
+  const stem = field => stemOf(field.original ?? field);
+  const fit = fields.filter(field => [...'._-'].some(end => name.startsWith(`${stem(field)}${end}`)));
+  const longest = Math.max(...fit.map(field => stem(field).length));
+  return fit.filter(field => stem(field).length === longest);
+}
+
+/** The place of a station, as the list of files names it. */
+export const placeName = (/** @type {Station} */ { field, listed }) => `${field.name}: ${listed.name}`;
+
+/** Those that pass, or all where none does: a hint narrows the choice, and never empties it. */
+function narrowed(all, passes) {
+  const some = all.filter(passes);
+  return some.length > 0 ? some : all;
+}
+
+/**
+ * The field file that a sheet is checked against: by its name, else by its station, else the only one.
+ * @param {Input} sheet
+ * @param {Input[]} fields
+ * @param {Station[]} stations
+ * @returns {Input | undefined}
+ */
+export function fieldOfSheet(sheet, fields, stations) {
+  const chosen = stations.find(station => placeName(station) === sheet.choice);
+  if (chosen) return chosen.field;
+  const byName = fieldsByName(sheet.name, fields);
+  if (byName.length === 1) return byName[0];
+  const name = stationOfSheet(sheet);
+  const byStation = each(stations.filter(one => one.listed.name === name).map(one => one.field));
+  const left = byStation.filter(field => byName.length === 0 || byName.includes(field));
+  if (left.length === 1) return left[0];
+  return fields.length === 1 ? fields[0] : undefined;
+}
+
+/** Whether a name is a part of that of a file: `job_P7.directions.csv` has the part `P7`. */
+const hasPart = (/** @type {string} */ stem, /** @type {string} */ name) =>
+  ` ${stem.replace(/[._-]/g, ' ')} `.includes(` ${name.replace(/[._-]/g, ' ')} `);
+
+/** How many of these names a station has as targets. */
+function shared(/** @type {Station} */ station, /** @type {Set<string>} */ names) {
+  const rows = station.listed.list.matchAll(/^set \d+, target (.*): p \d+, 2c -?\d+, 2i -?\d+$/gm);
+  return each([...rows].map(row => row[1])).filter(target => names.has(target)).length;
+}
+
+/**
+ * The station that a table is compared with: that which was chosen; else by the names of the files, then
+ * by the station's name in that of the table, then by the targets; none where more are left.
+ * @param {Input} table
+ * @param {Input[]} fields
+ * @param {Station[]} stations
+ * @returns {Station | undefined}
+ */
+export function stationOfTable(table, fields, stations) {
+  const chosen = stations.find(station => placeName(station) === table.choice);
+  if (chosen) return chosen;
+  const byName = fieldsByName(table.name, fields);
+  let left = narrowed(stations, station => byName.includes(station.field));
+  left = narrowed(left, station => hasPart(stemOf(table), station.listed.name));
+  if (left.length > 1) {
+    const names = new Set(rowsOf(table).map(fields => fields[0]));
+    const counts = left.map(station => shared(station, names));
+    left = left.filter((_, nth) => counts[nth] > 0 && counts[nth] === Math.max(...counts));
+  }
+  return left.length === 1 ? left[0] : undefined;
+}

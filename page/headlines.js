@@ -1,0 +1,59 @@
+// The answer in words and mgon, of each kind.
+import { ACCEPTED, OUT_OF_RANGE, TOO_LITTLE_ROOM } from './answers.js';
+import { APART, mgonOf } from './numbers.js';
+import { greatestOf, residualText } from './records.js';
+import { text } from './texts.js';
+
+/**
+ * @typedef {import('./answers.js').Answer} Answer
+ * @typedef {import('./answers.js').Card} Card
+ */
+
+/** What the fault of a refusal is, as a sentence: the first line of its explanation, without its name. */
+export function meaningOf(/** @type {Answer} */ { explanation }) {
+  const meaning = explanation.split('\n')[0].replace(/^[\w ,]+: /, '');
+  return `${meaning.charAt(0).toUpperCase()}${meaning.slice(1)}.`;
+}
+
+/** How far a table is apart that was refused for that, in 0.001 mgon; else no number. */
+export const apartIn = (/** @type {string} */ line) =>
+  Number(line.match(/^refused: compare: Apart (\d+)/)?.[1]);
+
+function acceptedHeadline(/** @type {Answer} */ { residuals }) {
+  if (!residuals) return text('acceptedBare');
+  const { greatest, scale } = residuals;
+  if (greatest === 0n) return text('acceptedZero');
+  const { set, target } = greatestOf(residuals), two = residualText(greatest, scale, 2);
+  return text('accepted', { size: two < '0.1' ? residualText(greatest, scale, 3) : two, set, target });
+}
+
+function agreesHeadline(/** @type {string} */ line) {
+  const [, n, within] = line.match(/: (\d+) targets, within (\d+)/) ?? [];
+  return n ? text('agrees', { n, within: mgonOf(Number(within), APART) }) : text('agreesBare');
+}
+
+/** The answer in words and mgon. */
+export function headlineOf(/** @type {Answer} */ answer, limits) {
+  const { status, line, asked } = answer;
+  if (status === OUT_OF_RANGE) return text('outOfRange');
+  if (status === TOO_LITTLE_ROOM) return text('noRoom');
+  if (status === ACCEPTED) return asked === 'compare' ? agreesHeadline(line) : acceptedHeadline(answer);
+  const apart = apartIn(line);
+  if (apart) {
+    const mgon = { apart: mgonOf(apart, APART), within: mgonOf(limits.within, APART) };
+    return text('refusedApart', mgon);
+  }
+  return text('refused');
+}
+
+/** The answer in words, and what the fault of a refusal is. */
+export const saidOf = (/** @type {Answer} */ answer, limits) =>
+  answer.explanation && !apartIn(answer.line)
+    ? `${headlineOf(answer, limits)} ${meaningOf(answer)}` : headlineOf(answer, limits);
+
+/** The headline of a card without answers. */
+export function headlineOfCard(/** @type {Card} */ card) {
+  if (card.unplaced) return text(card.unplaced);
+  if (card.station) return text('readWell', { ...card.station.listed });
+  return text('nothingChecked');
+}

@@ -1,0 +1,73 @@
+// The limits that the calls are given, as fields in mgon.
+import { APART, FACE, HALF, mgonOf, unitsIn } from './numbers.js';
+import { text } from './texts.js';
+
+/**
+ * A limit: the option of the program, its name in the texts, how many units make one of what the field
+ * shows, the usual number and the ends of its range, all in units.
+ * @typedef {{ id: string, label: string, per: number, usual: number, least: number, most: number }} Limit
+ */
+
+/** @type {Record<string, Limit>} */
+export const LIMITS = {
+  twoC: { id: 'two-c', label: 'limitTwoC', per: FACE, usual: 2000, least: 0, most: 1_000_000 },
+  twoI: { id: 'two-i', label: 'limitTwoI', per: FACE, usual: 2000, least: 0, most: 1_000_000 },
+  residual: { id: 'residual', label: 'limitResidual', per: HALF, usual: 2000, least: 0, most: 2000 },
+  within: { id: 'within', label: 'limitWithin', per: APART, usual: 10, least: 0, most: 1_000_000 },
+  decimals: { id: 'decimals', label: 'limitDecimals', per: 1, usual: 6, least: 1, most: 8 },
+};
+
+const NAMES = Object.keys(LIMITS);
+const field = name => /** @type {HTMLInputElement} */ (document.getElementById(LIMITS[name].id));
+
+/** The number of a field in units: the usual one where it is empty, none where it is wrong. */
+function numberOf(/** @type {string} */ name) {
+  const { per, usual, least, most } = LIMITS[name], value = field(name).value;
+  const units = value.trim() === '' ? usual : unitsIn(value, per);
+  return units !== null && units >= least && units <= most ? units : null;
+}
+
+/** The limits in force, in units. A number is null where its field is wrong. */
+export const limitsNow = () => Object.fromEntries(NAMES.map(name => [name, numberOf(name)]));
+
+/** What is wrong of the limits, in words; nothing where all are right. Each field says so too. */
+export function wrongLimit() {
+  let said = '';
+  for (const name of NAMES) {
+    const isWrong = numberOf(name) === null, { label, least, most, per } = LIMITS[name];
+    field(name).setAttribute('aria-invalid', String(isWrong));
+    const ends = { least: mgonOf(least, per), most: mgonOf(most, per), step: mgonOf(1, per) };
+    if (isWrong) said ||= text('limitWrong', { label: text(label), ...ends });
+  }
+  return said;
+}
+
+/** Puts the usual numbers into the fields, or shows one that was chosen by a button. */
+export function showLimit(/** @type {string} */ name, units = LIMITS[name].usual) {
+  field(name).value = mgonOf(units, LIMITS[name].per);
+}
+
+/** The limits in force, in one line. */
+export function limitsLine(limits) {
+  const mgon = name => mgonOf(limits[name] ?? 0, LIMITS[name].per);
+  return text('inForce', Object.fromEntries(NAMES.map(name => [name, mgon(name)])));
+}
+
+/**
+ * The command that answers the same. The residual limit is always stated, the others where they are not
+ * the usual ones.
+ * @param {string} command
+ * @param {string[]} names
+ * @param {Record<string, number>} limits
+ * @param {string[]} operands
+ * @param {string[]} [more] further options
+ */
+export function commandOf(command, names, limits, operands, more = []) {
+  const isStated = name => name === 'residual' || limits[name] !== LIMITS[name].usual;
+  const options = names.filter(isStated).flatMap(name => [`--${LIMITS[name].id}`, String(limits[name])]);
+  const rest = operands.some(word => word.startsWith('-')) ? ['--'] : [];
+  return ['station_check', command, ...options, ...more.map(quoted), ...rest, ...operands.map(quoted)].join(' ');
+}
+
+const quoted = (/** @type {string} */ word) =>
+  /^[\w.,\/+-]+$/.test(word) ? word : `'${word.replaceAll("'", "'\\''")}'`;

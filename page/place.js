@@ -1,0 +1,130 @@
+// Where a refusal says that the fault stands: a line of the field file, a row of a sheet or a table, or
+// a target or an observation of the station.
+import { textOf } from './files.js';
+import { each, pairsOf, recordsOf } from './records.js';
+import { text } from './texts.js';
+
+/**
+ * A place: its name in words, and the lines around it with their numbers. In the line that is meant the
+ * part from `first` to `end` is marked, or all of it.
+ * @typedef {{ number: string, text: string, isMeant: boolean }} Line
+ * @typedef {{ where: string, lines: Line[], first: number, end: number }} Place
+ */
+
+/** So many lines are shown before the one that is meant, and after it. */
+const AROUND = 2;
+
+const LF = 10, CR = 13, BLANK = 32;
+
+// A line's bytes as letters, those outside 20 to 7E (hex) as signs that are seen.
+const signOf = byte => byte < 0x20 ? 0x2400 + byte : byte < 0x7f ? byte : 0xfffd;
+const seen = bytes => Array.from(bytes, byte => String.fromCharCode(signOf(byte))).join('');
+
+/**
+ * The lines of a field file as an editor counts them, up to some after that of a block: that line's
+ * place among them, or the end where there is none.
+ */
+function linesTo(/** @type {Uint8Array} */ bytes, /** @type {number} */ block) {
+  const lines = [];
+  let blocks = 0, first = 0, meant = -1;
+  for (let at = 0; at <= bytes.length; at++) {
+    if (at < bytes.length && bytes[at] !== LF && bytes[at] !== CR) continue;
+    const line = bytes.subarray(first, at);
+    if (line.some(byte => byte !== BLANK) && ++blocks === block) meant = lines.length;
+    lines.push(line);
+    if (meant >= 0 && lines.length > meant + AROUND) break;
+    if (bytes[at] === CR && bytes[at + 1] === LF) at++;
+    first = at + 1;
+  }
+  if (lines.at(-1)?.length === 0) lines.pop();
+  return { lines, meant: meant < 0 ? lines.length : meant };
+}
+
+/** The lines around one, each as it is shown. */
+function around(lines, meant, shown) {
+  const first = Math.max(0, meant - AROUND);
+  return lines.slice(first, meant + AROUND + 1).map((line, nth) =>
+    ({ number: String(first + nth + 1), text: shown(line), isMeant: first + nth === meant }));
+}
+
+/** Which part of a line a fault speaks of: a byte, or a word with its content. */
+function meantIn(/** @type {string} */ line, /** @type {string} */ fault) {
+  const [, what, number] = fault.match(/^(Byte|Word) (\d+)/) ?? [];
+  if (what === 'Byte') return [Number(number) - 1, Number(number)];
+  const words = [...line.matchAll(/\S+/g)];
+  const found = what === 'Word' ? words[Number(number) - 1]
+    : words.find(word => word[0].replace('*', '').startsWith(wordOf(fault)));
+  return found ? [found.index, found.index + found[0].length] : [0, line.length];
+}
+
+/** The faults that speak of one word, by the index of that word. */
+const FAULTS_OF_WORDS = {
+  11: /^TooManyTargets/,
+  21: /^(Hz|FaceTwice|TwoC)/,
+  22: /^(Zenith|TwoI|FaceUnclear)/,
+  42: /^(StationName|SetNumber|StationTwice|SetTwice)/,
+};
+
+/** The index of the word that a fault speaks of, or no index at all. */
+function wordOf(/** @type {string} */ fault) {
+  const [, number] = fault.match(/^WordTwice (\d+)/) ?? [];
+  return number ?? Object.keys(FAULTS_OF_WORDS).find(index => FAULTS_OF_WORDS[index].test(fault)) ?? 'none';
+}
+
+/** A block of a field file. */
+function blockIn(file, block, fault) {
+  const { lines, meant } = linesTo(file.bytes, block);
+  const shown = around(lines, meant, seen), line = shown.find(one => one.isMeant);
+  const where = line ? text('lineOfFile', { line: line.number, name: file.name, block })
+    : text('endOfFile', { name: file.name });
+  const [first, end] = line ? meantIn(line.text, fault) : [0, 0];
+  return { where, lines: shown, first, end };
+}
+
+/** A row of a sheet or a table: the nth of all, or of those of a kind. */
+function rowIn(file, nth, kind = '') {
+  const all = textOf(file.bytes), rows = recordsOf(all);
+  const row = rows.filter(({ fields }) => !kind || fields[0] === kind)[nth - 1];
+  if (!row) return null;
+  const meant = rows.indexOf(row), line = row.end - row.first;
+  const where = text(kind ? 'rowOfKind' : 'rowOfFile', { row: meant + 1, name: file.name, kind, nth });
+  return { where, lines: around(rows, meant, one => all.slice(one.first, one.end)), first: 0, end: line };
+}
+
+/** A line of its own, which stands in no file. */
+const alone = (where, line) =>
+  ({ where, lines: [{ number: '', text: line, isMeant: true }], first: 0, end: line.length });
+
+const KIND_OF_FAULT = { Target: 'target', Set: 'set', Obs: 'obs' };
+
+/**
+ * What a refusal speaks of; none where it names no place, or there is nothing.
+ * @param {string} refusal
+ * @param {import('./files.js').Input} field
+ * @param {import('./files.js').Input} [other] the sheet or the table
+ * @param {import('./files.js').Station} [station]
+ * @returns {Place | null}
+ */
+export function placeOf(refusal, field, other, station) {
+  const found = pattern => refusal.match(pattern)?.slice(1);
+  let words;
+  if (words = found(/^refused: block (\d+): (.*)/)) return blockIn(field, Number(words[0]), words[1]);
+  if (words = found(/^refused: (?:sheet|table) row (\d+): /)) return rowIn(other, Number(words[0]));
+  if (words = found(/^refused: kernel: (Target|Set|Obs)(?:Row|Sum) (\d+)/))
+    return rowIn(other, Number(words[1]), KIND_OF_FAULT[words[0]]);
+  if (words = found(/^refused: kernel: Residual (\d+)/)) return rowIn(other, Number(words[0]), 'obs');
+  if (found(/^refused: kernel: Datum/)) return rowIn(other, 1, 'target');
+  if (found(/^refused: no station/) && !station && other) return rowIn(other, 1);
+  if (!station) return null;
+  const pairs = pairsOf(station.listed), name = station.listed.name;
+  if (words = found(/^refused: table: Missing (\d+)/)) {
+    const target = each(pairs.map(pair => pair.target))[Number(words[0]) - 1];
+    return alone(text('targetOfStation', { nth: words[0], station: name }), target);
+  }
+  if (words = found(/^refused: adjust: Residual (\d+)/)) {
+    const { set, target } = pairs[Number(words[0]) - 1];
+    const where = text('observationOfStation', { nth: words[0], station: name });
+    return alone(where, text('setAndTarget', { set, target }));
+  }
+  return null;
+}

@@ -1,0 +1,68 @@
+// The protocol of a station, as an office prints and files it.
+import { ACCEPTED, filesOf } from './answers.js';
+import { element, ofProgram } from './elements.js';
+import { stemOf } from './files.js';
+import { headlineOfCard, saidOf } from './headlines.js';
+import { limitsLine } from './limits.js';
+import { showResults } from './results.js';
+import { spoken, text } from './texts.js';
+
+/** What the page is made of, as its foot says it. */
+const made = () => document.getElementById('made').dataset;
+
+function row(label, parent) {
+  element('dt', text(label), parent);
+  return element('dd', '', parent);
+}
+
+/** The files of a card, each with its digest. */
+function showFiles(/** @type {import('./answers.js').Card} */ card, parent) {
+  for (const file of filesOf(card)) {
+    const line = element('div', file.name, parent);
+    if (file.digest) ofProgram('code', ` ${text('digest', { digest: file.digest })}`, line);
+  }
+}
+
+function showAnswers(/** @type {import('./answers.js').Card} */ card, limits, parent) {
+  if (card.answers.length === 0) element('div', headlineOfCard(card), parent);
+  for (const answer of card.answers) {
+    const mood = answer.status === ACCEPTED ? 'good' : 'bad';
+    const said = `${answer.other.name}: ${saidOf(answer, limits)}`;
+    element('div', said, parent, { className: `said ${mood}` });
+    ofProgram('samp', answer.line, element('div', '', parent));
+    ofProgram('code', answer.command, element('div', '', parent));
+  }
+}
+
+/**
+ * The protocol of a card whose results are loaded.
+ * @param {import('./answers.js').Card} card
+ * @param {Record<string, number>} limits
+ * @param {Element} parent
+ */
+export function showProtocol(card, limits, parent) {
+  const part = element('article', '', parent, { className: 'protocol' }), { listed } = card.station;
+  element('h1', `${text('protocol')}: ${text('station', { name: listed.name })}`, part);
+  const facts = element('dl', '', part, { className: 'facts' });
+  showFiles(card, row('files', facts));
+  const now = { dateStyle: /** @type {const} */ ('long'), timeStyle: /** @type {const} */ ('short') };
+  row('date', facts).textContent = new Date().toLocaleString(spoken(), now);
+  row('observed', facts).textContent = text('counts', { ...listed });
+  row('limits', facts).textContent = limitsLine(limits);
+  showAnswers(card, limits, row('answer', facts));
+  showResults(card, part);
+  const signs = element('div', '', part, { className: 'signs' });
+  for (const label of ['observer', 'sign']) element('p', text(label), signs);
+  element('p', text('madeBy', { ...made() }), part, { className: 'quiet foot' });
+}
+
+/** The protocol as a file of its own, with the style of the page. */
+export function protocolFile(card, limits) {
+  const whole = document.implementation.createHTMLDocument(`${stemOf(card.field)} ${card.title}`);
+  whole.documentElement.lang = spoken();
+  element('meta', '', whole.head).setAttribute('charset', 'utf-8');
+  element('style', document.querySelector('style').textContent, whole.head);
+  whole.body.className = 'saved';
+  showProtocol(card, limits, whole.body);
+  return `<!doctype html>\n${whole.documentElement.outerHTML}\n`;
+}

@@ -1,0 +1,413 @@
+// All words of the page's own, in each language. What the program says, its lines and explanations,
+// stands in the page as it is.
+
+/** The languages, by their codes. */
+export const LANGUAGES = { en: 'English', de: 'Deutsch', fr: 'Français' };
+
+/** Each text by its name. `{word}` is filled in; before `|` stands the text for one, then that for more. */
+export const TEXTS = {
+  tagline: {
+    en: 'Are your adjusted directions right? Check them against the raw field file.',
+    de: 'Stimmen Ihre ausgeglichenen Richtungen? Prüfen Sie sie an der Felddatei.',
+    fr: 'Vos directions compensées sont-elles justes ? Vérifiez-les avec le fichier de terrain.',
+  },
+  stays: {
+    en: 'The files stay on this machine: the page loads nothing and sends nothing.',
+    de: 'Die Dateien bleiben auf diesem Rechner: Die Seite lädt nichts und sendet nichts.',
+    fr: 'Les fichiers restent sur cette machine : la page ne charge rien et n’envoie rien.',
+  },
+  language: { en: 'Language', de: 'Sprache', fr: 'Langue' },
+  drop: {
+    en: 'Drop your files anywhere in this window',
+    de: 'Legen Sie Ihre Dateien irgendwo in diesem Fenster ab',
+    fr: 'Déposez vos fichiers n’importe où dans cette fenêtre',
+  },
+  release: {
+    en: 'Let go: the files are sorted by what they hold',
+    de: 'Loslassen: Die Dateien werden nach ihrem Inhalt sortiert',
+    fr: 'Lâchez : les fichiers sont triés d’après leur contenu',
+  },
+  dropKinds: {
+    en: 'Field files (GSI), and what an adjustment program made of them: tables of directions (CSV: target, gon) or sheets.',
+    de: 'Felddateien (GSI) und was ein Ausgleichungsprogramm daraus gemacht hat: Richtungstabellen (CSV: Ziel, gon) oder Sheets (CSV mit Brüchen).',
+    fr: 'Fichiers de terrain (GSI) et ce qu’un programme de compensation en a fait : tables de directions (CSV : cible, gon) ou feuilles exactes (CSV).',
+  },
+  choose: { en: 'Choose files', de: 'Dateien wählen', fr: 'Choisir des fichiers' },
+  addMore: { en: 'Add files', de: 'Dateien hinzufügen', fr: 'Ajouter des fichiers' },
+  files: { en: 'Files', de: 'Dateien', fr: 'Fichiers' },
+  removeAll: { en: 'Remove all', de: 'Alle entfernen', fr: 'Tout retirer' },
+  remove: { en: 'Remove {name}', de: '{name} entfernen', fr: 'Retirer {name}' },
+  kindField: { en: 'field file', de: 'Felddatei', fr: 'fichier de terrain' },
+  kindSheet: { en: 'sheet of {station}', de: 'Sheet von {station}', fr: 'feuille de {station}' },
+  kindTable: { en: 'table of directions', de: 'Richtungstabelle', fr: 'table de directions' },
+  kindSpreadsheet: {
+    en: 'not used: a spreadsheet; save its two columns as CSV',
+    de: 'nicht verwendet: eine Arbeitsmappe; speichern Sie die zwei Spalten als CSV',
+    fr: 'non utilisé : un classeur ; enregistrez ses deux colonnes en CSV',
+  },
+  kindEmpty: {
+    en: 'not used: the file is empty',
+    de: 'nicht verwendet: Die Datei ist leer',
+    fr: 'non utilisé : le fichier est vide',
+  },
+  kindUnread: {
+    en: 'not used: it can’t be read; a folder is no file, drop what is in it',
+    de: 'nicht verwendet: nicht lesbar; ein Ordner ist keine Datei, legen Sie seinen Inhalt ab',
+    fr: 'non utilisé : illisible ; un dossier n’est pas un fichier, déposez son contenu',
+  },
+  kindOther: {
+    en: 'not used: neither a field file, nor a sheet, nor a table of directions',
+    de: 'nicht verwendet: weder Felddatei noch Sheet noch Richtungstabelle',
+    fr: 'non utilisé : ni fichier de terrain, ni feuille, ni table de directions',
+  },
+  belongsTo: { en: 'Station of {name}', de: 'Station von {name}', fr: 'Station de {name}' },
+  byName: { en: 'found by itself', de: 'selbst gefunden', fr: 'trouvée automatiquement' },
+  limits: { en: 'Limits', de: 'Grenzen', fr: 'Limites' },
+  inForce: {
+    en: '2c {twoC}, 2i {twoI}, residuals {residual}, tables within {within} mgon',
+    de: '2c {twoC}, 2i {twoI}, Verbesserungen {residual}, Tabellen auf {within} mgon',
+    fr: '2c {twoC}, 2i {twoI}, résidus {residual}, tables à {within} mgon près',
+  },
+  residualStated: {
+    en: 'The page itself states 10 mgon for residuals where you state none.',
+    de: 'Für Verbesserungen setzt die Seite selbst 10 mgon, wenn Sie nichts angeben.',
+    fr: 'Pour les résidus, la page fixe elle-même 10 mgon si vous n’indiquez rien.',
+  },
+  limitTwoC: { en: '2c at most, in mgon', de: '2c höchstens, in mgon', fr: '2c au plus, en mgon' },
+  limitTwoI: { en: '2i at most, in mgon', de: '2i höchstens, in mgon', fr: '2i au plus, en mgon' },
+  limitResidual: {
+    en: 'Residuals of a sheet at most, in mgon',
+    de: 'Verbesserungen eines Sheets höchstens, in mgon',
+    fr: 'Résidus d’une feuille au plus, en mgon',
+  },
+  limitWithin: {
+    en: 'A table agrees within, in mgon',
+    de: 'Eine Tabelle stimmt überein auf, in mgon',
+    fr: 'Une table concorde à moins de, en mgon',
+  },
+  limitDecimals: {
+    en: 'Decimals of the directions, in gon',
+    de: 'Nachkommastellen der Richtungen, in gon',
+    fr: 'Décimales des directions, en gon',
+  },
+  limitWrong: {
+    en: '“{label}”: a number from {least} to {most}, in steps of {step}',
+    de: '„{label}“: eine Zahl von {least} bis {most}, in Schritten von {step}',
+    fr: '« {label} » : un nombre de {least} à {most}, par pas de {step}',
+  },
+  gettingReady: { en: 'Getting ready', de: 'Wird vorbereitet', fr: 'Préparation' },
+  checking: { en: 'Checking …', de: 'Wird geprüft …', fr: 'Vérification …' },
+  ready: { en: 'Ready for your files.', de: 'Bereit für Ihre Dateien.', fr: 'Prête à recevoir vos fichiers.' },
+  needField: {
+    en: 'Add the field file (GSI) too: without it nothing can be checked.',
+    de: 'Fügen Sie auch die Felddatei (GSI) hinzu: Ohne sie kann nichts geprüft werden.',
+    fr: 'Ajoutez aussi le fichier de terrain (GSI) : sans lui, rien ne peut être vérifié.',
+  },
+  working: {
+    en: 'Working: {done} of {all}, {name}',
+    de: 'In Arbeit: {done} von {all}, {name}',
+    fr: 'En cours : {done} sur {all}, {name}',
+  },
+  stop: { en: 'Stop', de: 'Abbrechen', fr: 'Arrêter' },
+  stopped: {
+    en: 'Stopped. What was not answered was not checked.',
+    de: 'Abgebrochen. Was keine Antwort hat, wurde nicht geprüft.',
+    fr: 'Arrêté. Ce qui n’a pas de réponse n’a pas été vérifié.',
+  },
+  checkAgain: { en: 'Check again', de: 'Noch einmal prüfen', fr: 'Vérifier de nouveau' },
+  cannotRun: {
+    en: 'This browser cannot run the check: it needs WebAssembly with 64-bit memory, as Chrome and Edge from 133 and Firefox from 134 have it.',
+    de: 'Dieser Browser kann nicht prüfen: Es braucht WebAssembly mit 64-Bit-Speicher, wie Chrome und Edge ab 133 und Firefox ab 134 es haben.',
+    fr: 'Ce navigateur ne peut pas vérifier : il faut WebAssembly avec mémoire 64 bits, comme Chrome et Edge à partir de 133 et Firefox à partir de 134.',
+  },
+  cannotFinish: {
+    en: 'This browser could not finish: {why}',
+    de: 'Dieser Browser konnte es nicht beenden: {why}',
+    fr: 'Ce navigateur n’a pas pu terminer : {why}',
+  },
+  outOfRange: {
+    en: 'No answer: a number is out of its range.',
+    de: 'Keine Antwort: Eine Zahl liegt außerhalb ihres Bereichs.',
+    fr: 'Pas de réponse : un nombre est hors de son domaine.',
+  },
+  noRoom: {
+    en: 'No answer: the text has no room here.',
+    de: 'Keine Antwort: Der Text hat hier keinen Platz.',
+    fr: 'Pas de réponse : le texte n’a pas la place ici.',
+  },
+  summary: {
+    en: '{all} answers: {good} in order, {bad} refused, {open} with something to do',
+    de: '{all} Antworten: {good} in Ordnung, {bad} zurückgewiesen, {open} mit offener Aufgabe',
+    fr: '{all} réponses : {good} en ordre, {bad} refusées, {open} à compléter',
+  },
+  station: { en: 'Station {name}', de: 'Station {name}', fr: 'Station {name}' },
+  moodGood: { en: 'In order', de: 'In Ordnung', fr: 'En ordre' },
+  moodBad: { en: 'Refused', de: 'Zurückgewiesen', fr: 'Refusé' },
+  moodOpen: { en: 'To do', de: 'Zu tun', fr: 'À faire' },
+  accepted: {
+    en: 'Accepted. Greatest residual {size} mgon, set {set}, {target}.',
+    de: 'Angenommen. Größte Verbesserung {size} mgon, Satz {set}, {target}.',
+    fr: 'Accepté. Plus grand résidu {size} mgon, série {set}, {target}.',
+  },
+  acceptedZero: {
+    en: 'Accepted. All residuals are 0.',
+    de: 'Angenommen. Alle Verbesserungen sind 0.',
+    fr: 'Accepté. Tous les résidus sont nuls.',
+  },
+  acceptedBare: { en: 'Accepted.', de: 'Angenommen.', fr: 'Accepté.' },
+  agrees: {
+    en: 'Agrees. {n} target within {within} mgon of the least-squares directions.|Agrees. {n} targets within {within} mgon of the least-squares directions.',
+    de: 'Stimmt überein. {n} Ziel auf {within} mgon bei den Richtungen der kleinsten Quadrate.|Stimmt überein. {n} Ziele auf {within} mgon bei den Richtungen der kleinsten Quadrate.',
+    fr: 'Concorde. {n} cible à {within} mgon près des directions des moindres carrés.|Concorde. {n} cibles à {within} mgon près des directions des moindres carrés.',
+  },
+  agreesBare: { en: 'Agrees.', de: 'Stimmt überein.', fr: 'Concorde.' },
+  refused: { en: 'Refused.', de: 'Zurückgewiesen.', fr: 'Refusé.' },
+  refusedApart: {
+    en: 'Refused. The directions are {apart} mgon apart; the limit is {within} mgon.',
+    de: 'Zurückgewiesen. Die Richtungen weichen {apart} mgon ab; die Grenze ist {within} mgon.',
+    fr: 'Refusé. Les directions s’écartent de {apart} mgon ; la limite est {within} mgon.',
+  },
+  rounding: {
+    en: 'This table has {decimals} decimals: rounding alone can put it up to {most} mgon apart.',
+    de: 'Diese Tabelle hat {decimals} Nachkommastellen: Rundung allein kann bis zu {most} mgon ausmachen.',
+    fr: 'Cette table a {decimals} décimales : l’arrondi seul peut expliquer jusqu’à {most} mgon.',
+  },
+  compareWithin: {
+    en: 'Compare within {within} mgon',
+    de: 'Auf {within} mgon vergleichen',
+    fr: 'Comparer à {within} mgon près',
+  },
+  readWell: {
+    en: 'Read without a fault: {sets} sets, {targets} targets, {directions} directions.',
+    de: 'Fehlerfrei gelesen: {sets} Sätze, {targets} Ziele, {directions} Richtungen.',
+    fr: 'Lu sans faute : {sets} séries, {targets} cibles, {directions} directions.',
+  },
+  nothingCompared: {
+    en: 'No results of your program were given yet: add its table of directions or its sheet, and they are checked.',
+    de: 'Es liegt noch kein Ergebnis Ihres Programms vor: Fügen Sie seine Richtungstabelle oder sein Sheet hinzu, dann wird es geprüft.',
+    fr: 'Aucun résultat de votre programme pour l’instant : ajoutez sa table de directions ou sa feuille, et elle sera vérifiée.',
+  },
+  nothingChecked: {
+    en: 'Nothing was checked: no code 20 opens a set in this file.',
+    de: 'Nichts wurde geprüft: Kein Code 20 eröffnet in dieser Datei einen Satz.',
+    fr: 'Rien n’a été vérifié : aucun code 20 n’ouvre une série dans ce fichier.',
+  },
+  outside: {
+    en: '{n} reading with a direction stands outside of sets.|{n} readings with directions stand outside of sets.',
+    de: '{n} Ablesung mit Richtung steht außerhalb von Sätzen.|{n} Ablesungen mit Richtungen stehen außerhalb von Sätzen.',
+    fr: '{n} lecture avec direction est hors série.|{n} lectures avec directions sont hors série.',
+  },
+  noReadings: {
+    en: 'It has no reading with a direction (word 21): a levelling file or a list of coordinates has none. Take the file of the job in which the sets were observed.',
+    de: 'Sie hat keine Ablesung mit Richtung (Wort 21), wie Nivellements und Koordinatenlisten. Nehmen Sie die Datei des Jobs, in dem die Sätze beobachtet wurden.',
+    fr: 'Il n’a aucune lecture avec direction (mot 21), comme un nivellement ou une liste de coordonnées. Prenez le fichier du job où les séries ont été observées.',
+  },
+  markedCopy: {
+    en: 'Sets recognized in {name}: the answer is of a copy with codes put in',
+    de: 'In {name} erkannte Sätze: Die Antwort gilt einer Kopie mit eingesetzten Codes',
+    fr: 'Séries reconnues dans {name} : la réponse porte sur une copie avec des codes',
+  },
+  recognized: {
+    en: 'Station {station}: {sets} sets, {targets} targets. {before} readings before the sets and {after} after them stay outside.',
+    de: 'Station {station}: {sets} Sätze, {targets} Ziele. {before} Ablesungen vor den Sätzen und {after} danach bleiben außerhalb.',
+    fr: 'Station {station} : {sets} séries, {targets} cibles. {before} lectures avant les séries et {after} après restent en dehors.',
+  },
+  compareBook: {
+    en: 'Compare these numbers with the field book, and keep the copy beside the field file.',
+    de: 'Vergleichen Sie diese Zahlen mit dem Feldbuch, und bewahren Sie die Kopie neben der Felddatei auf.',
+    fr: 'Comparez ces nombres avec le carnet de terrain, et gardez la copie avec le fichier de terrain.',
+  },
+  saveMarked: { en: 'Save the copy with codes', de: 'Kopie mit Codes speichern', fr: 'Enregistrer la copie avec codes' },
+  needName: {
+    en: 'The job was recorded without codes, and no line of it names the station. State its name, and the sets are recognized.',
+    de: 'Der Job wurde ohne Codes aufgezeichnet, und keine Zeile nennt die Station. Geben Sie ihren Namen an, dann werden die Sätze erkannt.',
+    fr: 'Le job a été enregistré sans codes, et aucune ligne ne nomme la station. Indiquez son nom, et les séries seront reconnues.',
+  },
+  stationName: { en: 'Name of the station', de: 'Name der Station', fr: 'Nom de la station' },
+  markSets: { en: 'Recognize the sets', de: 'Sätze erkennen', fr: 'Reconnaître les séries' },
+  notRecognized: {
+    en: 'The job was recorded without codes, and its sets are not recognized:',
+    de: 'Der Job wurde ohne Codes aufgezeichnet, und seine Sätze werden nicht erkannt:',
+    fr: 'Le job a été enregistré sans codes, et ses séries ne sont pas reconnues :',
+  },
+  howToMark: {
+    en: 'The job was recorded without codes, as an instrument’s own program for sets does it. Put them into a copy, on a computer with Python, and drop the copy here:',
+    de: 'Der Job wurde ohne Codes aufgezeichnet, wie das Satzmessprogramm des Instruments es tut. Setzen Sie sie auf einem Rechner mit Python in eine Kopie ein, und legen Sie die Kopie hier ab:',
+    fr: 'Le job a été enregistré sans codes, comme le fait le programme de séries de l’instrument. Mettez-les dans une copie, sur un ordinateur avec Python, et déposez la copie ici :',
+  },
+  howToRecord: {
+    en: 'In the next job record code 10 with the station, code 20 with each set and code 30 at the end: the guide says how.',
+    de: 'Zeichnen Sie im nächsten Job Code 10 mit der Station, Code 20 mit jedem Satz und Code 30 am Ende auf: Der Leitfaden sagt, wie.',
+    fr: 'Au prochain job, enregistrez le code 10 avec la station, le code 20 avec chaque série et le code 30 à la fin : le guide dit comment.',
+  },
+  lineOfFile: {
+    en: 'Line {line} of {name}, block {block}',
+    de: 'Zeile {line} von {name}, Block {block}',
+    fr: 'Ligne {line} de {name}, bloc {block}',
+  },
+  endOfFile: { en: 'The end of {name}', de: 'Das Ende von {name}', fr: 'La fin de {name}' },
+  rowOfFile: { en: 'Row {row} of {name}', de: 'Zeile {row} von {name}', fr: 'Rangée {row} de {name}' },
+  rowOfKind: {
+    en: 'Row {row} of {name}, {kind} row {nth}',
+    de: 'Zeile {row} von {name}, {kind}-Zeile {nth}',
+    fr: 'Rangée {row} de {name}, rangée {kind} {nth}',
+  },
+  targetOfStation: {
+    en: 'Target {nth} of station {station}',
+    de: 'Ziel {nth} der Station {station}',
+    fr: 'Cible {nth} de la station {station}',
+  },
+  observationOfStation: {
+    en: 'Observation {nth} of station {station}',
+    de: 'Beobachtung {nth} der Station {station}',
+    fr: 'Observation {nth} de la station {station}',
+  },
+  setAndTarget: { en: 'set {set}, target {target}', de: 'Satz {set}, Ziel {target}', fr: 'série {set}, cible {target}' },
+  atWord: { en: 'word {nth}', de: 'Wort {nth}', fr: 'mot {nth}' },
+  atByte: { en: 'byte {nth}', de: 'Byte {nth}', fr: 'octet {nth}' },
+  here: { en: 'here', de: 'hier', fr: 'ici' },
+  waiting: {
+    en: 'Not checked until the field file has no fault: {names}.',
+    de: 'Nicht geprüft, solange die Felddatei einen Fehler hat: {names}.',
+    fr: 'Non vérifié tant que le fichier de terrain a une faute : {names}.',
+  },
+  waitingForSets: {
+    en: 'Not checked, since the field file has no station: {names}.',
+    de: 'Nicht geprüft, weil die Felddatei keine Station hat: {names}.',
+    fr: 'Non vérifié, car le fichier de terrain n’a pas de station : {names}.',
+  },
+  noFieldFor: {
+    en: 'Not checked: no field file fits it. Its name should begin as that of its field file, or choose its station in the list of files.',
+    de: 'Nicht geprüft: Keine Felddatei passt dazu. Der Name sollte wie der der Felddatei beginnen, oder wählen Sie die Station in der Dateiliste.',
+    fr: 'Non vérifié : aucun fichier de terrain ne lui correspond. Son nom devrait commencer comme celui du fichier de terrain, ou choisissez sa station dans la liste des fichiers.',
+  },
+  noStationFor: {
+    en: 'Not checked: several stations are possible. Choose one in the list of files.',
+    de: 'Nicht geprüft: Mehrere Stationen sind möglich. Wählen Sie eine in der Dateiliste.',
+    fr: 'Non vérifié : plusieurs stations sont possibles. Choisissez-en une dans la liste des fichiers.',
+  },
+  program: { en: 'The program’s line', de: 'Die Zeile des Programms', fr: 'La ligne du programme' },
+  sameCommand: {
+    en: 'The same on the command line',
+    de: 'Dasselbe auf der Kommandozeile',
+    fr: 'La même chose en ligne de commande',
+  },
+  whatItMeans: { en: 'What it means and what to do', de: 'Was es bedeutet und was zu tun ist (englisch)', fr: 'Ce que cela veut dire et que faire (en anglais)' },
+  directions: { en: 'Adjusted directions', de: 'Ausgeglichene Richtungen', fr: 'Directions compensées' },
+  directionsCaption: {
+    en: 'Least-squares directions, the first target as zero, in gon',
+    de: 'Richtungen nach kleinsten Quadraten, erstes Ziel als Null, in gon',
+    fr: 'Directions des moindres carrés, première cible à zéro, en gon',
+  },
+  differences: { en: 'Differences of {name}', de: 'Unterschiede von {name}', fr: 'Écarts de {name}' },
+  differencesCaption: {
+    en: 'By target in gon, and the difference in mgon after the best rotation',
+    de: 'Nach Zielen in gon, und der Unterschied in mgon nach der besten Drehung',
+    fr: 'Par cible en gon, et l’écart en mgon après la meilleure rotation',
+  },
+  differencesNote: {
+    en: 'The best rotation halves the error of a single target. Computed by the page; how far the table is apart is the program’s.',
+    de: 'Die beste Drehung halbiert den Fehler eines einzelnen Ziels. Von der Seite berechnet; wie weit die Tabelle abweicht, sagt das Programm.',
+    fr: 'La meilleure rotation divise par deux l’erreur d’une seule cible. Calculé par la page ; l’écart de la table est celui du programme.',
+  },
+  stated: { en: 'Stated', de: 'Angegeben', fr: 'Indiquée' },
+  leastSquares: { en: 'Least squares', de: 'Kleinste Quadrate', fr: 'Moindres carrés' },
+  difference: { en: 'Difference', de: 'Unterschied', fr: 'Écart' },
+  saveDifferences: { en: 'Save differences (CSV)', de: 'Unterschiede speichern (CSV)', fr: 'Enregistrer les écarts (CSV)' },
+  residuals: { en: 'Residuals', de: 'Verbesserungen', fr: 'Résidus' },
+  residualsCaption: {
+    en: 'Residuals in mgon: adjusted direction less orientation less reading; × is not observed',
+    de: 'Verbesserungen in mgon: ausgeglichene Richtung minus Orientierung minus Ablesung; × ist nicht beobachtet',
+    fr: 'Résidus en mgon : direction compensée moins orientation moins lecture ; × : non observé',
+  },
+  deviation: {
+    en: 'Standard deviation of a two-face direction {size} mgon, {n} degree of freedom: computed by the page, no proved call says it.|Standard deviation of a two-face direction {size} mgon, {n} degrees of freedom: computed by the page, no proved call says it.',
+    de: 'Standardabweichung einer Richtung aus beiden Lagen {size} mgon, {n} Freiheitsgrad: von der Seite berechnet, kein bewiesener Aufruf sagt sie.|Standardabweichung einer Richtung aus beiden Lagen {size} mgon, {n} Freiheitsgrade: von der Seite berechnet, kein bewiesener Aufruf sagt sie.',
+    fr: 'Écart-type d’une direction des deux cercles {size} mgon, {n} degré de liberté : calculé par la page, aucun appel prouvé ne le dit.|Écart-type d’une direction des deux cercles {size} mgon, {n} degrés de liberté : calculé par la page, aucun appel prouvé ne le dit.',
+  },
+  noFreedom: {
+    en: 'No degree of freedom: the residuals say nothing of the accuracy.',
+    de: 'Kein Freiheitsgrad: Die Verbesserungen sagen nichts über die Genauigkeit.',
+    fr: 'Aucun degré de liberté : les résidus ne disent rien de la précision.',
+  },
+  residualsByMeans: {
+    en: 'Of the sheet of means, which the check accepted: {line}',
+    de: 'Aus dem Sheet der Mittel, das die Prüfung angenommen hat: {line}',
+    fr: 'De la feuille des moyennes, que la vérification a acceptée : {line}',
+  },
+  residualsRefused: {
+    en: 'No residuals: the sheet of means is not accepted: {line}',
+    de: 'Keine Verbesserungen: Das Sheet der Mittel ist nicht angenommen: {line}',
+    fr: 'Pas de résidus : la feuille des moyennes n’est pas acceptée : {line}',
+  },
+  residualsBySheet: { en: 'Of {name}: {line}', de: 'Aus {name}: {line}', fr: 'De {name} : {line}' },
+  residualsNeedSheet: {
+    en: 'This station has gaps, so its residuals are shown once a sheet of it is accepted.',
+    de: 'Diese Station hat Lücken; ihre Verbesserungen erscheinen, sobald ein Sheet von ihr angenommen ist.',
+    fr: 'Cette station a des lacunes ; ses résidus s’affichent dès qu’une feuille est acceptée.',
+  },
+  faces: { en: 'Face differences', de: 'Lagedifferenzen', fr: 'Écarts des deux cercles' },
+  twoCCaption: {
+    en: '2c in mgon; the greatest, {size}, is marked',
+    de: '2c in mgon; der größte Wert, {size}, ist markiert',
+    fr: '2c en mgon ; le plus grand, {size}, est marqué',
+  },
+  twoICaption: {
+    en: '2i in mgon; the greatest, {size}, is marked',
+    de: '2i in mgon; der größte Wert, {size}, ist markiert',
+    fr: '2i en mgon ; le plus grand, {size}, est marqué',
+  },
+  target: { en: 'Target', de: 'Ziel', fr: 'Cible' },
+  setNumber: { en: 'Set {set}', de: 'Satz {set}', fr: 'Série {set}' },
+  setsOf: { en: 'sets {first} to {last}', de: 'Sätze {first} bis {last}', fr: 'séries {first} à {last}' },
+  direction: { en: 'Direction', de: 'Richtung', fr: 'Direction' },
+  seenIn: { en: 'Observed in', de: 'Beobachtet in', fr: 'Observée dans' },
+  ofSets: { en: '{n} of {all} sets', de: '{n} von {all} Sätzen', fr: '{n} séries sur {all}' },
+  saveDirections: { en: 'Save directions (CSV)', de: 'Richtungen speichern (CSV)', fr: 'Enregistrer les directions (CSV)' },
+  saveResiduals: { en: 'Save residuals (CSV)', de: 'Verbesserungen speichern (CSV)', fr: 'Enregistrer les résidus (CSV)' },
+  saveFaces: { en: 'Save 2c and 2i (CSV)', de: '2c und 2i speichern (CSV)', fr: 'Enregistrer 2c et 2i (CSV)' },
+  saveMeans: { en: 'Save sheet of means', de: 'Sheet der Mittel speichern', fr: 'Enregistrer la feuille des moyennes' },
+  saveProtocol: { en: 'Save protocol', de: 'Protokoll speichern', fr: 'Enregistrer le protocole' },
+  printProtocol: { en: 'Print protocol', de: 'Protokoll drucken', fr: 'Imprimer le protocole' },
+  saved: { en: 'Saved as {name}.', de: 'Gespeichert als {name}.', fr: 'Enregistré sous {name}.' },
+  protocol: { en: 'Protocol of sets', de: 'Satzmessprotokoll', fr: 'Protocole de séries' },
+  answer: { en: 'Answer', de: 'Antwort', fr: 'Réponse' },
+  date: { en: 'Date of the check', de: 'Datum der Prüfung', fr: 'Date de la vérification' },
+  counts: {
+    en: '{sets} sets, {targets} targets, {directions} directions',
+    de: '{sets} Sätze, {targets} Ziele, {directions} Richtungen',
+    fr: '{sets} séries, {targets} cibles, {directions} directions',
+  },
+  observed: { en: 'Observed', de: 'Beobachtet', fr: 'Observé' },
+  sign: { en: 'Checked by: place, date, signature', de: 'Geprüft: Ort, Datum, Unterschrift', fr: 'Vérifié par : lieu, date, signature' },
+  observer: { en: 'Observer, instrument', de: 'Beobachter, Instrument', fr: 'Observateur, instrument' },
+  digest: { en: 'SHA-256 {digest}', de: 'SHA-256 {digest}', fr: 'SHA-256 {digest}' },
+  madeBy: {
+    en: 'station_check, version {commit}; SHA-256 of the module inside: {digest}.',
+    de: 'station_check, Version {commit}; SHA-256 des Moduls darin: {digest}.',
+    fr: 'station_check, version {commit} ; SHA-256 du module inclus : {digest}.',
+  },
+  answers: { en: 'Answers', de: 'Antworten', fr: 'Réponses' },
+};
+
+/** The language that the page speaks. */
+let language = 'en';
+
+/** The first of the wanted languages that the page speaks. */
+export function languageOf(/** @type {readonly string[]} */ wanted) {
+  return wanted.map(code => code.slice(0, 2)).find(code => code in LANGUAGES) ?? 'en';
+}
+
+export const speak = (/** @type {string} */ code) => { language = code; };
+export const spoken = () => language;
+
+/**
+ * The text of this name, with these values filled in; `n` chooses between one and more.
+ * @param {string} name
+ * @param {Record<string, string | number>} [values]
+ */
+export function text(name, values = {}) {
+  const [one, more] = TEXTS[name][language].split('|');
+  const isOne = more === undefined || new Intl.PluralRules(language).select(Number(values.n)) === 'one';
+  return (isOne ? one : more).replace(/\{(\w+)\}/g, (_, word) => String(values[word]));
+}

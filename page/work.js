@@ -1,0 +1,76 @@
+// The page's side of the worker: each call is a promise of its answer, and all can be stopped.
+
+/**
+ * What a call answered: its status, its text, and what it said beside it, where it has two texts.
+ * @typedef {{ status: number, bytes: Uint8Array, text: string, beside: string }} Reply
+ */
+
+/** What a call ends with that was stopped. */
+export class Stopped extends Error {}
+
+const part = id => document.getElementById(id).textContent;
+const bytesOf = text => new TextEncoder().encode(text);
+
+/** @type {Worker | null} */
+let worker = null;
+/** @type {Map<number, { resolve: Function, reject: Function }>} */
+const waiting = new Map();
+let count = 0;
+
+/** The names of the calls that the module has. @type {string[]} */
+let exported = [];
+
+/** Whether the module has a call of this name. */
+export const has = (/** @type {string} */ name) => exported.includes(`station_page_${name}`);
+
+/** Hands a message to the worker; answers what comes back. */
+function sent(message) {
+  return new Promise((resolve, reject) => {
+    waiting.set(++count, { resolve, reject });
+    worker.postMessage({ id: count, ...message });
+  });
+}
+
+/** Starts a worker with the module in it; fails where the browser can't run the module. */
+export async function start() {
+  const address = URL.createObjectURL(new Blob([part('calls')], { type: 'text/javascript' }));
+  worker = new Worker(address);
+  worker.onmessage = ({ data: { id, answer, error } }) => {
+    const { resolve, reject } = waiting.get(id) ?? {};
+    waiting.delete(id);
+    if (error !== undefined) reject?.(new Error(error));
+    else resolve?.(answer);
+  };
+  worker.onerror = event => {
+    for (const { reject } of waiting.values()) reject(new Error(event.message));
+  };
+  exported = await sent({ module: Uint8Array.from(atob(part('module')), letter => letter.charCodeAt(0)) });
+}
+
+/** Ends what is under way; the next calls go to a new worker. */
+export function stop() {
+  worker?.terminate();
+  for (const { reject } of waiting.values()) reject(new Stopped());
+  waiting.clear();
+  start().catch(() => {});
+}
+
+/**
+ * Asks a proved call, with files as bytes, names as texts and numbers in their units.
+ * @param {string} name
+ * @param {(Uint8Array | string | number)[]} inputs
+ * @returns {Promise<Reply>}
+ */
+export async function ask(name, ...inputs) {
+  const given = inputs.map(input => typeof input === 'string' ? bytesOf(input) : input);
+  const { status, shown: [bytes, more = new Uint8Array()] } = await sent({ name, inputs: given });
+  const [text, beside] = [bytes, more].map(one => new TextDecoder().decode(one));
+  return { status, bytes, text, beside: beside.trimEnd() };
+}
+
+/** The SHA-256 of a file, by the browser; nothing where it has none. */
+export async function digestOf(/** @type {Uint8Array} */ bytes) {
+  if (!globalThis.crypto?.subtle) return '';
+  const digest = new Uint8Array(await crypto.subtle.digest('SHA-256', bytes));
+  return Array.from(digest, byte => byte.toString(16).padStart(2, '0')).join('');
+}

@@ -1,0 +1,27 @@
+// Answers one call after the other beside the page, so that no file holds the window.
+import { calls } from './calls.js';
+import { readingsIn } from './records.js';
+
+/** @type {Promise<WebAssembly.Module>} */
+let core;
+
+/** How many readings with a direction a field file has: its words may be many, and are counted here. */
+async function readings(module, gsi) {
+  const { status, shown: [words] } = await calls.words(module, gsi);
+  return { status, shown: [new TextEncoder().encode(String(readingsIn(new TextDecoder().decode(words))))] };
+}
+
+const asked = { ...calls, readings };
+
+/** The names of what the module exports. */
+const exportsOf = module => WebAssembly.Module.exports(module).map(one => one.name);
+
+onmessage = async ({ data: { module, id, name, inputs } }) => {
+  try {
+    if (module) core = WebAssembly.compile(module);
+    if (!name) return postMessage({ id, answer: exportsOf(await core) });
+    postMessage({ id, answer: await asked[name](await core, ...inputs) });
+  } catch (error) {
+    postMessage({ id, error: String(error) });
+  }
+};
