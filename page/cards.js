@@ -67,11 +67,14 @@ function showExplanation(/** @type {string} */ explanation, parent) {
   }
 }
 
+/** With fewer decimals no table is worth a comparison. */
+const FEWEST_DECIMALS = 3;
+
 /** Where rounding to the table's decimals can explain how far it is apart: a wider limit, by a button. */
 function offerWider(/** @type {Answer} */ { line, other }, desk, parent) {
   const decimals = decimalsIn(textOf(other.bytes));
   const most = Math.ceil(10 ** (6 - decimals) / 2), wider = most + 1;
-  if (!(apartIn(line) <= wider) || desk.limits.within >= wider) return;
+  if (decimals < FEWEST_DECIMALS || apartIn(line) > wider || desk.limits.within >= wider) return;
   element('p', text('rounding', { decimals, most: mgonOf(most, APART) }), parent);
   button(text('compareWithin', { within: mgonOf(wider, APART) }), parent, () => desk.state('within', wider));
 }

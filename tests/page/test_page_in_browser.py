@@ -357,12 +357,13 @@ class PageInBrowserTest(TimedTest):
 
     def test_files_are_sorted_by_what_they_hold_wherever_they_are_dropped(self):
         page = self.page()
-        page.drop(*(self.file(name, data) for name, data, _ in UNUSED), P7_FIELD, P7_SHEET, P7_TABLE)
+        (self.folder / "week").mkdir()
+        page.drop(*(self.file(name, data) for name, data, _ in UNUSED), self.folder / "week", P7_FIELD, P7_SHEET, P7_TABLE)
         kinds = dict(zip(page.texts("#inputs .name"), page.texts("#inputs .kind")))
         self.assertEqual("field file", kinds[P7_FIELD.name])
         self.assertEqual("sheet of P7", kinds[P7_SHEET.name])
         self.assertEqual("table of directions", kinds[P7_TABLE.name])
-        for name, _, said in UNUSED:
+        for name, _, said in [*UNUSED, ("week", None, "a folder is no file")]:
             self.assertTrue(kinds[name].startswith("not used: ") and said in kinds[name], kinds[name])
         agrees = "Agrees. 6 targets within 0.004 mgon of the least-squares directions."
         self.assertEqual([["good", "Station P7", P7_HEADLINE, agrees]], self.cards(page))
@@ -551,6 +552,22 @@ class PageInBrowserTest(TimedTest):
             page = self.page(P7_FIELD, P7_SHEET, self.file("four.csv", FOUR_DECIMALS), self.file(*UNUSED[0][:2]), scheme=scheme)
             with self.subTest(scheme):
                 self.assertEqual([], page.js(CONTRASTS))
+
+    def test_in_the_colours_of_the_system_nothing_is_told_by_colour_alone(self):
+        page = self.page(P7_FIELD, P7_SHEET)
+        page.call("Emulation.setEmulatedMedia", features=[{"name": "forced-colors", "value": "active"}])
+        self.assertTrue(page.js("matchMedia('(forced-colors: active)').matches"))
+        self.assertEqual("In order", page.text(".mood"))
+        style = "getComputedStyle(document.querySelector('{}'){}).{}"
+        for selector, pseudo, name, value in [
+            ("td.greatest", "", "outlineStyle", "solid"),
+            (".card", "", "borderTopStyle", "solid"),
+            (".button.primary", "", "borderTopStyle", "solid"),
+        ]:
+            self.assertEqual(value, page.js(style.format(selector, pseudo, name)))
+        # A bar has the colour of the text.
+        bar = page.js(style.format("td:not(.greatest) .bar", ", '::before'", "backgroundColor"))
+        self.assertEqual(page.js(style.format("td:not(.greatest)", "", "color")), bar)
 
     def test_all_is_reached_by_keyboard(self):
         page = self.page(FIELD, P7_FIELD, SHEET)
