@@ -5,6 +5,7 @@ import resource
 import shlex
 import shutil
 import subprocess
+import time
 
 import model
 from program import (
@@ -12,6 +13,7 @@ from program import (
     EXAMPLE_SHEET,
     EXAMPLE_TABLE,
     PROGRAM,
+    TIME,
     ProgramTest,
     answer_in_shell,
     answer_of,
@@ -284,6 +286,27 @@ class CommandLineTest(ProgramTest):
 
     def test_an_input_that_cannot_be_read_is_a_refusal(self):
         self.assertEqual((1, b"", b"refused: block 1: Read\n"), answer_in_shell('"$@" <&-'))
+
+    def test_an_input_that_would_block_is_a_refusal(self):
+        """Opened anew by its path it is waited for, as `explain Read` says."""
+        for args, answer in [([], (1, b"", refused("block 1: Read"))), (["list", "/dev/stdin"], (0, LIST, b""))]:
+            reading, writing = os.pipe()
+            os.set_blocking(reading, False)
+            with subprocess.Popen(
+                [PROGRAM, *args], stdin=reading, stdout=subprocess.PIPE, stderr=subprocess.PIPE
+            ) as program:
+                os.close(reading)
+                time.sleep(0.2)
+                try:
+                    os.write(writing, STATION)
+                except BrokenPipeError:
+                    pass  # the program has ended
+                os.close(writing)
+                stdout, stderr = program.communicate(timeout=TIME)
+                with self.subTest(args=args):
+                    self.assertEqual(answer, (program.returncode, stdout, stderr))
+        for part in [b"EAGAIN", b"/dev/stdin"]:
+            self.assertIn(part, answer_of(["explain", "Read"])[1])
 
     def test_want_of_memory_is_a_refusal(self):
         """The room of the process grows page by page: the loader fails, then the program, until it has all it wants.

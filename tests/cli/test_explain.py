@@ -86,7 +86,7 @@ class ExplainTest(ProgramTest):
         return re.sub(r" \d+$", "", reason)
 
     def test_each_kind_of_refusal_is_explained(self):
-        others = ["write failed", "out of memory"]
+        others = ["cannot open", "write failed", "out of memory"]
         kinds = [*REFUSALS, *OF_COUNTS, *OF_BYTES, *OF_READS, *NEVER_MET, *others]
         found = {self.name_in(kind.replace(" n", " 1")) for kind in kinds}
         self.assertEqual(found, set(names()))
@@ -121,6 +121,8 @@ class ExplainTest(ProgramTest):
         if example.endswith("TooLong"):
             long_sheet.write_bytes(b" " * (model.LONGEST_SHEET + 1))
             return answer_of(["check", EXAMPLE, long_sheet])[2]
+        if example.startswith("cannot open"):
+            return answer_of(["list", "field.gsi"], cwd=self.folder)[2]
         if example.endswith("write failed"):
             return answer_in_shell('"$@" > /dev/full', "--help")[2]
         env = {"LD_PRELOAD": str(preload.built("refuse_allocation")), "REFUSE_CALL": "1"}
@@ -138,6 +140,7 @@ class ExplainTest(ProgramTest):
             ("Residual", ["kernel: Residual 1", "refused: adjust: Residual 1"]),
             ("Apart", ["Apart 15", "compare: Apart 15", "refused: compare: Apart 15"]),
             ("out of memory", ["refused: out of memory"]),
+            ("cannot open", ["Cannot open"]),
         ]:
             for line in [name, *lines]:
                 for words in [[line], line.split()]:

@@ -133,11 +133,14 @@ fn file_faults() -> &'static [Explanation] {
             when: "\
 A read of the field file failed, and the block is the first line that had not ended then; or, as
 'sheet: Read' or 'table: Read', a read of the sheet or the table failed. A read that failed is not
-tried again. A folder can be opened and not read, so its name leads here.",
+tried again. A folder can be opened and not read, so its name leads here. So does an input that
+would block: a pipe or a terminal that another program has set not to wait, where its bytes are not
+there yet (EAGAIN).",
             example: "refused: block 1: Read",
             remedy: "\
 See that the path names a file and not a folder. Copy the file: where the copy fails
-too, its medium is at fault.",
+too, its medium is at fault. Read an input that would block by its path, as
+'station_check words /dev/stdin': opened anew, it is waited for.",
         },
         Explanation {
             names: &["FileTooLong"],
@@ -761,9 +764,23 @@ means of incomplete sets, weights and observations that it left out give other d
     ]
 }
 
-/// Faults of what takes the answer, and of memory.
+/// Faults of the files of the command line, of what takes the answer, and of memory.
 fn end_faults() -> &'static [Explanation] {
     &[
+        Explanation {
+            names: &["cannot open"],
+            meaning: "a file that the command line names could not be opened",
+            when: "\
+No file has this path, or a folder of it is missing, or is no folder; or its permissions, or those
+of a folder above it, refuse it to you; or the path is longer than the system takes; or the system
+has no more open files to give. The path is shown with a '?' for each character that is no visible
+one. Nothing was read, and the exit status is 2.",
+            example: "cannot open field.gsi",
+            remedy: "\
+See by 'ls -l' that the file is there and that you may read it: capitals and small
+letters differ, and a path without '/' before it is looked for in the folder that you are in. '-' is
+a path like any other: name /dev/stdin for standard input.",
+        },
         Explanation {
             names: &["write failed"],
             meaning: "what was to be printed could not be written whole",
