@@ -1,4 +1,4 @@
-//! Stated directions of stations worked by hand, and where memory is refused.
+//! Stated directions of stations worked by hand.
 
 use adjust_kernel::{Name, Obs, Station};
 use directions_apart::CIRCLE;
@@ -260,77 +260,4 @@ fn what_was_rounded_is_apart_by_half_of_what_it_is_off(rt: HostRuntime) -> Resul
         assert_eq!(rt; answer, Ok(want));
     }
     Ok(())
-}
-
-/// How many blocks of memory are held at most.
-const BLOCKS: usize = 60_000;
-
-/// How many sizes of blocks are tried, each half of the one before: from 2^40 bytes down to 16.
-const SIZES: usize = 37;
-
-/// The bytes by which the memory that is left grows from try to try: fewer than any list takes.
-const STEP: usize = 16;
-
-/// Holds all memory that there is, but for a spare block that it gives back at the end.
-fn hoard_of_all_but(alloc: Global, spare: Vec<u8>) -> Vec<Vec<u8>> {
-    let mut hoard: Vec<Vec<u8>> = Vec::new(alloc);
-    if hoard.reserve(BLOCKS).is_err() {
-        return hoard;
-    }
-    let mut size: usize = 1 << 40;
-    for _ in 0..SIZES {
-        for _ in 0..BLOCKS {
-            match Vec::<u8>::with_capacity(alloc, size) {
-                Ok(block) => {
-                    if hoard.push(block).is_err() {
-                        return hoard;
-                    }
-                }
-                Err(_) => break,
-            }
-        }
-        size /= 2;
-    }
-    drop(spare);
-    hoard
-}
-
-/// With too little memory for these observations of four targets the answer is `Memory`, until
-/// there is enough.
-fn assert_each_refusal(
-    rt: &impl Abort,
-    alloc: Global,
-    observed: &[(u32, u32, u32)],
-) -> Result<(), Fail> {
-    let station = station_of(rt, alloc, 3, b"ABCD", observed)?;
-    for tries in 0..200usize {
-        let spare = Vec::<u8>::with_capacity(alloc, STEP * tries)?;
-        let held = hoard_of_all_but(alloc, spare);
-        let answer = rounded(rt, alloc, &station, 1_000);
-        drop(held);
-        match answer {
-            Err(fault) => assert_eq!(rt; fault, AdjustFault::Memory),
-            Ok(directions) => {
-                let want = [0, 25_000_000_000, 50_000_000_000, 75_000_000_000];
-                assert_eq!(rt; directions.as_slice(), want.as_slice());
-                assert!(rt; tries > 0);
-                return Ok(());
-            }
-        }
-    }
-    assert!(rt; false, "refused however much memory there was");
-    Ok(())
-}
-
-/// `rt test` runs it. `rt try --test` watches over memory itself, and ends the test in place of
-/// refusing.
-#[test]
-fn each_refused_growth_is_answered_by_memory(rt: HostRuntime) -> Result<(), Fail> {
-    assert_each_refusal(&rt, rt.alloc(), &WHOLE)
-}
-
-/// `rt test` runs it, as above.
-#[test]
-fn each_refused_growth_for_a_station_with_gaps_is_too(rt: HostRuntime) -> Result<(), Fail> {
-    assert_each_refusal(&rt, rt.alloc(), &GAPS)
 }
