@@ -1,0 +1,266 @@
+-- Where the sets of a station begin and end, by its readings alone (profile). Sets begin at the 1st,
+-- 3rd, 5th .. reading of the opening target, which is that of the first reading. In a set each target
+-- is read once in each face, either all of them in one face and then in the other, or each in both
+-- faces before the next. All sets are read the same way, and all end with one target.
+use Rattle.std.specs.Prelude.{ℕ, zero, suc, ◌+◌, ◌-◌, ◌/◌, Bool, true, false, ◌&&◌, ◌||◌, not, ◌==◌}
+use Rattle.std.specs.Prelude.{nat_lt, List, [], ◌∷◌, length, take, drop, if◌then◌else◌}
+use Rattle.std.specs.Prelude.{Option, Some, None, is_none}
+use Rattle.std.specs.List.{list_all, list_any, position}
+use Rattle.std.specs.Option.{option_map}
+use Rattle.std.specs.Str.{bytes_eq}
+use Rattle.gsi_file.specs.FileAnswers.{least}
+use Rattle.station_book.specs.Faults.{first_of}
+use Rattle.station_book.specs.Places.{is_among, with_new}
+use Rattle.set_marks.specs.declared.bounds.TheConstants.{MOST_READINGS, MOST_SETS}
+use Rattle.set_marks.specs.declared.fault.MarkKind.{MarkKind}
+use Rattle.set_marks.specs.declared.fault.MarkKind.TheVariants as kinds
+use Rattle.set_marks.specs.declared.flaw.Flaw.{Flaw}
+use Rattle.set_marks.specs.declared.division.Divided.{Divided}
+use Rattle.set_marks.specs.declared.division.Divided.TheVariants.{NoSets, Sets, Flawed}
+use Rattle.set_marks.specs.declared.sight.Sight.{Sight}
+
+-- whether the reading is of this target
+abbrev pub is_of : List ℕ → Sight → Bool
+is_of name s = bytes_eq s.target name
+
+-- whether both are in one face
+abbrev pub is_same_face : Bool → Bool → Bool
+is_same_face a b = if a then b else not b
+
+-- whether both are of one target, in one face
+abbrev pub is_again : Sight → Sight → Bool
+is_again a b = is_of a.target b && is_same_face a.second b.second
+
+-- whether both are of one target, one in each face
+abbrev pub is_pair : Sight → Sight → Bool
+is_pair a b = is_of a.target b && not (is_same_face a.second b.second)
+
+-- what is wrong, and at which of some readings, from 0
+abbrev pub flaw_at : MarkKind → ℕ → Flaw
+flaw_at kind at = record { at = at; kind = kind }
+
+-- this at that reading where the test says so, else nothing
+abbrev pub when_at : Bool → ℕ → MarkKind → Option Flaw
+when_at b at kind = if b then Some (flaw_at kind at) else None
+
+-- the same of the readings that these are after so many others
+abbrev pub moved : ℕ → Option Flaw → Option Flaw
+moved before f = option_map (λ f. flaw_at f.kind (before + f.at)) f
+
+-- The first of these readings, from a place on, whose target was read in its face before it.
+abbrev pub again_from : List Sight → ℕ → List Sight → Option ℕ
+again_from all at [] = None
+again_from all at (r ∷ rs) =
+    if list_any (is_again r) (take at all) then Some at else again_from all (suc at) rs
+
+-- the first reading whose target was read in its face before it
+abbrev pub again_at : List Sight → Option ℕ
+again_at rs = again_from rs 0 rs
+
+-- the first reading whose target is not read in the other face
+abbrev pub alone_at : List Sight → Option ℕ
+alone_at rs = position (λ r. not (list_any (is_pair r) rs)) rs
+
+-- These are all in this face.
+abbrev pub are_in_face : Bool → List Sight → Bool
+are_in_face second rs = list_all (λ r. is_same_face second r.second) rs
+
+-- The first half is in one face.
+abbrev pub is_by_faces : List Sight → Bool
+is_by_faces [] = false
+is_by_faces (r ∷ rs) = are_in_face r.second (take (length (r ∷ rs) / 2) (r ∷ rs))
+
+-- Each target is read in both faces before the next.
+abbrev pub is_by_targets : List Sight → Bool
+is_by_targets [] = true
+is_by_targets (a ∷ []) = false
+is_by_targets (a ∷ b ∷ rs) = is_pair a b && is_by_targets rs
+
+-- Both are read by faces, or both by targets.
+abbrev pub are_read_alike : List Sight → List Sight → Bool
+are_read_alike first rs =
+    (is_by_faces first && is_by_faces rs) || (is_by_targets first && is_by_targets rs)
+
+-- the target of the first reading, and of the last
+abbrev pub first_target : List Sight → List ℕ
+first_target [] = []
+first_target (r ∷ rs) = r.target
+
+abbrev pub last_target : List Sight → List ℕ
+last_target [] = []
+last_target (r ∷ []) = r.target
+last_target (r ∷ s ∷ rs) = last_target (s ∷ rs)
+
+-- What is wrong with these readings as a set, where `first` is the station's first set: the first of
+-- these that stands. A target is read again in one face. There are more readings than 100 targets
+-- have in two faces. A target is read in one face alone. There are fewer than two targets. They are
+-- read neither by faces nor by targets, or another way than the first set. They end with another
+-- target than the first set.
+abbrev pub set_flaw : List Sight → List Sight → Option Flaw
+set_flaw first rs = first_of (
+    option_map (flaw_at kinds.ReadTwice) (again_at (take (suc MOST_READINGS) rs))
+    ∷ when_at (nat_lt MOST_READINGS (length rs)) MOST_READINGS kinds.TooManyTargets
+    ∷ option_map (flaw_at kinds.FaceMissing) (alone_at rs)
+    ∷ when_at (nat_lt (length rs) 4) 0 kinds.OneTarget
+    ∷ when_at (not (are_read_alike first rs)) (length rs / 2) kinds.Order
+    ∷ when_at (not (bytes_eq (last_target first) (last_target rs))) (length rs - 1)
+    kinds.EndsElsewhere
+    ∷ [])
+
+-- These readings are a set, where this is the station's first.
+abbrev pub is_set : List Sight → List Sight → Bool
+is_set first rs = is_none (set_flaw first rs)
+
+-- The places at which sets begin: `even` says whether the opening target was read an even number of
+-- times before.
+abbrev pub starts_from : List ℕ → Bool → ℕ → List Sight → List ℕ
+starts_from a even at [] = []
+starts_from a even at (r ∷ rs) =
+    if is_of a r then (if even then at ∷ starts_from a false (suc at) rs
+    else starts_from a true (suc at) rs)
+    else starts_from a even (suc at) rs
+
+-- The places at which the sets of these readings begin, where none stands outside before them.
+abbrev pub starts_of : List Sight → List ℕ
+starts_of rs = starts_from (first_target rs) true 0 rs
+
+-- from one place up to another
+abbrev pub part : ℕ → ℕ → List Sight → List Sight
+part from to rs = take (to - from) (drop from rs)
+
+-- the place of the next set, or this end where there is none
+abbrev pub next_of : ℕ → List ℕ → ℕ
+next_of end [] = end
+next_of end (to ∷ starts) = to
+
+-- The readings of each set, of which the last ends at this place.
+abbrev pub parts_at : ℕ → List ℕ → List Sight → List (List Sight)
+parts_at end [] rs = []
+parts_at end (from ∷ starts) rs = part from (next_of end starts) rs ∷ parts_at end starts rs
+
+-- the last of some places
+abbrev pub last_place : List ℕ → ℕ
+last_place [] = 0
+last_place (at ∷ []) = at
+last_place (at ∷ b ∷ rest) = last_place (b ∷ rest)
+
+-- the names with those of the targets of these readings, each once
+abbrev pub names_with : List (List ℕ) → List Sight → List (List ℕ)
+names_with names [] = names
+names_with names (r ∷ rs) = names_with (with_new names r.target) rs
+
+-- the targets of these readings, each once
+abbrev pub targets_of : List Sight → List (List ℕ)
+targets_of rs = names_with [] rs
+
+-- After the last reading of a target that is among these: what stands behind it are detail points.
+abbrev pub end_of : List (List ℕ) → ℕ → ℕ → List Sight → ℕ
+end_of known end at [] = end
+end_of known end at (r ∷ rs) =
+    end_of known (if is_among known r.target then suc at else end) (suc at) rs
+
+-- Where the last set ends: of a single set, with the readings; else after the last reading of a
+-- target that a set before it has.
+abbrev pub end_by : List ℕ → List Sight → ℕ
+end_by [] rs = length rs
+end_by (from ∷ []) rs = length rs
+end_by (from ∷ to ∷ starts) rs = end_of (targets_of (take (last_place (to ∷ starts)) rs)) 0 0 rs
+
+-- Where the last set of these readings ends, where none stands outside before them.
+abbrev pub end_in : List Sight → ℕ
+end_in rs = end_by (starts_of rs) rs
+
+-- The sets.
+abbrev pub sets_of : List Sight → List (List Sight)
+sets_of rs = parts_at (end_in rs) (starts_of rs) rs
+
+-- the readings of the first set
+abbrev pub first_set : List ℕ → List Sight → List Sight
+first_set [] rs = []
+first_set (from ∷ starts) rs = part from (next_of (length rs) starts) rs
+
+-- What is wrong first in the sets that begin at these places, where `first` is the station's first
+-- set, so many more sets may come, and the last of them ends at `end`.
+abbrev pub sets_flaw : List Sight → ℕ → ℕ → List ℕ → List Sight → Option Flaw
+sets_flaw first most end [] rs = None
+sets_flaw first zero end (from ∷ starts) rs = Some (flaw_at kinds.TooManySets from)
+sets_flaw first (suc most) end (from ∷ starts) rs = first_of (
+    moved from (set_flaw first (part from (next_of end starts) rs))
+    ∷ sets_flaw first most end starts rs
+    ∷ [])
+
+-- What is wrong first where these readings are sets, after so many that stand outside: a set; or
+-- there is but one, and some stand outside.
+abbrev pub rest_flaw : ℕ → List Sight → Option Flaw
+rest_flaw leading [] = Some (flaw_at kinds.OneSet 0)
+rest_flaw leading (r ∷ rs) = moved leading (first_of (
+    sets_flaw (first_set (starts_of (r ∷ rs)) (r ∷ rs)) MOST_SETS (end_in (r ∷ rs))
+    (starts_of (r ∷ rs)) (r ∷ rs)
+    ∷ when_at (nat_lt 0 leading && nat_lt (length (starts_of (r ∷ rs))) 2) 0 kinds.OneSet
+    ∷ []))
+
+-- What is wrong first where so many leading readings stand outside, and the rest are sets.
+abbrev pub flaw_of : List Sight → ℕ → Option Flaw
+flaw_of rs leading = rest_flaw leading (drop leading rs)
+
+-- So many leading readings stand outside, and the rest are sets: two at least, where any stands
+-- outside.
+abbrev pub is_division : List Sight → ℕ → Bool
+is_division rs leading = is_none (flaw_of rs leading)
+
+-- How many stand outside before the sets: the fewest, at most 3.
+abbrev pub leading_of : List Sight → Option ℕ
+leading_of rs = least (is_division rs) 3
+
+-- of two, what is wrong later in the file; the first where they stand at one reading
+abbrev pub later : Option Flaw → Option Flaw → Option Flaw
+later None b = b
+later (Some a) None = Some a
+later (Some a) (Some b) = if nat_lt a.at b.at then Some b else Some a
+
+-- What is said to be wrong where no number of leading readings divides: what comes latest, since
+-- that number gets furthest with the rest.
+abbrev pub latest_flaw : List Sight → Option Flaw
+latest_flaw rs =
+    later (later (later (flaw_of rs 0) (flaw_of rs 1)) (flaw_of rs 2)) (flaw_of rs 3)
+
+-- The sets may be shifted by the leading readings: one of these is in face II and none of its target
+-- in face I, or one is of the target that ends the sets and does not begin them.
+abbrev pub may_be_shifted : List Sight → List Sight → Bool
+may_be_shifted leading set =
+    list_any (λ r. r.second && not (list_any (λ s. is_pair r s) leading)) leading
+    || (not (bytes_eq (last_target set) (first_target set))
+    && list_any (is_of (last_target set)) leading)
+
+-- the first reading is in face II
+abbrev pub begins_in_two : List Sight → Bool
+begins_in_two [] = false
+begins_in_two (r ∷ rs) = r.second
+
+-- Of readings that divide: the first set begins in face II, or the sets may be shifted.
+abbrev pub shift_flaw : List Sight → ℕ → Option Flaw
+shift_flaw rs leading = first_of (
+    when_at (begins_in_two (drop leading rs)) leading kinds.FirstFace
+    ∷ when_at (may_be_shifted (take leading rs)
+    (first_set (starts_of (drop leading rs)) (drop leading rs))) leading kinds.MayBeShifted
+    ∷ [])
+
+-- all in one face, or none at all
+abbrev pub is_in_one_face : List Sight → Bool
+is_in_one_face [] = true
+is_in_one_face (r ∷ rs) = are_in_face r.second rs
+
+-- the sets after these leading readings, unless they are refused
+abbrev pub divided_unless : Option Flaw → ℕ → Divided
+divided_unless None leading = Sets leading
+divided_unless (Some f) leading = Flawed f
+
+-- by the fewest leading readings with which the rest are sets, if there are so few
+abbrev pub divided_by : List Sight → Option ℕ → Divided
+divided_by rs (Some leading) = divided_unless (shift_flaw rs leading) leading
+divided_by rs None = divided_unless (latest_flaw rs) 0
+
+-- What a station's readings are: all in one face, so that it has no sets; or sets, after so many
+-- leading readings; or something is wrong.
+abbrev pub divided : List Sight → Divided
+divided rs = if is_in_one_face rs then NoSets else divided_by rs (leading_of rs)

@@ -1,0 +1,7 @@
+//! The bounds of sets.
+
+/// The most readings of a set: 100 targets in two faces.
+pub const MOST_READINGS: usize = 200;
+
+/// The most sets of a station.
+pub const MOST_SETS: usize = 40;

@@ -1,0 +1,145 @@
+//! Why a field file is not marked.
+
+ghost use Rattle.std.specs.Prelude.{◌≡◌, ◌≤◌, length};
+ghost use Rattle.set_marks.specs.FaultNames.{mark_kind_name, mark_fault_name};
+ghost use Rattle.set_marks.specs.declared.fault.MarkFault.TheVariants.{Memory};
+
+use crate::bounds::{MOST_READINGS, MOST_SETS};
+use gsi_file::FileFault;
+use station_book::{BookKind, MOST_STATIONS};
+use std::alloc::AllocError;
+use thiserror::Error;
+
+/// What keeps a file from being marked, at a block. Each says when it comes, and what to do about
+/// it in a copy of the field file.
+#[derive(Clone, Copy, Debug, PartialEq, Eq, Error)]
+pub enum MarkKind {
+    /// The block has code 10, 20 or 30: the file is marked already, or the codes are the office's
+    /// own, and a copy without them can be marked.
+    #[error("the block has code 10, 20 or 30 already")]
+    HasCodes,
+    /// A set-up line, though the station's name is stated: leave the name out, for the stations
+    /// have the names of their set-up lines.
+    #[error("the file has set-up lines, and the name of its station is stated")]
+    HasSetUp,
+    /// A reading before any set-up line, and no name is stated: state the station's name, or mark a
+    /// copy without the reading.
+    #[error("a reading stands before any set-up line, and no station's name is stated")]
+    NoSetUp,
+    /// The target was read in this face of this set before: a repeated pointing, a closing sight,
+    /// or another station. Mark a copy without it.
+    #[error("the target was read in this face of this set before")]
+    ReadTwice,
+    /// A set of more than 200 readings, so of more than 100 targets, the most that a station may
+    /// have: detail points stand before the sets, or in them.
+    #[error("the set has more than {MOST_READINGS} readings")]
+    TooManyTargets,
+    /// The set has no reading of this target in the other face: add it, or mark a copy without the
+    /// target in this set.
+    #[error("the target is read in one face of this set alone")]
+    FaceMissing,
+    /// The set has one target alone: an orientation in both faces, or a closing pair. Mark a copy
+    /// without it.
+    #[error("the set has one target alone")]
+    OneTarget,
+    /// The set is read neither by faces nor by targets, or another way than the station's first.
+    #[error("the set is read neither by faces nor by targets, or another way than the first")]
+    Order,
+    /// The set ends with another target than the station's first: it was broken off, or its last
+    /// target is missing.
+    #[error("the set ends with another target than the first")]
+    EndsElsewhere,
+    /// The station has 40 sets, the most that it may have.
+    #[error("the station has more than {MOST_SETS} sets")]
+    TooManySets,
+    /// There is a single set after readings that stand outside: nothing shows where it begins.
+    #[error("a single set stands after readings that are in no set")]
+    OneSet,
+    /// The first set begins in face II: nothing shows that no reading is missing before it.
+    #[error("the first set begins in face II")]
+    FirstFace,
+    /// The readings before the first set may belong to the sets, and these be shifted.
+    #[error("the readings before the first set may belong to the sets")]
+    MayBeShifted,
+    /// A station of this name had sets: the point was set up again.
+    #[error("a station of this name had sets before")]
+    StationTwice,
+    /// 1,000 stations have sets: put this one into another file.
+    #[error("{MOST_STATIONS} stations have sets")]
+    TooManyStations,
+    /// The station's name has more bytes than a line of GSI-8 has room for.
+    #[error("the name of the station has no room in a line of this width")]
+    NameTooLong,
+    /// No station has sets: all readings are in one face, or there is none. The number is that of
+    /// the last block plus 1.
+    #[error("no station has sets")]
+    NoSets,
+}
+
+impl MarkKind {
+    /// Its name, as the line of a refusal has it.
+    pub fn name(self) -> &'static str
+        ensures name { result.now ≡ mark_kind_name self }
+        ensures short { length result.now ≤ 16 }
+    {
+        match self {
+            MarkKind::HasCodes => "HasCodes",
+            MarkKind::HasSetUp => "HasSetUp",
+            MarkKind::NoSetUp => "NoSetUp",
+            MarkKind::ReadTwice => "ReadTwice",
+            MarkKind::TooManyTargets => "TooManyTargets",
+            MarkKind::FaceMissing => "FaceMissing",
+            MarkKind::OneTarget => "OneTarget",
+            MarkKind::Order => "Order",
+            MarkKind::EndsElsewhere => "EndsElsewhere",
+            MarkKind::TooManySets => "TooManySets",
+            MarkKind::OneSet => "OneSet",
+            MarkKind::FirstFace => "FirstFace",
+            MarkKind::MayBeShifted => "MayBeShifted",
+            MarkKind::StationTwice => "StationTwice",
+            MarkKind::TooManyStations => "TooManyStations",
+            MarkKind::NameTooLong => "NameTooLong",
+            MarkKind::NoSets => "NoSets",
+        }
+    }
+}
+
+/// Why a field file is not marked: its first fault, or that memory ran out.
+#[derive(Clone, Copy, Debug, PartialEq, Eq, Error)]
+pub enum MarkFault {
+    /// A line of the file is no block, or it can't be read whole.
+    #[error("{0}")]
+    File(FileFault),
+    /// The block of this number, from 1, is a reading that a book refuses in any set.
+    #[error("block {0}: {1}")]
+    Reading(u32, BookKind),
+    /// The block of this number, from 1, keeps the file from being marked.
+    #[error("block {0}: {1}")]
+    At(u32, MarkKind),
+    /// There was no memory: run it again with more.
+    #[error("out of memory")]
+    Memory,
+}
+
+impl MarkFault {
+    /// Its name, as the line of a refusal has it.
+    pub fn name(self) -> &'static str
+        ensures name { result.now ≡ mark_fault_name self }
+        ensures short { length result.now ≤ 16 }
+    {
+        match self {
+            MarkFault::File(fault) => fault.name(),
+            MarkFault::Reading(_, kind) => kind.name(),
+            MarkFault::At(_, kind) => kind.name(),
+            MarkFault::Memory => "out of memory",
+        }
+    }
+}
+
+impl From<AllocError> for MarkFault {
+    ghost from_gives = { λ _ fault. fault ≡ Memory };
+
+    fn from(_: AllocError) -> MarkFault {
+        MarkFault::Memory
+    }
+}

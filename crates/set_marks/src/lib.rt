@@ -1,0 +1,30 @@
+//! Code blocks for a field file that was recorded without them: where its stations and sets begin,
+//! and the copy of the file that has them.
+#![tactic(auto)]
+
+mod bounds;
+mod copy;
+mod division;
+mod fault;
+mod flaw;
+pub mod laws;
+mod line_end;
+mod mark;
+mod marked;
+mod marking;
+mod readings;
+mod recognized;
+mod set;
+mod sight;
+mod starts;
+
+pub use bounds::{MOST_READINGS, MOST_SETS};
+pub use copy::marked_copy;
+pub use division::{Divided, divide};
+pub use fault::{MarkFault, MarkKind};
+pub use flaw::Flaw;
+pub use line_end::LineEnd;
+pub use mark::{BlockMark, Code, Mark};
+pub use marked::{Marked, mark_file};
+pub use recognized::Recognized;
+pub use sight::{SetUp, Sight};

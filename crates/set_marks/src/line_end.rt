@@ -1,0 +1,113 @@
+//! How lines end, and where they begin.
+
+ghost use Rattle.std.specs.Prelude.{◌≡◌, IfOk, slice_index};
+ghost use Rattle.gsi_file.specs.Parts.{is_blank};
+ghost use Rattle.set_marks.specs.Lines.{end_bytes, end_from, end_before, end_beside, line_starts};
+
+use memchr::memchr2;
+use std::alloc::{AllocError, Global};
+
+const LINE_FEED: u8 = 10;
+
+const CARRIAGE_RETURN: u8 = 13;
+
+/// The bytes that end a line.
+#[derive(Clone, Copy, Debug, PartialEq, Eq, Drop)]
+pub enum LineEnd {
+    /// A line feed.
+    LineFeed,
+    /// A carriage return.
+    CarriageReturn,
+    /// A carriage return and a line feed.
+    Both,
+}
+
+impl LineEnd {
+    /// Its bytes.
+    pub(crate) fn bytes(self) -> &'static [u8]
+        ensures { result.now ≡ end_bytes self }
+    {
+        match self {
+            LineEnd::LineFeed => b"\n",
+            LineEnd::CarriageReturn => b"\r",
+            LineEnd::Both => b"\r\n",
+        }
+    }
+}
+
+/// The byte at a place, or 0 where there is none.
+fn byte_at(bytes: &[u8], place: usize) -> u8
+    ensures { result ≡ slice_index bytes.now place }
+{
+    match bytes.get(place) {
+        Some(byte) => *byte,
+        None => 0,
+    }
+}
+
+/// The end of a line whose first byte that ends it stands at this place.
+fn end_from(bytes: &[u8], first: Option<usize>) -> LineEnd
+    ensures { result ≡ end_from bytes.now first }
+{
+    let Some(at) = first else {
+        return LineEnd::LineFeed;
+    };
+    if byte_at(bytes, at) == LINE_FEED {
+        return LineEnd::LineFeed;
+    }
+    if at < bytes.len() && byte_at(bytes, at + 1) == LINE_FEED {
+        LineEnd::Both
+    } else {
+        LineEnd::CarriageReturn
+    }
+}
+
+/// The end of the line that ends right before this place.
+fn end_before(bytes: &[u8], at: usize) -> LineEnd
+    ensures { result ≡ end_before bytes.now at }
+{
+    if byte_at(bytes, at.saturating_sub(1)) == CARRIAGE_RETURN {
+        LineEnd::CarriageReturn
+    } else if byte_at(bytes, at.saturating_sub(2)) == CARRIAGE_RETURN {
+        LineEnd::Both
+    } else {
+        LineEnd::LineFeed
+    }
+}
+
+/// How the lines beside a place end: the line before it, or at the beginning of the file its first.
+pub(crate) fn end_beside(bytes: &[u8], at: usize) -> LineEnd
+    ensures { result ≡ end_beside bytes.now at }
+{
+    if at == 0 {
+        end_from(bytes, memchr2(LINE_FEED, CARRIAGE_RETURN, bytes))
+    } else {
+        end_before(bytes, at)
+    }
+}
+
+fn is_blank(part: &[u8]) -> bool
+    ensures { result ≡ is_blank part.now }
+{
+    part.iter().all(|b| *b == b' ')
+}
+
+/// The places at which the numbered lines of a file begin.
+pub(crate) fn line_starts(alloc: Global, bytes: &[u8]) -> Result<Vec<usize>, AllocError>
+    ensures { IfOk result (λ starts. starts.items ≡ line_starts bytes.now) }
+{
+    let mut starts = Vec::new(alloc);
+    let mut at = 0;
+    let mut rest = bytes;
+    'parts: while let Some(length) = memchr2(LINE_FEED, CARRIAGE_RETURN, rest) {
+        if !is_blank(&rest[..length]) {
+            starts.push(at)?;
+        }
+        at += length + 1;
+        rest = &rest[length + 1..];
+    }
+    if !is_blank(rest) {
+        starts.push(at)?;
+    }
+    Ok(starts)
+}

@@ -1,0 +1,45 @@
+//! A field file with codes put in.
+
+use crate::copy::marked_copy;
+use crate::fault::MarkFault;
+use crate::mark::placed;
+use crate::marking::marking_of;
+use crate::readings::readings_of;
+use crate::recognized::Recognized;
+use adjust_kernel::Name;
+use std::alloc::Global;
+
+/// A copy of a field file with codes put in, and what is told of its stations.
+#[derive(Drop)]
+pub struct Marked {
+    /// The bytes of the copy.
+    pub copy: Vec<u8>,
+    /// What was recognized of each station with readings, in the order of the file.
+    pub stations: Vec<Recognized>,
+}
+
+/// Puts codes into a copy of a field file: 10 where a station begins, 20 where a set begins, 30
+/// before the first reading after a set that is in none.
+///
+/// `bytes` are those of the file; where `fails`, a read failed after them. `station` is the name of
+/// the file's one station, where its lines set none up.
+///
+/// # Errors
+///
+/// The first fault of the file's lines; else the first of a block; else the first of a station; or
+/// `Memory`.
+pub fn mark_file(
+    alloc: Global,
+    bytes: &[u8],
+    fails: bool,
+    station: Option<Name>,
+) -> Result<Marked, MarkFault> {
+    let readings = readings_of(alloc, bytes, fails, station)?;
+    let marking = marking_of(alloc, &readings)?;
+    let marks = placed(alloc, bytes, &marking.marks)?;
+    let copy = marked_copy(alloc, bytes, &marks)?;
+    Ok(Marked {
+        copy,
+        stations: marking.stations,
+    })
+}
