@@ -51,7 +51,8 @@ two_words : (width : ℕ) (a b : GsiWord) → IsWord width a → IsWord width b
 two_words width a b ha hb = All-cons (IsWord width) a (b ∷ []) ha
     (All-cons (IsWord width) b [] hb (All-nil (IsWord width)))
 
-are_words : (wide : Bool) (code : Code) → HasRoom wide code
+-- The words of a code line are words.
+pub are_words : (wide : Bool) (code : Code) → HasRoom wide code
     → All (IsWord (width_of wide)) (words_of (width_of wide) code)
 are_words wide (Station name) room = two_words (width_of wide) _ _ (code_word wide 49 (omega arith) (omega arith))
     (is_word (width_of wide) 42 name (omega arith) room.0 room.1.printable)
@@ -114,7 +115,7 @@ block_as false Close room = record {
 }
 
 -- The text of a code line is its block.
-is_block : (m : Mark) → HasRoom m.wide m.code → IsBlock (text_of m) (code_block m.wide m.code)
+pub is_block : (m : Mark) → HasRoom m.wide m.code → IsBlock (text_of m) (code_block m.wide m.code)
 is_block m room = block_as m.wide m.code room
 
 has_code_as : (wide : Bool) (code : Code)
@@ -128,7 +129,7 @@ has_code_as false (Set number) = refl
 has_code_as false Close = refl
 
 -- It has code 10, 20 or 30.
-has_code : (m : Mark) → is_opening (code_block m.wide m.code) ≡ true
+pub has_code : (m : Mark) → is_opening (code_block m.wide m.code) ≡ true
 has_code m = has_code_as m.wide m.code
 
 is_code_line : (m : Mark) → HasRoom m.wide m.code → IsCodeLine (line_of m)
@@ -160,7 +161,8 @@ ends_after from at bytes lt inside e =
 no_piece : (n : ℕ) (xs : List ℕ) → n ≡ 0 → EndsLine (take n xs)
 no_piece n xs e = subst (λ (k : ℕ). EndsLine (take k xs)) (sym e) (record { ends = inl refl })
 
-ends_line : (from : ℕ) (bytes : List ℕ) (m : Mark) → from ≤ m.at → m.at ≤ length bytes
+-- A piece up to where a line begins ends a line.
+pub ends_line : (from : ℕ) (bytes : List ℕ) (m : Mark) → from ≤ m.at → m.at ≤ length bytes
     → BeginsLine bytes m → EndsLine (take (m.at - from) (drop from bytes))
 ends_line from bytes m le inside (inl zero_place) = no_piece (m.at - from) (drop from bytes) (omega arith)
 ends_line from bytes m le inside (inr after) = by (m.at - from) refl where

@@ -2,9 +2,12 @@
 //! and the copy of the file that has them.
 #![tactic(auto)]
 
+pub mod book_laws;
 mod bounds;
 mod copy;
+pub mod copy_laws;
 mod division;
+pub mod division_laws;
 mod fault;
 mod flaw;
 pub mod laws;

@@ -1,0 +1,151 @@
+-- The blocks of a file with code lines, station by station and set by set, and where the book finds
+-- its readings.
+use Rattle.std.specs.Prelude.{◌≡◌, ℕ, suc, Bool, true, false, ◌&&◌, ◌||◌, ◌==◌, List, [], ◌∷◌, ◌++◌}
+use Rattle.std.specs.Prelude.{length, filter, map, if◌then◌else◌, Option, Some, None, IfSome, Contains, ⊤}
+use Rattle.std.specs.List.{AllByRecursion, flat_map, list_any}
+use Rattle.std.specs.Str.{bytes_eq}
+use Rattle.gsi_word.specs.Blocks.{GsiBlock}
+use Rattle.station_book.specs.declared.face.Face.{Face}
+use Rattle.station_book.specs.declared.face.Face.TheVariants.{One, Two}
+use Rattle.station_book.specs.declared.fault.BookKind.{BookKind}
+use Rattle.station_book.specs.declared.fault.BookKind.TheVariants as kinds
+use Rattle.station_book.specs.Limits.{FaceLimits}
+use Rattle.station_book.specs.Blocks.{opens_station, opens_set, closes_set, is_opening, has_direction}
+use Rattle.station_book.specs.Blocks.{has_two, named, number, target, is_of_face}
+use Rattle.station_book.specs.Places.{History, number_at, opening, station, is_open, is_among}
+use Rattle.station_book.specs.Faults.{name_at, fault_after}
+
+-- a set: its block with code 20, and the blocks after that up to the next code
+pub record MarkedSet : Type 0 where
+  pub code : GsiBlock
+  pub blocks : List GsiBlock
+
+-- A station that has sets: its name, its block with code 10, its sets, and what stands outside after
+-- them, up to the next station with sets: nothing, or a block with code 30 and others.
+pub record MarkedStation : Type 0 where
+  pub name : List ℕ
+  pub code : GsiBlock
+  pub sets : List MarkedSet
+  pub outside : List GsiBlock
+
+-- the blocks of a set
+abbrev pub blocks_of_set : MarkedSet → List GsiBlock
+blocks_of_set s = s.code ∷ s.blocks
+
+-- the blocks of a station
+abbrev pub blocks_of_station : MarkedStation → List GsiBlock
+blocks_of_station s = s.code ∷ (flat_map blocks_of_set s.sets ++ s.outside)
+
+-- the blocks of a file: those before the first station with sets, and those of the stations
+abbrev pub marked_blocks : List GsiBlock → List MarkedStation → List GsiBlock
+marked_blocks before stations = before ++ flat_map blocks_of_station stations
+
+-- the history of these blocks, which come after others
+abbrev pub grown : History → List GsiBlock → History
+grown past [] = past
+grown past (b ∷ bs) = grown (b ∷ past) bs
+
+-- whether the block is a reading of this target in this face
+abbrev pub reads_target : List ℕ → Face → GsiBlock → Bool
+reads_target name face b = has_direction b && (bytes_eq (target b) name && is_of_face face b)
+
+-- Some of these blocks are readings, each of them has a face, and of each target that is read one
+-- reading is of face I and one of face II.
+pub record HasWholePairs (blocks : List GsiBlock) : Type 0 where
+  pub some : list_any has_direction blocks ≡ true
+  pub faced : (b : GsiBlock) → Contains blocks b → has_direction b ≡ true
+      → (is_of_face One b || is_of_face Two b) ≡ true
+  pub pairs : (b : GsiBlock) (face : Face) → Contains blocks b → has_direction b ≡ true
+      → length (filter (reads_target (target b) face) blocks) ≡ 1
+
+-- none of these has code 10, 20 or 30
+abbrev pub HaveNoCode : List GsiBlock → Type 0
+HaveNoCode blocks = AllByRecursion (λ b. is_opening b ≡ false) blocks
+
+-- a set of this number
+pub record IsMarkedSet (n : ℕ) (s : MarkedSet) : Type 0 where
+  pub opens : opens_set s.code ≡ true
+  pub one_word : has_two 42 s.code ≡ false
+  pub numbered : number s.code ≡ Some n
+  pub uncoded : HaveNoCode s.blocks
+  pub whole : HasWholePairs s.blocks
+
+-- sets whose numbers go on from this one
+abbrev pub AreMarkedSets : ℕ → List MarkedSet → Type 0
+AreMarkedSets n [] = ⊤
+AreMarkedSets n (s ∷ ss) = IsMarkedSet n s × AreMarkedSets (suc n) ss
+
+-- nothing, or a block with code 30 and others without a code
+abbrev pub IsOutside : List GsiBlock → Type 0
+IsOutside [] = ⊤
+IsOutside (b ∷ bs) = (closes_set b ≡ true) × HaveNoCode bs
+
+-- a station whose name is none of these, with sets from 1 on
+pub record IsMarkedStation (names : List (List ℕ)) (s : MarkedStation) : Type 0 where
+  pub opens : opens_station s.code ≡ true
+  pub one_word : has_two 42 s.code ≡ false
+  pub is_named : named s.code ≡ Some s.name
+  pub new : is_among names s.name ≡ false
+  pub sets : AreMarkedSets 1 s.sets
+  pub outside : IsOutside s.outside
+
+-- stations of different names, none of them one of these
+abbrev pub AreMarkedStations : List (List ℕ) → List MarkedStation → Type 0
+AreMarkedStations names [] = ⊤
+AreMarkedStations names (s ∷ ss) =
+    IsMarkedStation names s × AreMarkedStations (names ++ s.name ∷ []) ss
+
+-- where a reading is found: at the station of this name, in its set of this number
+pub record Found : Type 0 where
+  pub station : Option (List ℕ)
+  pub set : Option ℕ
+
+-- where the book finds a reading that comes after these blocks; in no set where none is open
+abbrev pub found_after : History → Option Found
+found_after past = if is_open past
+    then Some (record { station = name_at (station past); set = number_at (opening past) }) else None
+
+-- where the book finds each reading of a file, in the file's order
+abbrev pub found_in : History → List (Option Found)
+found_in [] = []
+found_in (b ∷ past) = found_in past ++ (if has_direction b then found_after past ∷ [] else [])
+
+-- the same for each reading among these
+abbrev pub for_readings : Option Found → List GsiBlock → List (Option Found)
+for_readings f blocks = map (λ b. f) (filter has_direction blocks)
+
+-- where the readings of sets are to be found, whose numbers go on from this one
+abbrev pub told_of_sets : List ℕ → ℕ → List MarkedSet → List (Option Found)
+told_of_sets name n [] = []
+told_of_sets name n (s ∷ ss) =
+    for_readings (Some (record { station = Some name; set = Some n })) s.blocks
+    ++ told_of_sets name (suc n) ss
+
+-- where the readings of a station are to be found: those outside in no set
+abbrev pub told_of_station : MarkedStation → List (Option Found)
+told_of_station s = told_of_sets s.name 1 s.sets ++ for_readings None s.outside
+
+-- where the readings of a file are to be found
+abbrev pub told_of : List GsiBlock → List MarkedStation → List (Option Found)
+told_of before stations = for_readings None before ++ flat_map told_of_station stations
+
+-- whether a fault comes of the code lines: of where they stand, of what they say, or of what they
+-- make a set
+abbrev pub is_of_codes : BookKind → Bool
+is_of_codes kinds.EmptySet = true
+is_of_codes kinds.OneFace = true
+is_of_codes (kinds.WordTwice index) = index == 42
+is_of_codes kinds.StationName = true
+is_of_codes kinds.SetOutside = true
+is_of_codes kinds.SetNumber = true
+is_of_codes kinds.StationTwice = true
+is_of_codes kinds.SetTwice = true
+is_of_codes kinds.FaceTwice = true
+is_of_codes kind = false
+
+-- No block of a file has such a fault.
+abbrev pub HasNoFaultOfCodes : FaceLimits → History → Type 0
+HasNoFaultOfCodes limits [] = ⊤
+HasNoFaultOfCodes limits (b ∷ past) =
+    IfSome (fault_after limits past b) (λ kind. is_of_codes kind ≡ false)
+    × HasNoFaultOfCodes limits past

@@ -1,0 +1,32 @@
+-- The sets of a station in words.
+use Rattle.std.specs.Prelude.{◌≡◌, ◌≤◌, ℕ, Bool, ◌&&◌, List, ◌++◌, length, take, drop, filter, Contains}
+use Rattle.std.specs.Prelude.{All}
+use Rattle.std.specs.List.{flat_map}
+use Rattle.set_marks.specs.declared.bounds.TheConstants.{MOST_SETS}
+use Rattle.set_marks.specs.declared.sight.Sight.{Sight}
+use Rattle.set_marks.specs.Divisions.{is_of, is_same_face, sets_of, end_in}
+
+-- The readings of this target in this face.
+abbrev pub readings_in : List ℕ → Bool → List Sight → List Sight
+readings_in name second rs = filter (λ r. is_of name r && is_same_face second r.second) rs
+
+-- Each target that is read is read once in each face: among the readings stands one of it in face I
+-- and one in face II. There are four readings at least.
+pub record ReadsEachOnce (set : List Sight) : Type 0 where
+  pub many : 4 ≤ length set
+  pub once : (s : Sight) (second : Bool) → Contains set s
+      → length (readings_in s.target second set) ≡ 1
+
+-- The readings of all these sets, one set after another.
+abbrev pub one_after_another : List (List Sight) → List Sight
+one_after_another sets = flat_map (λ set. set) sets
+
+-- The readings of a station, of which so many stand outside before its sets. The readings are the
+-- leading ones, then those of the sets, one set after another, and then those after the last set:
+-- none is missing, and none is in two sets. There is a set, and there are 40 at most.
+pub record AreSets (rs : List Sight) (leading : ℕ) : Type 0 where
+  pub some : 1 ≤ length (sets_of (drop leading rs))
+  pub few : length (sets_of (drop leading rs)) ≤ MOST_SETS
+  pub each : All ReadsEachOnce (sets_of (drop leading rs))
+  pub in_order : rs ≡ take leading rs ++ (one_after_another (sets_of (drop leading rs))
+      ++ drop (end_in (drop leading rs)) (drop leading rs))
