@@ -59,6 +59,10 @@ pub record IsMarkedCopy (input copy : List ℕ) : Type 0 where
   pub to : copy ≡ flat_map joined cuts ++ rest
   pub each : All IsCut cuts
 
--- Each place is the beginning of a line: that of the bytes, or after a byte that ends one.
+-- A line begins at this place: the first, or one after a byte that ends a line.
+abbrev pub BeginsAt : List ℕ → ℕ → Type 0
+BeginsAt bytes at = (at ≡ 0) ⊎ ((0 < at) × (is_line_end (slice_index bytes (at - 1)) ≡ true))
+
+-- A line begins at the place of this code line.
 abbrev pub BeginsLine : List ℕ → Mark → Type 0
-BeginsLine bytes m = (m.at ≡ 0) ⊎ ((0 < m.at) × (is_line_end (slice_index bytes (m.at - 1)) ≡ true))
+BeginsLine bytes m = BeginsAt bytes m.at

@@ -2,11 +2,10 @@
 -- 3rd, 5th .. reading of the opening target, which is that of the first reading. In a set each target
 -- is read once in each face, either all of them in one face and then in the other, or each in both
 -- faces before the next. All sets are read the same way, and all end with one target.
-use Rattle.std.specs.Prelude.{ℕ, zero, suc, ◌+◌, ◌-◌, ◌/◌, Bool, true, false, ◌&&◌, ◌||◌, not, ◌==◌}
-use Rattle.std.specs.Prelude.{nat_lt, List, [], ◌∷◌, length, take, drop, if◌then◌else◌}
-use Rattle.std.specs.Prelude.{Option, Some, None, is_none}
-use Rattle.std.specs.List.{list_all, list_any, position}
-use Rattle.std.specs.Option.{option_map}
+use Rattle.std.specs.Prelude.{ℕ, suc, ◌-◌, ◌/◌, Bool, true, false, ◌&&◌, ◌||◌, not}
+use Rattle.std.specs.Prelude.{nat_lt, nat_le, List, [], ◌∷◌, length, take, drop, if◌then◌else◌}
+use Rattle.std.specs.Prelude.{Option, Some, None, is_none, slice_get}
+use Rattle.std.specs.List.{list_all, list_any}
 use Rattle.std.specs.Str.{bytes_eq}
 use Rattle.gsi_file.specs.FileAnswers.{least}
 use Rattle.station_book.specs.Faults.{first_of}
@@ -35,31 +34,38 @@ is_again a b = is_of a.target b && is_same_face a.second b.second
 abbrev pub is_pair : Sight → Sight → Bool
 is_pair a b = is_of a.target b && not (is_same_face a.second b.second)
 
--- what is wrong, and at which of some readings, from 0
-abbrev pub flaw_at : MarkKind → ℕ → Flaw
-flaw_at kind at = record { at = at; kind = kind }
+-- this is wrong at the block of a reading (number 0, of no block, where there is none)
+abbrev pub flaw_at : MarkKind → Option Sight → Flaw
+flaw_at kind None = record { block = 0; kind = kind }
+flaw_at kind (Some r) = record { block = r.block; kind = kind }
 
--- this at that reading where the test says so, else nothing
-abbrev pub when_at : Bool → ℕ → MarkKind → Option Flaw
-when_at b at kind = if b then Some (flaw_at kind at) else None
+-- the same, where the test says so
+abbrev pub flaw_when : Bool → MarkKind → Option Sight → Option Flaw
+flaw_when b kind r = if b then Some (flaw_at kind r) else None
 
--- the same of the readings that these are after so many others
-abbrev pub moved : ℕ → Option Flaw → Option Flaw
-moved before f = option_map (λ f. flaw_at f.kind (before + f.at)) f
+-- the same, at a reading that was found, if one was
+abbrev pub flaw_found : MarkKind → Option Sight → Option Flaw
+flaw_found kind None = None
+flaw_found kind (Some r) = Some (flaw_at kind (Some r))
 
--- The first of these readings, from a place on, whose target was read in its face before it.
-abbrev pub again_from : List Sight → ℕ → List Sight → Option ℕ
+-- the first of these readings, from a place on, whose target was read in its face before it
+abbrev pub again_from : List Sight → ℕ → List Sight → Option Sight
 again_from all at [] = None
 again_from all at (r ∷ rs) =
-    if list_any (is_again r) (take at all) then Some at else again_from all (suc at) rs
+    if list_any (is_again r) (take at all) then Some r else again_from all (suc at) rs
 
 -- the first reading whose target was read in its face before it
-abbrev pub again_at : List Sight → Option ℕ
-again_at rs = again_from rs 0 rs
+abbrev pub again_in : List Sight → Option Sight
+again_in rs = again_from rs 0 rs
+
+-- the first of these readings whose target none of all reads in the other face
+abbrev pub alone_among : List Sight → List Sight → Option Sight
+alone_among all [] = None
+alone_among all (r ∷ rs) = if list_any (is_pair r) all then alone_among all rs else Some r
 
 -- the first reading whose target is not read in the other face
-abbrev pub alone_at : List Sight → Option ℕ
-alone_at rs = position (λ r. not (list_any (is_pair r) rs)) rs
+abbrev pub alone_in : List Sight → Option Sight
+alone_in rs = alone_among rs rs
 
 -- These are all in this face.
 abbrev pub are_in_face : Bool → List Sight → Bool
@@ -91,21 +97,30 @@ last_target [] = []
 last_target (r ∷ []) = r.target
 last_target (r ∷ s ∷ rs) = last_target (s ∷ rs)
 
--- What is wrong with these readings as a set, where `first` is the station's first set: the first of
--- these that stands. A target is read again in one face. There are more readings than 100 targets
--- have in two faces. A target is read in one face alone. There are fewer than two targets. They are
--- read neither by faces nor by targets, or another way than the first set. They end with another
--- target than the first set.
-abbrev pub set_flaw : List Sight → List Sight → Option Flaw
-set_flaw first rs = first_of (
-    option_map (flaw_at kinds.ReadTwice) (again_at (take (suc MOST_READINGS) rs))
-    ∷ when_at (nat_lt MOST_READINGS (length rs)) MOST_READINGS kinds.TooManyTargets
-    ∷ option_map (flaw_at kinds.FaceMissing) (alone_at rs)
-    ∷ when_at (nat_lt (length rs) 4) 0 kinds.OneTarget
-    ∷ when_at (not (are_read_alike first rs)) (length rs / 2) kinds.Order
-    ∷ when_at (not (bytes_eq (last_target first) (last_target rs))) (length rs - 1)
-    kinds.EndsElsewhere
+-- What is wrong with the readings of a set by themselves, the first that stands: a target is read
+-- again in one face; there are more readings than 100 targets have in two faces; a target is read in
+-- one face alone.
+abbrev pub readings_flaw : List Sight → Option Flaw
+readings_flaw rs = first_of (
+    flaw_found kinds.ReadTwice (again_in (take (suc MOST_READINGS) rs))
+    ∷ flaw_when (nat_lt MOST_READINGS (length rs)) kinds.TooManyTargets (slice_get rs MOST_READINGS)
+    ∷ flaw_found kinds.FaceMissing (alone_in rs)
     ∷ [])
+
+-- What is wrong with a set as a whole, where `first` is the station's first set: there are fewer than
+-- two targets; it is read neither by faces nor by targets, or another way than the first set; it ends
+-- with another target than the first set.
+abbrev pub order_flaw : List Sight → List Sight → Option Flaw
+order_flaw first rs = first_of (
+    flaw_when (nat_lt (length rs) 4) kinds.OneTarget (slice_get rs 0)
+    ∷ flaw_when (not (are_read_alike first rs)) kinds.Order (slice_get rs (length rs / 2))
+    ∷ flaw_when (not (bytes_eq (last_target first) (last_target rs))) kinds.EndsElsewhere
+    (slice_get rs (length rs - 1))
+    ∷ [])
+
+-- What is wrong with these readings as a set, where `first` is the station's first set.
+abbrev pub set_flaw : List Sight → List Sight → Option Flaw
+set_flaw first rs = first_of (readings_flaw rs ∷ order_flaw first rs ∷ [])
 
 -- These readings are a set, where this is the station's first.
 abbrev pub is_set : List Sight → List Sight → Bool
@@ -179,25 +194,25 @@ abbrev pub first_set : List ℕ → List Sight → List Sight
 first_set [] rs = []
 first_set (from ∷ starts) rs = part from (next_of (length rs) starts) rs
 
--- What is wrong first in the sets that begin at these places, where `first` is the station's first
--- set, so many more sets may come, and the last of them ends at `end`.
+-- What is wrong first in the sets that begin at these places, after so many sets, where `first` is the
+-- station's first set, and the last of them ends at `end`.
 abbrev pub sets_flaw : List Sight → ℕ → ℕ → List ℕ → List Sight → Option Flaw
-sets_flaw first most end [] rs = None
-sets_flaw first zero end (from ∷ starts) rs = Some (flaw_at kinds.TooManySets from)
-sets_flaw first (suc most) end (from ∷ starts) rs = first_of (
-    moved from (set_flaw first (part from (next_of end starts) rs))
-    ∷ sets_flaw first most end starts rs
+sets_flaw first count end [] rs = None
+sets_flaw first count end (from ∷ starts) rs = first_of (
+    flaw_when (nat_le MOST_SETS count) kinds.TooManySets (slice_get rs from)
+    ∷ set_flaw first (part from (next_of end starts) rs)
+    ∷ sets_flaw first (suc count) end starts rs
     ∷ [])
 
 -- What is wrong first where these readings are sets, after so many that stand outside: a set; or
 -- there is but one, and some stand outside.
 abbrev pub rest_flaw : ℕ → List Sight → Option Flaw
-rest_flaw leading [] = Some (flaw_at kinds.OneSet 0)
-rest_flaw leading (r ∷ rs) = moved leading (first_of (
-    sets_flaw (first_set (starts_of (r ∷ rs)) (r ∷ rs)) MOST_SETS (end_in (r ∷ rs))
+rest_flaw leading [] = Some (record { block = 0; kind = kinds.OneSet })
+rest_flaw leading (r ∷ rs) = first_of (
+    sets_flaw (first_set (starts_of (r ∷ rs)) (r ∷ rs)) 0 (end_in (r ∷ rs))
     (starts_of (r ∷ rs)) (r ∷ rs)
-    ∷ when_at (nat_lt 0 leading && nat_lt (length (starts_of (r ∷ rs))) 2) 0 kinds.OneSet
-    ∷ []))
+    ∷ flaw_when (nat_lt 0 leading && nat_lt (length (starts_of (r ∷ rs))) 2) kinds.OneSet (Some r)
+    ∷ [])
 
 -- What is wrong first where so many leading readings stand outside, and the rest are sets.
 abbrev pub flaw_of : List Sight → ℕ → Option Flaw
@@ -216,7 +231,7 @@ leading_of rs = least (is_division rs) 3
 abbrev pub later : Option Flaw → Option Flaw → Option Flaw
 later None b = b
 later (Some a) None = Some a
-later (Some a) (Some b) = if nat_lt a.at b.at then Some b else Some a
+later (Some a) (Some b) = if nat_lt a.block b.block then Some b else Some a
 
 -- What is said to be wrong where no number of leading readings divides: what comes latest, since
 -- that number gets furthest with the rest.
@@ -240,9 +255,10 @@ begins_in_two (r ∷ rs) = r.second
 -- Of readings that divide: the first set begins in face II, or the sets may be shifted.
 abbrev pub shift_flaw : List Sight → ℕ → Option Flaw
 shift_flaw rs leading = first_of (
-    when_at (begins_in_two (drop leading rs)) leading kinds.FirstFace
-    ∷ when_at (may_be_shifted (take leading rs)
-    (first_set (starts_of (drop leading rs)) (drop leading rs))) leading kinds.MayBeShifted
+    flaw_when (begins_in_two (drop leading rs)) kinds.FirstFace (slice_get (drop leading rs) 0)
+    ∷ flaw_when (may_be_shifted (take leading rs)
+    (first_set (starts_of (drop leading rs)) (drop leading rs))) kinds.MayBeShifted
+    (slice_get (drop leading rs) 0)
     ∷ [])
 
 -- all in one face, or none at all

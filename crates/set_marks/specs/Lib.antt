@@ -6,8 +6,12 @@ pub mod Fewest
 pub mod Marking
 pub mod Lines
 pub mod Marks
+pub mod Placing
 pub mod Copies
 pub mod Unmarked
 pub mod FaultNames
 pub mod Markings
 pub mod MarkedBlocks
+-- The inside: what the code finds on the way.
+pub mod Leading
+pub mod Keeping

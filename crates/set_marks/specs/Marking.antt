@@ -7,7 +7,7 @@ use Rattle.station_book.specs.Places.{History, is_among, is_empty}
 use Rattle.station_book.specs.Faults.{first_of}
 use Rattle.set_marks.specs.declared.fault.MarkFault.{MarkFault}
 use Rattle.set_marks.specs.declared.fault.MarkFault.TheVariants.{At}
-use Rattle.set_marks.specs.declared.fault.MarkKind.{MarkKind}
+use Rattle.set_marks.specs.declared.flaw.Flaw.{Flaw}
 use Rattle.set_marks.specs.declared.fault.MarkKind.TheVariants as kinds
 use Rattle.set_marks.specs.declared.division.Divided.{Divided}
 use Rattle.set_marks.specs.declared.division.Divided.TheVariants.{NoSets, Sets, Flawed}
@@ -18,20 +18,7 @@ use Rattle.set_marks.specs.declared.recognized.Recognized.{Recognized}
 use Rattle.set_marks.specs.declared.sight.Sight.{Sight}
 use Rattle.set_marks.specs.Marks.{width_of}
 use Rattle.set_marks.specs.Stations.{Occupation, stations_of, fault_of_blocks}
-use Rattle.set_marks.specs.Divisions.{divided, starts_of, end_in, part, targets_of}
-
--- this fault, at the block of a reading
-abbrev pub at_block : Option Sight → MarkKind → Option MarkFault
-at_block None kind = None
-at_block (Some r) kind = Some (At r.block kind)
-
--- this fault, at the block of the reading at a place
-abbrev pub at_reading : List Sight → ℕ → MarkKind → Option MarkFault
-at_reading rs at kind = at_block (slice_get rs at) kind
-
--- the same, where the test says so
-abbrev pub reading_when : Bool → List Sight → ℕ → MarkKind → Option MarkFault
-reading_when b rs at kind = if b then at_reading rs at kind else None
+use Rattle.set_marks.specs.Divisions.{divided, starts_of, end_in, part, targets_of, flaw_when}
 
 -- the name has no room in the width of the line of the reading at this place
 abbrev pub is_too_long : List ℕ → Option Sight → Bool
@@ -41,14 +28,14 @@ is_too_long name (Some r) = nat_lt (width_of r.wide) (length name)
 -- The fault of a station, after the stations of these names that have sets: what is wrong with its
 -- readings; or, where they are sets, that its name was had, that there are 1,000 stations, or that
 -- its name has no room in a code line.
-abbrev pub station_fault : List (List ℕ) → Occupation → Divided → Option MarkFault
+abbrev pub station_fault : List (List ℕ) → Occupation → Divided → Option Flaw
 station_fault names s NoSets = None
-station_fault names s (Flawed f) = at_reading s.sights f.at f.kind
+station_fault names s (Flawed f) = Some f
 station_fault names s (Sets leading) = first_of (
-    reading_when (is_among names s.name) s.sights 0 kinds.StationTwice
-    ∷ reading_when (nat_le MOST_STATIONS (length names)) s.sights 0 kinds.TooManyStations
-    ∷ reading_when (is_too_long s.name (slice_get s.sights leading)) s.sights leading
-    kinds.NameTooLong
+    flaw_when (is_among names s.name) kinds.StationTwice (slice_get s.sights 0)
+    ∷ flaw_when (nat_le MOST_STATIONS (length names)) kinds.TooManyStations (slice_get s.sights 0)
+    ∷ flaw_when (is_too_long s.name (slice_get s.sights leading)) kinds.NameTooLong
+    (slice_get s.sights leading)
     ∷ [])
 
 -- the names, and that of a station that has sets
@@ -58,18 +45,24 @@ names_after names s d = names
 
 -- The fault of the first station that has one, after the stations of these names that have sets; or,
 -- where no station has sets, that of the end of the file, with this number.
-abbrev pub fault_of_stations : ℕ → List (List ℕ) → List Occupation → Option MarkFault
-fault_of_stations end names [] = if is_empty names then Some (At end kinds.NoSets) else None
+abbrev pub fault_of_stations : ℕ → List (List ℕ) → List Occupation → Option Flaw
+fault_of_stations end names [] =
+    if is_empty names then Some (record { block = end; kind = kinds.NoSets }) else None
 fault_of_stations end names (s ∷ ss) = first_of (
     station_fault names s (divided s.sights)
     ∷ fault_of_stations end (names_after names s (divided s.sights)) ss
     ∷ [])
 
+-- a flaw, as a fault
+abbrev pub as_fault : Option Flaw → Option MarkFault
+as_fault None = None
+as_fault (Some f) = Some (At f.block f.kind)
+
 -- The first fault of a file that has no fault of its lines: that of a block, else that of a station.
 abbrev pub fault_of : Option (List ℕ) → History → Option MarkFault
 fault_of station h = first_of (
     fault_of_blocks station h
-    ∷ fault_of_stations (length h + 1) [] (stations_of station h)
+    ∷ as_fault (fault_of_stations (length h + 1) [] (stations_of station h))
     ∷ [])
 
 -- a code line before the block of this reading, in the width of its line
@@ -131,12 +124,14 @@ recognized s (Sets leading) = record {
 recognized s d =
     record { name = s.name; sets = 0; targets = 0; before = length s.sights; after = 0 }
 
--- what is told of these stations; of one without readings nothing is
+-- the same; of a station without readings nothing is told
+abbrev pub told_of : Occupation → Divided → List Recognized
+told_of s d = if is_empty s.sights then [] else recognized s d ∷ []
+
+-- what is told of these stations
 abbrev pub recognized_from : List Occupation → List Recognized
 recognized_from [] = []
-recognized_from (s ∷ ss) =
-    if is_empty s.sights then recognized_from ss
-    else recognized s (divided s.sights) ∷ recognized_from ss
+recognized_from (s ∷ ss) = told_of s (divided s.sights) ++ recognized_from ss
 
 -- What is told of a file.
 abbrev pub recognized_of : Option (List ℕ) → History → List Recognized

@@ -12,7 +12,7 @@ use Rattle.station_book.specs.Places.{History}
 use Rattle.set_marks.specs.declared.fault.MarkFault.{MarkFault}
 use Rattle.set_marks.specs.declared.fault.MarkFault.TheVariants.{File, Reading, At, Memory}
 use Rattle.set_marks.specs.declared.marked.Marked.{Marked}
-use Rattle.set_marks.specs.Marks.{placed}
+use Rattle.set_marks.specs.Placing.{placed}
 use Rattle.set_marks.specs.Copies.{woven, IsMarkedCopy}
 use Rattle.set_marks.specs.Marking.{fault_of, marks_of, recognized_of}
 
@@ -37,7 +37,7 @@ pub record IsMarking (station : Option (List ℕ)) (bytes : List ℕ) (answers :
   pub blocks : History
   pub are_blocks : AreBlocks answers blocks
   pub clean : fault_of station blocks ≡ None
-  pub copy : m.copy.items ≡ woven 0 bytes (map (placed bytes) (marks_of station blocks))
+  pub copy : m.copy.items ≡ woven 0 bytes (placed bytes (marks_of station blocks))
   pub identity : IsMarkedCopy bytes m.copy.items
   pub told : m.stations.items ≡ recognized_of station blocks
 

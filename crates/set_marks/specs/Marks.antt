@@ -9,7 +9,7 @@ use Rattle.set_marks.specs.declared.mark.Code.{Code}
 use Rattle.set_marks.specs.declared.mark.Code.TheVariants.{Station, Set, Close}
 use Rattle.set_marks.specs.declared.mark.Mark.{Mark}
 use Rattle.set_marks.specs.declared.mark.BlockMark.{BlockMark}
-use Rattle.set_marks.specs.Lines.{line_start, end_beside, end_bytes}
+use Rattle.set_marks.specs.Lines.{end_bytes}
 
 -- How many bytes the content of each of its words has.
 abbrev pub width_of : Bool → ℕ
@@ -65,12 +65,6 @@ HasRoom wide (Station name) = (length name ≤ width_of wide) × IsName name
 HasRoom wide (Set number) = number < 100
 HasRoom wide Close = ⊤
 
--- The code line before a block, at the place in a file's bytes where the line of the block begins,
--- with the end of the lines beside it.
-abbrev pub placed : List ℕ → BlockMark → Mark
-placed bytes m = record {
-  at = line_start bytes m.block;
-  wide = m.wide;
-  line_end = end_beside bytes (line_start bytes m.block);
-  code = m.code;
-}
+-- The same of a code line before a block.
+abbrev pub IsRoomy : BlockMark → Type 0
+IsRoomy m = HasRoom m.wide m.code

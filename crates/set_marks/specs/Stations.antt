@@ -2,15 +2,19 @@
 -- measurement names what is pointed at, or at a set-up line the station; words 84 to 88 are the
 -- coordinates of the station and the height of the instrument (GSI manual). A history is the blocks
 -- of a file up to some place, the newest first, as in station_book.
-use Rattle.std.specs.Prelude.{ℕ, ◌+◌, ◌-◌, ◌==◌, Bool, true, false, ◌&&◌, not, List, [], ◌∷◌, ◌++◌}
-use Rattle.std.specs.Prelude.{length, take, drop, if◌then◌else◌, Option, Some, None}
+use Rattle.std.specs.Prelude.{ℕ, ◌+◌, ◌-◌, ◌==◌, Bool, ◌&&◌, not, List, [], ◌∷◌, ◌++◌}
+use Rattle.std.specs.Prelude.{length, take, drop, if◌then◌else◌, Option, Some, None, is_some}
 use Rattle.std.specs.List.{list_any}
 use Rattle.std.specs.Option.{option_map}
 use Rattle.gsi_word.specs.Blocks.{GsiBlock}
+use Rattle.gsi_word.specs.Names.{name_of}
 use Rattle.station_book.specs.declared.face.Face.TheVariants.{Two}
-use Rattle.station_book.specs.Blocks.{role_of, is_measurement, is_opening, lacks, has_direction, target}
+use Rattle.station_book.specs.declared.role.Role.{Role}
+use Rattle.station_book.specs.declared.role.Role.TheVariants.{Station, Set, Close, Measurement}
+use Rattle.station_book.specs.declared.role.Role.TheVariants.{Other}
+use Rattle.station_book.specs.Blocks.{role_of, is_measurement, lacks, has_direction, target}
 use Rattle.station_book.specs.Blocks.{is_of_face}
-use Rattle.station_book.specs.Places.{History, is_empty}
+use Rattle.station_book.specs.Places.{History}
 use Rattle.station_book.specs.Faults.{first_of}
 use Rattle.station_book.specs.Readings.{own_faults}
 use Rattle.set_marks.specs.declared.fault.MarkFault.{MarkFault}
@@ -24,11 +28,13 @@ use Rattle.set_marks.specs.declared.sight.SetUp.{SetUp}
 abbrev pub set_up_words : List ℕ
 set_up_words = 84 ∷ 85 ∷ 86 ∷ 87 ∷ 88 ∷ []
 
+-- one of these words stands in the block
+unfoldable pub has_set_up_word : GsiBlock → Bool
+has_set_up_word b = list_any (λ index. not (lacks index b)) set_up_words
+
 -- a set-up line: a measurement without a direction, with one of these words
-unfoldable pub sets_up : GsiBlock → Bool
-sets_up b =
-    is_measurement (role_of b)
-    && (lacks 21 b && list_any (λ index. not (lacks index b)) set_up_words)
+abbrev pub sets_up : GsiBlock → Bool
+sets_up b = is_measurement (role_of b) && (lacks 21 b && has_set_up_word b)
 
 -- the reading in the block of this number, if it is a measurement with a direction
 abbrev pub sight_in : ℕ → GsiBlock → List Sight
@@ -66,10 +72,10 @@ occupations (s ∷ t ∷ later) rs =
     record { name = s.name; sights = take (t.from - s.from) (drop s.from rs) }
     ∷ occupations (t ∷ later) rs
 
--- How the stations of a file begin: one of the name that is stated, with the first reading; else by
--- its set-up lines.
+-- How the stations of a file begin: one of the name that is stated, without zeros before it, with the
+-- first reading; else by its set-up lines.
 abbrev pub begun : Option (List ℕ) → History → List SetUp
-begun (Some name) h = record { name = name; from = 0 } ∷ []
+begun (Some name) h = record { name = name_of name; from = 0 } ∷ []
 begun None h = set_ups_of h
 
 -- The stations of a file, in its order.
@@ -78,19 +84,29 @@ stations_of station h = occupations (begun station h) (sights_of h)
 
 -- a station is stated
 abbrev pub is_stated : Option (List ℕ) → Bool
-is_stated (Some name) = true
-is_stated None = false
+is_stated station = is_some station
 
--- The fault of a block by itself, after these blocks: it has code 10, 20 or 30 already; it is a
--- set-up line, and a station is stated; it is a reading of no station; or a reading that the book
--- would refuse in any set.
+-- The fault of a reading in the block of this number, after these stations have begun: it is of no
+-- station; or the book would refuse it in any set.
+abbrev pub reading_fault : List SetUp → ℕ → GsiBlock → Option MarkFault
+reading_fault [] number b = Some (At number kinds.NoSetUp)
+reading_fault (s ∷ ss) number b = option_map (Reading number) (first_of (own_faults b))
+
+-- The fault of a block of this role by itself: it has code 10, 20 or 30 already; or it is a set-up
+-- line, and a station is stated; or that of a reading.
+abbrev pub fault_as : Role → Bool → List SetUp → ℕ → GsiBlock → Option MarkFault
+fault_as Station stated begun number b = Some (At number kinds.HasCodes)
+fault_as Set stated begun number b = Some (At number kinds.HasCodes)
+fault_as Close stated begun number b = Some (At number kinds.HasCodes)
+fault_as Measurement stated begun number b =
+    if lacks 21 b then (if has_set_up_word b && stated then Some (At number kinds.HasSetUp) else None)
+    else reading_fault begun number b
+fault_as Other stated begun number b = None
+
+-- The fault of a block by itself, after these blocks.
 abbrev pub own_fault : Option (List ℕ) → History → GsiBlock → Option MarkFault
 own_fault station past b =
-    if is_opening b then Some (At (length past + 1) kinds.HasCodes) else
-    (if sets_up b && is_stated station then Some (At (length past + 1) kinds.HasSetUp) else
-    (if not (has_direction b) then None else
-    (if is_empty (begun station past) then Some (At (length past + 1) kinds.NoSetUp) else
-    option_map (Reading (length past + 1)) (first_of (own_faults b)))))
+    fault_as (role_of b) (is_stated station) (begun station past) (length past + 1) b
 
 -- The fault of the first block that has one by itself.
 abbrev pub fault_of_blocks : Option (List ℕ) → History → Option MarkFault

@@ -1,19 +1,19 @@
 //! The division of a station's readings into sets.
 
-ghost use Rattle.std.specs.Prelude.{◌≡◌, ◌≤◌, ◌<◌, ◌∷◌, IfOk, IfSome, length, take, drop, not, ◌&&◌};
+ghost use Rattle.std.specs.Prelude.{◌≡◌, ◌<◌, IfOk, Some, length, drop, not, ◌&&◌};
 ghost use Rattle.std.specs.Str.{bytes_eq};
 ghost use Rattle.std.specs.List.{list_any};
-ghost use Rattle.set_marks.specs.declared.bounds.TheConstants.{MOST_SETS};
-ghost use Rattle.station_book.specs.Places.{is_among, with_new};
-ghost use Rattle.set_marks.specs.Divisions.{is_of, part, end_of, end_by, end_in, starts_of, first_set, sets_flaw, flaw_of, rest_flaw, moved, later, names_with, targets_of};
-ghost use Rattle.set_marks.specs.Divisions.{is_pair, may_be_shifted, shift_flaw, last_target, first_target, divided, divided_by, leading_of, latest_flaw};
+ghost use Rattle.station_book.specs.Places.{is_among};
+ghost use Rattle.set_marks.specs.Leading.{IsLeading};
+ghost use Rattle.set_marks.specs.Divisions.{is_of, part, next_of, end_of, end_by, end_in, starts_of, first_set, sets_flaw, flaw_of, later, targets_of, begins_in_two};
+ghost use Rattle.set_marks.specs.Divisions.{is_pair, may_be_shifted, shift_flaw, last_target, first_target, divided};
 
 use crate::bounds::MOST_SETS;
 use crate::fault::MarkKind;
-use crate::flaw::Flaw;
+use crate::flaw::{Flaw, flaw_at};
 use crate::set::{first_target, front, has_pair, is_in_one_face, is_of, last_target, set_flaw};
 use crate::sight::Sight;
-use crate::starts::starts;
+use crate::starts::{starts, starts_of};
 use adjust_kernel::Name;
 use std::alloc::{AllocError, Global};
 
@@ -26,6 +26,15 @@ pub enum Divided {
     Sets(usize),
     /// Something is wrong.
     Flawed(Flaw),
+}
+
+/// How many leading readings stand outside.
+#[derive(Clone, Copy, Drop)]
+enum Leading {
+    /// So many, and the rest are sets.
+    Divides(usize),
+    /// With none so many are the rest sets: this is wrong.
+    Fails(Flaw),
 }
 
 /// The readings after the first so many.
@@ -98,11 +107,7 @@ fn last_place(places: &[usize]) -> usize
 }
 
 /// Where the last set ends.
-pub(crate) fn end_by(
-    alloc: Global,
-    starts: &[usize],
-    sights: &[Sight],
-) -> Result<usize, AllocError>
+pub(crate) fn end_by(alloc: Global, starts: &[usize], sights: &[Sight]) -> Result<usize, AllocError>
     ensures { IfOk result (λ end. end ≡ end_by starts.now sights.now) }
 {
     match starts {
@@ -125,11 +130,18 @@ fn first_set<'a>(starts: &[usize], sights: &'a [Sight]) -> &'a [Sight]
     }
 }
 
-/// The same of the readings that these are after so many others.
-fn moved(before: usize, flaw: Flaw) -> Flaw {
-    Flaw {
-        at: before.saturating_add(flaw.at),
-        kind: flaw.kind,
+/// Where a set ends: where the next begins, or, of the last, where that one ends.
+fn end_of_set(
+    alloc: Global,
+    later: &[usize],
+    starts: &[usize],
+    sights: &[Sight],
+) -> Result<usize, AllocError>
+    ensures { IfOk result (λ to. to ≡ next_of (end_by starts.now sights.now) later.now) }
+{
+    match later {
+        [] => end_by(alloc, starts, sights),
+        [to, ..] => Ok(*to),
     }
 }
 
@@ -137,32 +149,23 @@ fn moved(before: usize, flaw: Flaw) -> Flaw {
 ///
 /// Where the last of them ends is asked only once the sets before it are known to be sets, for it
 /// takes a step for each of their targets and each reading after them.
-fn sets_flaw(
-    alloc: Global,
-    starts: &[usize],
-    sights: &[Sight],
-) -> Result<Option<Flaw>, AllocError>
-    ensures { IfOk result (λ o. o ≡ sets_flaw (first_set starts.now sights.now) MOST_SETS
+#[tactic(auto, using(crate::proofs::Few::next_flaw))]
+fn sets_flaw(alloc: Global, starts: &[usize], sights: &[Sight]) -> Result<Option<Flaw>, AllocError>
+    ensures { IfOk result (λ o. o ≡ sets_flaw (first_set starts.now sights.now) 0
         (end_by starts.now sights.now) starts.now sights.now) }
 {
     let first = first_set(starts, sights);
-    let mut most = MOST_SETS;
+    let mut count = 0;
     let mut left = starts;
     'sets: while let Some((from, rest)) = left.split_first() {
-        if most == 0 {
-            return Ok(Some(Flaw {
-                at: *from,
-                kind: MarkKind::TooManySets,
-            }));
+        if count >= MOST_SETS {
+            return Ok(Some(flaw_at(MarkKind::TooManySets, sights.get(*from))));
         }
-        let to = match rest.first() {
-            Some(to) => *to,
-            None => end_by(alloc, starts, sights)?,
-        };
+        let to = end_of_set(alloc, rest, starts, sights)?;
         if let Some(flaw) = set_flaw(first, part(*from, to, sights)) {
-            return Ok(Some(moved(*from, flaw)));
+            return Ok(Some(flaw));
         }
-        most -= 1;
+        count += 1;
         left = rest;
     }
     Ok(None)
@@ -173,45 +176,46 @@ fn flaw_of(alloc: Global, sights: &[Sight], leading: usize) -> Result<Option<Fla
     ensures { IfOk result (λ o. o ≡ flaw_of sights.now leading) }
 {
     let rest = behind(leading, sights);
-    let Some(opening) = first_target(rest) else {
+    let Some(opening) = rest.first() else {
         return Ok(Some(Flaw {
-            at: 0,
+            block: 0,
             kind: MarkKind::OneSet,
         }));
     };
-    let starts = starts(alloc, &opening, rest)?;
+    let starts = starts(alloc, &opening.target, rest)?;
     if let Some(flaw) = sets_flaw(alloc, &starts, rest)? {
-        return Ok(Some(moved(leading, flaw)));
+        return Ok(Some(flaw));
     }
     if leading > 0 && starts.len() < 2 {
-        return Ok(Some(Flaw {
-            at: leading,
-            kind: MarkKind::OneSet,
-        }));
+        return Ok(Some(flaw_at(MarkKind::OneSet, Some(opening))));
     }
     Ok(None)
 }
 
 /// Of two, what is wrong later in the file.
-fn later(a: Flaw, b: Flaw) -> Flaw {
-    if a.at < b.at { b } else { a }
+fn later(a: Flaw, b: Flaw) -> Flaw
+    ensures { Some result ≡ later (Some a) (Some b) }
+{
+    if a.block < b.block { b } else { a }
 }
 
 /// How many readings stand outside before the sets, or what is wrong where no number will do.
-fn leading(alloc: Global, sights: &[Sight]) -> Result<Result<usize, Flaw>, AllocError> {
+fn find_leading(alloc: Global, sights: &[Sight]) -> Result<Leading, AllocError>
+    ensures { IfOk result (IsLeading sights.now) }
+{
     let Some(none) = flaw_of(alloc, sights, 0)? else {
-        return Ok(Ok(0));
+        return Ok(Leading::Divides(0));
     };
     let Some(one) = flaw_of(alloc, sights, 1)? else {
-        return Ok(Ok(1));
+        return Ok(Leading::Divides(1));
     };
     let Some(two) = flaw_of(alloc, sights, 2)? else {
-        return Ok(Ok(2));
+        return Ok(Leading::Divides(2));
     };
     let Some(three) = flaw_of(alloc, sights, 3)? else {
-        return Ok(Ok(3));
+        return Ok(Leading::Divides(3));
     };
-    Ok(Err(later(later(later(none, one), two), three)))
+    Ok(Leading::Fails(later(later(later(none, one), two), three)))
 }
 
 /// Whether a leading reading is in face II, and none of them is its pair.
@@ -230,7 +234,6 @@ fn reads_target(sights: &[Sight], name: &Name) -> bool
 
 /// Whether one of the leading readings is of the target that ends the set and doesn't begin it.
 fn leads_to_end(leading: &[Sight], set: &[Sight]) -> bool
-    requires { 0 < length set.now }
     ensures { result ≡ (not (bytes_eq (last_target set.now) (first_target set.now))
         && list_any (is_of (last_target set.now)) leading.now) }
 {
@@ -242,34 +245,32 @@ fn leads_to_end(leading: &[Sight], set: &[Sight]) -> bool
 
 /// Whether the sets may be shifted by the leading readings.
 fn may_be_shifted(leading: &[Sight], set: &[Sight]) -> bool
-    requires { 0 < length set.now }
     ensures { result ≡ may_be_shifted leading.now set.now }
 {
     has_lone_second(leading) || leads_to_end(leading, set)
 }
 
+/// Whether the first reading is in face II.
+fn begins_in_two(sights: &[Sight]) -> bool
+    ensures { result ≡ begins_in_two sights.now }
+{
+    match sights.first() {
+        Some(sight) => sight.second,
+        None => false,
+    }
+}
+
 /// Of readings that divide: the first set begins in face II, or the sets may be shifted.
-fn shift_flaw(
-    alloc: Global,
-    sights: &[Sight],
-    leading: usize,
-) -> Result<Option<Flaw>, AllocError>
-    requires { leading < length sights.now }
+fn shift_flaw(alloc: Global, sights: &[Sight], leading: usize) -> Result<Option<Flaw>, AllocError>
     ensures { IfOk result (λ o. o ≡ shift_flaw sights.now leading) }
 {
     let rest = behind(leading, sights);
-    if rest[0].second {
-        return Ok(Some(Flaw {
-            at: leading,
-            kind: MarkKind::FirstFace,
-        }));
+    if begins_in_two(rest) {
+        return Ok(Some(flaw_at(MarkKind::FirstFace, rest.get(0))));
     }
-    let starts = starts(alloc, &rest[0].target, rest)?;
+    let starts = starts_of(alloc, rest)?;
     if may_be_shifted(front(leading, sights), first_set(&starts, rest)) {
-        return Ok(Some(Flaw {
-            at: leading,
-            kind: MarkKind::MayBeShifted,
-        }));
+        return Ok(Some(flaw_at(MarkKind::MayBeShifted, rest.get(0))));
     }
     Ok(None)
 }
@@ -281,11 +282,11 @@ pub fn divide(alloc: Global, sights: &[Sight]) -> Result<Divided, AllocError>
     if is_in_one_face(sights) {
         return Ok(Divided::NoSets);
     }
-    match leading(alloc, sights)? {
-        Ok(leading) => match shift_flaw(alloc, sights, leading)? {
+    match find_leading(alloc, sights)? {
+        Leading::Divides(leading) => match shift_flaw(alloc, sights, leading)? {
             Some(flaw) => Ok(Divided::Flawed(flaw)),
             None => Ok(Divided::Sets(leading)),
         },
-        Err(flaw) => Ok(Divided::Flawed(flaw)),
+        Leading::Fails(flaw) => Ok(Divided::Flawed(flaw)),
     }
 }

@@ -2,10 +2,10 @@
 
 ghost use Rattle.std.specs.Prelude.{◌≡◌, ◌≤◌, length};
 ghost use Rattle.set_marks.specs.FaultNames.{mark_kind_name, mark_fault_name};
-ghost use Rattle.set_marks.specs.declared.fault.MarkFault.TheVariants.{Memory};
+ghost use Rattle.set_marks.specs.declared.fault.MarkFault.TheVariants.{File, Memory};
 
 use crate::bounds::{MOST_READINGS, MOST_SETS};
-use gsi_file::FileFault;
+use gsi_file::{FileFault, OutOfMemory};
 use station_book::{BookKind, MOST_STATIONS};
 use std::alloc::AllocError;
 use thiserror::Error;
@@ -140,6 +140,22 @@ impl From<AllocError> for MarkFault {
     ghost from_gives = { λ _ fault. fault ≡ Memory };
 
     fn from(_: AllocError) -> MarkFault {
+        MarkFault::Memory
+    }
+}
+
+impl From<FileFault> for MarkFault {
+    ghost from_gives = { λ fault given. given ≡ File fault };
+
+    fn from(fault: FileFault) -> MarkFault {
+        MarkFault::File(fault)
+    }
+}
+
+impl From<OutOfMemory> for MarkFault {
+    ghost from_gives = { λ _ fault. fault ≡ Memory };
+
+    fn from(_: OutOfMemory) -> MarkFault {
         MarkFault::Memory
     }
 }

@@ -15,6 +15,8 @@ mod line_end;
 mod mark;
 mod marked;
 mod marking;
+mod placing;
+mod reading;
 mod readings;
 mod recognized;
 mod set;

@@ -1,11 +1,9 @@
-//! How lines end, and where they begin.
+//! How lines end.
 
-ghost use Rattle.std.specs.Prelude.{◌≡◌, IfOk, slice_index};
-ghost use Rattle.gsi_file.specs.Parts.{is_blank};
-ghost use Rattle.set_marks.specs.Lines.{end_bytes, end_from, end_before, end_beside, line_starts};
-
-use memchr::memchr2;
-use std::alloc::{AllocError, Global};
+ghost use Rattle.std.specs.Prelude.{◌≡◌, slice_index};
+ghost use Rattle.std.specs.List.{position};
+ghost use Rattle.gsi_file.specs.Parts.{is_blank, is_line_end};
+ghost use Rattle.set_marks.specs.Lines.{end_bytes, end_from, end_before, end_beside};
 
 const LINE_FEED: u8 = 10;
 
@@ -75,39 +73,34 @@ fn end_before(bytes: &[u8], at: usize) -> LineEnd
     }
 }
 
+/// The place of the first byte that ends a line.
+pub(crate) fn place_of_end(bytes: &[u8]) -> Option<usize>
+    ensures { result ≡ position is_line_end bytes.now }
+{
+    bytes.iter().position(|byte| is_line_end(*byte))
+}
+
 /// How the lines beside a place end: the line before it, or at the beginning of the file its first.
 pub(crate) fn end_beside(bytes: &[u8], at: usize) -> LineEnd
     ensures { result ≡ end_beside bytes.now at }
 {
     if at == 0 {
-        end_from(bytes, memchr2(LINE_FEED, CARRIAGE_RETURN, bytes))
+        end_from(bytes, place_of_end(bytes))
     } else {
         end_before(bytes, at)
     }
 }
 
-fn is_blank(part: &[u8]) -> bool
+/// Whether a byte ends a line.
+pub(crate) fn is_line_end(byte: u8) -> bool
+    ensures { result ≡ is_line_end byte }
+{
+    byte == LINE_FEED || byte == CARRIAGE_RETURN
+}
+
+/// Whether a part has no byte other than a blank.
+pub(crate) fn is_blank(part: &[u8]) -> bool
     ensures { result ≡ is_blank part.now }
 {
     part.iter().all(|b| *b == b' ')
-}
-
-/// The places at which the numbered lines of a file begin.
-pub(crate) fn line_starts(alloc: Global, bytes: &[u8]) -> Result<Vec<usize>, AllocError>
-    ensures { IfOk result (λ starts. starts.items ≡ line_starts bytes.now) }
-{
-    let mut starts = Vec::new(alloc);
-    let mut at = 0;
-    let mut rest = bytes;
-    'parts: while let Some(length) = memchr2(LINE_FEED, CARRIAGE_RETURN, rest) {
-        if !is_blank(&rest[..length]) {
-            starts.push(at)?;
-        }
-        at += length + 1;
-        rest = &rest[length + 1..];
-    }
-    if !is_blank(rest) {
-        starts.push(at)?;
-    }
-    Ok(starts)
 }

@@ -1,13 +1,12 @@
 //! A code line that is put in.
 
-ghost use Rattle.std.specs.Prelude.{◌≡◌, ◌<◌, ◌≤◌, ◌++◌, ◌∷◌, IfOk, OnOk, length, replicate, map, ◌-◌};
+ghost use Rattle.std.specs.Prelude.{◌≡◌, ◌<◌, ◌≤◌, ◌++◌, ◌∷◌, OnOk, length, replicate, ◌-◌};
 ghost use Rattle.gsi_word.specs.Words.{spelled};
-ghost use Rattle.set_marks.specs.Lines.{line_starts};
-ghost use Rattle.set_marks.specs.Marks.{width_of, word_of, digits, HasRoom, line_of, words_text, placed};
+ghost use Rattle.set_marks.specs.Marks.{width_of, word_of, digits, HasRoom, line_of, words_text};
 
-use crate::line_end::{LineEnd, end_beside, line_starts};
+use crate::line_end::LineEnd;
 use adjust_kernel::Name;
-use std::alloc::{AllocError, Global};
+use std::alloc::AllocError;
 
 /// What a code line says.
 #[derive(Clone, Copy, Debug, Drop)]
@@ -126,40 +125,4 @@ pub(crate) fn push_line(line: &mut Vec<u8>, mark: &Mark) -> Result<(), AllocErro
     }
     push_words(line, mark.wide, &mark.code)?;
     line.extend_from_slice(mark.line_end.bytes())
-}
-
-/// The code lines at the places in a file's bytes where the lines of their blocks begin, with the
-/// ends of the lines beside them.
-pub(crate) fn placed(
-    alloc: Global,
-    bytes: &[u8],
-    marks: &[BlockMark],
-) -> Result<Vec<Mark>, AllocError>
-    ensures { IfOk result (λ placed_marks. placed_marks.items ≡ map (placed bytes.now) marks.now) }
-{
-    let starts = line_starts(alloc, bytes)?;
-    let mut placed = Vec::with_capacity(alloc, marks.len())?;
-    let mut left = marks;
-    'marks: while let Some((mark, rest)) = left.split_first() {
-        placed.push(placed_mark(bytes, &starts, mark))?;
-        left = rest;
-    }
-    Ok(placed)
-}
-
-/// A code line at its place, where the lines of the file begin at these.
-fn placed_mark(bytes: &[u8], starts: &[usize], mark: &BlockMark) -> Mark
-    requires { starts.now ≡ line_starts bytes.now }
-    ensures { result ≡ placed bytes.now mark.now }
-{
-    let at = match starts.get((mark.block as usize).saturating_sub(1)) {
-        Some(at) => *at,
-        None => 0,
-    };
-    Mark {
-        at,
-        wide: mark.wide,
-        line_end: end_beside(bytes, at),
-        code: mark.code,
-    }
 }

@@ -1,10 +1,13 @@
 //! A field file with codes put in.
 
+ghost use Rattle.gsi_file.specs.FileAnswers.{file_answers};
+ghost use Rattle.set_marks.specs.Markings.{AnswersMark};
+
 use crate::copy::marked_copy;
 use crate::fault::MarkFault;
-use crate::mark::placed;
 use crate::marking::marking_of;
-use crate::readings::readings_of;
+use crate::placing::placed;
+use crate::reading::readings_of;
 use crate::recognized::Recognized;
 use adjust_kernel::Name;
 use std::alloc::Global;
@@ -28,12 +31,16 @@ pub struct Marked {
 ///
 /// The first fault of the file's lines; else the first of a block; else the first of a station; or
 /// `Memory`.
+#[tactic(auto, using(crate::proofs::Making::is_marking, crate::proofs::Making::refused_before, crate::proofs::Making::refused_after))]
 pub fn mark_file(
     alloc: Global,
     bytes: &[u8],
     fails: bool,
     station: Option<Name>,
-) -> Result<Marked, MarkFault> {
+) -> Result<Marked, MarkFault>
+    ensures { AnswersMark station bytes.now
+        (file_answers (record { bytes = bytes.now; fails = fails })) result }
+{
     let readings = readings_of(alloc, bytes, fails, station)?;
     let marking = marking_of(alloc, &readings)?;
     let marks = placed(alloc, bytes, &marking.marks)?;

@@ -1,12 +1,23 @@
 //! The code lines of a file's stations, and what is told of them.
 
+ghost use Rattle.std.specs.Prelude.{◌≡◌, ◌<◌, ◌≤◌, ◌+◌, ◌++◌, ◌∷◌, [], All, IfErr, IfOk, IfSome, OnOk, None, length, drop, false, option_map, slice_get, nat_lt, ◌&&◌};
+ghost use Rattle.set_marks.specs.declared.bounds.TheConstants.{MOST_SETS};
+ghost use Rattle.set_marks.specs.declared.division.Divided.TheVariants.{NoSets, Sets};
+ghost use Rattle.set_marks.specs.Divisions.{divided, starts_of, end_in};
+ghost use Rattle.set_marks.specs.Marks.{HasRoom, IsRoomy};
+ghost use Rattle.set_marks.specs.Stations.{occupations};
+ghost use Rattle.set_marks.specs.Marking.{as_fault, is_too_long, station_fault, mark_at, set_marks, close_mark, sets_marks, fault_of_stations};
+ghost use Rattle.set_marks.specs.Keeping.{TakesStation, AreMarked, IsMemoryOr};
+
 use crate::division::{Divided, behind, divide, end_by, is_among, part, targets_of};
 use crate::fault::{MarkFault, MarkKind};
+use crate::flaw::{Flaw, first_flaw, flaw_when};
 use crate::mark::{BlockMark, Code, width};
 use crate::readings::Readings;
 use crate::recognized::Recognized;
+use crate::set::sight_at;
 use crate::sight::{SetUp, Sight};
-use crate::starts::starts;
+use crate::starts::starts_of;
 use adjust_kernel::Name;
 use station_book::MOST_STATIONS;
 use std::alloc::{AllocError, Global};
@@ -19,38 +30,149 @@ pub(crate) struct Marking {
     /// What is told of each station with readings.
     pub(crate) stations: Vec<Recognized>,
     /// The names of those that have sets.
-    names: Vec<Name>,
+    pub(crate) names: Vec<Name>,
     /// Whether a set is open.
-    in_set: bool,
+    pub(crate) in_set: bool,
 }
 
-/// Where the sets of some readings begin, and where the last of them ends.
-#[derive(Drop)]
-struct Sets {
-    starts: Vec<usize>,
-    end: usize,
-}
-
-/// This fault, at the block of the reading at a place.
-fn at_reading(sights: &[Sight], at: usize, kind: MarkKind) -> Option<MarkFault> {
-    match sights.get(at) {
-        Some(sight) => Some(MarkFault::At(sight.block, kind)),
-        None => None,
+/// Whether a name has no room in the width of the line of a reading.
+fn is_too_long(name: &Name, sight: Option<&Sight>) -> bool
+    ensures { result ≡ is_too_long name.now (option_map (λ s. s.now) sight.entry) }
+{
+    match sight {
+        Some(sight) => name.bytes().len() > width(sight.wide),
+        None => false,
     }
 }
 
-/// The sets of these readings.
-fn sets_of(alloc: Global, sights: &[Sight]) -> Result<Sets, AllocError> {
-    let starts = match sights.first() {
-        Some(sight) => starts(alloc, &sight.target, sights)?,
-        None => Vec::new(alloc),
-    };
-    let end = end_by(alloc, &starts, sights)?;
-    Ok(Sets { starts, end })
+/// The fault of a station, after the stations of these names that have sets.
+fn station_fault(names: &[Name], name: &Name, sights: &[Sight], divided: Divided) -> Option<Flaw>
+    ensures { result ≡ station_fault names.now
+        (record { name = name.now; sights = sights.now }) divided }
+{
+    match divided {
+        Divided::NoSets => None,
+        Divided::Flawed(flaw) => Some(flaw),
+        Divided::Sets(leading) => sets_fault(names, name, sights, leading),
+    }
+}
+
+/// The same, where its readings are sets after so many leading ones.
+fn sets_fault(names: &[Name], name: &Name, sights: &[Sight], leading: usize) -> Option<Flaw>
+    ensures { result ≡ station_fault names.now
+        (record { name = name.now; sights = sights.now }) (Sets leading) }
+{
+    let first = sight_at(sights, 0);
+    let twice = flaw_when(is_among(names, name), MarkKind::StationTwice, first);
+    let many = flaw_when(
+        names.len() >= MOST_STATIONS,
+        MarkKind::TooManyStations,
+        first,
+    );
+    let opening = sight_at(sights, leading);
+    let long = flaw_when(is_too_long(name, opening), MarkKind::NameTooLong, opening);
+    first_flaw(twice, many, long)
+}
+
+/// Puts a code line before the block of a reading, if there is one.
+fn put(marks: &mut Vec<BlockMark>, sight: Option<&Sight>, code: Code) -> Result<(), AllocError>
+    requires here { IfSome sight (λ s. HasRoom s.now.wide code) }
+    requires room { All IsRoomy marks.old.items }
+    ensures room { OnOk result (All IsRoomy marks.new.items) }
+    ensures put { OnOk result (marks.new.items
+        ≡ marks.old.items ++ mark_at (option_map (λ s. s.now) sight.entry) code) }
+{
+    if let Some(sight) = sight {
+        marks.push(BlockMark {
+            block: sight.block,
+            wide: sight.wide,
+            code,
+        })?;
+    }
+    Ok(())
+}
+
+/// Puts code 20 before the first reading of each set.
+#[tactic(auto, using(crate::proofs::Joins::next_set))]
+fn put_sets(
+    marks: &mut Vec<BlockMark>,
+    starts: &[usize],
+    sights: &[Sight],
+) -> Result<(), AllocError>
+    requires few { length starts.now ≤ MOST_SETS }
+    requires room { All IsRoomy marks.old.items }
+    ensures room { OnOk result (All IsRoomy marks.new.items) }
+    ensures put { OnOk result (marks.new.items
+        ≡ marks.old.items ++ set_marks 1 starts.now sights.now) }
+{
+    let mut number = 1;
+    let mut left = starts;
+    'sets: while let Some((from, rest)) = left.split_first() {
+        let opening = sight_at(sights, *from);
+        put(marks, opening, Code::Set(number))?;
+        number += 1;
+        left = rest;
+    }
+    Ok(())
+}
+
+/// Puts code 30 before the first of these readings, where a set is open.
+fn put_close(marks: &mut Vec<BlockMark>, in_set: bool, sights: &[Sight]) -> Result<(), AllocError>
+    requires room { All IsRoomy marks.old.items }
+    ensures room { OnOk result (All IsRoomy marks.new.items) }
+    ensures put { OnOk result (marks.new.items ≡ marks.old.items ++ close_mark in_set sights.now) }
+{
+    if in_set {
+        put(marks, sight_at(sights, 0), Code::Close)?;
+    }
+    Ok(())
+}
+
+/// Whether a set of an earlier station is open at leading readings.
+fn is_left_open(in_set: bool, leading: usize) -> bool
+    ensures { result ≡ (in_set && nat_lt 0 leading) }
+{
+    in_set && leading > 0
+}
+
+/// Puts the code lines of a station whose readings are sets after so many leading ones.
+#[tactic(auto, using(crate::proofs::Joins::has_its_room))]
+fn put_station(
+    marks: &mut Vec<BlockMark>,
+    in_set: bool,
+    name: &Name,
+    sights: &[Sight],
+    leading: usize,
+    starts: &[usize],
+    end: usize,
+) -> Result<(), AllocError>
+    requires few { length starts.now ≤ MOST_SETS }
+    requires starts { starts.now ≡ starts_of (drop leading sights.now) }
+    requires end { end ≡ end_in (drop leading sights.now) }
+    requires here { is_too_long name.now (slice_get sights.now leading) ≡ false }
+    requires room { All IsRoomy marks.old.items }
+    ensures room { OnOk result (All IsRoomy marks.new.items) }
+    ensures put { OnOk result (marks.new.items ≡ marks.old.items
+        ++ sets_marks in_set (record { name = name.now; sights = sights.now }) leading) }
+{
+    let rest = behind(leading, sights);
+    name.recall();
+    put_close(marks, is_left_open(in_set, leading), sights)?;
+    let opening = sight_at(sights, leading);
+    put(marks, opening, Code::Station(*name))?;
+    put_sets(marks, starts, rest)?;
+    let behind_sets = sight_at(rest, end);
+    put(marks, behind_sets, Code::Close)?;
+    Ok(())
 }
 
 impl Marking {
-    fn new(alloc: Global) -> Marking {
+    fn new(alloc: Global) -> Marking
+        ensures marks { result.marks.items ≡ [] }
+        ensures stations { result.stations.items ≡ [] }
+        ensures names { result.names.items ≡ [] }
+        ensures in_set { result.in_set ≡ false }
+    {
         Marking {
             marks: Vec::new(alloc),
             stations: Vec::new(alloc),
@@ -59,75 +181,20 @@ impl Marking {
         }
     }
 
-    /// The fault of a station of this name, whose readings are sets after so many leading ones.
-    fn sets_fault(&self, name: &Name, sights: &[Sight], leading: usize) -> Option<MarkFault> {
-        if is_among(&self.names, name) {
-            return at_reading(sights, 0, MarkKind::StationTwice);
-        }
-        if self.names.len() >= MOST_STATIONS {
-            return at_reading(sights, 0, MarkKind::TooManyStations);
-        }
-        match sights.get(leading) {
-            Some(sight) if name.bytes().len() > width(sight.wide) => {
-                at_reading(sights, leading, MarkKind::NameTooLong)
-            }
-            _ => None,
-        }
-    }
-
-    /// The fault of a station.
-    fn fault(&self, name: &Name, sights: &[Sight], divided: Divided) -> Option<MarkFault> {
-        match divided {
-            Divided::NoSets => None,
-            Divided::Flawed(flaw) => at_reading(sights, flaw.at, flaw.kind),
-            Divided::Sets(leading) => self.sets_fault(name, sights, leading),
-        }
-    }
-
-    /// Puts a code line before the block of the reading at a place, if there is one.
-    fn put(&mut self, sights: &[Sight], at: usize, code: Code) -> Result<(), AllocError> {
-        match sights.get(at) {
-            Some(sight) => {
-                self.marks.push(BlockMark {
-                    block: sight.block,
-                    wide: sight.wide,
-                    code,
-                })?;
-                Ok(())
-            }
-            None => Ok(()),
-        }
-    }
-
-    /// Puts code 20 before the first reading of each set.
-    fn put_sets(&mut self, starts: &[usize], sights: &[Sight]) -> Result<(), AllocError> {
-        let mut number = 1;
-        let mut left = starts;
-        'sets: while let Some((from, rest)) = left.split_first() {
-            self.put(sights, *from, Code::Set(number))?;
-            number += 1;
-            left = rest;
-        }
-        Ok(())
-    }
-
-    /// Puts code 30 before the first of these readings, where a set is open.
-    fn put_close(&mut self, sights: &[Sight]) -> Result<(), AllocError> {
-        if self.in_set {
-            self.put(sights, 0, Code::Close)?;
-        }
-        Ok(())
-    }
-
     /// Takes a station that has no sets.
-    fn take_without_sets(&mut self, name: Name, sights: &[Sight]) -> Result<(), AllocError> {
+    fn take_without_sets(&mut self, name: &Name, sights: &[Sight]) -> Result<(), AllocError>
+        requires room { All IsRoomy self.old.marks.items }
+        ensures room { OnOk result (All IsRoomy self.new.marks.items) }
+        ensures takes { OnOk result (TakesStation (record { name = name.now; sights = sights.now })
+            NoSets self.old self.new) }
+    {
         if sights.is_empty() {
             return Ok(());
         }
-        self.put_close(sights)?;
+        put_close(&mut self.marks, self.in_set, sights)?;
         self.in_set = false;
         self.stations.push(Recognized {
-            name,
+            name: *name,
             sets: 0,
             targets: 0,
             before: sights.len(),
@@ -137,39 +204,62 @@ impl Marking {
     }
 
     /// Takes a station that has sets, after so many leading readings.
+    #[tactic(auto, using(crate::proofs::Few::is_told))]
     fn take_sets(
         &mut self,
         alloc: Global,
-        name: Name,
+        name: &Name,
         sights: &[Sight],
         leading: usize,
-    ) -> Result<(), AllocError> {
+    ) -> Result<(), AllocError>
+        requires few { length (starts_of (drop leading sights.now)) ≤ MOST_SETS }
+        requires some { 0 < length sights.now }
+        requires here { is_too_long name.now (slice_get sights.now leading) ≡ false }
+        requires room { All IsRoomy self.old.marks.items }
+        ensures room { OnOk result (All IsRoomy self.new.marks.items) }
+        ensures takes { OnOk result (TakesStation (record { name = name.now; sights = sights.now })
+            (Sets leading) self.old self.new) }
+    {
         let rest = behind(leading, sights);
-        let sets = sets_of(alloc, rest)?;
-        if leading > 0 {
-            self.put_close(sights)?;
-        }
-        self.put(sights, leading, Code::Station(name))?;
-        self.put_sets(&sets.starts, rest)?;
-        self.put(rest, sets.end, Code::Close)?;
-        self.in_set = sets.end >= rest.len();
-        self.names.push(name)?;
-        let targets = targets_of(alloc, part(0, sets.end, rest))?;
-        self.stations.push(Recognized {
+        let starts = starts_of(alloc, rest)?;
+        let end = end_by(alloc, &starts, rest)?;
+        put_station(
+            &mut self.marks,
+            self.in_set,
             name,
-            sets: sets.starts.len(),
+            sights,
+            leading,
+            &starts,
+            end,
+        )?;
+        let targets = targets_of(alloc, part(0, end, rest))?;
+        self.in_set = sight_at(rest, end).is_none();
+        self.names.push(*name)?;
+        self.stations.push(Recognized {
+            name: *name,
+            sets: starts.len(),
             targets: targets.len(),
             before: leading,
-            after: rest.len().saturating_sub(sets.end),
+            after: rest.len().saturating_sub(end),
         })?;
         Ok(())
     }
 
     /// Takes a station, or answers its fault.
-    fn take(&mut self, alloc: Global, name: Name, sights: &[Sight]) -> Result<(), MarkFault> {
+    #[tactic(auto, using(crate::proofs::Few::few_sets, crate::proofs::Few::some_reading, crate::proofs::Few::has_room))]
+    fn take(&mut self, alloc: Global, name: &Name, sights: &[Sight]) -> Result<(), MarkFault>
+        requires room { All IsRoomy self.old.marks.items }
+        ensures room { OnOk result (All IsRoomy self.new.marks.items) }
+        ensures clean { OnOk result (station_fault self.old.names.items
+            (record { name = name.now; sights = sights.now }) (divided sights.now) ≡ None) }
+        ensures takes { OnOk result (TakesStation (record { name = name.now; sights = sights.now })
+            (divided sights.now) self.old self.new) }
+        ensures fault { IfErr result (IsMemoryOr (as_fault (station_fault self.old.names.items
+            (record { name = name.now; sights = sights.now }) (divided sights.now)))) }
+    {
         let divided = divide(alloc, sights)?;
-        if let Some(fault) = self.fault(&name, sights, divided) {
-            return Err(fault);
+        if let Some(flaw) = station_fault(&self.names, name, sights, divided) {
+            return Err(MarkFault::At(flaw.block, flaw.kind));
         }
         match divided {
             Divided::Sets(leading) => self.take_sets(alloc, name, sights, leading)?,
@@ -179,21 +269,33 @@ impl Marking {
     }
 }
 
-/// The readings of a station: those up to the next.
-fn sights_before<'a>(from: usize, later: &[SetUp], sights: &'a [Sight]) -> &'a [Sight] {
-    match later.first() {
-        Some(next) => part(from, next.from, sights),
-        None => behind(from, sights),
+/// The readings of a station that begins so: those up to the next.
+fn sights_before<'a>(set_up: &SetUp, later: &[SetUp], sights: &'a [Sight]) -> &'a [Sight]
+    ensures { occupations (set_up.now ∷ later.now) sights.now
+        ≡ record { name = set_up.now.name; sights = result.now } ∷ occupations later.now sights.now }
+{
+    match later {
+        [] => behind(set_up.from, sights),
+        [next, ..] => part(set_up.from, next.from, sights),
     }
 }
 
 /// The code lines of a file's stations, and what is told of them.
-pub(crate) fn marking_of(alloc: Global, readings: &Readings) -> Result<Marking, MarkFault> {
+#[tactic(auto, using(crate::proofs::Making::as_first))]
+pub(crate) fn marking_of(alloc: Global, readings: &Readings) -> Result<Marking, MarkFault>
+    ensures clean { OnOk result (fault_of_stations (readings.now.blocks + 1) []
+        (occupations readings.now.set_ups.items readings.now.sights.items) ≡ None) }
+    ensures room { IfOk result (λ m. All IsRoomy m.marks.items) }
+    ensures marked { IfOk result
+        (AreMarked readings.now.set_ups.items readings.now.sights.items) }
+    ensures fault { IfErr result (IsMemoryOr (as_fault (fault_of_stations (readings.now.blocks + 1)
+        [] (occupations readings.now.set_ups.items readings.now.sights.items)))) }
+{
     let mut marking = Marking::new(alloc);
     let mut left = readings.set_ups.as_slice();
     'stations: while let Some((set_up, rest)) = left.split_first() {
-        let sights = sights_before(set_up.from, rest, &readings.sights);
-        marking.take(alloc, set_up.name, sights)?;
+        let sights = sights_before(set_up, rest, &readings.sights);
+        marking.take(alloc, &set_up.name, sights)?;
         left = rest;
     }
     if marking.names.is_empty() {

@@ -1,15 +1,15 @@
 //! Whether some readings are a set, and what is wrong with them if they are not.
 
-ghost use Rattle.std.specs.Prelude.{◌≡◌, ◌<◌, ◌≤◌, length, IfSome, IfNone, [], take};
+ghost use Rattle.std.specs.Prelude.{◌≡◌, IfSome, IfNone, [], take, option_map, slice_get};
 ghost use Rattle.std.specs.List.{list_any};
-ghost use Rattle.set_marks.specs.declared.bounds.TheConstants.{MOST_READINGS};
-ghost use Rattle.set_marks.specs.Divisions.{is_of, is_again, is_pair, is_same_face, again_at, alone_at, are_in_face};
+ghost use Rattle.std.specs.Str.{bytes_eq};
+ghost use Rattle.set_marks.specs.Divisions.{is_of, is_again, is_pair, is_same_face, again_in, alone_in, are_in_face};
 ghost use Rattle.set_marks.specs.Divisions.{is_by_faces, is_by_targets, are_read_alike, first_target, last_target};
-ghost use Rattle.set_marks.specs.Divisions.{set_flaw, is_in_one_face};
+ghost use Rattle.set_marks.specs.Divisions.{readings_flaw, order_flaw, set_flaw, is_in_one_face};
 
 use crate::bounds::MOST_READINGS;
 use crate::fault::MarkKind;
-use crate::flaw::Flaw;
+use crate::flaw::{Flaw, first_flaw, flaw_at, flaw_when};
 use crate::sight::Sight;
 use adjust_kernel::Name;
 
@@ -47,14 +47,14 @@ fn is_read_again(sight: &Sight, others: &[Sight]) -> bool
 }
 
 /// The first reading whose target was read in its face before it.
-fn again_at(set: &[Sight]) -> Option<usize>
-    ensures { result ≡ again_at set.now }
+fn again_in(set: &[Sight]) -> Option<Sight>
+    ensures { result ≡ again_in set.now }
 {
     let mut at = 0;
     let mut left = set;
     'sights: while let Some((sight, rest)) = left.split_first() {
         if is_read_again(sight, &set[..at]) {
-            return Some(at);
+            return Some(*sight);
         }
         at += 1;
         left = rest;
@@ -69,10 +69,17 @@ pub(crate) fn has_pair(sight: &Sight, set: &[Sight]) -> bool
 }
 
 /// The first reading whose target is not read in the other face.
-fn alone_at(set: &[Sight]) -> Option<usize>
-    ensures { result ≡ alone_at set.now }
+fn alone_in(set: &[Sight]) -> Option<Sight>
+    ensures { result ≡ alone_in set.now }
 {
-    set.iter().position(|sight| !has_pair(sight, set))
+    let mut left = set;
+    'sights: while let Some((sight, rest)) = left.split_first() {
+        if !has_pair(sight, set) {
+            return Some(*sight);
+        }
+        left = rest;
+    }
+    None
 }
 
 fn are_in_face(second: bool, set: &[Sight]) -> bool
@@ -138,14 +145,21 @@ pub(crate) fn last_target(set: &[Sight]) -> Option<Name>
 }
 
 /// Whether both end with one target.
+#[tactic(auto, using(crate::proofs::Few::is_not_empty))]
 fn ends_alike(first: &[Sight], set: &[Sight]) -> bool
-    requires some { 0 < length set.now }
-    requires other { 0 < length first.now }
-    ensures { result ≡ Rattle.std.specs.Str.bytes_eq (last_target first.now) (last_target set.now) }
+    ensures { result ≡ bytes_eq (last_target first.now) (last_target set.now) }
 {
     match (last_target(first), last_target(set)) {
         (Some(a), Some(b)) => a.is_same(&b),
-        _ => false,
+        (None, None) => true,
+        (Some(a), None) => {
+            a.recall();
+            false
+        }
+        (None, Some(b)) => {
+            b.recall();
+            false
+        }
     }
 }
 
@@ -157,37 +171,44 @@ fn are_read_alike(first: &[Sight], set: &[Sight]) -> bool
     by_faces || is_by_targets(first) && is_by_targets(set)
 }
 
-/// What is wrong with these readings as a set, where the first set of the station is this.
-pub(crate) fn set_flaw(first: &[Sight], set: &[Sight]) -> Option<Flaw>
-    requires { 0 < length first.now }
-    ensures { result ≡ set_flaw first.now set.now }
+/// What is wrong with the readings of a set by themselves.
+fn readings_flaw(set: &[Sight]) -> Option<Flaw>
+    ensures { result ≡ readings_flaw set.now }
 {
-    // The bound comes first, so that no search takes more than 200 steps for each reading.
-    if let Some(at) = again_at(front(MOST_READINGS + 1, set)) {
-        return flaw(MarkKind::ReadTwice, at);
+    if let Some(sight) = again_in(front(MOST_READINGS + 1, set)) {
+        return Some(flaw_at(MarkKind::ReadTwice, Some(&sight)));
     }
+    // From here on there are at most 200 readings, so no search takes more steps for each of them.
     if set.len() > MOST_READINGS {
-        return flaw(MarkKind::TooManyTargets, MOST_READINGS);
+        return Some(flaw_at(MarkKind::TooManyTargets, set.get(MOST_READINGS)));
     }
-    if let Some(at) = alone_at(set) {
-        return flaw(MarkKind::FaceMissing, at);
+    match alone_in(set) {
+        Some(sight) => Some(flaw_at(MarkKind::FaceMissing, Some(&sight))),
+        None => None,
     }
-    if set.len() < 4 {
-        return flaw(MarkKind::OneTarget, 0);
-    }
-    if !are_read_alike(first, set) {
-        return flaw(MarkKind::Order, set.len() / 2);
-    }
-    if !ends_alike(first, set) {
-        return flaw(MarkKind::EndsElsewhere, set.len() - 1);
-    }
-    None
 }
 
-fn flaw(kind: MarkKind, at: usize) -> Option<Flaw>
-    ensures { result ≡ Rattle.std.specs.Prelude.Some (record { at = at; kind = kind }) }
+/// What is wrong with a set as a whole.
+fn order_flaw(first: &[Sight], set: &[Sight]) -> Option<Flaw>
+    ensures { result ≡ order_flaw first.now set.now }
 {
-    Some(Flaw { at, kind })
+    let opening = sight_at(set, 0);
+    let one = flaw_when(set.len() < 4, MarkKind::OneTarget, opening);
+    let middle = sight_at(set, set.len() / 2);
+    let order = flaw_when(!are_read_alike(first, set), MarkKind::Order, middle);
+    let last = sight_at(set, set.len().saturating_sub(1));
+    let elsewhere = flaw_when(!ends_alike(first, set), MarkKind::EndsElsewhere, last);
+    first_flaw(one, order, elsewhere)
+}
+
+/// What is wrong with these readings as a set, where the first set of the station is this.
+pub(crate) fn set_flaw(first: &[Sight], set: &[Sight]) -> Option<Flaw>
+    ensures { result ≡ set_flaw first.now set.now }
+{
+    match readings_flaw(set) {
+        Some(flaw) => Some(flaw),
+        None => order_flaw(first, set),
+    }
 }
 
 /// The first of these readings.
@@ -199,4 +220,11 @@ pub(crate) fn front(count: usize, sights: &[Sight]) -> &[Sight]
     } else {
         sights
     }
+}
+
+/// The reading at a place, if there is one.
+pub(crate) fn sight_at(sights: &[Sight], place: usize) -> Option<&Sight>
+    ensures { option_map (λ s. s.now) result ≡ slice_get sights.now place }
+{
+    sights.get(place)
 }

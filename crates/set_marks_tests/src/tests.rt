@@ -1,31 +1,43 @@
 use adjust_kernel::Name;
 use set_marks::{MarkFault, MarkKind, mark_file};
+use station_book::BookKind;
 use std::alloc::Global;
 
-/// A field file of GSI-8, from pairs of bytes: the name of a target, and `1` or `2` for the face it
-/// is read in; or the name of a station, and `p` for its set-up line.
+/// The bytes of a field file of GSI-8, one block for each pair of bytes: the name of a target, and
+/// `1` or `2` for the face in which it is read; the name of a station and `p` for its set-up line;
+/// or `c` and a code's first digit.
 fn file(alloc: Global, text: &[u8]) -> Option<Vec<u8>> {
     let mut bytes = Vec::new(alloc);
     let mut i = 0;
     while i + 1 < text.len() {
-        bytes.extend_from_slice(b"11....+0000000").ok()?;
-        bytes.push(text[i]).ok()?;
-        let rest: &[u8] = match text[i + 1] {
-            b'p' => b" 88..10+00001543",
-            b'1' => b" 21.102+01234567 22.102+09876543",
-            _ => b" 21.102+21234567 22.102+30123457",
-        };
-        bytes.extend_from_slice(rest).ok()?;
+        if text[i] == b'c' {
+            bytes.extend_from_slice(b"41....+000000").ok()?;
+            bytes.push(text[i + 1]).ok()?;
+            bytes.extend_from_slice(b"0 42....+00000001").ok()?;
+        } else {
+            bytes.extend_from_slice(b"11....+0000000").ok()?;
+            bytes.push(text[i]).ok()?;
+            let rest: &[u8] = match text[i + 1] {
+                b'p' => b" 88..10+00001543",
+                b'1' => b" 21.102+01234567 22.102+09876543",
+                b'2' => b" 21.102+21234567 22.102+30123457",
+                _ => b" 21.102+01234567",
+            };
+            bytes.extend_from_slice(rest).ok()?;
+        }
         bytes.push(b'\n').ok()?;
         i += 2;
     }
     Some(bytes)
 }
 
-/// The numbers of the lines of codes in the copy, or the fault.
+/// What is answered of such a file, of the station P7 where it has no set-up line at its front.
 fn marked(alloc: Global, text: &[u8]) -> Option<Result<Vec<u8>, MarkFault>> {
     let bytes = file(alloc, text)?;
-    let station = if text[1] == b'p' { None } else { Name::new(b"P7") };
+    let station = match text[1] {
+        b'p' => None,
+        _ => Name::new(b"P7"),
+    };
     Some(mark_file(alloc, &bytes, false, station).map(|m| m.copy))
 }
 
@@ -38,7 +50,7 @@ fn is_marked(alloc: Global, text: &[u8]) -> bool {
 }
 
 #[test]
-fn rows(rt: HostRuntime) {
+fn rows_are_marked(rt: HostRuntime) {
     let a = rt.alloc();
     assert!(rt; is_marked(a, b"A1B1C1C2B2A2A1B1C1C2B2A2"));
     assert!(rt; is_marked(a, b"A1A2B1B2A1A2B1B2"));
@@ -46,12 +58,107 @@ fn rows(rt: HostRuntime) {
     assert!(rt; is_marked(a, b"A1A2A1B1C1C2B2A2A1B1C1C2B2A2"));
     assert!(rt; is_marked(a, b"A1B1B2A2A1B1B2A2d1e1"));
     assert!(rt; is_marked(a, b"1pA1B1B2A22pA1B1B2A2"));
-    assert!(rt; fault(a, b"1pA1B1B2A21pA1B1B2A2") == Some(MarkFault::At(7, MarkKind::StationTwice)));
-    assert!(rt; fault(a, b"A1B1B2A2A1B1B1") == Some(MarkFault::At(7, MarkKind::ReadTwice)));
-    assert!(rt; fault(a, b"A1B1C1A1A2C2B2A2") == Some(MarkFault::At(8, MarkKind::ReadTwice)));
-    assert!(rt; fault(a, b"A1A2B1B2A1A2A1A2B1B2A1A2") == Some(MarkFault::At(7, MarkKind::ReadTwice)));
-    assert!(rt; fault(a, b"A2A1B1B2A2A1B1B2") == Some(MarkFault::At(1, MarkKind::FirstFace)));
-    assert!(rt; fault(a, b"B1B2A1A2B1B2A1A2B1B2") == Some(MarkFault::At(3, MarkKind::MayBeShifted)));
-    assert!(rt; fault(a, b"B1A1A2B2B1A1A2B2B1") == Some(MarkFault::At(2, MarkKind::MayBeShifted)));
-    assert!(rt; fault(a, b"A1B1C1") == Some(MarkFault::At(4, MarkKind::NoSets)));
+}
+
+// The blocks are those that a plain program of the rule names.
+#[test]
+fn each_fault_stands_at_its_block(rt: HostRuntime) {
+    let a = rt.alloc();
+    let rows: [(&[u8], u32, MarkKind); 18] = [
+        (b"A1B1c2B2A2", 3, MarkKind::HasCodes),
+        (b"A1B1B2A21pA1B1B2A2", 5, MarkKind::HasSetUp),
+        (b"A1B1B2A2A1B1B1", 7, MarkKind::ReadTwice),
+        (b"A1B1C1A1A2C2B2A2", 8, MarkKind::ReadTwice),
+        (b"A1A2B1B2A1A2A1A2B1B2A1A2", 7, MarkKind::ReadTwice),
+        (b"A1B1B1A2B2A2", 6, MarkKind::ReadTwice),
+        (b"A1B1C1C2A2", 5, MarkKind::FaceMissing),
+        (b"A1A2", 2, MarkKind::FaceMissing),
+        (b"d1A1B1B2A2", 5, MarkKind::FaceMissing),
+        (b"1pA1B1B2A22pA1A2", 8, MarkKind::FaceMissing),
+        (b"A1B1B2A2A1A2B1B2", 7, MarkKind::Order),
+        (b"A1A2B1B2C1C2A1A2B1B2", 10, MarkKind::EndsElsewhere),
+        (b"A2A1B1B2A2A1B1B2", 1, MarkKind::FirstFace),
+        (b"B1B2A1A2B1B2A1A2B1B2", 3, MarkKind::MayBeShifted),
+        (b"B1A1A2B2B1A1A2B2B1", 2, MarkKind::MayBeShifted),
+        (b"A1B1C1", 4, MarkKind::NoSets),
+        (b"1p", 2, MarkKind::NoSets),
+        (b"1pA1B1B2A21pA1B1B2A2", 7, MarkKind::StationTwice),
+    ];
+    let mut i = 0;
+    while i < rows.len() {
+        let (text, block, kind) = rows[i];
+        assert!(rt; fault(a, text) == Some(MarkFault::At(block, kind)));
+        i += 1;
+    }
+}
+
+#[test]
+fn a_reading_before_any_set_up_line_is_of_no_station(rt: HostRuntime) {
+    let a = rt.alloc();
+    let Some(bytes) = file(a, b"A1B1B2A2") else {
+        return;
+    };
+    assert!(rt;
+        mark_file(a, &bytes, false, None).err() == Some(MarkFault::At(1, MarkKind::NoSetUp))
+    );
+}
+
+#[test]
+fn a_reading_that_a_book_refuses_has_its_fault(rt: HostRuntime) {
+    let a = rt.alloc();
+    assert!(rt; fault(a, b"A1B3") == Some(MarkFault::Reading(2, BookKind::NoZenith)));
+}
+
+/// Codes stand in the width and with the end of the lines beside them, and the name has lost the
+/// zeros before it.
+#[test]
+fn the_copy_has_whole_lines_more(rt: HostRuntime) {
+    let a = rt.alloc();
+    let first = b"11....+0000000A 21.102+01234567 22.102+09876543";
+    let second = b"11....+0000000B 21.102+01234567 22.102+09876543\r\n";
+    let wide = b"*11....+000000000000000B 21.102+0000000021234567 22.102+0000000030123457\r";
+    let last = b"11....+0000000A 21.102+21234567 22.102+30123457";
+    let detail = b"11....+0000000d 21.102+01234567 22.102+09876543";
+    let Some(name) = Name::new(b"007") else {
+        return;
+    };
+    let mut bytes = Vec::new(a);
+    let parts: [&[u8]; 10] = [
+        first, b"\r\n", second, wide, last, b"\n", first, b"\r\n", second, wide,
+    ];
+    let mut i = 0;
+    while i < parts.len() {
+        assert!(rt; bytes.extend_from_slice(parts[i]).is_ok());
+        i += 1;
+    }
+    assert!(rt; bytes.extend_from_slice(last).is_ok() && bytes.extend_from_slice(b"\n\n").is_ok());
+    assert!(rt; bytes.extend_from_slice(detail).is_ok());
+    let expected: [&[u8]; 18] = [
+        b"41....+00000010 42....+00000007\r\n",
+        b"41....+00000020 42....+00000001\r\n",
+        first,
+        b"\r\n",
+        second,
+        wide,
+        last,
+        b"\n",
+        b"41....+00000020 42....+00000002\n",
+        first,
+        b"\r\n",
+        second,
+        wide,
+        last,
+        b"\n\n",
+        b"41....+00000030\n",
+        detail,
+        b"",
+    ];
+    let mut copy = Vec::new(a);
+    let mut k = 0;
+    while k < expected.len() {
+        assert!(rt; copy.extend_from_slice(expected[k]).is_ok());
+        k += 1;
+    }
+    let made = mark_file(a, &bytes, false, Some(name));
+    assert!(rt; made.is_ok_and(|m| m.copy.as_slice() == copy.as_slice()));
 }

@@ -1,0 +1,239 @@
+-- The blocks of a file are read one by one.
+use Rattle.std.proofs.Common.{◌≡◌, ℕ, suc, ◌+◌, Bool, true, false, List, [], ◌∷◌, ◌++◌, length, Option, Some, None, refl, sym, ap, subst, ◌∙◌, arith, inl, inr, append_assoc, reverse}
+use Rattle.std.specs.Prelude.{IfSome, if◌then◌else◌, ◌&&◌, Err}
+use Rattle.std.specs.List.{AllZip}
+use Rattle.std.specs.Option.{option_map}
+use Rattle.std.proofs.lemmas.Bool.{cases_Bool}
+use Rattle.std.proofs.lemmas.List.{append-nil, reverse-append}
+use Rattle.gsi_word.specs.Blocks.{GsiBlock, IsBlock}
+use Rattle.gsi_file.specs.FileAnswers.{FileAnswers, line_before}
+use Rattle.gsi_file.specs.ToCome.{ToCome, Answers, GivesLine, GivesEnd, GivesFault, FaultIsNext, only, TakesLine}
+use Rattle.gsi_file.specs.declared.file_fault.FileFault.{FileFault}
+use Rattle.gsi_file.specs.declared.file_fault.FileFault.TheVariants as file
+use Rattle.gsi_file.specs.declared.file_fault.FileKind.{FileKind}
+use Rattle.station_book.specs.declared.fault.BookKind.{BookKind}
+use Rattle.station_book.specs.declared.role.Role.{Role}
+use Rattle.station_book.specs.declared.role.Role.TheVariants.{Station, Set, Close, Measurement, Other}
+use Rattle.station_book.specs.Blocks.{role_of, lacks}
+use Rattle.station_book.specs.Faults.{first_of}
+use Rattle.station_book.specs.Places.{History}
+use Rattle.station_book.specs.Readings.{own_faults}
+use Rattle.set_marks.specs.declared.fault.MarkFault.{MarkFault}
+use Rattle.set_marks.specs.declared.fault.MarkFault.TheVariants.{File, Reading, At, Memory}
+use Rattle.set_marks.specs.declared.fault.MarkKind.TheVariants as kinds
+use Rattle.set_marks.specs.declared.readings.Readings.{Readings}
+use Rattle.set_marks.specs.declared.sight.SetUp.{SetUp}
+use Rattle.set_marks.specs.Stations.{begun, is_stated, fault_as, reading_fault, fault_of_blocks, own_fault, has_set_up_word, sights_of, set_ups_of, set_up_in}
+use Rattle.set_marks.specs.Keeping.{Adds, Keeps, AreReadings, IsBlockFault, AnswersReadings}
+use Rattle.set_marks.specs.Markings.{AreBlocks, IsFileFault}
+
+-- The lines of a file up to some place are blocks, and this is kept of them, or is the fault of the
+-- first that has one by itself.
+pub record AreTaken (station : Option (List ℕ)) (first : FileAnswers) (t : ToCome) (r : Readings)
+    (fault : Option MarkFault) : Type 0 where
+  pub h : History
+  pub done : List (List ℕ)
+  pub left : FileAnswers
+  pub here : t.answers ≡ Some left
+  pub split : first ≡ record { lines = done ++ left.lines; last = left.last }
+  pub each : AllZip IsBlock done (reverse h)
+  pub number : t.number ≡ length h
+  pub fault_is : fault ≡ fault_of_blocks station h
+  pub kept : fault ≡ None → Keeps station h r
+
+-- Before the first line.
+pub none_taken : (station : Option (List ℕ)) (first : FileAnswers) (t : ToCome) (r : Readings)
+    → t.answers ≡ Some first → t.number ≡ 0 → Keeps station [] r → AreTaken station first t r None
+none_taken station first t r here number kept = record {
+  h = [];
+  done = [];
+  left = first;
+  here = here;
+  split = refl;
+  each = tt;
+  number = number;
+  fault_is = refl;
+  kept = λ e. kept;
+}
+
+-- What is to come after a line.
+after_line : (left : FileAnswers) (o : Option FileAnswers) (line : List ℕ)
+    → TakesLine (Some left) o line
+    → (next : FileAnswers) × (o ≡ Some next) × (left ≡ line_before line next)
+after_line left None line e = absurd e
+after_line left (Some next) line e = (next, refl, e)
+
+-- The fault, whatever was kept where there was one already.
+next_fault : (station : Option (List ℕ)) (h : History) (r : Readings) (b : GsiBlock) (number : ℕ)
+    (f : Option MarkFault) → f ≡ fault_of_blocks station h → (f ≡ None → Keeps station h r)
+    → number ≡ length h + 1
+    → first_of (f ∷ fault_as (role_of b) (is_stated station) r.set_ups.items number b ∷ [])
+    ≡ fault_of_blocks station (b ∷ h)
+next_fault station h r b number (Some e) is kept counted =
+    ap (λ o. first_of (o ∷ own_fault station h b ∷ [])) is
+next_fault station h r b number None is kept counted =
+    let k = (kept refl).set_ups in
+    rw (k, counted) (ap (λ o. first_of (o ∷ own_fault station h b ∷ [])) is)
+
+-- What is kept with one block more.
+keeps_next : (station : Option (List ℕ)) (h : History) (b : GsiBlock) (r r' : Readings)
+    → Keeps station h r → Adds (is_stated station) b (length h + 1) r r' → Keeps station (b ∷ h) r'
+keeps_next None h b r r' kept adds = record {
+  set_ups = adds.set_ups ∙ rw (kept.set_ups, kept.sights) refl;
+  sights = adds.sights ∙ rw kept.sights refl;
+  blocks = adds.blocks ∙ omega arith;
+}
+keeps_next (Some name) h b r r' kept adds = record {
+  set_ups = adds.set_ups ∙ kept.set_ups;
+  sights = adds.sights ∙ rw kept.sights refl;
+  blocks = adds.blocks ∙ omega arith;
+}
+
+-- The fault before is none, where there is none after it.
+none_before : (f g : Option MarkFault) → first_of (f ∷ g ∷ []) ≡ None → f ≡ None
+none_before None g e = refl
+none_before (Some x) g e = cc
+
+abbrev with_lines : List (List ℕ) → Option FileKind → FileAnswers
+with_lines lines last = record { lines = lines; last = last }
+
+-- One more of each of two lists.
+one_more : {A B : Type 0} (R : A → B → Type 0) (xs : List A) (ys : List B) (x : A) (y : B)
+    → AllZip R xs ys → R x y → AllZip R (xs ++ x ∷ []) (ys ++ y ∷ [])
+one_more R [] [] x y h r = (r, tt)
+one_more R [] (b ∷ ys) x y h r = absurd h
+one_more R (a ∷ xs) [] x y h r = absurd h
+one_more R (a ∷ xs) (b ∷ ys) x y h r = (h.0, one_more R xs ys x y h.1 r)
+
+-- One line more.
+pub line_taken : (station : Option (List ℕ)) (first : FileAnswers) (t t' : ToCome) (r r' : Readings)
+    (f f' : Option MarkFault) (number : ℕ) (b : GsiBlock)
+    → AreTaken station first t r f → GivesLine t t' number b
+    → f' ≡ first_of (f ∷ fault_as (role_of b) (is_stated station) r.set_ups.items number b ∷ [])
+    → (f' ≡ None → Adds (is_stated station) b number r r')
+    → AreTaken station first t' r' f'
+line_taken station first t t' r r' f f' number b taken gives is adds =
+    let counted : number ≡ length taken.h + 1 = gives.counted ∙ ap (λ n. n + 1) taken.number in
+    let takes : TakesLine (Some taken.left) t'.answers gives.line =
+    subst (λ (o : Option FileAnswers). TakesLine o t'.answers gives.line) taken.here gives.takes in
+    let next = after_line taken.left t'.answers gives.line takes in
+    record {
+      h = b ∷ taken.h;
+      done = taken.done ++ gives.line ∷ [];
+      left = next.0;
+      here = next.1;
+      split = taken.split ∙ ap (λ (a : FileAnswers). with_lines (taken.done ++ a.lines) a.last) next.2
+          ∙ ap (λ (l : List (List ℕ)). with_lines l next.0.last)
+          (sym (append_assoc taken.done (gives.line ∷ []) next.0.lines));
+      each = subst (λ (l : List GsiBlock). AllZip IsBlock (taken.done ++ gives.line ∷ []) l)
+          (sym (reverse-append (b ∷ []) taken.h))
+          (one_more IsBlock taken.done (reverse taken.h) gives.line b taken.each gives.is_block);
+      number = gives.after ∙ counted ∙ omega arith;
+      fault_is = is ∙ next_fault station taken.h r b number f taken.fault_is taken.kept counted;
+      kept = λ e. keeps_next station taken.h b r r' (taken.kept (none_before f _ (sym is ∙ e)))
+          (subst (λ n. Adds (is_stated station) b n r r') counted (adds e));
+    }
+
+-- At the end of the file.
+are_blocks : (station : Option (List ℕ)) (first : FileAnswers) (t t' : ToCome) (r : Readings)
+    (f : Option MarkFault) (taken : AreTaken station first t r f) → GivesEnd t t'
+    → AreBlocks first taken.h
+are_blocks station first t t' r f taken end =
+    let over : taken.left ≡ only None =
+    subst (λ (o : Option FileAnswers). IfSome o (λ a. a ≡ only None)) taken.here end.here in
+    let whole : first.lines ≡ taken.done = ap (λ (a : FileAnswers). a.lines) taken.split
+    ∙ ap (λ (a : FileAnswers). taken.done ++ a.lines) over ∙ append-nil taken.done in
+    record {
+      ended = ap (λ (a : FileAnswers). a.last) taken.split ∙ ap (λ (a : FileAnswers). a.last) over;
+      each = subst (λ (l : List (List ℕ)). AllZip IsBlock l (reverse taken.h)) (sym whole) taken.each;
+    }
+
+pub all_taken : (station : Option (List ℕ)) (first : FileAnswers) (t t' : ToCome) (r : Readings)
+    → AreTaken station first t r None → GivesEnd t t' → AreReadings station first r
+all_taken station first t t' r taken end = record {
+  blocks = taken.h;
+  are_blocks = are_blocks station first t t' r None taken end;
+  clean = sym taken.fault_is;
+  kept = taken.kept refl;
+}
+
+-- A reading's fault is none of a line.
+no_file_fault_of_reading : (ss : List SetUp) (number : ℕ) (b : GsiBlock) (x : FileFault)
+    → reading_fault ss number b ≡ Some (File x) → ⊥
+no_file_fault_of_reading [] number b x e = cc
+no_file_fault_of_reading (s ∷ ss) number b x e = by (first_of (own_faults b)) e where
+  by : (o : Option BookKind) → option_map (Reading number) o ≡ Some (File x) → ⊥
+  by None f = cc
+  by (Some k) f = cc
+
+no_file_fault_as : (role : Role) (stated : Bool) (ss : List SetUp) (number : ℕ) (b : GsiBlock)
+    (x : FileFault) → fault_as role stated ss number b ≡ Some (File x) → ⊥
+no_file_fault_as Station stated ss number b x e = cc
+no_file_fault_as Set stated ss number b x e = cc
+no_file_fault_as Close stated ss number b x e = cc
+no_file_fault_as Other stated ss number b x e = cc
+no_file_fault_as Measurement stated ss number b x e = by (lacks 21 b) (has_set_up_word b && stated) e
+  where
+    by : (l w : Bool) → (if l then (if w then Some (At number kinds.HasSetUp) else None)
+        else reading_fault ss number b) ≡ Some (File x) → ⊥
+    by true true f = cc
+    by true false f = cc
+    by false w f = no_file_fault_of_reading ss number b x f
+
+no_file_fault_first : (a b : Option MarkFault) (x : FileFault) → (a ≡ Some (File x) → ⊥)
+    → (b ≡ Some (File x) → ⊥) → first_of (a ∷ b ∷ []) ≡ Some (File x) → ⊥
+no_file_fault_first None None x f g e = cc
+no_file_fault_first None (Some y) x f g e = g e
+no_file_fault_first (Some y) b x f g e = f e
+
+no_file_fault : (station : Option (List ℕ)) (h : History) (x : FileFault)
+    → fault_of_blocks station h ≡ Some (File x) → ⊥
+no_file_fault station [] x e = cc
+no_file_fault station (b ∷ h) x e = no_file_fault_first (fault_of_blocks station h)
+    (own_fault station h b) x (no_file_fault station h x)
+    (no_file_fault_as (role_of b) (is_stated station) (begun station h) (length h + 1) b x) e
+
+pub fault_taken : (station : Option (List ℕ)) (first : FileAnswers) (t t' : ToCome) (r : Readings)
+    (e : MarkFault) → AreTaken station first t r (Some e) → GivesEnd t t'
+    → AnswersReadings station first (Err e)
+fault_taken station first t t' r (Reading n k) taken end = record {
+  blocks = taken.h;
+  are_blocks = are_blocks station first t t' r (Some (Reading n k)) taken end;
+  fault_is = sym taken.fault_is;
+}
+fault_taken station first t t' r (At n k) taken end = record {
+  blocks = taken.h;
+  are_blocks = are_blocks station first t t' r (Some (At n k)) taken end;
+  fault_is = sym taken.fault_is;
+}
+fault_taken station first t t' r (File x) taken end =
+    absurd (no_file_fault station taken.h x (sym taken.fault_is))
+fault_taken station first t t' r Memory taken end = tt
+
+-- At a fault of the file.
+pub file_fault : (station : Option (List ℕ)) (first : FileAnswers) (t t' : ToCome) (r : Readings)
+    (f : Option MarkFault) (number : ℕ) (kind : FileKind)
+    → AreTaken station first t r f → GivesFault t t' number kind → IsFileFault first number kind
+file_fault station first t t' r f number kind taken gives = record {
+  blocks = taken.h;
+  lines = taken.done;
+  left = taken.left;
+  each = taken.each;
+  split = taken.split;
+  fault = subst (λ (o : Option FileAnswers). IfSome o (λ a. FaultIsNext a kind)) taken.here gives.here;
+  counted = gives.counted ∙ ap (λ n. n + 1) taken.number;
+}
+
+-- A fault of the file, as it is answered.
+pub file_refused : (station : Option (List ℕ)) (first : FileAnswers) (t t' : ToCome) (r : Readings)
+    (f : Option MarkFault) (fault : FileFault) → AreTaken station first t r f
+    → Answers t (Err fault) t' → AnswersReadings station first (Err (File fault))
+file_refused station first t t' r f (file.At number kind) taken gives =
+    file_fault station first t t' r f number kind taken gives
+file_refused station first t t' r f file.Memory taken gives = absurd gives
+
+-- What is so of all answers that are told.
+pub for_told : (o : Option FileAnswers) (P : FileAnswers → Type 0)
+    → ((first : FileAnswers) → o ≡ Some first → P first) → IfSome o P
+for_told None P f = tt
+for_told (Some first) P f = f first refl

@@ -1,0 +1,14 @@
+use Rattle.std.proofs.Common.{◌≡◌, ◌≤◌, length}
+use Rattle.set_marks.specs.declared.bounds.TheConstants.{MOST_SETS}
+use Rattle.set_marks.specs.Divisions.{sets_flaw, end_by}
+use Rattle.set_marks.proofs.division.sets_flaw.Given as goal
+
+abbrev pub invariant-sets : goal.invariant-sets
+invariant-sets l = record {
+  found : sets_flaw l.first l.count (end_by l.starts l.sights) l.left l.sights
+      ≡ sets_flaw l.first 0 (end_by l.starts l.sights) l.starts l.sights;
+  few : l.count ≤ MOST_SETS;
+}
+
+abbrev pub decreases-sets : goal.decreases-sets
+decreases-sets l = length l.left

@@ -1,0 +1,9 @@
+use Rattle.std.proofs.Common.{◌≡◌, length}
+use Rattle.set_marks.specs.Divisions.{alone_among}
+use Rattle.set_marks.proofs.set.alone_in.Given as goal
+
+abbrev pub invariant-sights : goal.invariant-sights
+invariant-sights l = alone_among l.set l.left ≡ alone_among l.set l.set
+
+abbrev pub decreases-sights : goal.decreases-sights
+decreases-sights l = length l.left

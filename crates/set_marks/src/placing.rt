@@ -1,0 +1,126 @@
+//! Where code lines are put in: at the places where the lines of their blocks begin.
+
+ghost use Rattle.std.specs.Prelude.{◌≡◌, ◌≤◌, ◌+◌, ◌++◌, ◌∷◌, [], ℕ, List, All, IfOk, IfNone, IfSome, length, map, drop};
+ghost use Rattle.gsi_file.specs.Parts.{parts};
+ghost use Rattle.set_marks.specs.Marks.{IsRoomy};
+ghost use Rattle.set_marks.specs.Placing.{IsFirstEnd, placed, placed_from, placed_at, marks_of_block, marks_after};
+ghost use Rattle.set_marks.specs.Copies.{AreOrdered, BeginsAt, BeginsLine};
+
+use crate::line_end::{end_beside, is_blank, place_of_end};
+use crate::mark::{BlockMark, Mark};
+use std::alloc::{AllocError, Global};
+
+/// How many bytes stand before the first that ends a line.
+#[tactic(auto, using(crate::proofs::Breaks::no_end, crate::proofs::Breaks::some_end))]
+fn first_end(bytes: &[u8]) -> Option<usize>
+    ensures none { IfNone result (parts bytes.now ≡ bytes.now ∷ []) }
+    ensures some { IfSome result (IsFirstEnd bytes.now) }
+{
+    place_of_end(bytes)
+}
+
+/// Places the code lines of the block of this number, which come first of these, where its line
+/// begins, and answers those after them.
+#[tactic(auto, using(crate::proofs::Joins::other_mark))]
+fn place_block<'a>(
+    placed: &mut Vec<Mark>,
+    bytes: &[u8],
+    at: usize,
+    block: usize,
+    marks: &'a [BlockMark],
+) -> Result<&'a [BlockMark], AllocError>
+    requires inside { at ≤ length bytes.now }
+    requires line { BeginsAt bytes.now at }
+    requires room { All IsRoomy marks.now }
+    requires ordered { AreOrdered 0 at placed.old.items }
+    requires begin { All (BeginsLine bytes.now) placed.old.items }
+    ensures value { IfOk result (λ rest. placed.new.items ≡ placed.old.items
+        ++ map (placed_at bytes.now at) (marks_of_block block marks.now)) }
+    ensures rest { IfOk result (λ rest. rest.now ≡ marks_after block marks.now) }
+    ensures room { IfOk result (λ rest. All IsRoomy rest.now) }
+    ensures ordered { IfOk result (λ rest. AreOrdered 0 at placed.new.items) }
+    ensures begin { IfOk result (λ rest. All (BeginsLine bytes.now) placed.new.items) }
+{
+    let mut left = marks;
+    'marks: while let Some((mark, rest)) = left.split_first() {
+        if mark.block as usize != block {
+            return Ok(left);
+        }
+        placed.push(Mark {
+            at,
+            wide: mark.wide,
+            line_end: end_beside(bytes, at),
+            code: mark.code,
+        })?;
+        left = rest;
+    }
+    Ok(left)
+}
+
+/// Places the code lines of a part that begins at this place, after so many lines, if it is a line.
+/// Answers how many lines there are with it, and the code lines after it.
+fn place_part<'a>(
+    placed: &mut Vec<Mark>,
+    bytes: &[u8],
+    at: usize,
+    number: usize,
+    part: &[u8],
+    marks: &'a [BlockMark],
+) -> Result<(usize, &'a [BlockMark]), AllocError>
+    requires inside { at ≤ length bytes.now }
+    requires few { number ≤ at }
+    requires line { BeginsAt bytes.now at }
+    requires room { All IsRoomy marks.now }
+    requires ordered { AreOrdered 0 at placed.old.items }
+    requires begin { All (BeginsLine bytes.now) placed.old.items }
+    ensures value { IfOk result (λ r. (rest : List (List ℕ))
+        → placed.old.items ++ placed_from bytes.now at number marks.now (part.now ∷ rest)
+        ≡ placed.new.items
+        ++ placed_from bytes.now (at + length part.now + 1) r.0 r.1.now rest) }
+    ensures few { IfOk result (λ r. r.0 ≤ number + 1) }
+    ensures room { IfOk result (λ r. All IsRoomy r.1.now) }
+    ensures ordered { IfOk result (λ r. AreOrdered 0 at placed.new.items) }
+    ensures begin { IfOk result (λ r. All (BeginsLine bytes.now) placed.new.items) }
+{
+    if is_blank(part) {
+        return Ok((number, marks));
+    }
+    let left = place_block(placed, bytes, at, number + 1, marks)?;
+    Ok((number + 1, left))
+}
+
+/// The bytes after the first so many.
+fn after(count: usize, bytes: &[u8]) -> &[u8]
+    requires { count ≤ length bytes.now }
+    ensures { result.now ≡ drop count bytes.now }
+{
+    &bytes[count..]
+}
+
+/// The code lines at the places in a file's bytes where the lines of their blocks begin, with the
+/// ends of the lines beside them.
+pub(crate) fn placed(
+    alloc: Global,
+    bytes: &[u8],
+    marks: &[BlockMark],
+) -> Result<Vec<Mark>, AllocError>
+    requires { All IsRoomy marks.now }
+    ensures value { IfOk result (λ found. found.items ≡ placed bytes.now marks.now) }
+    ensures ordered { IfOk result (λ found. AreOrdered 0 (length bytes.now) found.items) }
+    ensures begin { IfOk result (λ found. All (BeginsLine bytes.now) found.items) }
+{
+    let mut found = Vec::new(alloc);
+    let mut number = 0;
+    let mut at = 0;
+    let mut rest = bytes;
+    let mut left = marks;
+    'parts: while let Some(length) = first_end(rest) {
+        let next = place_part(&mut found, bytes, at, number, &rest[..length], left)?;
+        number = next.0;
+        left = next.1;
+        at += length + 1;
+        rest = after(length + 1, rest);
+    }
+    place_part(&mut found, bytes, at, number, rest, left)?;
+    Ok(found)
+}

@@ -1,0 +1,263 @@
+//! How the blocks of a field file are read.
+
+ghost use Rattle.std.specs.Prelude.{◌≡◌, ◌≤◌, ◌++◌, ◌∷◌, [], IfErr, IfOk, IfNone, IfSome, OnOk, None, length, not, nat_lt, ◌&&◌};
+ghost use Rattle.station_book.specs.declared.bounds.TheConstants.{CIRCLE, HALF_CIRCLE};
+ghost use Rattle.gsi_word.specs.BlockViews.{block_of};
+ghost use Rattle.gsi_file.specs.FileAnswers.{file_answers};
+ghost use Rattle.gsi_file.specs.Standing.{to_come};
+ghost use Rattle.gsi_file.specs.declared.bounds.TheConstants.{LONGEST_FILE};
+ghost use Rattle.set_marks.specs.declared.fault.MarkFault.TheVariants.{Memory};
+ghost use Rattle.station_book.specs.Blocks.{lacks, role_of};
+ghost use Rattle.station_book.specs.declared.role.Role.TheVariants.{Measurement};
+ghost use Rattle.station_book.specs.Faults.{first_of};
+ghost use Rattle.adjust_kernel.specs.Names.{IsName};
+ghost use Rattle.gsi_word.specs.Names.{name_of};
+ghost use Rattle.set_marks.specs.Stations.{fault_as, has_set_up_word};
+ghost use Rattle.set_marks.specs.Keeping.{Adds, AnswersReadings, IsMemoryOr, Keeps};
+
+use crate::fault::{MarkFault, MarkKind};
+use crate::readings::Readings;
+use crate::sight::{SetUp, Sight};
+use adjust_kernel::Name;
+use byte_ends::{Script, Source};
+use gsi_file::Lines;
+use gsi_word::{Block, Found};
+use station_book::{CIRCLE, HALF_CIRCLE, Reading, Role, read, role_of, target};
+use std::alloc::{AllocError, Global};
+
+/// Bytes that are read at a time.
+const PIECE: usize = 4_096;
+
+/// Whether a block has a word of this index.
+#[tactic(auto, unfolding(station_book::specs::Blocks::lacks))]
+fn has_word(block: &Block<'_>, index: u8) -> bool
+    ensures { result ≡ not (lacks index (block_of block.now)) }
+{
+    !matches!(block.find(index), Found::Absent)
+}
+
+/// Whether a block has a word of a set-up line: east, north or height of the station, height of the
+/// target at it, height of the instrument.
+#[tactic(auto, unfolding(crate::specs::Stations::has_set_up_word))]
+fn has_set_up_word(block: &Block<'_>) -> bool
+    ensures { result ≡ has_set_up_word (block_of block.now) }
+{
+    has_word(block, 84)
+        || has_word(block, 85)
+        || has_word(block, 86)
+        || has_word(block, 87)
+        || has_word(block, 88)
+}
+
+/// Whether the zenith angle of a reading is of face II.
+fn is_second(zenith: u32) -> bool
+    ensures { result ≡ (nat_lt HALF_CIRCLE zenith && nat_lt zenith CIRCLE) }
+{
+    HALF_CIRCLE < zenith && zenith < CIRCLE
+}
+
+/// The name that these bytes are, without the zeros before it, at least one byte kept.
+// It calls itself once for each zero, of which a name has at most 16.
+#[tactic(auto, using(crate::proofs::Bare::is_rest))]
+fn bare_of(bytes: &[u8]) -> Name
+    requires { IsName bytes.now }
+    ensures { result ≡ name_of bytes.now }
+{
+    match bytes {
+        [b'0', rest @ ..] if !rest.is_empty() => bare_of(rest),
+        _ => Name::from_valid(bytes),
+    }
+}
+
+/// A name without the zeros before it, as it is read in a field file.
+fn bare(name: &Name) -> Name
+    ensures { result ≡ name_of name.now }
+{
+    bare_of(name.bytes())
+}
+
+impl Readings {
+    /// No readings: of a station, where its name is stated.
+    fn new(alloc: Global, station: Option<Name>) -> Result<Readings, AllocError>
+        ensures { IfOk result (Keeps station []) }
+    {
+        let mut set_ups = Vec::new(alloc);
+        if let Some(name) = station {
+            let name = bare(&name);
+            set_ups.push(SetUp { name, from: 0 })?;
+        }
+        Ok(Readings {
+            set_ups,
+            sights: Vec::new(alloc),
+            blocks: 0,
+        })
+    }
+
+    /// Takes the block of this number, unless there is a fault already, or notes its fault.
+    fn take_unless(
+        &mut self,
+        fault: &mut Option<MarkFault>,
+        number: u32,
+        block: &Block<'_>,
+        stated: bool,
+    ) -> Result<(), MarkFault>
+        requires { number ≤ LONGEST_FILE }
+        ensures fault { OnOk result (fault.new ≡ first_of (fault.old
+            ∷ fault_as (role_of (block_of block.now)) stated self.old.set_ups.items number
+            (block_of block.now) ∷ [])) }
+        ensures adds { OnOk result
+            (fault.new ≡ None → Adds stated (block_of block.now) number self.old self.new) }
+        ensures memory { IfErr result (λ e. e ≡ Memory) }
+    {
+        if fault.is_some() {
+            return Ok(());
+        }
+        match self.take(number, block, stated) {
+            Ok(()) => Ok(()),
+            Err(MarkFault::Memory) => Err(MarkFault::Memory),
+            Err(first) => {
+                *fault = Some(first);
+                Ok(())
+            }
+        }
+    }
+
+    /// Takes the block of this number.
+    #[tactic(auto, unfolding(station_book::specs::Blocks::role_of))]
+    fn take(&mut self, number: u32, block: &Block<'_>, stated: bool) -> Result<(), MarkFault>
+        requires { number ≤ LONGEST_FILE }
+        ensures clean { OnOk result (fault_as (role_of (block_of block.now)) stated
+            self.old.set_ups.items number (block_of block.now) ≡ None) }
+        ensures adds { OnOk result (Adds stated (block_of block.now) number self.old self.new) }
+        ensures fault { IfErr result (IsMemoryOr (fault_as (role_of (block_of block.now)) stated
+            self.old.set_ups.items number (block_of block.now))) }
+    {
+        match role_of(block) {
+            Role::Station | Role::Set | Role::Close => {
+                Err(MarkFault::At(number, MarkKind::HasCodes))
+            }
+            Role::Measurement => self.take_measurement(number, block, stated),
+            Role::Other => {
+                self.blocks = number;
+                Ok(())
+            }
+        }
+    }
+
+    /// Takes a measurement.
+    fn take_measurement(
+        &mut self,
+        number: u32,
+        block: &Block<'_>,
+        stated: bool,
+    ) -> Result<(), MarkFault>
+        requires few { number ≤ LONGEST_FILE }
+        requires measurement { role_of (block_of block.now) ≡ Measurement }
+        ensures clean { OnOk result (fault_as Measurement stated
+            self.old.set_ups.items number (block_of block.now) ≡ None) }
+        ensures adds { OnOk result (Adds stated (block_of block.now) number self.old self.new) }
+        ensures fault { IfErr result (IsMemoryOr (fault_as Measurement stated
+            self.old.set_ups.items number (block_of block.now))) }
+    {
+        match read(block) {
+            Ok(None) => {
+                if !has_set_up_word(block) {
+                    self.blocks = number;
+                    return Ok(());
+                }
+                if stated {
+                    return Err(MarkFault::At(number, MarkKind::HasSetUp));
+                }
+                self.add_set_up(number, target(block))?;
+                Ok(())
+            }
+            Ok(Some(reading)) => {
+                if self.set_ups.is_empty() {
+                    return Err(MarkFault::At(number, MarkKind::NoSetUp));
+                }
+                self.add_sight(number, block.width() == 16, &reading)?;
+                Ok(())
+            }
+            Err(kind) => {
+                if self.set_ups.is_empty() {
+                    return Err(MarkFault::At(number, MarkKind::NoSetUp));
+                }
+                Err(MarkFault::Reading(number, kind))
+            }
+        }
+    }
+
+    /// Adds a station, which begins with the next reading.
+    fn add_set_up(&mut self, number: u32, name: Name) -> Result<(), AllocError>
+        requires { number ≤ LONGEST_FILE }
+        ensures set_ups { OnOk result (self.new.set_ups.items ≡ self.old.set_ups.items
+            ++ record { name = name; from = length self.old.sights.items } ∷ []) }
+        ensures sights { OnOk result (self.new.sights.items ≡ self.old.sights.items) }
+        ensures blocks { OnOk result (self.new.blocks ≡ number) }
+    {
+        self.blocks = number;
+        self.set_ups.push(SetUp {
+            name,
+            from: self.sights.len(),
+        })?;
+        Ok(())
+    }
+
+    /// Adds a reading.
+    fn add_sight(&mut self, number: u32, wide: bool, reading: &Reading) -> Result<(), AllocError>
+        requires { number ≤ LONGEST_FILE }
+        ensures set_ups { OnOk result (self.new.set_ups.items ≡ self.old.set_ups.items) }
+        ensures sights { OnOk result (self.new.sights.items ≡ self.old.sights.items ++ record {
+          block = number;
+          wide = wide;
+          target = reading.now.target;
+          second = nat_lt HALF_CIRCLE reading.now.angles.zenith
+              && nat_lt reading.now.angles.zenith CIRCLE;
+        } ∷ []) }
+        ensures blocks { OnOk result (self.new.blocks ≡ number) }
+    {
+        self.blocks = number;
+        self.sights.push(Sight {
+            block: number,
+            wide,
+            target: reading.target,
+            second: is_second(reading.angles.zenith),
+        })?;
+        Ok(())
+    }
+}
+
+/// The stations and the readings of a field file, of these bytes and then an end, or a failed read.
+pub(crate) fn readings_of(
+    alloc: Global,
+    bytes: &[u8],
+    fails: bool,
+    station: Option<Name>,
+) -> Result<Readings, MarkFault>
+    ensures { AnswersReadings station
+        (file_answers (record { bytes = bytes.now; fails = fails })) result }
+{
+    let mut lines = Lines::new(alloc, Script::new(bytes, PIECE, fails))?;
+    read_lines(alloc, &mut lines, station)
+}
+
+/// The same of the lines that are still to come.
+fn read_lines<R: Source>(
+    alloc: Global,
+    lines: &mut Lines<R>,
+    station: Option<Name>,
+) -> Result<Readings, MarkFault>
+    requires { (to_come R.told lines.old).number ≡ 0 }
+    ensures { IfSome (to_come R.told lines.old).answers
+        (λ file. AnswersReadings station file result) }
+{
+    let mut readings = Readings::new(alloc, station)?;
+    let mut fault = None;
+    'lines: while let Some(line) = lines.next()? {
+        readings.take_unless(&mut fault, line.number, &line.block, station.is_some())?;
+    }
+    match fault {
+        Some(fault) => Err(fault),
+        None => Ok(readings),
+    }
+}
