@@ -18,7 +18,7 @@ use Rattle.station_book.specs.Blocks.{role_of, is_station, is_set_code, is_close
 use Rattle.station_book.specs.Places.{History, is_open, is_empty, station}
 use Rattle.station_book.specs.Faults.{when, first_of, end_faults, station_faults, set_faults, reading_faults, faults_as, fault_after, fault_at_end, open_readings, has_one_face, had_sets, has_set_number, is_face_taken}
 use Rattle.station_book.proofs.places.Steps.{set_role, measurement_role}
-use Rattle.set_marks.specs.MarkedBlocks.{is_of_codes}
+use Rattle.set_marks.specs.Found.{is_of_codes}
 
 -- no fault, or none of the code lines
 abbrev pub Avoids : Option BookKind → Type 0

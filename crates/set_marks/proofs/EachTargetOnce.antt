@@ -1,22 +1,21 @@
 -- In a set each target is read once in each face.
-use Rattle.std.proofs.Common.{◌≡◌, ℕ, suc, ◌+◌, ◌-◌, ◌/◌, ◌<◌, ◌≤◌, Bool, true, false, ◌&&◌, not, List, [], ◌∷◌, ◌++◌, length, filter, take, refl, sym, ap, subst, ◌∙◌, inl, inr, ◌⊎◌, arith, Option, Some, None, append_assoc}
-use Rattle.std.specs.Prelude.{Contains, nat_lt}
-use Rattle.std.specs.List.{list_any, position, position_or_len}
-use Rattle.std.specs.Option.{option_map}
+use Rattle.std.proofs.Common.{◌≡◌, ℕ, suc, ◌-◌, ◌/◌, ◌<◌, ◌≤◌, Bool, true, false, ◌&&◌, not, List, [], ◌∷◌, ◌++◌, length, filter, take, refl, sym, ap, subst, ◌∙◌, inl, inr, ◌⊎◌, arith, Option, Some, None, append_assoc}
+use Rattle.std.specs.Prelude.{Contains, nat_lt, slice_get}
+use Rattle.std.specs.List.{list_all, list_any}
 use Rattle.std.specs.Str.{bytes_eq}
 use Rattle.std.proofs.Math.Seq.{take-append_seam}
-use Rattle.std.proofs.lemmas.Bool.{cases_Bool, cases_lt, and_parts, and_from, or_cases, or_parts, or_left, or_right, not-true, lt-ltb, ltb-false, true_from_ne_false, false≢true}
+use Rattle.std.proofs.lemmas.Bool.{cases_Bool, and_parts, and_from, or_cases, or_parts, or_left, or_right, not-true, ltb-false}
 use Rattle.std.proofs.lemmas.List.{append-nil, length-append, take_all}
 use Rattle.std.proofs.lemmas.List.Folds.{list_any_at}
-use Rattle.std.proofs.lemmas.List.Elements.{filter-append}
+use Rattle.std.proofs.lemmas.List.Sums.{AllPass-from_list_all}
+use Rattle.std.proofs.lemmas.List.Elements.{filter-append, All-contains}
 use Rattle.std.proofs.lemmas.Slice.Eq.{bytes_eq-Decides}
 use Rattle.station_book.proofs.readings.CleanBlocks.{all_none}
 use Rattle.set_marks.specs.declared.bounds.TheConstants.{MOST_READINGS}
 use Rattle.set_marks.specs.declared.fault.MarkKind.{MarkKind}
 use Rattle.set_marks.specs.declared.fault.MarkKind.TheVariants as kinds
-use Rattle.set_marks.specs.declared.flaw.Flaw.{Flaw}
 use Rattle.set_marks.specs.declared.sight.Sight.{Sight}
-use Rattle.set_marks.specs.Divisions.{is_of, is_same_face, is_again, is_pair, again_from, again_at, alone_at, flaw_at, when_at, are_read_alike, last_target, set_flaw}
+use Rattle.set_marks.specs.Divisions.{is_of, is_same_face, is_again, is_pair, again_from, again_in, alone_among, alone_in, flaw_when, flaw_found, are_read_alike, last_target, readings_flaw, order_flaw, set_flaw}
 use Rattle.set_marks.specs.SetsInWords.{readings_in, ReadsEachOnce}
 
 abbrev reads : List ℕ → Bool → Sight → Bool
@@ -64,7 +63,7 @@ at_most_one : (name : List ℕ) (second : Bool) (front rs : List Sight)
 at_most_one name second front [] e few = rw append-nil few
 at_most_one name second front (r ∷ rs) e few =
     elim (cases_Bool (list_any (is_again r) (take (length front) (front ++ r ∷ rs)))) [
-      | inl h ↦ let f : Some (length front) ≡ None = rw h at e in cc
+      | inl h ↦ let f : Some r ≡ None = rw h at e in cc
       | inr h ↦
           let none : list_any (is_again r) front ≡ false =
           ap (λ (fs : List Sight). list_any (is_again r) fs) (sym (take_front front (r ∷ rs))) ∙ h in
@@ -128,69 +127,64 @@ reads_itself : (s : Sight) (second : Bool) → is_same_face second s.second ≡ 
 reads_itself s second e = and_from (is_of s.target s) (is_same_face second s.second)
     ((bytes_eq-Decides s.target s.target).1 refl) e
 
--- a test that finds no place passes nothing
-none_at : (p : Sight → Bool) (rs : List Sight) → position p rs ≡ None → list_any p rs ≡ false
-none_at p rs e = none_before (cases_lt (position_or_len p rs) (length rs)) where
-  none_before : (position_or_len p rs < length rs) ⊎ (length rs ≤ position_or_len p rs)
-      → list_any p rs ≡ false
-  none_before (inl lt) = let f : Some (position_or_len p rs) ≡ None =
-      rw (lt-ltb (position_or_len p rs) (length rs) lt) at e in cc
-  none_before (inr le) = by rs le where
-    by : (xs : List Sight) → length xs ≤ position_or_len p xs → list_any p xs ≡ false
-    by [] le = refl
-    by (x ∷ xs) le = elim (cases_Bool (p x)) [
-      | inl h ↦ let f : suc (length xs) ≤ 0 = rw h at le in absurd (omega arith)
-      | inr h ↦ let f : suc (length xs) ≤ 1 + position_or_len p xs = rw h at le in
-          rw h (by xs (omega arith))
-    ]
+-- Where no reading is alone, each has its pair.
+all_paired : (all rs : List Sight) → alone_among all rs ≡ None
+    → list_all (λ r. list_any (is_pair r) all) rs ≡ true
+all_paired all [] e = refl
+all_paired all (r ∷ rs) e = elim (cases_Bool (list_any (is_pair r) all)) [
+  | inl h ↦ and_from (list_any (is_pair r) all) (list_all (λ s. list_any (is_pair s) all) rs) h
+      (all_paired all rs (rw h at e))
+  | inr h ↦ let f : Some r ≡ None = rw h at e in cc
+]
 
-each_once : (rs : List Sight) → again_at rs ≡ None → alone_at rs ≡ None → (s : Sight)
+each_once : (rs : List Sight) → again_in rs ≡ None → alone_in rs ≡ None → (s : Sight)
     (second : Bool) → Contains rs s → length (readings_in s.target second rs) ≡ 1
 each_once rs once both s second inside =
     let most = at_most_one s.target second [] rs once (omega arith) in
     let some = some_kept (reads s.target second) rs
     (by (cases_Bool (is_same_face second s.second))) in
     omega (arith, most, some) where
-      paired : list_any (is_pair s) rs ≡ true
-      paired = true_from_ne_false (list_any (is_pair s) rs) (λ f. absurd (false≢true
-          (sym (none_at (λ r. not (list_any (is_pair r) rs)) rs both)
-          ∙ list_any_at (λ r. not (list_any (is_pair r) rs)) rs inside.0 s inside.1
-          (ap (λ (r : Sight). not (list_any (is_pair r) rs)) inside.2 ∙ ap not f))))
-
       by : (is_same_face second s.second ≡ true) ⊎ (is_same_face second s.second ≡ false)
           → list_any (reads s.target second) rs ≡ true
       by (inl h) = list_any_at (reads s.target second) rs inside.0 s inside.1
           (ap (λ (r : Sight). reads s.target second r) inside.2 ∙ reads_itself s second h)
-      by (inr h) = from_pair second s rs h paired
+      by (inr h) = from_pair second s rs h
+          (All-contains (λ (r : Sight). list_any (is_pair r) rs ≡ true) rs s
+          (AllPass-from_list_all (λ r. list_any (is_pair r) rs) rs (all_paired rs rs both)) inside)
 
-none_flawed : (t : Bool) (at : ℕ) (kind : MarkKind) → when_at t at kind ≡ None → t ≡ false
-none_flawed true at kind e = cc
-none_flawed false at kind e = refl
+-- Where a flaw comes of a test and none is there, the test fails.
+pub no_flaw : (t : Bool) (kind : MarkKind) (r : Option Sight) → flaw_when t kind r ≡ None
+    → t ≡ false
+no_flaw true kind r e = cc
+no_flaw false kind r e = refl
 
-none_mapped : (f : ℕ → Flaw) (o : Option ℕ) → option_map f o ≡ None → o ≡ None
-none_mapped f None e = refl
-none_mapped f (Some n) e = cc
-
-take_few : (rs : List Sight) (n : ℕ) → length rs ≤ n → take (suc n) rs ≡ rs
-take_few rs n le = take_all (suc n) rs (omega arith)
+none_found : (kind : MarkKind) (r : Option Sight) → flaw_found kind r ≡ None → r ≡ None
+none_found kind None e = refl
+none_found kind (Some r) e = cc
 
 -- In a set without a flaw each target is read once in each face.
 pub set_once : (first rs : List Sight) → set_flaw first rs ≡ None → ReadsEachOnce rs
 set_once first rs e =
-    let none = all_none (
-    option_map (flaw_at kinds.ReadTwice) (again_at (take (suc MOST_READINGS) rs))
-    ∷ when_at (nat_lt MOST_READINGS (length rs)) MOST_READINGS kinds.TooManyTargets
-    ∷ option_map (flaw_at kinds.FaceMissing) (alone_at rs)
-    ∷ when_at (nat_lt (length rs) 4) 0 kinds.OneTarget
-    ∷ when_at (not (are_read_alike first rs)) (length rs / 2) kinds.Order
-    ∷ when_at (not (bytes_eq (last_target first) (last_target rs))) (length rs - 1)
-    kinds.EndsElsewhere
-    ∷ []) e in
-    let again = none_mapped (flaw_at kinds.ReadTwice) (again_at (take (suc MOST_READINGS) rs)) none.0 in
+    let both = all_none (readings_flaw rs ∷ order_flaw first rs ∷ []) e in
+    let own = all_none (
+    flaw_found kinds.ReadTwice (again_in (take (suc MOST_READINGS) rs))
+    ∷ flaw_when (nat_lt MOST_READINGS (length rs)) kinds.TooManyTargets (slice_get rs MOST_READINGS)
+    ∷ flaw_found kinds.FaceMissing (alone_in rs)
+    ∷ []) both.0 in
+    let order = all_none (
+    flaw_when (nat_lt (length rs) 4) kinds.OneTarget (slice_get rs 0)
+    ∷ flaw_when (not (are_read_alike first rs)) kinds.Order (slice_get rs (length rs / 2))
+    ∷ flaw_when (not (bytes_eq (last_target first) (last_target rs))) kinds.EndsElsewhere
+    (slice_get rs (length rs - 1))
+    ∷ []) both.1.0 in
+    let again = none_found kinds.ReadTwice (again_in (take (suc MOST_READINGS) rs)) own.0 in
     let few = ltb-false MOST_READINGS (length rs)
-    (none_flawed (nat_lt MOST_READINGS (length rs)) MOST_READINGS kinds.TooManyTargets none.1.0) in
+    (no_flaw (nat_lt MOST_READINGS (length rs)) kinds.TooManyTargets (slice_get rs MOST_READINGS)
+    own.1.0) in
+    let whole : take (suc MOST_READINGS) rs ≡ rs = take_all (suc MOST_READINGS) rs (omega (arith, few)) in
     record {
-      many = ltb-false (length rs) 4 (none_flawed (nat_lt (length rs) 4) 0 kinds.OneTarget none.1.1.1.0);
-      once = each_once rs (ap (λ (xs : List Sight). again_at xs) (sym (take_few rs MOST_READINGS few)) ∙ again)
-          (none_mapped (flaw_at kinds.FaceMissing) (alone_at rs) none.1.1.0);
+      many = ltb-false (length rs) 4
+          (no_flaw (nat_lt (length rs) 4) kinds.OneTarget (slice_get rs 0) order.0);
+      once = each_once rs (ap (λ (xs : List Sight). again_in xs) (sym whole) ∙ again)
+          (none_found kinds.FaceMissing (alone_in rs) own.1.1.0);
     }

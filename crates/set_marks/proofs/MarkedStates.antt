@@ -8,7 +8,7 @@ use Rattle.station_book.specs.Blocks.{is_opening, opens_station, opens_set, clos
 use Rattle.station_book.specs.Places.{History, Place, places, passes_at, is_open, is_set, is_same, is_empty, before, opening, station, number_at, is_among}
 use Rattle.station_book.specs.Faults.{name_at, same_name, same_number, had_sets, has_set_number}
 use Rattle.station_book.proofs.places.Steps.{is_open-opening, is_open-other, readings-opening, readings-more, readings-other, same_station, sets-station, sets-more, sets-other, no_set_at_station, no_station_at_set, opens_no_station, opens_no_set}
-use Rattle.set_marks.specs.MarkedBlocks.{found_after}
+use Rattle.set_marks.specs.Found.{found_after}
 use Rattle.set_marks.proofs.CodeFaults.{MayClose, closed, close_role}
 use Rattle.set_marks.proofs.WholePairs.{AreOpenReadings}
 

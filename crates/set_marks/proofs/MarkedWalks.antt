@@ -10,7 +10,8 @@ use Rattle.station_book.specs.Places.{History, is_open}
 use Rattle.station_book.specs.Faults.{face, fault_at_end}
 use Rattle.station_book.proofs.places.Steps.{no_station_at_set}
 use Rattle.station_book.proofs.lists.Elements.{In, contains_in}
-use Rattle.set_marks.specs.MarkedBlocks.{MarkedSet, MarkedStation, blocks_of_set, blocks_of_station, marked_blocks, grown, HasWholePairs, HaveNoCode, AreMarkedSets, IsOutside, IsMarkedStation, AreMarkedStations, Found, found_in, for_readings, told_of_sets, told_of_station, told_of, HasNoFaultOfCodes}
+use Rattle.set_marks.specs.MarkedBlocks.{MarkedSet, MarkedStation, blocks_of_set, blocks_of_station, marked_blocks, grown, HasWholePairs, HaveNoCode, AreMarkedSets, IsOutside, IsMarkedStation, AreMarkedStations, for_readings, told_of_sets, told_of_station, told_of}
+use Rattle.set_marks.specs.Found.{Found, found_in, HasNoFaultOfCodes}
 use Rattle.set_marks.proofs.CodeFaults.{MayClose, closed, close_role, no_end_fault, at_station, at_close, at_set, at_reading, at_other}
 use Rattle.set_marks.proofs.Walks.{Walk, stay, onward, step_other, step_reading, code_sees_nothing, of_other, of_reading, grown_append}
 use Rattle.set_marks.proofs.WholePairs.{turned, in_rest, not_taken, may_close}

@@ -1,8 +1,8 @@
 -- The sets that are recognized, in words.
-use Rattle.std.proofs.Common.{◌≡◌, ℕ, zero, suc, ◌-◌, ◌≤◌, true, false, ◌&&◌, List, [], ◌∷◌, ◌++◌, length, take, drop, Option, Some, None, is_none, refl, sym, ap, ◌∙◌, inl, inr, subst, arith, All}
-use Rattle.std.specs.Prelude.{nat_lt}
+use Rattle.std.proofs.Common.{◌≡◌, ℕ, suc, ◌+◌, ◌-◌, ◌≤◌, true, false, ◌&&◌, List, [], ◌∷◌, ◌++◌, length, take, drop, Option, Some, None, is_none, refl, sym, ap, ◌∙◌, inl, inr, subst, arith, All}
+use Rattle.std.specs.Prelude.{nat_lt, nat_le, slice_get}
 use Rattle.std.proofs.Math.Seq.{take-add}
-use Rattle.std.proofs.lemmas.Bool.{cases_Bool, false≢true}
+use Rattle.std.proofs.lemmas.Bool.{cases_Bool, false≢true, leb-false}
 use Rattle.std.proofs.lemmas.List.{take-append-drop, append-nil, length-take, drop-drop}
 use Rattle.std.proofs.lemmas.List.Elements.{All-nil, All-cons}
 use Rattle.std.proofs.lemmas.Slice.Eq.{bytes_eq-Decides}
@@ -12,9 +12,9 @@ use Rattle.set_marks.specs.declared.fault.MarkKind.TheVariants as kinds
 use Rattle.set_marks.specs.declared.flaw.Flaw.{Flaw}
 use Rattle.set_marks.specs.declared.division.Divided.TheVariants.{NoSets, Sets}
 use Rattle.set_marks.specs.declared.sight.Sight.{Sight}
-use Rattle.set_marks.specs.Divisions.{set_flaw, sets_flaw, sets_of, parts_at, part, starts_of, starts_from, first_set, end_in, rest_flaw, flaw_of, is_division, leading_of, moved, when_at, shift_flaw, divided, divided_by, divided_unless, is_in_one_face, latest_flaw, later}
+use Rattle.set_marks.specs.Divisions.{set_flaw, sets_flaw, sets_of, parts_at, part, starts_of, starts_from, first_set, end_in, rest_flaw, flaw_of, is_division, leading_of, flaw_when, shift_flaw, divided, divided_by, divided_unless, is_in_one_face, latest_flaw, later}
 use Rattle.set_marks.specs.SetsInWords.{one_after_another, ReadsEachOnce, AreSets}
-use Rattle.set_marks.proofs.EachTargetOnce.{set_once}
+use Rattle.set_marks.proofs.EachTargetOnce.{set_once, no_flaw}
 use Rattle.set_marks.proofs.Fewest.{fewest}
 
 -- Readings up to a place, and then those from there up to a later one.
@@ -31,34 +31,32 @@ two_parts from to end rs le le2 =
 part_order : (from to : ℕ) (rs : List Sight) → 4 ≤ length (part from to rs) → from ≤ to
 part_order from to rs e = omega (arith, length-take (to - from) (drop from rs), e)
 
--- What is said of the sets that begin at these places.
-record Joined (most end from : ℕ) (starts : List ℕ) (rs : List Sight) : Type 0 where
+-- What is said of the sets that begin at these places, after so many.
+record Joined (count end from : ℕ) (starts : List ℕ) (rs : List Sight) : Type 0 where
   pub order : from ≤ end
   pub same : one_after_another (parts_at end (from ∷ starts) rs) ≡ part from end rs
   pub each : All ReadsEachOnce (parts_at end (from ∷ starts) rs)
-  pub few : length (parts_at end (from ∷ starts) rs) ≤ most
+  pub few : count + length (parts_at end (from ∷ starts) rs) ≤ MOST_SETS
 
-none_moved : (before : ℕ) (f : Option Flaw) → moved before f ≡ None → f ≡ None
-none_moved before None e = refl
-none_moved before (Some f) e = cc
-
-joined : (first : List Sight) (most end from : ℕ) (starts : List ℕ) (rs : List Sight)
-    → sets_flaw first most end (from ∷ starts) rs ≡ None → Joined most end from starts rs
-joined first zero end from starts rs e = cc
-joined first (suc most) end from [] rs e =
-    let none = all_none (moved from (set_flaw first (part from end rs)) ∷ None ∷ []) e in
-    let set = set_once first (part from end rs) (none_moved from _ none.0) in
+joined : (first : List Sight) (count end from : ℕ) (starts : List ℕ) (rs : List Sight)
+    → sets_flaw first count end (from ∷ starts) rs ≡ None → Joined count end from starts rs
+joined first count end from [] rs e =
+    let none = all_none (flaw_when (nat_le MOST_SETS count) kinds.TooManySets (slice_get rs from)
+    ∷ set_flaw first (part from end rs) ∷ None ∷ []) e in
+    let set = set_once first (part from end rs) none.1.0 in
+    let lt = leb-false MOST_SETS count
+    (no_flaw (nat_le MOST_SETS count) kinds.TooManySets (slice_get rs from) none.0) in
     record {
       order = part_order from end rs set.many;
       same = append-nil (part from end rs);
       each = All-cons ReadsEachOnce (part from end rs) [] set (All-nil ReadsEachOnce);
-      few = omega arith;
+      few = omega (arith, lt);
     }
-joined first (suc most) end from (to ∷ starts) rs e =
-    let none = all_none (moved from (set_flaw first (part from to rs))
-    ∷ sets_flaw first most end (to ∷ starts) rs ∷ []) e in
-    let set = set_once first (part from to rs) (none_moved from _ none.0) in
-    let rest = joined first most end to starts rs none.1.0 in
+joined first count end from (to ∷ starts) rs e =
+    let none = all_none (flaw_when (nat_le MOST_SETS count) kinds.TooManySets (slice_get rs from)
+    ∷ set_flaw first (part from to rs) ∷ sets_flaw first (suc count) end (to ∷ starts) rs ∷ []) e in
+    let set = set_once first (part from to rs) none.1.0 in
+    let rest = joined first (suc count) end to starts rs none.1.1.0 in
     let le = part_order from to rs set.many in
     record {
       order = let le2 = rest.order in omega arith;
@@ -90,19 +88,19 @@ rest_are leading [] e = cc
 rest_are leading (r ∷ rs) e =
     let all = r ∷ rs in
     let none = all_none (
-    sets_flaw (first_set (starts_of all) all) MOST_SETS (end_in all) (starts_of all) all
-    ∷ when_at (nat_lt 0 leading && nat_lt (length (starts_of all)) 2) 0 kinds.OneSet
-    ∷ []) (none_moved leading _ e) in
+    sets_flaw (first_set (starts_of all) all) 0 (end_in all) (starts_of all) all
+    ∷ flaw_when (nat_lt 0 leading && nat_lt (length (starts_of all)) 2) kinds.OneSet (Some r)
+    ∷ []) e in
     let starts = starts_from r.target false 1 rs in
     let at = first_start r rs in
-    let j = joined (first_set (starts_of all) all) MOST_SETS (end_in all) 0 starts all
-    (subst (λ (ps : List ℕ). sets_flaw (first_set (starts_of all) all) MOST_SETS (end_in all) ps all ≡ None)
+    let j = joined (first_set (starts_of all) all) 0 (end_in all) 0 starts all
+    (subst (λ (ps : List ℕ). sets_flaw (first_set (starts_of all) all) 0 (end_in all) ps all ≡ None)
     at none.0) in
     let same : sets_of all ≡ parts_at (end_in all) (0 ∷ starts) all =
     ap (λ (ps : List ℕ). parts_at (end_in all) ps all) at in
     record {
       some = subst (λ (sets : List (List Sight)). 1 ≤ length sets) (sym same) (omega arith);
-      few = subst (λ (sets : List (List Sight)). length sets ≤ MOST_SETS) (sym same) j.few;
+      few = subst (λ (sets : List (List Sight)). length sets ≤ MOST_SETS) (sym same) (let n = j.few in omega arith);
       each = subst (λ (sets : List (List Sight)). All ReadsEachOnce sets) (sym same) j.each;
       same = ap (λ (sets : List (List Sight)). one_after_another sets) same ∙ j.same
           ∙ whole (end_in all) all;
@@ -111,7 +109,7 @@ rest_are leading (r ∷ rs) e =
 stays_some : (a b : Option Flaw) → is_none a ≡ false → is_none (later a b) ≡ false
 stays_some None b e = cc
 stays_some (Some a) None e = refl
-stays_some (Some a) (Some b) e = elim (cases_Bool (nat_lt a.at b.at)) [
+stays_some (Some a) (Some b) e = elim (cases_Bool (nat_lt a.block b.block)) [
   | inl h ↦ rw h refl
   | inr h ↦ rw h refl
 ]

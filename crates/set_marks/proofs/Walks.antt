@@ -8,7 +8,8 @@ use Rattle.station_book.specs.Blocks.{is_opening, has_direction}
 use Rattle.station_book.specs.Places.{History}
 use Rattle.station_book.specs.Faults.{fault_after}
 use Rattle.station_book.proofs.places.Steps.{direction_opens_nothing}
-use Rattle.set_marks.specs.MarkedBlocks.{Found, grown, found_after, found_in, for_readings, HasNoFaultOfCodes}
+use Rattle.set_marks.specs.MarkedBlocks.{grown, for_readings}
+use Rattle.set_marks.specs.Found.{Found, found_after, found_in, HasNoFaultOfCodes}
 use Rattle.set_marks.proofs.CodeFaults.{Avoids}
 
 -- From one history on to another this is true, no block on the way has a fault of codes, and the

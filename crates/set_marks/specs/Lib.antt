@@ -11,7 +11,9 @@ pub mod Copies
 pub mod Unmarked
 pub mod FaultNames
 pub mod Markings
+pub mod Found
 pub mod MarkedBlocks
+pub mod MarkedFile
 -- The inside: what the code finds on the way.
 pub mod Leading
 pub mod Keeping

@@ -1,27 +1,23 @@
--- The blocks of a file with code lines, station by station and set by set, and where the book finds
--- its readings.
-use Rattle.std.specs.Prelude.{◌≡◌, ℕ, suc, Bool, true, false, ◌&&◌, ◌||◌, ◌==◌, List, [], ◌∷◌, ◌++◌}
-use Rattle.std.specs.Prelude.{length, filter, map, if◌then◌else◌, Option, Some, None, IfSome, Contains, ⊤}
+-- The blocks of a file with code lines, station by station and set by set.
+use Rattle.std.specs.Prelude.{◌≡◌, ℕ, suc, Bool, true, false, ◌&&◌, ◌||◌, List, [], ◌∷◌, ◌++◌}
+use Rattle.std.specs.Prelude.{length, filter, map, Option, Some, None, Contains, ⊤}
 use Rattle.std.specs.List.{AllByRecursion, flat_map, list_any}
 use Rattle.std.specs.Str.{bytes_eq}
 use Rattle.gsi_word.specs.Blocks.{GsiBlock}
 use Rattle.station_book.specs.declared.face.Face.{Face}
 use Rattle.station_book.specs.declared.face.Face.TheVariants.{One, Two}
-use Rattle.station_book.specs.declared.fault.BookKind.{BookKind}
-use Rattle.station_book.specs.declared.fault.BookKind.TheVariants as kinds
-use Rattle.station_book.specs.Limits.{FaceLimits}
-use Rattle.station_book.specs.Blocks.{opens_station, opens_set, closes_set, is_opening, has_direction}
-use Rattle.station_book.specs.Blocks.{has_two, named, number, target, is_of_face}
-use Rattle.station_book.specs.Places.{History, number_at, opening, station, is_open, is_among}
-use Rattle.station_book.specs.Faults.{name_at, fault_after}
+use Rattle.station_book.specs.Blocks.{opens_station, opens_set, closes_set, is_opening}
+use Rattle.station_book.specs.Blocks.{has_direction, has_two, named, number, target, is_of_face}
+use Rattle.station_book.specs.Places.{History, is_among}
+use Rattle.set_marks.specs.Found.{Found}
 
 -- a set: its block with code 20, and the blocks after that up to the next code
 pub record MarkedSet : Type 0 where
   pub code : GsiBlock
   pub blocks : List GsiBlock
 
--- A station that has sets: its name, its block with code 10, its sets, and what stands outside after
--- them, up to the next station with sets: nothing, or a block with code 30 and others.
+-- A station that has sets: its name, its block with code 10, its sets, and what stands outside
+-- after them, up to the next station with sets: nothing, or a block with code 30 and others.
 pub record MarkedStation : Type 0 where
   pub name : List ℕ
   pub code : GsiBlock
@@ -95,22 +91,7 @@ AreMarkedStations names [] = ⊤
 AreMarkedStations names (s ∷ ss) =
     IsMarkedStation names s × AreMarkedStations (names ++ s.name ∷ []) ss
 
--- where a reading is found: at the station of this name, in its set of this number
-pub record Found : Type 0 where
-  pub station : Option (List ℕ)
-  pub set : Option ℕ
-
--- where the book finds a reading that comes after these blocks; in no set where none is open
-abbrev pub found_after : History → Option Found
-found_after past = if is_open past
-    then Some (record { station = name_at (station past); set = number_at (opening past) }) else None
-
--- where the book finds each reading of a file, in the file's order
-abbrev pub found_in : History → List (Option Found)
-found_in [] = []
-found_in (b ∷ past) = found_in past ++ (if has_direction b then found_after past ∷ [] else [])
-
--- the same for each reading among these
+-- the same place for each reading among these blocks
 abbrev pub for_readings : Option Found → List GsiBlock → List (Option Found)
 for_readings f blocks = map (λ b. f) (filter has_direction blocks)
 
@@ -128,24 +109,3 @@ told_of_station s = told_of_sets s.name 1 s.sets ++ for_readings None s.outside
 -- where the readings of a file are to be found
 abbrev pub told_of : List GsiBlock → List MarkedStation → List (Option Found)
 told_of before stations = for_readings None before ++ flat_map told_of_station stations
-
--- whether a fault comes of the code lines: of where they stand, of what they say, or of what they
--- make a set
-abbrev pub is_of_codes : BookKind → Bool
-is_of_codes kinds.EmptySet = true
-is_of_codes kinds.OneFace = true
-is_of_codes (kinds.WordTwice index) = index == 42
-is_of_codes kinds.StationName = true
-is_of_codes kinds.SetOutside = true
-is_of_codes kinds.SetNumber = true
-is_of_codes kinds.StationTwice = true
-is_of_codes kinds.SetTwice = true
-is_of_codes kinds.FaceTwice = true
-is_of_codes kind = false
-
--- No block of a file has such a fault.
-abbrev pub HasNoFaultOfCodes : FaceLimits → History → Type 0
-HasNoFaultOfCodes limits [] = ⊤
-HasNoFaultOfCodes limits (b ∷ past) =
-    IfSome (fault_after limits past b) (λ kind. is_of_codes kind ≡ false)
-    × HasNoFaultOfCodes limits past

@@ -1,6 +1,6 @@
 -- The sets of a station in words.
-use Rattle.std.specs.Prelude.{◌≡◌, ◌≤◌, ℕ, Bool, ◌&&◌, List, ◌++◌, length, take, drop, filter, Contains}
-use Rattle.std.specs.Prelude.{All}
+use Rattle.std.specs.Prelude.{◌≡◌, ◌≤◌, ℕ, Bool, ◌&&◌, List, ◌++◌, length, take, drop, filter}
+use Rattle.std.specs.Prelude.{Contains, All}
 use Rattle.std.specs.List.{flat_map}
 use Rattle.set_marks.specs.declared.bounds.TheConstants.{MOST_SETS}
 use Rattle.set_marks.specs.declared.sight.Sight.{Sight}

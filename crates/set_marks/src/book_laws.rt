@@ -4,8 +4,9 @@ ghost use Rattle.std.specs.Prelude.{◌≡◌, List, None, []};
 ghost use Rattle.gsi_word.specs.Blocks.{GsiBlock};
 ghost use Rattle.station_book.specs.Limits.{FaceLimits};
 ghost use Rattle.station_book.specs.Faults.{fault_at_end};
-ghost use Rattle.set_marks.specs.MarkedBlocks.{MarkedStation, marked_blocks, grown, found_in, told_of};
-ghost use Rattle.set_marks.specs.MarkedBlocks.{AreMarkedStations, HaveNoCode, HasNoFaultOfCodes};
+ghost use Rattle.set_marks.specs.Found.{found_in, HasNoFaultOfCodes};
+ghost use Rattle.set_marks.specs.MarkedBlocks.{MarkedStation, marked_blocks, grown, told_of};
+ghost use Rattle.set_marks.specs.MarkedBlocks.{AreMarkedStations, HaveNoCode};
 
 /// In blocks that are marked station by station and set by set the book finds each reading at the
 /// station and in the set in which it stands, and those outside in none; no block, and not the end,

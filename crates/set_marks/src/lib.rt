@@ -9,6 +9,7 @@ pub mod copy_laws;
 mod division;
 pub mod division_laws;
 mod fault;
+pub mod file_laws;
 mod flaw;
 pub mod laws;
 mod line_end;
