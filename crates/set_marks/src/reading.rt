@@ -1,10 +1,12 @@
 //! How the blocks of a field file are read.
 
-ghost use Rattle.std.specs.Prelude.{◌≡◌, ◌≤◌, ◌++◌, ◌∷◌, [], IfErr, IfOk, IfNone, IfSome, OnOk, None, length, not, nat_lt, ◌&&◌};
+ghost use Rattle.std.specs.Prelude.{◌≡◌, ◌≤◌, ◌++◌, ◌∷◌, [], IfErr, IfOk, IfNone, IfSome, OnOk, None, Some, length, not, nat_lt, ◌&&◌};
 ghost use Rattle.station_book.specs.declared.bounds.TheConstants.{CIRCLE, HALF_CIRCLE};
 ghost use Rattle.gsi_word.specs.BlockViews.{block_of};
 ghost use Rattle.gsi_file.specs.FileAnswers.{file_answers};
-ghost use Rattle.gsi_file.specs.Standing.{to_come};
+ghost use Rattle.byte_ends.specs.Came.{BytesCame};
+ghost use Rattle.byte_ends.specs.Source.{Told, reader_change};
+ghost use Rattle.gsi_file.specs.Standing.{gives, reader_of, to_come};
 ghost use Rattle.gsi_file.specs.declared.bounds.TheConstants.{LONGEST_FILE};
 ghost use Rattle.set_marks.specs.declared.fault.MarkFault.TheVariants.{Memory};
 ghost use Rattle.station_book.specs.Blocks.{lacks, role_of};
@@ -247,9 +249,11 @@ fn read_lines<R: Source>(
     lines: &mut Lines<R>,
     station: Option<Name>,
 ) -> Result<Readings, MarkFault>
-    requires { (to_come R.told lines.old).number ≡ 0 }
-    ensures { IfSome (to_come R.told lines.old).answers
-        (λ file. AnswersReadings station file result) }
+    requires { (told : Told) → to_come (gives told) lines.old
+        ≡ record { number = 0; answers = Some (file_answers told) } }
+    ensures { BytesCame
+        (reader_change R.told R.failed R.gave (reader_of lines.old) (reader_of lines.new))
+        (λ came. AnswersReadings station (file_answers came) result) }
 {
     let mut readings = Readings::new(alloc, station)?;
     let mut fault = None;

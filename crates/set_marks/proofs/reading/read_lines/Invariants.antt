@@ -1,13 +1,15 @@
-use Rattle.std.proofs.Common.{◌≡◌, Some}
-use Rattle.gsi_file.specs.FileAnswers.{FileAnswers}
-use Rattle.gsi_file.specs.Standing.{to_come, bytes_left}
+use Rattle.byte_ends.specs.Source.{Through, reader_change}
+use Rattle.gsi_file.specs.FileAnswers.{file_answers}
+use Rattle.gsi_file.specs.Standing.{gives, reader_of, to_come, bytes_left}
 use Rattle.set_marks.proofs.Taking.{AreTaken}
 use Rattle.set_marks.proofs.reading.read_lines.Given as goal
 
 abbrev pub invariant-lines : goal.invariant-lines
-invariant-lines g l = (first : FileAnswers)
-    → (to_come g.R.Source.told l.fn.lines).answers ≡ Some first
-    → AreTaken l.station first (to_come g.R.Source.told l.lines) l.readings l.fault
+invariant-lines g l = Through
+    (reader_change g.R.Source.told g.R.Source.failed g.R.Source.gave (reader_of l.fn.lines)
+    (reader_of l.lines))
+    (λ before after. AreTaken l.station (file_answers before) (to_come (gives after) l.lines)
+    l.readings l.fault)
 
 abbrev pub decreases-lines : goal.decreases-lines
 decreases-lines g l = bytes_left l.lines
