@@ -1,11 +1,11 @@
 #!/usr/bin/env python3
 """Measures station_check beside a plain Rust program of the same job, and beside `cat`.
 
-It makes field files (16 KB, 400 KB and 16 MB of stations of 10 and of 100 targets), builds
-plain.rs with `rustc -O` into a temporary folder, compares what both programs print byte for byte,
-and measures each command on each file:
+It makes field files of the shapes that users have, builds plain.rs into a temporary folder, compares
+what both programs print byte for byte, and measures each command on each file:
 
   time           the least of several runs; all programs take turns, in one run of this script
+  memory         the most that a run held, and how many of its pages were brought in
   instructions   a byte of the field file, less those of the same command on empty files, counted by valgrind
 
 Instructions are the figure to keep: times depend on the machine and on what else it does.
@@ -23,6 +23,7 @@ import subprocess
 import sys
 import tempfile
 import time
+from dataclasses import dataclass
 from pathlib import Path
 
 ROOT = Path(__file__).resolve().parent.parent
@@ -30,59 +31,125 @@ PROGRAM = ROOT / "build/station_check"
 CIRCLE = 40_000_000
 HALF = CIRCLE // 2
 
-# Of each file: its name, and its numbers of stations, of sets of each, and of targets of each set.
-FILES = (
-    ("16 KB", 1, 16, 10),
-    ("400 KB", 10, 40, 10),
-    ("16 MB", 400, 40, 10),
-    ("10 KB", 1, 1, 100),
-    ("400 KB", 1, 40, 100),
-    ("16 MB", 41, 40, 100),
+# How rustc builds the plain program: the fastest way that was found.
+RUSTC = ["-C", "opt-level=3", "-C", "lto=fat", "-C", "codegen-units=1", "-C", "panic=abort"]
+
+
+@dataclass(frozen=True)
+class Shape:
+    """A field file: its stations, the sets of each, the targets of each set, and how its lines are
+    written. `gaps` is the share of readings that are left out after the first set; `parts` are
+    sessions of equal numbers of sets and targets, each of which has one target of the one before."""
+
+    title: str
+    stations: int
+    sets: int
+    targets: int
+    gaps: float = 0
+    parts: int = 1
+    width: int = 8
+    end: str = "\r\n"
+    distances: bool = False
+    shuffled: bool = False
+
+    def name(self):
+        more = [
+            f"{self.targets} targets",
+            *(["GSI-16"] if self.width == 16 else []),
+            *(["LF"] if self.end == "\n" else []),
+            *(["words 31, 51, 87"] if self.distances else []),
+            *(["shuffled"] if self.shuffled else []),
+        ]
+        return f"{self.title}, {', '.join(more)}"
+
+
+SHAPES = (
+    Shape("16 KB", 1, 16, 10),
+    Shape("400 KB", 10, 40, 10),
+    Shape("16 MB", 400, 40, 10),
+    Shape("10 KB", 1, 1, 100),
+    Shape("400 KB", 1, 40, 100),
+    Shape("16 MB", 41, 40, 100),
+    Shape("400 KB", 10, 40, 10, end="\n"),
+    Shape("800 KB", 10, 40, 10, distances=True),
+    Shape("600 KB", 10, 40, 10, width=16),
+    Shape("600 KB", 1, 40, 100, width=16, end="\n"),
+    Shape("1.2 MB", 10, 40, 10, width=16, distances=True),
+    Shape("400 KB", 1, 40, 100, shuffled=True),
+    Shape("700 KB, 1,000 stations of 2 sets", 1000, 2, 3),
+    Shape("2 MB, 1,000 stations of 4 sets", 1000, 4, 5),
+    Shape("200 KB, 1,000 stations of 1 set", 1000, 1, 1),
 )
 
-# The files of `directions` and `compare`: each has such numbers, the share of readings that are left
-# out, and its mark: at most so many times the time of `means`, or so many milliseconds.
+# The files of `directions` and `compare`, and the mark of each: at most so many times the time of
+# `means`, or so many milliseconds.
 TIMES_MEANS, MILLISECONDS = "times means", "ms"
 STATED = (
-    ("400 KB", 10, 40, 10, 0, (1.1, TIMES_MEANS)),
-    ("16 MB", 400, 40, 10, 0, (1.1, TIMES_MEANS)),
-    ("400 KB", 1, 40, 100, 0, (50, MILLISECONDS)),
-    ("280 KB with gaps", 1, 40, 100, 0.3, (50, MILLISECONDS)),
+    (Shape("4 KB", 1, 4, 10), (1.1, TIMES_MEANS)),
+    (Shape("400 KB", 10, 40, 10), (1.1, TIMES_MEANS)),
+    (Shape("16 MB", 400, 40, 10), (1.1, TIMES_MEANS)),
+    (Shape("400 KB", 1, 40, 100), (50, MILLISECONDS)),
+    (Shape("280 KB with gaps", 1, 40, 100, gaps=0.3), (50, MILLISECONDS)),
+    (Shape("two sessions with one target in common", 1, 40, 100, parts=2), (50, MILLISECONDS)),
+    (Shape("ten sessions in a row", 1, 40, 100, parts=10), (50, MILLISECONDS)),
 )
 
 # Files that are larger than this many bytes are counted only where it is asked for.
 COUNTED = 1_000_000
 
 
-def reading(number, target, hz, v):
-    return f"11{number % 10000:04}+{target:0>8} 21.102+{hz % CIRCLE:08} 22.102+{v:08}\r\n"
+def word(shape, index, info, value):
+    return f"{index}{info}{value:0>{shape.width}} "
 
 
-def code(number, value, info=None):
-    word = "" if info is None else f" 42....+{info:0>8}"
-    return f"41{number % 10000:04}+{value:08}{word}\r\n"
+def line(shape, *words):
+    """The line of these words, in the width and with the end of the file's lines."""
+    text = "".join(words).rstrip()
+    return f"{'*' if shape.width == 16 else ''}{text}{shape.end}"
 
 
-def field_file(stations, sets, targets, gaps=0):
-    """The text of stations with small errors in every reading; of the readings of all sets but the
-    first so many are left out."""
+def reading(shape, number, target, hz, v):
+    angles = word(shape, "21", ".102+", hz % CIRCLE), word(shape, "22", ".102+", v)
+    more = [("31", "..00+", 45678 + number), ("51", "....+", "0010+000"), ("87", "..10+", 1500)]
+    extra = [word(shape, *one) for one in more] if shape.distances else []
+    return line(shape, word(shape, "11", f"{number % 10000:04}+", target), *angles, *extra)
+
+
+def code(shape, number, value, info=None):
+    words = [word(shape, "41", f"{number % 10000:04}+", value)]
+    return line(shape, *words, *([] if info is None else [word(shape, "42", "....+", info)]))
+
+
+def sights_of(shape, draw, number, sights):
+    """What is read in the set of this number, from 1: all, or those of its session, less gaps."""
+    session = (number - 1) * shape.parts // shape.sets
+    size = len(sights) // shape.parts
+    first = max(0, session * size - 1)
+    seen = sights[first:] if session == shape.parts - 1 else sights[first : (session + 1) * size]
+    if shape.gaps and number > 1:
+        seen = [one for one in seen if draw.random() >= shape.gaps]
+    return draw.sample(seen, len(seen)) if shape.shuffled else seen
+
+
+def field_file(shape):
+    """The text of stations with small errors in every reading."""
     draw = random.Random(1)
     lines = []
-    for station in range(1, stations + 1):
-        lines.append(code(len(lines) + 1, 10, f"S{station}"))
-        names = [f"P{target}" for target in range(1, targets + 1)]
+    for station in range(1, shape.stations + 1):
+        lines.append(code(shape, len(lines) + 1, 10, f"S{station}"))
+        names = [f"P{target}" for target in range(1, shape.targets + 1)]
         sights = [(name, draw.randrange(CIRCLE), draw.randrange(9_000_000, 11_000_000)) for name in names]
-        for number in range(1, sets + 1):
-            lines.append(code(len(lines) + 1, 20, number))
+        for number in range(1, shape.sets + 1):
+            lines.append(code(shape, len(lines) + 1, 20, number))
             begin = draw.randrange(CIRCLE)
-            seen = sights if number == 1 or gaps == 0 else [one for one in sights if draw.random() >= gaps]
+            seen = sights_of(shape, draw, number, sights)
             for name, hz, v in seen:
                 error = draw.randrange(-50, 51)
-                lines.append(reading(len(lines) + 1, name, hz - begin + error, v))
+                lines.append(reading(shape, len(lines) + 1, name, hz - begin + error, v))
             for name, hz, v in reversed(seen):
                 error = draw.randrange(-50, 51)
-                lines.append(reading(len(lines) + 1, name, hz - begin + HALF + error, CIRCLE - v + error))
-    lines.append(code(len(lines) + 1, 30))
+                lines.append(reading(shape, len(lines) + 1, name, hz - begin + HALF + error, CIRCLE - v + error))
+    lines.append(code(shape, len(lines) + 1, 30))
     return "".join(lines)
 
 
@@ -92,7 +159,7 @@ def build_plain(folder):
         return None
     program = folder / "plain"
     source = Path(__file__).with_name("plain.rs")
-    subprocess.run(["rustc", "--edition", "2021", "-O", "-o", program, source], check=True)
+    subprocess.run(["rustc", "--edition", "2021", *RUSTC, "-o", program, source], check=True)
     return program
 
 
@@ -121,6 +188,15 @@ def least_times(commands, runs):
     return [min(of_one) for of_one in times]
 
 
+def memory(command, folder):
+    """The most memory that a run of a command held, in KB, and how many pages were brought in. A
+    small program has to start it: the kernel counts what its parent held, too."""
+    log = folder / "time.log"
+    run(["time", "--format=%M %R %F", f"--output={log}", *command])
+    most, *pages = map(int, log.read_text().split())
+    return most, sum(pages)
+
+
 def instructions(command, folder, statuses=(0,)):
     """How many instructions a command runs."""
     log = folder / "valgrind.log"
@@ -137,6 +213,7 @@ class Bench:
         self.folder = folder
         self.options = options
         self.can_count = shutil.which("valgrind") is not None
+        self.can_weigh = shutil.which("time") is not None
         self.empty = folder / "empty"
         self.empty.touch()
         self.starts = {}
@@ -166,6 +243,9 @@ class Bench:
         size = words[1].stat().st_size
         commands = self.commands(words)
         row = [words[0], name, *figures(least_times(commands, self.options.runs), 2)]
+        if self.can_weigh:
+            held = [memory(command, self.folder) for command in commands[:-1]]
+            row += [*(f"{most:,}" for most, _ in held), *(f"{pages:,}" for _, pages in held)]
         if self.can_count:
             counts = []
             if self.options.instructions or size <= COUNTED:
@@ -179,6 +259,8 @@ class Bench:
         names = list(self.programs)
         ratios = [f"of {name}" for name in names[1:]]
         header = ["command", "file", *(f"{name}, ms" for name in names), "cat, ms", *ratios]
+        if self.can_weigh:
+            header += [f"{name}, {what}" for what in ("KB", "pages") for name in names]
         if self.can_count:
             header += [*(f"{name}, a byte" for name in names), "cat, a byte", *ratios]
         return header
@@ -197,36 +279,36 @@ def show(row):
 def measure(bench):
     show(bench.header())
     show(["---"] * len(bench.header()))
-    for title, stations, sets, targets in FILES:
-        name = f"{title}, {targets} targets"
-        gsi = bench.folder / f"{title.replace(' ', '')}_{targets}.gsi"
-        gsi.write_text(field_file(stations, sets, targets), newline="")
+    for number, shape in enumerate(SHAPES):
+        gsi = bench.folder / f"{number}.gsi"
+        gsi.write_text(field_file(shape), newline="")
         sheet = gsi.with_suffix(".csv")
-        means = ["means", gsi, f"S{stations}"]
+        means = ["means", gsi, f"S{shape.stations}"]
         sheet.write_bytes(bench.compare(means))
         for words in (["words", gsi], ["list", gsi], means, ["check", gsi, sheet]):
             if words[0] in bench.options.commands:
                 bench.compare(words)
-                show(bench.row(name, words))
+                show(bench.row(shape.name(), words))
 
 
 def measure_stated(folder, runs):
     """The times of `directions` and `compare`, beside `means` where sets are complete."""
     show(["file", "means, ms", "directions, ms", "compare, ms", "mark", "kept"])
     show(["---"] * 6)
-    for title, stations, sets, targets, gaps, (most, of) in STATED:
+    for shape, (most, of) in STATED:
         gsi, table = folder / "stated.gsi", folder / "stated.csv"
-        gsi.write_text(field_file(stations, sets, targets, gaps), newline="")
-        station = f"S{stations}"
+        gsi.write_text(field_file(shape), newline="")
+        station = f"S{shape.stations}"
         directions = [PROGRAM, "directions", gsi, station]
         table.write_bytes(printed(directions))
         commands = [directions, [PROGRAM, "compare", gsi, station, table]]
-        means = [] if gaps else [[PROGRAM, "means", gsi, station]]
+        is_complete = shape.gaps == 0 and shape.parts == 1
+        means = [[PROGRAM, "means", gsi, station]] if is_complete else []
         *of_means, stated, compared = least_times([*means, *commands], runs)
         limit = most * of_means[0] if of == TIMES_MEANS else most
         kept = "yes" if max(stated, compared) <= limit else "no"
         times = [f"{of_means[0]:.2f}" if means else "", f"{stated:.2f}", f"{compared:.2f}"]
-        show([f"{title}, {targets} targets", *times, f"{most} {of}", kept])
+        show([shape.name(), *times, f"{most} {of}", kept])
 
 
 def named_program(text):
@@ -257,6 +339,8 @@ def main():
         bench = Bench(programs, folder, options)
         if not bench.can_count:
             print("valgrind isn't found: no instructions are counted")
+        if not bench.can_weigh:
+            print("GNU time isn't found: no memory is measured")
         if set(options.commands) & {"words", "list", "means", "check"}:
             measure(bench)
         if set(options.commands) & {"directions", "compare"}:
