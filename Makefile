@@ -27,16 +27,16 @@ DOCUMENT_FOLDER := share/doc/station_check
 # Where `make dist` puts what it makes.
 DIST ?= build/dist
 
-# The crates that the program is made of, lowest first, as crates.txt lists them: no tests, and not
-# that of the page.
-CRATES := $(filter-out %_tests station_page, \
-  $(shell sed -n 's/^\([a-z_]*\)[ :].*/\1/p' crates.txt))
-
-# The crates of the program that each of them stands on, directly and however far.
-$(foreach crate,$(CRATES),$(eval below_$(crate) := $(filter $(CRATES), \
+# The crates of the repository, lowest first, as crates.txt lists them, without the tests; and those
+# that each of them stands on, directly and however far.
+EVERY := $(filter-out %_tests,$(shell sed -n 's/^\([a-z_]*\)[ :].*/\1/p' crates.txt))
+$(foreach crate,$(EVERY),$(eval below_$(crate) := $(filter $(EVERY), \
   $(shell sed -n 's/^$(crate):\(.*\)/\1/p' crates.txt))))
-$(foreach crate,$(CRATES),$(eval under_$(crate) := \
+$(foreach crate,$(EVERY),$(eval under_$(crate) := \
   $(sort $(below_$(crate)) $(foreach low,$(below_$(crate)),$(under_$(low))))))
+
+# The crates that the program is made of, lowest first.
+CRATES := $(filter $(under_$(PROGRAM_CRATE)) $(PROGRAM_CRATE),$(EVERY))
 
 # A file for each crate that is proved as its sources are now.
 PROVED := build/proved

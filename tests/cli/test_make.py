@@ -16,6 +16,7 @@ CRATES = {
     "middle": ["low", "other_low"],
     "station_compare": ["middle"],
     "station_explain": ["low"],
+    "not_of_the_program": ["low"],
     "station_page staticlib": ["station_compare"],
     "station_program": ["station_compare", "station_explain", "clap"],
 }
