@@ -23,6 +23,31 @@ fn largest(rt: &impl Abort) -> Wide {
     wide(rt, &[0xffff_ffff; 26])
 }
 
+/// The product, where it fits.
+fn product(rt: &impl Abort, number: &Wide, factor: u64) -> Wide {
+    let sum = number.checked_mul_add(factor, 0);
+    let _fits = sum.expect(rt, "a product that fits");
+    number.times(factor)
+}
+
+/// The difference, where it is none below 0.
+fn difference(rt: &impl Abort, number: &Wide, by: &Wide) -> Wide {
+    assert!(rt; !number.is_below(by));
+    let mut rest = product(rt, number, 1);
+    assert!(rt; !rest.is_below(by));
+    rest.subtract(by);
+    rest
+}
+
+/// How many times the unit goes into the number, below this bound.
+fn times_in(rt: &impl Abort, number: &Wide, unit: &Wide, bound: u64) -> u64 {
+    let most = unit
+        .checked_mul_add(bound, 0)
+        .expect(rt, "a bound that fits");
+    assert!(rt; number.is_below(&most));
+    quotient(number, unit, bound)
+}
+
 #[test]
 fn products_carry_from_word_to_word(rt: HostRuntime) -> Result<(), Fail> {
     // The powers of 2^64 - 1 from the first to the fifth.
@@ -43,14 +68,14 @@ fn products_carry_from_word_to_word(rt: HostRuntime) -> Result<(), Fail> {
     ];
     let mut power = Wide::new(1);
     for digits in powers {
-        power = power.times(LARGEST);
+        power = product(&rt, &power, LARGEST);
         assert!(rt; power.is_same(&wide(&rt, digits)));
     }
-    let mut sum = Wide::new(LARGEST);
-    sum.add_product(&Wide::new(LARGEST), LARGEST);
+    let sum = Wide::new(LARGEST).checked_mul_add(LARGEST, LARGEST);
+    let sum = sum.expect(&rt, "a number that fits");
     // (2^64 - 1) * 2^64.
     assert!(rt; sum.is_same(&wide(&rt, &[0xffffffff, 0xffffffff, 0x00000000, 0x00000000])));
-    sum.add_product(&sum.times(1), LARGEST);
+    let sum = product(&rt, &product(&rt, &sum, 1 << 32), 1 << 32);
     assert!(rt;
         sum.is_same(&wide(
             &rt,
@@ -98,8 +123,7 @@ fn what_does_not_fit_is_refused(rt: HostRuntime) -> Result<(), Fail> {
 
 #[test]
 fn differences_borrow_from_word_to_word(rt: HostRuntime) -> Result<(), Fail> {
-    let mut rest = largest(&rt);
-    rest.subtract(&Wide::new(LARGEST));
+    let rest = difference(&rt, &largest(&rt), &Wide::new(LARGEST));
     assert!(rt;
         rest.is_same(&wide(
             &rt,
@@ -112,7 +136,7 @@ fn differences_borrow_from_word_to_word(rt: HostRuntime) -> Result<(), Fail> {
         ))
     );
     // 2^768 less 1.
-    let mut power = wide(
+    let power = wide(
         &rt,
         &[
             0x00000001, 0x00000000, 0x00000000, 0x00000000, 0x00000000, 0x00000000, 0x00000000,
@@ -121,10 +145,9 @@ fn differences_borrow_from_word_to_word(rt: HostRuntime) -> Result<(), Fail> {
             0x00000000, 0x00000000, 0x00000000, 0x00000000,
         ],
     );
-    power.subtract(&Wide::new(1));
+    let power = difference(&rt, &power, &Wide::new(1));
     assert!(rt; power.is_same(&wide(&rt, &[0xffff_ffff; 24])));
-    let mut none = largest(&rt);
-    none.subtract(&largest(&rt));
+    let none = difference(&rt, &largest(&rt), &largest(&rt));
     assert!(rt; none.is_same(&Wide::zero()));
     Ok(())
 }
@@ -164,7 +187,7 @@ fn the_highest_words_that_differ_decide(rt: HostRuntime) -> Result<(), Fail> {
 
 #[test]
 fn quotients_are_cut(rt: HostRuntime) -> Result<(), Fail> {
-    let unit = Wide::new(LARGEST).times(LARGEST);
+    let unit = product(&rt, &Wide::new(LARGEST), LARGEST);
     for (times, more, expected) in [
         (0, 0, 0),
         (0, LARGEST, 0),
@@ -172,15 +195,13 @@ fn quotients_are_cut(rt: HostRuntime) -> Result<(), Fail> {
         (5, 1, 5),
         (999, 9, 999),
     ] {
-        let mut number = unit.times(times);
-        number.add_product(&Wide::new(more), 1);
-        assert_eq!(rt; quotient(&number, &unit, 1_000), expected);
+        let number = unit.checked_mul_add(times, more).expect(&rt, "a number");
+        assert_eq!(rt; times_in(&rt, &number, &unit, 1_000), expected);
     }
-    let mut below = unit.times(7);
-    below.subtract(&Wide::new(1));
-    assert_eq!(rt; quotient(&below, &unit, 7), 6);
+    let below = difference(&rt, &product(&rt, &unit, 7), &Wide::new(1));
+    assert_eq!(rt; times_in(&rt, &below, &unit, 7), 6);
     assert_eq!(rt;
-        quotient(&Wide::new(LARGEST), &Wide::new(2), LARGEST),
+        times_in(&rt, &Wide::new(LARGEST), &Wide::new(2), LARGEST),
         LARGEST / 2
     );
     Ok(())
