@@ -8,7 +8,7 @@ import shutil
 import unittest
 from typing import NamedTuple
 
-from program import EXAMPLE, EXAMPLE_SHEET, SWEEP, ProgramTest, answer_of, side_by_side
+from program import EXAMPLE, EXAMPLE_SHEET, ROOT, SWEEP, ProgramTest, answer_of, side_by_side
 from worked import ACCEPTED, LIST, SHEET, STATION, TABLE, edited, refused
 
 # How many command lines of each command are run beside those that change one option, where not all
@@ -105,6 +105,14 @@ def changes_one(line, options):
 
 
 class EdgeTest(ProgramTest):
+    def test_what_no_contract_says_stands_on_the_first_page(self):
+        sources = ROOT / "crates" / "station_program" / "src"
+        main = (sources / "main.rt").read_text().partition("\nfn main(")[2].partition("\n}\n")[0]
+        host = (sources / "host.rt").read_text().partition("\nimpl Host for HostRuntime {")[2]
+        page = (ROOT / "README.md").read_text()
+        for code in [f"```rust\nfn main({main}\n}}\n", f"\nimpl Host for HostRuntime {{{host}```\n"]:
+            self.assertIn(code, page)
+
     def assert_answers(self, runs):
         """The answer of each run of a list of command lines and what they answer."""
         answers = side_by_side(answer_of, [args for args, _ in runs])

@@ -1,96 +1,89 @@
 -- How a request is answered: its files are opened, and its own run is made over them.
-use Rattle.std.specs.Prelude.{◌≡◌, ◌⊎◌, ◌≤◌, ℕ, Bool, false, List, Option, None, option_map, ⊤}
+use Rattle.std.specs.Prelude.{◌≡◌, ◌⊎◌, ◌≤◌, ℕ, true, List, Option, option_map, ⊤}
 use Rattle.std.specs.Borrow.{Bor}
-use Rattle.byte_ends.specs.declared.of_read.OfRead.{OfRead}
-use Rattle.byte_ends.specs.declared.of_write.OfWrite.{OfWrite}
-use Rattle.byte_ends.specs.OfRead.{read_told, read_failed}
-use Rattle.byte_ends.specs.OfWrite.{has_failed, is_handed_on}
+use Rattle.byte_ends.specs.Sink.{WriterChange}
 use Rattle.byte_ends.specs.Source.{Told}
-use Rattle.clap.specs.Words.{kind_of, Text}
+use Rattle.clap.specs.Words.{Text}
 use Rattle.clap.specs.declared.error.Error.{Error}
 use Rattle.clap.specs.declared.error.kind.ErrorKind.{ErrorKind}
 use Rattle.clap.specs.declared.error.kind.ErrorKind.TheVariants.{DisplayHelp, DisplayVersion}
 use Rattle.clap.specs.declared.error.kind.ErrorKind.TheVariants.{OutOfMemory}
-use Rattle.station_check.specs.RunEndings.{EndsWith}
+use Rattle.station_check.specs.RunEndings.{Run, WritesOrFails}
 use Rattle.station_check.specs.Runs.{IsCheckRun, IsListRun, IsMeansRun, IsWordsRun}
 use Rattle.station_check.specs.VerdictLines.{refusal_line}
+use Rattle.station_check.specs.declared.fault.Fault.TheVariants.{Memory}
 use Rattle.station_compare.specs.FaultTexts.{refusal_line as compare_refusal_line}
 use Rattle.station_compare.specs.Runs.{IsCompareRun, IsDirectionsRun}
 use Rattle.station_explain.specs.Explaining.{IsExplainRun}
 use Rattle.station_explain.specs.declared.explanations.Explanation.{Explanation}
 use Rattle.station_program.specs.CommandLine.{Asked, IsAskedForBy, IsMistakeIn}
+use Rattle.station_program.specs.Hosts.{Known, Readers, IsAsKnown, IsUnread, IsTakenIn}
+use Rattle.station_program.specs.Hosts.{change_of}
+use Rattle.station_program.specs.Unopened.{unopened_line}
 use Rattle.station_program.specs.declared.command_line.Request.{Request}
 use Rattle.station_program.specs.declared.command_line.Request.TheVariants as request
+use Rattle.station_program.specs.declared.host.NoWords.{NoWords}
+use Rattle.station_program.specs.declared.host.NoWords.TheVariants as no_words
+use Rattle.station_program.specs.declared.run.TheConstants.{NOT_TEXT}
 
 -- A request whose files are open was answered with this exit status: by a run of its own kind, over
--- its own files, or over this input where it names none, with its limits, its residual limit, its
--- station, its decimals, its nearness or its fault; and this is what the run made of the two sinks.
-abbrev pub IsRun : {R W E : Type 0} → List (Bor (List Explanation))
-    → (R → Option Told) → (R → Bool) → Option Told
-    → (W → Bool) → (W → Option (List ℕ)) → (W → Bool) → W → W
-    → (E → Bool) → (E → Option (List ℕ)) → E → E → Request R → ℕ → Type 0
-IsRun {R} faults told read_failed input failed holds handed_on out out' err_failed err_holds err
-    err'
-    (request.Check gsi sheet limits residual) status =
-    (sheet' : R) × EndsWith {A = ⊤} refusal_line (IsCheckRun limits residual (told gsi)
-    told read_failed sheet sheet' failed holds handed_on out out')
-    status err_failed err_holds err err'
-IsRun faults told read_failed input failed holds handed_on out out' err_failed err_holds err err'
-    (request.Means gsi station limits) status =
-    EndsWith {A = ⊤} refusal_line (IsMeansRun limits (told gsi) station.now
-    failed holds handed_on out out') status err_failed err_holds err err'
-IsRun faults told read_failed input failed holds handed_on out out' err_failed err_holds err err'
-    (request.Directions gsi station limits decimals) status =
-    EndsWith {A = ⊤} compare_refusal_line (IsDirectionsRun limits (told gsi) station.now
-    decimals failed holds handed_on out out') status err_failed err_holds err err'
-IsRun {R} faults told read_failed input failed holds handed_on out out' err_failed err_holds err
-    err'
-    (request.Compare gsi station table limits within) status =
-    (table' : R)
-    × EndsWith {A = ⊤} compare_refusal_line (IsCompareRun limits within (told gsi)
-    told read_failed table table' station.now failed holds handed_on out out')
-    status err_failed err_holds err err'
-IsRun faults told read_failed input failed holds handed_on out out' err_failed err_holds err err'
-    (request.List gsi limits) status =
-    EndsWith {A = ⊤} refusal_line (IsListRun limits (told gsi)
-    failed holds handed_on out out') status err_failed err_holds err err'
-IsRun faults told read_failed input failed holds handed_on out out' err_failed err_holds err err'
-    (request.Words gsi) status =
-    EndsWith refusal_line (IsWordsRun (told gsi)
-    failed holds handed_on out out') status err_failed err_holds err err'
-IsRun faults told read_failed input failed holds handed_on out out' err_failed err_holds err err'
-    request.WordsOfInput status =
-    EndsWith refusal_line (IsWordsRun input
-    failed holds handed_on out out') status err_failed err_holds err err'
-IsRun faults told read_failed input failed holds handed_on out out' err_failed err_holds err err'
-    (request.Explain fault) status =
-    EndsWith {A = ⊤} refusal_line (IsExplainRun faults (option_map (λ e. e.now) fault)
-    failed holds handed_on out out') status err_failed err_holds err err'
+-- its own files, or over standard input where it names none, with its limits, its residual limit,
+-- its station, its decimals, its nearness or its fault; and this is what the run made of the two
+-- sinks.
+abbrev pub IsRun : {F I : Type 0} → Readers F → Readers I → I → List (Bor (List Explanation))
+    → WriterChange → WriterChange → Request F → ℕ → Type 0
+IsRun {F} files inputs input faults out err (request.Check gsi sheet limits residual) status =
+    (sheet' : F) × IsTakenIn files gsi (λ gsi. Run {A = ⊤} refusal_line
+    (IsCheckRun limits residual gsi (change_of files sheet sheet')) status out err)
+IsRun files inputs input faults out err (request.Means gsi station limits) status =
+    IsTakenIn files gsi (λ gsi. Run {A = ⊤} refusal_line
+    (IsMeansRun limits gsi station.now) status out err)
+IsRun files inputs input faults out err (request.Directions gsi station limits decimals) status =
+    IsTakenIn files gsi (λ gsi. Run {A = ⊤} compare_refusal_line
+    (IsDirectionsRun limits gsi station.now decimals) status out err)
+IsRun {F} files inputs input faults out err (request.Compare gsi station table limits within)
+    status =
+    (table' : F) × IsTakenIn files gsi (λ gsi. Run {A = ⊤} compare_refusal_line
+    (IsCompareRun limits within gsi (change_of files table table') station.now) status out err)
+IsRun files inputs input faults out err (request.List gsi limits) status =
+    IsTakenIn files gsi (λ gsi. Run {A = ⊤} refusal_line (IsListRun limits gsi) status out err)
+IsRun files inputs input faults out err (request.Words gsi) status =
+    IsTakenIn files gsi (λ gsi. Run refusal_line (IsWordsRun gsi) status out err)
+IsRun files inputs input faults out err request.WordsOfInput status =
+    IsTakenIn inputs input (λ gsi. Run refusal_line (IsWordsRun gsi) status out err)
+IsRun files inputs input faults out err (request.Explain fault) status =
+    Run {A = ⊤} refusal_line (IsExplainRun faults (option_map (λ e. e.now) fault)) status out err
 
--- A file as it is when it was opened: it tells nothing, and no read of it has failed.
-pub record IsUnread {R : Type 0} (file : OfRead R) : Type 0 where
-  pub untold : read_told file ≡ None
-  pub unfailed : read_failed file ≡ false
-
--- The files of a request were opened, and all else of it is as it was asked for.
-abbrev pub IsOpened : {R : Type 0} → Asked → Request (OfRead R) → Type 0
-IsOpened (request.Check gsi sheet limits residual)
+-- The files of a request were opened, each the one of its path, and all else of it is as it was
+-- asked for. `known` is what is known of the file of a path.
+abbrev pub IsOpened : {F : Type 0} → Readers F → (List ℕ → Option Told) → Asked → Request F
+    → Type 0
+IsOpened files known (request.Check gsi sheet limits residual)
     (request.Check field_file stated limits' residual') =
-    IsUnread field_file × IsUnread stated × (limits' ≡ limits) × (residual' ≡ residual)
-IsOpened (request.Means gsi station limits) (request.Means field_file station' limits') =
-    IsUnread field_file × (station'.now ≡ station.now) × (limits' ≡ limits)
-IsOpened (request.Directions gsi station limits decimals)
-    (request.Directions field_file station' limits' decimals') = IsUnread field_file
+    IsUnread files (known gsi.now) field_file
+    × IsUnread files (known sheet.now) stated
+    × (limits' ≡ limits) × (residual' ≡ residual)
+IsOpened files known (request.Means gsi station limits)
+    (request.Means field_file station' limits') =
+    IsUnread files (known gsi.now) field_file
+    × (station'.now ≡ station.now) × (limits' ≡ limits)
+IsOpened files known (request.Directions gsi station limits decimals)
+    (request.Directions field_file station' limits' decimals') =
+    IsUnread files (known gsi.now) field_file
     × (station'.now ≡ station.now) × (limits' ≡ limits) × (decimals' ≡ decimals)
-IsOpened (request.Compare gsi station table limits within)
-    (request.Compare field_file station' stated limits' within') = IsUnread field_file
-    × (station'.now ≡ station.now) × IsUnread stated × (limits' ≡ limits) × (within' ≡ within)
-IsOpened (request.List gsi limits) (request.List field_file limits') =
-    IsUnread field_file × (limits' ≡ limits)
-IsOpened (request.Words gsi) (request.Words field_file) = IsUnread field_file
-IsOpened request.WordsOfInput request.WordsOfInput = ⊤
-IsOpened (request.Explain fault) (request.Explain fault') = fault' ≡ fault
-IsOpened asked other = ⊥
+IsOpened files known (request.Compare gsi station table limits within)
+    (request.Compare field_file station' stated limits' within') =
+    IsUnread files (known gsi.now) field_file
+    × (station'.now ≡ station.now)
+    × IsUnread files (known table.now) stated
+    × (limits' ≡ limits) × (within' ≡ within)
+IsOpened files known (request.List gsi limits) (request.List field_file limits') =
+    IsUnread files (known gsi.now) field_file × (limits' ≡ limits)
+IsOpened files known (request.Words gsi) (request.Words field_file) =
+    IsUnread files (known gsi.now) field_file
+IsOpened files known request.WordsOfInput request.WordsOfInput = ⊤
+IsOpened files known (request.Explain fault) (request.Explain fault') = fault' ≡ fault
+IsOpened files known asked other = ⊥
 
 -- A request names a file by this path.
 abbrev pub NamesFile : Asked → List ℕ → Type 0
@@ -104,27 +97,67 @@ NamesFile (request.Words gsi) path = path ≡ gsi.now
 NamesFile request.WordsOfInput path = ⊥
 NamesFile (request.Explain fault) path = ⊥
 
--- A request was answered with this exit status: its files were opened, and its run was made over
--- them, or over a standard input of type `I`.
-pub record IsAnswered {W E : Type 0} (R I : Type 0) (faults : List (Bor (List Explanation)))
-    (failed : W → Bool) (holds : W → Option (List ℕ)) (handed_on : W → Bool) (out out' : W)
-    (err_failed : E → Bool) (err_holds : E → Option (List ℕ)) (err err' : E)
-    (asked : Asked) (status : ℕ) : Type 0 where
-  pub opened : Request (OfRead R)
-  pub input : OfRead I
-  pub of_files : IsOpened asked opened
-  pub of_input : IsUnread input
-  pub run : IsRun faults read_told read_failed (read_told input) failed holds handed_on out out'
-      err_failed err_holds err err' opened status
+-- A request was answered with this exit status: its files were opened, each the one of its path, and
+-- its run was made over them, or over standard input.
+pub record IsAnswered {F I : Type 0} (host : Known F I)
+    (faults : List (Bor (List Explanation))) (out err : WriterChange) (asked : Asked)
+    (status : ℕ) : Type 0 where
+  pub opened : Request F
+  pub of_files : IsOpened host.files host.file asked opened
+  pub run : IsRun host.files host.inputs host.input faults out err opened status
 
--- One of the paths that a request names is said not to open: the exit status is 2, and nothing is
--- asked of the two sinks.
-pub record IsUnopened {W E : Type 0} (out out' : W) (err err' : E) (asked : Asked) (status : ℕ)
-    : Type 0 where
+-- The exit status is 1, and the line that memory ran out went to `err`.
+abbrev pub IsOutOfMemory : ℕ → WriterChange → Type 0
+IsOutOfMemory status err = (status ≡ 1) × WritesOrFails (refusal_line Memory) err
+
+-- The exit status is 2, and the line of this path went to `err`; or memory ran out for the line.
+abbrev pub NamesUnopened : List ℕ → ℕ → WriterChange → Type 0
+NamesUnopened path status err =
+    ((status ≡ 2) × WritesOrFails (unopened_line path) err) ⊎ IsOutOfMemory status err
+
+-- One of the paths that a request names can't be opened. It is named on `err`, and nothing is asked
+-- of `out`.
+pub record IsUnopened {F I : Type 0} (host : Known F I) (out err : WriterChange)
+    (asked : Asked) (status : ℕ) : Type 0 where
   pub path : List ℕ
   pub names : NamesFile asked path
-  pub exits : status ≡ 2
-  pub unwritten : (out' ≡ out) × (err' ≡ err)
+  pub fails : host.may_not_open path ≡ true
+  pub named : NamesUnopened path status err
+  pub unwritten : out.is_unasked
+
+-- The words of a command line ask for a request, which was answered with this exit status; or a file
+-- of it can't be opened.
+pub record IsStatusOfWords {F I : Type 0} (host : Known F I)
+    (faults : List (Bor (List Explanation))) (out err : WriterChange)
+    (words : List Text) (status : ℕ) : Type 0 where
+  pub asked : Asked
+  pub of_words : IsAskedForBy words faults asked
+  pub answered : IsAnswered host faults out err asked status
+      ⊎ IsUnopened host out err asked status
+
+-- The words of the command line are lacking for this reason: with status 1 memory ran out, and with
+-- status 2 an argument is no text.
+abbrev pub LacksWords : NoWords → ℕ → WriterChange → Type 0
+LacksWords no_words.OutOfMemory status err = IsOutOfMemory status err
+LacksWords no_words.NotText status err = (status ≡ 2) × WritesOrFails NOT_TEXT.now err
+
+-- The exit status of a run: that of the words of its command line, which are the known ones; or they
+-- are lacking for a reason that may be.
+abbrev pub IsStatusOfRun : {F I : Type 0} → Known F I → List (Bor (List Explanation))
+    → WriterChange → WriterChange → ℕ → Type 0
+IsStatusOfRun host faults out err status =
+    ((words : List Text) × IsAsKnown host.words words
+    × IsStatusOfWords host faults out err words status)
+    ⊎ ((reason : NoWords) × (host.may_lack reason ≡ true) × out.is_unasked
+    × LacksWords reason status err)
+
+-- The words of the command line, which are the known ones, are answered with this error in the place
+-- of a run.
+pub record IsMistakenRun {F I : Type 0} (host : Known F I)
+    (faults : List (Bor (List Explanation))) (error : Error) : Type 0 where
+  pub words : List Text
+  pub known : IsAsKnown host.words words
+  pub mistake : IsMistakeIn words faults error
 
 -- The exit status of what a parse answers in place of a request, by its kind: of help and of the
 -- version 0 or 1; 1 where memory was refused; and else 2, for a mistake.
@@ -133,36 +166,3 @@ IsStatusOfKind DisplayHelp status = status ≤ 1
 IsStatusOfKind DisplayVersion status = status ≤ 1
 IsStatusOfKind OutOfMemory status = status ≡ 1
 IsStatusOfKind mistake status = status ≡ 2
-
--- The exit status of the words of a command line: that of the run of the request that they ask for;
--- 2 where a file of it can't be opened; and where they ask for none, the status of the kind of what
--- is answered in its place, with nothing asked of the two sinks.
-abbrev pub IsStatusOfWords : {W E : Type 0} → (R I : Type 0) → List (Bor (List Explanation))
-    → (W → Bool) → (W → Option (List ℕ)) → (W → Bool) → W → W
-    → (E → Bool) → (E → Option (List ℕ)) → E → E → List Text → ℕ → Type 0
-IsStatusOfWords R I faults failed holds handed_on out out' err_failed err_holds err err' words
-    status =
-    ((asked : Asked) × IsAskedForBy words faults asked
-    × (IsAnswered R I faults failed holds handed_on out out' err_failed err_holds err err' asked
-    status
-    ⊎ IsUnopened out out' err err' asked status))
-    ⊎ ((error : Error) × IsMistakeIn words faults error × IsStatusOfKind (kind_of error) status
-    × (out' ≡ out) × (err' ≡ err))
-
--- A stream of std's of which no call has failed, and what a run leaves of it.
-pub record Stream (W : Type 0) : Type 0 where
-  pub before : OfWrite W
-  pub left : OfWrite W
-  pub unfailed : has_failed before ≡ false
-
--- std's writers tell nothing of what they hold
-abbrev pub untold_text : {W : Type 0} → OfWrite W → Option (List ℕ)
-untold_text w = None
-
--- The exit status of the words of a command line, with some streams of these types.
-pub record IsStatusOverStreams (R I W E : Type 0) (faults : List (Bor (List Explanation)))
-    (words : List Text) (status : ℕ) : Type 0 where
-  pub out : Stream W
-  pub err : Stream E
-  pub exits : IsStatusOfWords R I faults has_failed untold_text is_handed_on out.before out.left
-      has_failed untold_text err.before err.left words status

@@ -2,4 +2,6 @@
 -- needs them.
 pub mod Commands
 pub mod CommandLine
+pub mod Hosts
+pub mod Unopened
 pub mod Answering

@@ -1,0 +1,21 @@
+-- What is shown of a text, character by character.
+use Rattle.std.proofs.Common.{◌≡◌, ◌∷◌, [], ◌++◌, ℕ, List, map, refl, rules}
+use Rattle.std.specs.Prelude.{encode_utf8, encode_utf8_all}
+use Rattle.std.specs.Str.{chars, IsUtf8}
+use Rattle.std.proofs.lemmas.Str.{chars_from_encodes}
+use Rattle.std.proofs.lemmas.List.{append-nil}
+use Rattle.station_program.specs.Unopened.{shown, printable}
+
+-- Of some characters and one more, that one is shown last.
+pub shown_then : (cs : List ℕ) (c : ℕ) → encode_utf8_all (map shown (cs ++ c ∷ []))
+    ≡ encode_utf8_all (map shown cs) ++ encode_utf8 (shown c)
+unfolding lib.Utf8.encode
+shown_then [] c = append-nil (encode_utf8 (shown c))
+shown_then (d ∷ cs) c = let later = shown_then cs c in search (rules, later)
+
+-- Where a text is spelled by some characters, they are what is shown of it.
+pub shown_whole : (cs text : List ℕ) → IsUtf8 text → encode_utf8_all cs ≡ text
+    → printable text ≡ encode_utf8_all (map shown cs)
+shown_whole cs text is_text spelled =
+    let all : cs ≡ chars text = chars_from_encodes cs text is_text spelled in
+    rw all refl
