@@ -1,8 +1,7 @@
-//! The check and the comparison as commands that say which bytes they judged.
+//! The check as a call that says which bytes it judged.
 //!
-//! After the line of an acceptance, or of a table that agrees, stands one line a file, as
-//! `sha256sum` prints it: the SHA-256 digest of the very bytes that were read of the file and judged,
-//! and the file's name. So `sha256sum -c` says whether a file is still the one that was judged. At a
+//! After the line of an acceptance stands one line a file, as `sha256sum` prints it: the SHA-256
+//! digest of the very bytes that were read of the file and judged, and the file's name. So `sha256sum -c` says whether a file is still the one that was judged. At a
 //! refusal no digest is printed, since the files may not have been read whole.
 #![tactic(auto)]
 
