@@ -112,7 +112,7 @@ FILES = [
     ("another station", STATION, "S2", b"", refused("no station")),
     ("two parts", TWO_PARTS, "S1", TABLE, refused("adjust: NotConnected")),
     ("two parts and a fault", TWO_PARTS, "S1", b"A,0\n", refused("table: Missing 2")),
-    ("half a circle", three_sets(20_000_000), "S1", TABLE, refused("adjust: Residual 1")),
+    ("half a circle", three_sets(20_000_000), "S1", TABLE, refused("adjust: Residual 5")),
     ("above 2,000 half units", three_sets(3_001), "S1", TABLE, refused("adjust: Residual 5")),
     ("the largest residuals", three_sets(3_000), "S1", of_b(b"0.010001"), agrees(1)),
 ]

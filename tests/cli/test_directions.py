@@ -65,7 +65,7 @@ FAULTS = [
     ("a part of a name", STATION, "S", "no station"),
     ("another unit", edited(STATION, (b"21.102", b"21.104")), "S2", "block 3: Hz Unit"),
     ("two parts", TWO_PARTS, "S1", "adjust: NotConnected"),
-    ("half a circle", three_sets(20_000_000), "S1", "adjust: Residual 1"),
+    ("half a circle", three_sets(20_000_000), "S1", "adjust: Residual 5"),
     ("more than 2,000 half units in the last set", three_sets(3_001), "S1", "adjust: Residual 5"),
 ]
 

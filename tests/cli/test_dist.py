@@ -15,8 +15,8 @@ EXAMPLES = "share/doc/station_check/examples"
 
 TIME = 120
 
-# The page's library, which no command uses.
-NOT_OF_THE_PROGRAM = {"station_page"}
+# The page's library, and those that no command uses yet.
+NOT_OF_THE_PROGRAM = {"station_page", "byte_digests", "set_marks", "station_record"}
 
 
 def output_of(*command, **more):
