@@ -488,7 +488,7 @@ class PageInBrowserTest(TimedTest):
         self.assertTrue(page.js("document.querySelector('.protocol').checkVisibility()"))
 
     def test_the_protocol_is_printed_with_all_that_an_office_files(self):
-        page = self.page(self.file("wide.gsi", bench.field_file(*WIDE).encode()))
+        page = self.page(self.file("wide.gsi", bench.field_file(bench.Shape("wide", *WIDE)).encode()))
         page.call("Emulation.setEmulatedMedia", media="print")
         page.js("onbeforeprint()")
         facts = page.text(".facts")
@@ -506,7 +506,7 @@ class PageInBrowserTest(TimedTest):
 
     @unittest.skipUnless(shutil.which("pdftotext"), "no pdftotext is found")
     def test_the_printed_pages_repeat_the_heads_of_tables_and_lose_nothing(self):
-        page = self.page(self.file("wide.gsi", bench.field_file(*WIDE).encode()))
+        page = self.page(self.file("wide.gsi", bench.field_file(bench.Shape("wide", *WIDE)).encode()))
         path = self.file("printed.pdf", page.printed())
         text = subprocess.run(["pdftotext", "-layout", path, "-"], capture_output=True, text=True).stdout
         pages = text.split("\f")[:-1]
@@ -641,7 +641,7 @@ class PageInBrowserTest(TimedTest):
     # ------------------------------------------------------------ large files
 
     def test_a_field_file_of_16_megabytes_does_not_hold_the_window(self):
-        data = bench.field_file(*LARGE).encode()
+        data = bench.field_file(bench.Shape("large", *LARGE)).encode()
         self.assertGreater(len(data), 16_000_000)
         large = self.file("large.gsi", data)
         page = self.page()
@@ -653,7 +653,7 @@ class PageInBrowserTest(TimedTest):
         self.assertLess(page.js("longest"), HELD)
 
     def test_what_is_under_way_can_be_stopped(self):
-        large = self.file("large.gsi", bench.field_file(*LARGE).encode())
+        large = self.file("large.gsi", bench.field_file(bench.Shape("large", *LARGE)).encode())
         page = self.page(FIELD, SHEET)
         page.js(
             "new MutationObserver((_, seen) => { if (!$('progress').hidden && $('progress-text').textContent.includes('large'))"

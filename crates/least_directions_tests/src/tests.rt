@@ -102,10 +102,10 @@ fn what_holds_nothing_or_lies_far_off_is_refused(rt: HostRuntime) -> Result<(), 
 
 /// Three sets of two of three targets in a ring, 400.06 gon round and some more: each residual is a
 /// sixth of what is more than 400 gon.
-const fn ring(more: u32) -> [(u32, u32, u32); 6] {
+const fn ring(more: u16) -> [(u32, u32, u32); 6] {
     [
         (0, 0, 0),
-        (0, 1, 20_012_000 + more),
+        (0, 1, 20_012_000 + more as u32),
         (1, 1, 0),
         (1, 2, 30_000_000),
         (2, 0, 30_000_000),

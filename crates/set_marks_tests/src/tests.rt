@@ -8,16 +8,16 @@ use std::alloc::Global;
 /// or `c` and a code's first digit.
 fn file(alloc: Global, text: &[u8]) -> Option<Vec<u8>> {
     let mut bytes = Vec::new(alloc);
-    let mut i = 0;
-    while i + 1 < text.len() {
-        if text[i] == b'c' {
+    for pair in 0..text.len() / 2 {
+        let (named, kind) = (text[2 * pair], text[2 * pair + 1]);
+        if named == b'c' {
             bytes.extend_from_slice(b"41....+000000").ok()?;
-            bytes.push(text[i + 1]).ok()?;
+            bytes.push(kind).ok()?;
             bytes.extend_from_slice(b"0 42....+00000001").ok()?;
         } else {
             bytes.extend_from_slice(b"11....+0000000").ok()?;
-            bytes.push(text[i]).ok()?;
-            let rest: &[u8] = match text[i + 1] {
+            bytes.push(named).ok()?;
+            let rest: &[u8] = match kind {
                 b'p' => b" 88..10+00001543",
                 b'1' => b" 21.102+01234567 22.102+09876543",
                 b'2' => b" 21.102+21234567 22.102+30123457",
@@ -26,7 +26,6 @@ fn file(alloc: Global, text: &[u8]) -> Option<Vec<u8>> {
             bytes.extend_from_slice(rest).ok()?;
         }
         bytes.push(b'\n').ok()?;
-        i += 2;
     }
     Some(bytes)
 }
@@ -34,8 +33,8 @@ fn file(alloc: Global, text: &[u8]) -> Option<Vec<u8>> {
 /// What is answered of such a file, of the station P7 where it has no set-up line at its front.
 fn marked(alloc: Global, text: &[u8]) -> Option<Result<Vec<u8>, MarkFault>> {
     let bytes = file(alloc, text)?;
-    let station = match text[1] {
-        b'p' => None,
+    let station = match text.get(1) {
+        Some(b'p') => None,
         _ => Name::new(b"P7"),
     };
     Some(mark_file(alloc, &bytes, false, station).map(|m| m.copy))
@@ -84,11 +83,8 @@ fn each_fault_stands_at_its_block(rt: HostRuntime) {
         (b"1p", 2, MarkKind::NoSets),
         (b"1pA1B1B2A21pA1B1B2A2", 7, MarkKind::StationTwice),
     ];
-    let mut i = 0;
-    while i < rows.len() {
-        let (text, block, kind) = rows[i];
+    for (text, block, kind) in rows {
         assert!(rt; fault(a, text) == Some(MarkFault::At(block, kind)));
-        i += 1;
     }
 }
 
@@ -126,10 +122,8 @@ fn the_copy_has_whole_lines_more(rt: HostRuntime) {
     let parts: [&[u8]; 10] = [
         first, b"\r\n", second, wide, last, b"\n", first, b"\r\n", second, wide,
     ];
-    let mut i = 0;
-    while i < parts.len() {
-        assert!(rt; bytes.extend_from_slice(parts[i]).is_ok());
-        i += 1;
+    for part in parts {
+        assert!(rt; bytes.extend_from_slice(part).is_ok());
     }
     assert!(rt; bytes.extend_from_slice(last).is_ok() && bytes.extend_from_slice(b"\n\n").is_ok());
     assert!(rt; bytes.extend_from_slice(detail).is_ok());
@@ -154,10 +148,8 @@ fn the_copy_has_whole_lines_more(rt: HostRuntime) {
         b"",
     ];
     let mut copy = Vec::new(a);
-    let mut k = 0;
-    while k < expected.len() {
-        assert!(rt; copy.extend_from_slice(expected[k]).is_ok());
-        k += 1;
+    for part in expected {
+        assert!(rt; copy.extend_from_slice(part).is_ok());
     }
     let made = mark_file(a, &bytes, false, Some(name));
     assert!(rt; made.is_ok_and(|m| m.copy.as_slice() == copy.as_slice()));
