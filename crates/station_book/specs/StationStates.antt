@@ -1,6 +1,6 @@
 -- The stations that have sets.
 use Rattle.std.specs.Prelude.{◌≡◌, ℕ, ◌==◌, nat_le, Bool, List, [], ◌∷◌, length, map, reverse, All}
-use Rattle.std.specs.Prelude.{Option, ⊤}
+use Rattle.std.specs.Prelude.{Option, Some, None, false, ⊤}
 use Rattle.std.specs.List.{list_any}
 use Rattle.std.specs.Str.{bytes_eq}
 use Rattle.adjust_kernel.specs.declared.bounds.TheConstants.{MOST_SETS}
@@ -72,6 +72,17 @@ more_set_faults e n =
 abbrev pub LastMayEnd : StationStates → Type 0
 LastMayEnd [] = ⊤
 LastMayEnd (e ∷ older) = MayEnd e.1
+
+-- The last station, and the earlier ones by name, the oldest first, as the states of all.
+abbrev pub states_of : Option (List ℕ × StationState) → List (List ℕ × StationState)
+    → StationStates
+states_of None earlier = reverse earlier
+states_of (Some last) earlier = last ∷ reverse earlier
+
+-- Earlier stations stand before a last one alone, and it has a name of its own.
+abbrev pub IsAfter : Option (List ℕ × StationState) → List (List ℕ × StationState) → Type 0
+IsAfter None earlier = earlier ≡ []
+IsAfter (Some last) earlier = is_known last.0 (reverse earlier) ≡ false
 
 -- The sets of the others may end.
 abbrev pub OlderMayEnd : StationStates → Type 0

@@ -83,6 +83,7 @@ fn face_of(zenith: u32) -> Option<Face>
 }
 
 /// The target of a reading; of any other block the name in its first word.
+#[inline(always)]
 #[tactic(auto, unfolding(crate::specs::Blocks::target))]
 pub fn target(block: &Block<'_>) -> Name
     ensures { result ≡ target (block_of block.now) }
@@ -91,6 +92,7 @@ pub fn target(block: &Block<'_>) -> Name
 }
 
 /// What a measurement block says: nothing where it has no direction.
+#[inline(always)]
 #[tactic(auto, unfolding(crate::specs::Blocks::has_two, crate::specs::Blocks::lacks, crate::specs::Blocks::angle_fault, crate::specs::Blocks::angles, crate::specs::Blocks::target))]
 pub fn read(block: &Block<'_>) -> Result<Option<Reading>, BookKind>
     ensures value { result ≡ read (block_of block.now) }

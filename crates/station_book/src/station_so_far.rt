@@ -2,10 +2,9 @@
 
 ghost use Rattle.std.specs.Prelude.{◌≡◌, ◌<◌, None, length, IfOk, IfErr, OnOk, OnErr, false, nat_le, ◌==◌, [], ◌∷◌};
 ghost use Rattle.std.specs.List.{list_any};
-ghost use Rattle.adjust_kernel.specs.Names.{IsName};
 ghost use Rattle.adjust_kernel.specs.Sheets.{IsSetNumber};
 ghost use Rattle.adjust_kernel.specs.declared.bounds.TheConstants.{MOST_SETS};
-ghost use Rattle.station_book.specs.StationStates.{survey_of, more_set_faults};
+ghost use Rattle.station_book.specs.StationStates.{more_set_faults};
 ghost use Rattle.std.specs.Str.{bytes_eq};
 ghost use Rattle.station_book.specs.Faults.{first_of, when};
 ghost use Rattle.station_book.specs.Slots.{closing_faults};
@@ -14,15 +13,16 @@ ghost use Rattle.station_book.specs.StationState.{MayEnd, begun, with_set, state
 ghost use Rattle.station_book.specs.declared.fault.BookKind.TheVariants as kinds;
 
 use crate::angles::Reading;
+use crate::earlier_station::EarlierStation;
 use crate::faces::Faces;
 use crate::fault::BookKind;
 use crate::limits::Limits;
 use crate::slot::{empty_slot, end_fault, push_pairs, slot_fault};
-use crate::surveyed::Surveyed;
 use crate::targets::Targets;
-use adjust_kernel::{MOST_SETS, Name, Obs, Station};
+use adjust_kernel::{MOST_SETS, Obs};
 use std::alloc::{AllocError, Global};
 use std::marker::Model;
+use std::mem;
 
 /// What a book keeps of a station that has sets. The readings of its last set are kept by target;
 /// those of all earlier sets have become observations.
@@ -136,23 +136,48 @@ impl StationSoFar {
         Ok(())
     }
 
-    /// The station of this name with the observations of all its sets.
-    pub(crate) fn close(self, alloc: Global, name: Name) -> Result<Surveyed, AllocError>
-        requires { MayEnd self }
-        ensures station { IfOk result (λ s. s ≡ survey_of (name, self)) }
-        ensures named { IfOk result (λ s. IsName s.station.name) }
+    /// Becomes another station, with its first set, and gives what the station was. So one table of
+    /// targets serves all stations.
+    pub(crate) fn become_another(
+        &mut self,
+        alloc: Global,
+        number: u16,
+    ) -> Result<EarlierStation, AllocError>
+        requires { IsSetNumber number }
+        ensures earlier { IfOk result (λ e. e ≡ self.old) }
+        ensures begun { OnOk result (self.new ≡ begun number) }
+        ensures unchanged { OnErr result (self.new ≡ self.old) }
     {
-        name.recall();
+        let targets = self.targets.names(alloc)?;
+        let slots = self.targets.slots().to_vec(alloc)?;
+        let mut sets = Vec::new(alloc);
+        sets.push(number)?;
+        self.targets.clear();
+        Ok(EarlierStation {
+            targets,
+            slots,
+            sets: mem::replace(&mut self.sets, sets),
+            obs: mem::replace(&mut self.obs, Vec::new(alloc)),
+            faces: mem::replace(&mut self.faces, Vec::new(alloc)),
+        })
+    }
+
+    /// What the station was, where no more comes to it.
+    pub(crate) fn ended(self, alloc: Global) -> Result<EarlierStation, AllocError>
+        ensures { IfOk result (λ e. e ≡ self) }
+    {
         let StationSoFar {
             targets,
             sets,
-            mut obs,
-            mut faces,
+            obs,
+            faces,
         } = self;
-        let names = targets.names(alloc)?;
-        let set = sets.len() as u32 - 1;
-        push_pairs(set, targets.slots(), &mut obs, &mut faces)?;
-        let station = Station::from_valid(name, names, sets, obs);
-        Ok(Surveyed { station, faces })
+        Ok(EarlierStation {
+            targets: targets.names(alloc)?,
+            slots: targets.slots().to_vec(alloc)?,
+            sets,
+            obs,
+            faces,
+        })
     }
 }

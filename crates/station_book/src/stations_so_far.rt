@@ -1,6 +1,6 @@
 //! The stations that have sets, by name.
 
-ghost use Rattle.std.specs.Prelude.{◌≡◌, ◌<◌, ◌≤◌, ◌+◌, ◌++◌, ◌∷◌, [], false, length, None, IfErr, IfOk, OnOk, OnErr, ◌==◌};
+ghost use Rattle.std.specs.Prelude.{◌≡◌, ◌<◌, ◌≤◌, ◌+◌, ◌++◌, ◌∷◌, [], false, length, None, IfErr, IfOk, OnOk, OnErr, reverse, ◌==◌};
 ghost use Rattle.std.specs.List.{list_any};
 ghost use Rattle.std.specs.Str.{bytes_eq};
 ghost use Rattle.adjust_kernel.specs.Sheets.{IsSetNumber};
@@ -11,9 +11,11 @@ ghost use Rattle.station_book.specs.Slots.{closing_faults};
 ghost use Rattle.station_book.specs.TwoFaces.{AreOnCircle};
 ghost use Rattle.station_book.specs.StationState.{MayEnd, with_set, state_faults, with_reading};
 ghost use Rattle.station_book.specs.Refusals.{ExplainsRefusal};
+ghost use Rattle.indexmap.specs.IndexMap.{spare};
 
 use crate::angles::Reading;
 use crate::bounds::MOST_STATIONS;
+use crate::earlier_station::EarlierStation;
 use crate::fault::{BookKind, Refusal};
 use crate::limits::Limits;
 use crate::station_so_far::StationSoFar;
@@ -23,23 +25,35 @@ use adjust_kernel::Name;
 use indexmap::IndexMap;
 use std::alloc::{AllocError, Global};
 use std::marker::Model;
+use std::mem;
 
-/// The stations that have sets, in the order of their first sets. Blocks add to the last one.
+/// The stations that have sets, in the order of their first sets. Blocks add to the last one, which
+/// alone has a table of its targets.
 #[derive(Drop)]
 pub(crate) struct StationsSoFar {
     alloc: Global,
-    stations: IndexMap<Name, StationSoFar>,
+    earlier: IndexMap<Name, EarlierStation>,
+    last: Option<(Name, StationSoFar)>,
 }
 
 impl Model for StationsSoFar {
-    ghost use Rattle.std.specs.Prelude.{reverse};
-    ghost use Rattle.station_book.specs.StationStates.{StationStates, OlderMayEnd};
+    ghost use Rattle.station_book.specs.StationStates.{StationStates, OlderMayEnd, states_of, IsAfter};
 
     ghost Value = { StationStates };
 
-    ghost view = { λ s. reverse s.stations.entries };
+    ghost view = { λ s. states_of s.last s.earlier.entries };
 
-    ghost invariant = { λ s. OlderMayEnd (reverse s.stations.entries) };
+    ghost invariant = { λ s. OlderMayEnd (states_of s.last s.earlier.entries)
+        × IsAfter s.last s.earlier.entries };
+}
+
+/// Adds a station of a new name, for which there is room.
+fn push_station(stations: &mut IndexMap<Name, EarlierStation>, name: Name, station: EarlierStation)
+    requires new { is_known name stations.old.entries ≡ false }
+    requires room { 0 < spare stations.old }
+    ensures { stations.new.entries ≡ stations.old.entries ++ (name, station) ∷ [] }
+{
+    stations.insert(name, station).unwrap();
 }
 
 impl StationsSoFar {
@@ -49,7 +63,8 @@ impl StationsSoFar {
     {
         StationsSoFar {
             alloc,
-            stations: IndexMap::new(alloc),
+            earlier: IndexMap::new(alloc),
+            last: None,
         }
     }
 
@@ -57,14 +72,20 @@ impl StationsSoFar {
     fn len(&self) -> usize
         ensures { result ≡ length self.now }
     {
-        self.stations.len()
+        match self.last {
+            Some(_) => self.earlier.len() + 1,
+            None => 0,
+        }
     }
 
     /// Whether a station has this name.
     fn knows(&self, name: Name) -> bool
         ensures { result ≡ is_known name self.now }
     {
-        self.stations.contains_key(&name)
+        match &self.last {
+            Some((last, _)) => name.is_same(last) || self.earlier.contains_key(&name),
+            None => false,
+        }
     }
 
     /// The last station.
@@ -73,7 +94,10 @@ impl StationsSoFar {
         requires { 0 < length self.now }
         ensures { result.now ≡ last_of self.now }
     {
-        &self.stations[self.stations.len() - 1]
+        match &self.last {
+            Some((_, station)) => station,
+            None => unreachable!(),
+        }
     }
 
     /// The fault of the last set, if it ends here.
@@ -92,8 +116,18 @@ impl StationsSoFar {
         ensures ok { OnOk result (self.new ≡ with_station name number self.old) }
         ensures err { OnErr result (self.new ≡ self.old) }
     {
-        let station = StationSoFar::first(self.alloc, number)?;
-        self.stations.insert(name, station)?;
+        match &mut self.last {
+            None => {
+                let first = StationSoFar::first(self.alloc, number)?;
+                self.last = Some((name, first));
+            }
+            Some((last, station)) => {
+                self.earlier.reserve(1)?;
+                let ended = station.become_another(self.alloc, number)?;
+                let before = mem::replace(last, name);
+                push_station(&mut self.earlier, before, ended);
+            }
+        }
         Ok(())
     }
 
@@ -107,8 +141,10 @@ impl StationsSoFar {
         ensures ok { OnOk result (self.new ≡ change_last (with_set number) self.old) }
         ensures err { OnErr result (self.new ≡ self.old) }
     {
-        let last = self.stations.len() - 1;
-        self.stations[last].add_set(number)
+        match &mut self.last {
+            Some((_, station)) => station.add_set(number),
+            None => unreachable!(),
+        }
     }
 
     /// Opens the first set of a station.
@@ -159,8 +195,27 @@ impl StationsSoFar {
             (λ kind. first_of (state_faults limits (last_of self.old) reading) ≡ Some kind) }
         ensures err { OnErr result (self.new ≡ self.old) }
     {
-        let last = self.stations.len() - 1;
-        self.stations[last].take_reading(limits, reading)
+        match &mut self.last {
+            Some((_, station)) => station.take_reading(limits, reading),
+            None => unreachable!(),
+        }
+    }
+
+    /// All stations by name, the last one among them.
+    fn ended(self) -> Result<IndexMap<Name, EarlierStation>, AllocError>
+        ensures { IfOk result (λ stations. stations.entries ≡ reverse self) }
+    {
+        let StationsSoFar {
+            alloc,
+            mut earlier,
+            mut last,
+        } = self;
+        let Some((name, station)) = last.take() else {
+            return Ok(earlier);
+        };
+        earlier.reserve(1)?;
+        push_station(&mut earlier, name, station.ended(alloc)?);
+        Ok(earlier)
     }
 
     /// The stations, with the observations of all sets.
@@ -168,11 +223,12 @@ impl StationsSoFar {
         requires { LastMayEnd self }
         ensures { IfOk result (λ s. s ≡ surveys_of self) }
     {
-        let StationsSoFar { alloc, stations } = self;
+        let alloc = self.alloc;
+        let stations = self.ended()?;
         let mut surveyed = IndexMap::with_capacity(alloc, stations.len())?;
         let mut rest = stations.into_iter();
-        'stations: while let Some((name, so_far)) = rest.next() {
-            let station = so_far.close(alloc, name)?;
+        'stations: while let Some((name, ended)) = rest.next() {
+            let station = ended.close(name)?;
             surveyed.insert(name, station)?;
         }
         Ok(Stations { surveyed })

@@ -185,6 +185,13 @@ impl Targets {
         self.last = place;
     }
 
+    /// Lets all targets go, and keeps the room.
+    pub(crate) fn clear(&mut self)
+        ensures { self.new ≡ record { names = []; slots = [] } }
+    {
+        self.slots.clear();
+    }
+
     /// Takes all readings out.
     pub(crate) fn empty_slots(&mut self)
         ensures names { self.new.names ≡ self.old.names }

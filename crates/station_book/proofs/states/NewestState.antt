@@ -1,20 +1,13 @@
--- The newest of the stations that are kept: their map has the oldest first, the states the newest.
-use Rattle.std.proofs.Common.{◌≡◌, ℕ, suc, ◌-◌, ◌<◌, Bool, true, false, ◌||◌, List, [], ◌∷◌, ◌++◌, length, reverse, get_or, All, Some, refl, sym, ap, ◌∙◌, subst, arith}
-use Rattle.std.specs.Prelude.{slice_get}
+-- The newest of the stations that are kept: the earlier ones have the oldest first, the states the
+-- newest.
+use Rattle.std.proofs.Common.{◌≡◌, ℕ, suc, Bool, true, false, ◌||◌, List, [], ◌∷◌, ◌++◌, reverse, All, Option, Some, None, refl, sym, ap, ◌∙◌, subst, arith}
 use Rattle.std.specs.List.{list_any}
 use Rattle.std.specs.Str.{bytes_eq}
-use Rattle.std.specs.Map.{values_of}
-use Rattle.std.proofs.Math.Seq.{get_or-append_seam}
-use Rattle.std.proofs.lemmas.List.{length-append, map-append, reverse-append, reverse-reverse}
+use Rattle.std.proofs.lemmas.List.{reverse-append, reverse-reverse}
 use Rattle.std.proofs.lemmas.List.Elements.{All-append, All-cons, All-nil}
 use Rattle.std.proofs.lemmas.List.Folds.{list_any-append}
-use Rattle.std.proofs.lemmas.Map.Entries.{length-values_of}
-use Rattle.std.proofs.lemmas.Option.{get_or_from_slice_get}
-use Rattle.indexmap.specs.IndexMap.{insert_entry}
-use Rattle.indexmap.specs.Layout.{set_value_at}
-use Rattle.station_book.specs.StationState.{StationState, MayEnd}
-use Rattle.station_book.specs.StationStates.{StationStates, LastMayEnd, OlderMayEnd, last_of, change_last}
-use Rattle.station_book.proofs.lists.NameMaps.{name_eq, inserted}
+use Rattle.station_book.specs.StationState.{StationState, MayEnd, begun}
+use Rattle.station_book.specs.StationStates.{StationStates, LastMayEnd, OlderMayEnd, IsAfter, states_of, with_station, is_known}
 
 -- the newest of these stations, and those before it
 pub record HasNewest (s : StationStates) : Type 0 where
@@ -22,54 +15,12 @@ pub record HasNewest (s : StationStates) : Type 0 where
   pub older : StationStates
   pub is : s ≡ newest ∷ older
 
-some_newest : (s : StationStates) → 0 < length s → HasNewest s
-some_newest [] some = absurd (omega (arith, some))
-some_newest (e ∷ older) some = record { newest = e; older = older; is = refl }
-
 -- Two tests give the same whichever comes first.
 pub or_turned : (a b : Bool) → (a || (b || false)) ≡ (b || a)
 or_turned true true = refl
 or_turned a b = refl
 
 module _ {V : Type 0} where
-  set_last : (es : List (List ℕ × V)) (x : List ℕ × V) (w : V)
-      → set_value_at (es ++ x ∷ []) (length es) w ≡ es ++ (x.0, w) ∷ []
-  set_last [] x w = refl
-  set_last (e ∷ es) x w = ap (λ r. e ∷ r) (set_last es x w)
-
-  -- the newest stands last in the map
-  placed_last : (es older : List (List ℕ × V)) (x : List ℕ × V) → reverse es ≡ x ∷ older
-      → es ≡ reverse older ++ x ∷ []
-  placed_last es older x is = sym (reverse-reverse es) ∙ ap reverse is
-      ∙ reverse-append (x ∷ []) older
-
-  last_place : (es older : List (List ℕ × V)) (x : List ℕ × V) → reverse es ≡ x ∷ older
-      → length es - 1 ≡ length (reverse older)
-  last_place es older x is =
-      let l : length es ≡ length (reverse older ++ x ∷ []) = ap length
-      (placed_last es older x is) in
-      let m = length-append (reverse older) (x ∷ []) in
-      omega (arith, l, m)
-
-  -- the newest changed
-  changed_newest : (es older : List (List ℕ × V)) (x : List ℕ × V) (w : V)
-      → reverse es ≡ x ∷ older → reverse (set_value_at es (length es - 1) w) ≡ (x.0, w) ∷ older
-  changed_newest es older x w is =
-      (λ i. reverse (set_value_at (placed_last es older x is i) (last_place es older x is i) w))
-      ∙ ap reverse (set_last (reverse older) x w) ∙ reverse-append (reverse older) ((x.0, w) ∷ [])
-      ∙ ap (λ r. (x.0, w) ∷ r) (reverse-reverse older)
-
-  -- what the map has in its last place is the newest
-  last_value_is : (es older : List (List ℕ × V)) (x : List ℕ × V) (v : V)
-      → reverse es ≡ x ∷ older → slice_get (values_of es) (length es - 1) ≡ Some v → v ≡ x.1
-  last_value_is es older x v is at =
-      let size : length (reverse older) ≡ length (values_of (reverse older)) = sym
-      (length-values_of (reverse older)) in
-      sym (get_or_from_slice_get (values_of es) (length es - 1) v x.1 at)
-      ∙ (λ i. get_or (values_of (placed_last es older x is i)) (last_place es older x is i) x.1)
-      ∙ (λ i. get_or (map-append (λ (e : List ℕ × V). e.1) (reverse older) (x ∷ []) i) (size i) x.1)
-      ∙ get_or-append_seam (values_of (reverse older)) x.1 [] x.1
-
   any_reverse : (p : List ℕ × V → Bool) (es : List (List ℕ × V))
       → list_any p (reverse es) ≡ list_any p es
   any_reverse p [] = refl
@@ -82,56 +33,12 @@ module _ {V : Type 0} where
       → list_any (λ e. bytes_eq name e.0) (reverse es) ≡ list_any (λ e. bytes_eq name e.0) es
   known_reversed name es = any_reverse (λ e. bytes_eq name e.0) es
 
-  -- a station more is the newest
-  pub inserted_newest : (es : List (List ℕ × V)) (name : List ℕ) (v : V)
-      → list_any (λ e. bytes_eq name e.0) (reverse es) ≡ false
-      → reverse (insert_entry name_eq es name v) ≡ (name, v) ∷ reverse es
-  inserted_newest es name v new =
-      ap reverse (inserted es name v (sym (known_reversed name es) ∙ new))
-      ∙ reverse-append es ((name, v) ∷ [])
-
   all_reverse : (P : List ℕ × V → Type 0) (es : List (List ℕ × V)) → All P es → All P (reverse es)
   all_reverse P [] all = all
   all_reverse P (e ∷ es) all = subst (All P) (sym (reverse-append (e ∷ []) es))
       (All-append P (reverse es) (e ∷ [])
       (all_reverse P es (λ k d lt. all (suc k) d (omega (arith, lt))))
       (All-cons P e [] (all 0 e (omega arith)) (All-nil P)))
-
--- a map of this size, and the states that it keeps
-module _ (es s : StationStates) (size : ℕ) (sized : size ≡ length es) (view : reverse es ≡ s)
-    (some : 0 < length s) where
-  n : HasNewest s
-  n = some_newest s some
-
-  -- its last value
-  pub last_value : (v : StationState) → slice_get (values_of es) (size - 1) ≡ Some v → v ≡ last_of s
-  last_value v at =
-      last_value_is es n.older n.newest v (view ∙ n.is)
-      (ap (λ (k : ℕ). slice_get (values_of es) (k - 1)) (sym sized) ∙ at) ∙ ap last_of (sym n.is)
-
-  changed : (w : StationState)
-      → reverse (set_value_at es (size - 1) w) ≡ (n.newest.0, w) ∷ n.older
-  changed w = ap (λ (k : ℕ). reverse (set_value_at es (k - 1) w)) sized
-      ∙ changed_newest es n.older n.newest w (view ∙ n.is)
-
-  -- Where the last value is changed, the newest of the states is.
-  pub changed_last : (f : StationState → StationState) (w : StationState) → w ≡ f (last_of s)
-      → reverse (set_value_at es (size - 1) w) ≡ change_last f s
-  changed_last f w is =
-      changed w ∙ ap (λ (v : StationState). (n.newest.0, v) ∷ n.older)
-      (is ∙ ap (λ (t : StationStates). f (last_of t)) n.is) ∙ ap (change_last f) (sym n.is)
-
-  -- Where the last value is written back, the states stay as they are.
-  pub unchanged_last : (w : StationState) → w ≡ last_of s
-      → reverse (set_value_at es (size - 1) w) ≡ s
-  unchanged_last w is =
-      changed w ∙ ap (λ (v : StationState). (n.newest.0, v) ∷ n.older) (is ∙ ap last_of n.is)
-      ∙ sym n.is
-
-  -- The older ones stay as they are.
-  pub older_may : (w : StationState) → OlderMayEnd (reverse es)
-      → OlderMayEnd (reverse (set_value_at es (size - 1) w))
-  older_may w h = subst OlderMayEnd (sym (changed w)) (subst OlderMayEnd (view ∙ n.is) h)
 
 -- Where the newest may end too, all may.
 pub all_may : (s : StationStates) → LastMayEnd s → OlderMayEnd s → All (λ e. MayEnd e.1) s
@@ -143,3 +50,56 @@ pub all_in_map : (es : List (List ℕ × StationState)) → LastMayEnd (reverse 
     → OlderMayEnd (reverse es) → All (λ e. MayEnd e.1) es
 all_in_map es last older = subst (All (λ e. MayEnd e.1)) (reverse-reverse es)
     (all_reverse (λ e. MayEnd e.1) (reverse es) (all_may (reverse es) last older))
+
+-- What is known of a name where the last station has another.
+pub known_before : (o : Option (List ℕ × StationState)) (es : List (List ℕ × StationState))
+    (l : List ℕ × StationState) (name : List ℕ) → o ≡ Some l → bytes_eq name l.0 ≡ false
+    → is_known name (states_of o es) ≡ list_any (λ e. bytes_eq name e.0) es
+known_before o es l name is differ =
+    ap (λ (m : Option (List ℕ × StationState)). is_known name (states_of m es)) is
+    ∙ ap (λ (b : Bool). b || is_known name (reverse es)) differ
+    ∙ known_reversed name es
+
+-- The last station has a name that no earlier one has.
+pub last_new : (o : Option (List ℕ × StationState)) (es : List (List ℕ × StationState))
+    (l : List ℕ × StationState) → o ≡ Some l → IsAfter o es → is_known l.0 es ≡ false
+last_new o es l is after =
+    sym (known_reversed l.0 es)
+    ∙ subst (λ (m : Option (List ℕ × StationState)). IsAfter m es) is after
+
+-- The same, where room was made among the earlier ones.
+pub last_new_there : (o : Option (List ℕ × StationState)) (es there : List (List ℕ × StationState))
+    (l : List ℕ × StationState) → Some l ≡ o → there ≡ es → IsAfter o es
+    → is_known l.0 there ≡ false
+last_new_there o es there l is same after = ap (is_known l.0) same ∙ last_new o es l (sym is) after
+
+-- the last station, and then those before it: all states, the oldest first
+module _ (o : Option (List ℕ × StationState)) (es all : List (List ℕ × StationState))
+    (l : List ℕ × StationState) (s : StationStates) (is : o ≡ Some l) (view : states_of o es ≡ s)
+    (added : all ≡ es ++ l ∷ []) where
+  turned : reverse all ≡ s
+  turned = ap reverse added ∙ reverse-append es (l ∷ [])
+      ∙ ap (λ (m : Option (List ℕ × StationState)). states_of m es) (sym is) ∙ view
+
+  pub all_states : all ≡ reverse s
+  all_states = sym (reverse-reverse all) ∙ ap reverse turned
+
+  -- Another station may follow.
+  pub next_kept : (name : List ℕ) (w : StationState) → LastMayEnd s → OlderMayEnd (states_of o es)
+      → is_known name s ≡ false
+      → OlderMayEnd (states_of (Some (name, w)) all) × IsAfter (Some (name, w)) all
+  next_kept name w last older new = (
+    subst (All (λ e. MayEnd e.1)) (sym turned) (all_may s last (subst OlderMayEnd view older)),
+    ap (is_known name) turned ∙ new,
+  )
+
+  pub next_begun : (name name' : List ℕ) (number : ℕ) (w : StationState) → name ≡ name'
+      → w ≡ begun number → states_of (Some (name, w)) all ≡ with_station name' number s
+  next_begun name name' number w named is_begun = λ i. (named i, is_begun i) ∷ turned i
+
+-- The last station joins the earlier ones.
+pub joined : (o : Option (List ℕ × StationState)) (es there all : List (List ℕ × StationState))
+    (l : List ℕ × StationState) (w : StationState) (s : StationStates) → Some l ≡ o
+    → states_of o es ≡ s → there ≡ es → w ≡ l.1 → all ≡ there ++ (l.0, w) ∷ [] → all ≡ reverse s
+joined o es there all l w s is view same kept added =
+    all_states o es all l s (sym is) view (added ∙ (λ i. same i ++ (l.0, kept i) ∷ []))
