@@ -1,5 +1,5 @@
 -- What is left of a name after its first byte.
-use Rattle.std.proofs.Common.{ℕ, ◌≤◌, ◌<◌, List, ◌∷◌, length, arith}
+use Rattle.std.proofs.Common.{ℕ, ◌<◌, List, ◌∷◌, length, arith}
 use Rattle.std.proofs.lemmas.List.Elements.{All-tail}
 use Rattle.adjust_kernel.specs.Names.{IsName, IsPrintable}
 

@@ -158,7 +158,8 @@ pub no_flaw : (t : Bool) (kind : MarkKind) (r : Option Sight) → flaw_when t ki
 no_flaw true kind r e = cc
 no_flaw false kind r e = refl
 
-none_found : (kind : MarkKind) (r : Option Sight) → flaw_found kind r ≡ None → r ≡ None
+-- Where a flaw comes of a reading that is found and none is there, none is found.
+pub none_found : (kind : MarkKind) (r : Option Sight) → flaw_found kind r ≡ None → r ≡ None
 none_found kind None e = refl
 none_found kind (Some r) e = cc
 

@@ -6,16 +6,15 @@ use Rattle.std.proofs.lemmas.Bool.{cases_Bool, cases_lt, le-leb, lt-leb}
 use Rattle.adjust_kernel.specs.Names.{IsName}
 use Rattle.station_book.specs.Faults.{first_of}
 use Rattle.set_marks.specs.declared.bounds.TheConstants.{MOST_SETS}
-use Rattle.set_marks.specs.declared.division.Divided.TheVariants.{NoSets, Sets, Flawed}
+use Rattle.set_marks.specs.declared.division.Divided.TheVariants.{NoSets, Sets}
 use Rattle.set_marks.specs.declared.flaw.Flaw.{Flaw}
 use Rattle.set_marks.specs.declared.fault.MarkKind.TheVariants as kinds
 use Rattle.set_marks.specs.declared.sight.Sight.{Sight}
 use Rattle.station_book.specs.declared.bounds.TheConstants.{MOST_STATIONS}
 use Rattle.station_book.specs.Places.{is_among, is_empty}
-use Rattle.set_marks.specs.Divisions.{order_flaw, are_read_alike, last_target, set_flaw, part, next_of, sets_flaw, rest_flaw, flaw_of, is_division, leading_of, shift_flaw, divided, divided_by, divided_unless, is_in_one_face, starts_of, first_set, end_in, latest_flaw, later, flaw_at, flaw_when}
+use Rattle.set_marks.specs.Divisions.{order_flaw, are_read_alike, last_target, set_flaw, part, next_of, sets_flaw, rest_flaw, flaw_of, is_division, leading_of, doubt_flaw, divided, divided_by, divided_unless, is_in_one_face, starts_of, first_set, end_in, latest_flaw, later, flaw_at, flaw_when}
 use Rattle.set_marks.specs.Marking.{station_fault, is_too_long, told_of, recognized}
 use Rattle.set_marks.specs.declared.division.Divided.{Divided}
-use Rattle.set_marks.specs.declared.recognized.Recognized.{Recognized}
 use Rattle.set_marks.specs.Stations.{Occupation}
 use Rattle.set_marks.proofs.Fewest.{fewest}
 
@@ -99,7 +98,7 @@ some_latest rs is e =
 by_leading : (rs : List Sight) (o : Option ℕ) (n : ℕ) → leading_of rs ≡ o
     → divided_by rs o ≡ Sets n → length (starts_of (drop n rs)) ≤ MOST_SETS
 by_leading rs (Some k) n is e =
-    let same = (by_unless (shift_flaw rs k) k n e).1 in
+    let same = (by_unless (doubt_flaw rs k) k n e).1 in
     let divides = (fewest rs n (is ∙ ap Some same)).divides in
     few_rest n (drop n rs) (no_flaw (flaw_of rs n) divides)
 by_leading rs None n is e = by (latest_flaw rs) refl where

@@ -1,20 +1,18 @@
 -- Bytes with code lines woven in are a marked copy.
-use Rattle.std.proofs.Common.{◌≡◌, ℕ, zero, suc, rules, ◌/◌, ◌%◌, ◌+◌, ◌-◌, ◌<◌, ◌≤◌, Bool, true, false, List, [], ◌∷◌, ◌++◌, length, take, drop, map, replicate, All, ◌⊎◌, inl, inr, refl, sym, ap, subst, ◌∙◌, append_assoc, arith, get_or}
-use Rattle.std.specs.Prelude.{codes, slice_index}
-use Rattle.std.specs.List.{flat_map, join_with_byte}
+use Rattle.std.proofs.Common.{◌≡◌, ℕ, zero, suc, rules, ◌/◌, ◌%◌, ◌+◌, ◌-◌, ◌<◌, ◌≤◌, Bool, true, false, List, [], ◌∷◌, ◌++◌, length, take, drop, replicate, All, inl, inr, refl, sym, ap, subst, ◌∙◌, append_assoc, arith, get_or}
+use Rattle.std.specs.Prelude.{slice_index}
+use Rattle.std.specs.List.{flat_map}
 use Rattle.std.proofs.Math.Seq.{take-suc}
 use Rattle.std.proofs.lemmas.List.{length-drop, length-append, length-replicate, drop-drop, take-append-drop, append-nil, get_or-drop}
 use Rattle.std.proofs.lemmas.List.Elements.{All-head, All-tail, All-cons, All-nil, All-append, All-replicate}
-use Rattle.adjust_kernel.specs.Names.{IsName}
-use Rattle.gsi_word.specs.Words.{GsiWord, IsWord, IsGraphic, IsPrintable, spelled}
-use Rattle.gsi_word.specs.Blocks.{GsiBlock, IsBlock, AreWords, BeginsBlock}
+use Rattle.gsi_word.specs.Words.{GsiWord, IsWord, IsPrintable}
+use Rattle.gsi_word.specs.Blocks.{IsBlock, BeginsBlock}
 use Rattle.gsi_file.specs.Parts.{is_line_end}
 use Rattle.station_book.specs.Blocks.{is_opening, role_of}
 use Rattle.set_marks.specs.declared.mark.Code.{Code}
 use Rattle.set_marks.specs.declared.mark.Code.TheVariants.{Station, Set, Close}
 use Rattle.set_marks.specs.declared.mark.Mark.{Mark}
-use Rattle.set_marks.specs.Lines.{end_bytes}
-use Rattle.set_marks.specs.Marks.{width_of, filled, word_of, digits, star, words_of, code_block, words_text, text_of, line_of, HasRoom}
+use Rattle.set_marks.specs.Marks.{width_of, word_of, digits, star, words_of, code_block, words_text, text_of, line_of, HasRoom}
 use Rattle.set_marks.specs.Copies.{woven, AreOrdered, IsCodeLine, EndsLine, Cut, joined, IsCut, IsMarkedCopy, BeginsLine}
 
 -- A word that is put in is a word.

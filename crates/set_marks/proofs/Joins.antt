@@ -1,5 +1,5 @@
 -- Code lines one after another.
-use Rattle.std.proofs.Common.{◌≡◌, ℕ, suc, ◌+◌, ◌≤◌, List, [], ◌∷◌, ◌++◌, length, map, ap, sym, ◌∙◌, append_assoc, Bool, false, Option, Some, None, arith}
+use Rattle.std.proofs.Common.{◌≡◌, ℕ, suc, ◌+◌, List, [], ◌∷◌, ◌++◌, length, map, ap, sym, ◌∙◌, append_assoc, Bool, false, Option, Some, None, arith}
 use Rattle.std.specs.Prelude.{IfSome, ◌≢◌, slice_get, nat_lt, ◌&&◌, drop, if◌then◌else◌}
 use Rattle.std.proofs.lemmas.Bool.{ltb-false, eq-eqb, ne_eqb}
 use Rattle.adjust_kernel.specs.Names.{IsName}

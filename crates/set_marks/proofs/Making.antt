@@ -12,13 +12,13 @@ use Rattle.set_marks.specs.declared.marking.Marking.{Marking}
 use Rattle.set_marks.specs.declared.marked.Marked.{Marked}
 use Rattle.set_marks.specs.declared.mark.Mark.{Mark}
 use Rattle.set_marks.specs.declared.flaw.Flaw.{Flaw}
-use Rattle.set_marks.specs.Stations.{occupations, stations_of, fault_of_blocks}
-use Rattle.set_marks.specs.Marking.{fault_of_stations, fault_of, as_fault, marks_of, marks_from, recognized_of}
+use Rattle.set_marks.specs.Stations.{occupations, stations_of}
+use Rattle.set_marks.specs.Marking.{fault_of_stations, fault_of, as_fault, marks_from}
 use Rattle.set_marks.specs.Marking.{recognized_from}
 use Rattle.set_marks.specs.Placing.{placed}
 use Rattle.set_marks.specs.Copies.{woven, IsMarkedCopy}
-use Rattle.set_marks.specs.Keeping.{Keeps, AreReadings, AnswersReadings, IsMemoryOr, AreMarked, IsBlockFault}
-use Rattle.set_marks.specs.Markings.{AnswersMark, IsMarking, IsMarkFault}
+use Rattle.set_marks.specs.Keeping.{Keeps, AreReadings, AnswersReadings, IsMemoryOr, AreMarked}
+use Rattle.set_marks.specs.Markings.{AnswersMark, IsMarking}
 
 -- The stations of the blocks that are kept.
 stations_kept : (station : Option (List ℕ)) (h : History) (r : Readings) → Keeps station h r

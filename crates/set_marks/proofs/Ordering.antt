@@ -1,5 +1,5 @@
 -- Code lines in order, and one more after them.
-use Rattle.std.proofs.Common.{◌≡◌, ℕ, ◌<◌, ◌≤◌, List, [], ◌∷◌, ◌++◌, arith}
+use Rattle.std.proofs.Common.{ℕ, ◌≤◌, List, [], ◌∷◌, ◌++◌, arith}
 use Rattle.set_marks.specs.declared.mark.Mark.{Mark}
 use Rattle.set_marks.specs.Marks.{HasRoom}
 use Rattle.set_marks.specs.Copies.{AreOrdered}

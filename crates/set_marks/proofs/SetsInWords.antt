@@ -4,7 +4,7 @@ use Rattle.std.specs.Prelude.{nat_lt, nat_le, slice_get}
 use Rattle.std.proofs.Math.Seq.{take-add}
 use Rattle.std.proofs.lemmas.Bool.{cases_Bool, false≢true, leb-false}
 use Rattle.std.proofs.lemmas.List.{take-append-drop, append-nil, length-take, drop-drop}
-use Rattle.std.proofs.lemmas.List.Elements.{All-nil, All-cons}
+use Rattle.std.proofs.lemmas.List.Elements.{All-nil, All-cons, All-head, All-tail}
 use Rattle.std.proofs.lemmas.Slice.Eq.{bytes_eq-Decides}
 use Rattle.station_book.proofs.readings.CleanBlocks.{all_none}
 use Rattle.set_marks.specs.declared.bounds.TheConstants.{MOST_SETS}
@@ -12,9 +12,9 @@ use Rattle.set_marks.specs.declared.fault.MarkKind.TheVariants as kinds
 use Rattle.set_marks.specs.declared.flaw.Flaw.{Flaw}
 use Rattle.set_marks.specs.declared.division.Divided.TheVariants.{NoSets, Sets}
 use Rattle.set_marks.specs.declared.sight.Sight.{Sight}
-use Rattle.set_marks.specs.Divisions.{set_flaw, sets_flaw, sets_of, parts_at, part, starts_of, starts_from, first_set, end_in, rest_flaw, flaw_of, is_division, leading_of, flaw_when, shift_flaw, divided, divided_by, divided_unless, is_in_one_face, latest_flaw, later}
+use Rattle.set_marks.specs.Divisions.{set_flaw, sets_flaw, sets_of, parts_at, part, starts_of, starts_from, first_set, end_in, rest_flaw, flaw_of, is_division, leading_of, flaw_when, flaw_found, doubt_flaw, doubt_after, begins_in_two, may_be_shifted, is_one_by_targets, is_mostly_known, stranger_among, divided, divided_by, divided_unless, is_in_one_face, latest_flaw, later}
 use Rattle.set_marks.specs.SetsInWords.{one_after_another, ReadsEachOnce, AreSets}
-use Rattle.set_marks.proofs.EachTargetOnce.{set_once, no_flaw}
+use Rattle.set_marks.proofs.EachTargetOnce.{set_once, no_flaw, none_found}
 use Rattle.set_marks.proofs.Fewest.{fewest}
 
 -- Readings up to a place, and then those from there up to a later one.
@@ -65,7 +65,8 @@ joined first count end from (to ∷ starts) rs e =
       few = let n = rest.few in omega arith;
     }
 
-first_start : (r : Sight) (rs : List Sight)
+-- The first set begins with the first reading.
+pub first_start : (r : Sight) (rs : List Sight)
     → starts_of (r ∷ rs) ≡ 0 ∷ starts_from r.target false 1 rs
 first_start r rs = rw ((bytes_eq-Decides r.target r.target).1 refl) refl
 
@@ -136,10 +137,49 @@ by_leading rs leading None none e = by (latest_flaw rs) refl e where
       → None ≡ Some leading
   by None is f = absurd (something_wrong rs none is)
   by (Some flaw) is f = cc
-by_leading rs leading (Some n) some e = by (shift_flaw rs n) e where
+by_leading rs leading (Some n) some e = by (doubt_flaw rs n) e where
   by : (o : Option Flaw) → divided_unless o n ≡ Sets leading → Some n ≡ Some leading
   by None f = let g : n ≡ leading = cc in ap (λ (k : ℕ). Some k) g
   by (Some flaw) f = cc
+
+-- Where sets are recognized, there is no doubt about them.
+no_doubt : (o : Option Flaw) (n leading : ℕ) → divided_unless o n ≡ Sets leading → o ≡ None
+no_doubt None n leading e = refl
+no_doubt (Some flaw) n leading e = cc
+
+-- Where no set has other targets than the first, each has mostly those.
+all_known : (first : List Sight) (sets : List (List Sight)) → All ReadsEachOnce sets
+    → stranger_among first sets ≡ None → All (λ set. is_mostly_known first set ≡ true) sets
+all_known first [] each e = All-nil (λ (set : List Sight). is_mostly_known first set ≡ true)
+all_known first (set ∷ sets) each e = elim (cases_Bool (is_mostly_known first set)) [
+  | inl h ↦ All-cons (λ (s : List Sight). is_mostly_known first s ≡ true) set sets h
+      (all_known first sets (All-tail ReadsEachOnce set sets each) (rw h at e))
+  | inr h ↦ absurd (some_reading set (All-head ReadsEachOnce set sets each).many (rw h at e))
+] where
+  some_reading : (rs : List Sight) → 4 ≤ length rs → slice_get rs 0 ≡ None → ⊥
+  some_reading [] many f = omega (arith, many)
+  some_reading (r ∷ rs) many f = cc
+
+-- What is said of readings about which there is no doubt.
+record AreSure (rs : List Sight) : Type 0 where
+  pub single : is_one_by_targets (sets_of rs) ≡ false
+  pub strangers : stranger_among (first_set (starts_of rs) rs) (sets_of rs) ≡ None
+
+are_sure : (leading rs : List Sight) → doubt_after leading rs ≡ None → AreSure rs
+are_sure leading rs e =
+    let none = all_none (
+    flaw_when (begins_in_two rs) kinds.FirstFace (slice_get rs 0)
+    ∷ flaw_when (may_be_shifted leading (first_set (starts_of rs) rs)) kinds.MayBeShifted
+    (slice_get rs 0)
+    ∷ flaw_when (is_one_by_targets (sets_of rs)) kinds.OneSetByTargets (slice_get rs 0)
+    ∷ flaw_found kinds.OtherTargets (stranger_among (first_set (starts_of rs) rs) (sets_of rs))
+    ∷ []) e in
+    record {
+      single = no_flaw (is_one_by_targets (sets_of rs)) kinds.OneSetByTargets (slice_get rs 0)
+          none.1.1.0;
+      strangers = none_found kinds.OtherTargets
+          (stranger_among (first_set (starts_of rs) rs) (sets_of rs)) none.1.1.1.0;
+    }
 
 -- Where sets are recognized, they are sets.
 pub sets_in_words : (rs : List Sight) (leading : ℕ) → divided rs ≡ Sets leading → AreSets rs leading
@@ -150,10 +190,16 @@ sets_in_words rs leading e = elim (cases_Bool (is_in_one_face rs)) [
       let divides = (fewest rs leading found).divides in
       let are = rest_are leading (drop leading rs) (none_is (flaw_of rs leading) divides) in
       let behind = drop leading rs in
+      let by_them : divided_by rs (leading_of rs) ≡ Sets leading = rw h at e in
+      let sure = are_sure (take leading rs) behind (no_doubt (doubt_flaw rs leading) leading leading
+      (ap (λ (o : Option ℕ). divided_by rs o) (sym found) ∙ by_them)) in
       record {
         some = are.some;
         few = are.few;
         each = are.each;
+        single = sure.single;
+        known = all_known (first_set (starts_of behind) behind) (sets_of behind) are.each
+            sure.strangers;
         in_order = sym (take-append-drop leading rs)
             ∙ ap (λ xs. take leading rs ++ xs) (sym (take-append-drop (end_in behind) behind)
             ∙ ap (λ xs. xs ++ drop (end_in behind) behind) (sym are.same));

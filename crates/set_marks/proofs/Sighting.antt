@@ -1,6 +1,6 @@
 -- A reading as the division into sets sees it.
-use Rattle.std.proofs.Common.{◌≡◌, ℕ, Bool, true, false, List, [], ◌∷◌, ◌++◌, length, Option, Some, None, Result, refl, sym, ap, ◌∙◌, inl, inr}
-use Rattle.std.specs.Prelude.{◌==◌, ◌&&◌, nat_lt, Ok, if◌then◌else◌}
+use Rattle.std.proofs.Common.{◌≡◌, ℕ, Bool, true, false, List, [], ◌∷◌, ◌++◌, length, Option, Some, None, refl, sym, ap, ◌∙◌, inl, inr}
+use Rattle.std.specs.Prelude.{◌==◌, ◌&&◌, nat_lt, Ok}
 use Rattle.std.proofs.lemmas.Bool.{cases_Bool}
 use Rattle.std.proofs.lemmas.List.{append-nil}
 use Rattle.gsi_word.specs.Blocks.{GsiBlock}
@@ -9,13 +9,13 @@ use Rattle.station_book.specs.declared.angles.Reading.{Reading}
 use Rattle.station_book.specs.declared.fault.BookKind.{BookKind}
 use Rattle.station_book.specs.declared.face.Face.TheVariants.{Two}
 use Rattle.station_book.specs.declared.role.Role.TheVariants.{Measurement}
-use Rattle.station_book.specs.Blocks.{role_of, lacks, has_direction, target, is_of_face, angles}
+use Rattle.station_book.specs.Blocks.{role_of, lacks, is_of_face, angles}
 use Rattle.station_book.specs.Faults.{first_of}
 use Rattle.station_book.specs.Readings.{read, reading, own_faults, unless_fault}
 use Rattle.set_marks.specs.declared.readings.Readings.{Readings}
 use Rattle.set_marks.specs.declared.sight.SetUp.{SetUp}
 use Rattle.set_marks.specs.declared.sight.Sight.{Sight}
-use Rattle.set_marks.specs.Stations.{sight_in, set_up_in}
+use Rattle.set_marks.specs.Stations.{sight_in}
 use Rattle.set_marks.specs.Keeping.{Adds, begun_after}
 
 is_second : (b : GsiBlock) → is_of_face Two b

@@ -1,9 +1,8 @@
 -- The blocks of a file are read one by one.
-use Rattle.std.proofs.Common.{◌≡◌, ℕ, suc, ◌+◌, Bool, true, false, List, [], ◌∷◌, ◌++◌, length, Option, Some, None, refl, sym, ap, subst, ◌∙◌, arith, inl, inr, append_assoc, reverse}
+use Rattle.std.proofs.Common.{◌≡◌, ℕ, ◌+◌, Bool, true, false, List, [], ◌∷◌, ◌++◌, length, Option, Some, None, refl, sym, ap, subst, ◌∙◌, arith, append_assoc, reverse}
 use Rattle.std.specs.Prelude.{IfSome, if◌then◌else◌, ◌&&◌, Err}
 use Rattle.std.specs.List.{AllZip}
 use Rattle.std.specs.Option.{option_map}
-use Rattle.std.proofs.lemmas.Bool.{cases_Bool}
 use Rattle.std.proofs.lemmas.List.{append-nil, reverse-append}
 use Rattle.gsi_word.specs.Blocks.{GsiBlock, IsBlock}
 use Rattle.gsi_file.specs.FileAnswers.{FileAnswers, line_before}
@@ -23,8 +22,8 @@ use Rattle.set_marks.specs.declared.fault.MarkFault.TheVariants.{File, Reading, 
 use Rattle.set_marks.specs.declared.fault.MarkKind.TheVariants as kinds
 use Rattle.set_marks.specs.declared.readings.Readings.{Readings}
 use Rattle.set_marks.specs.declared.sight.SetUp.{SetUp}
-use Rattle.set_marks.specs.Stations.{begun, is_stated, fault_as, reading_fault, fault_of_blocks, own_fault, has_set_up_word, sights_of, set_ups_of, set_up_in}
-use Rattle.set_marks.specs.Keeping.{Adds, Keeps, AreReadings, IsBlockFault, AnswersReadings}
+use Rattle.set_marks.specs.Stations.{begun, is_stated, fault_as, reading_fault, fault_of_blocks, own_fault, has_set_up_word}
+use Rattle.set_marks.specs.Keeping.{Adds, Keeps, AreReadings, AnswersReadings}
 use Rattle.set_marks.specs.Markings.{AreBlocks, IsFileFault}
 
 -- The lines of a file up to some place are blocks, and this is kept of them, or is the fault of the

@@ -1,10 +1,11 @@
 -- Where the sets of a station begin and end, by its readings alone (profile). Sets begin at the 1st,
 -- 3rd, 5th .. reading of the opening target, which is that of the first reading. In a set each target
 -- is read once in each face, either all of them in one face and then in the other, or each in both
--- faces before the next. All sets are read the same way, and all end with one target.
-use Rattle.std.specs.Prelude.{ℕ, suc, ◌-◌, ◌/◌, Bool, true, false, ◌&&◌, ◌||◌, not}
-use Rattle.std.specs.Prelude.{nat_lt, nat_le, List, [], ◌∷◌, length, take, drop, if◌then◌else◌}
-use Rattle.std.specs.Prelude.{Option, Some, None, is_none, slice_get}
+-- faces before the next. All sets are read the same way, all end with one target, and most targets of
+-- each are targets of the first.
+use Rattle.std.specs.Prelude.{ℕ, suc, ◌-◌, ◌*◌, ◌/◌, Bool, true, false, ◌&&◌, ◌||◌, not}
+use Rattle.std.specs.Prelude.{nat_lt, nat_le, List, [], ◌∷◌, length, filter, take, drop}
+use Rattle.std.specs.Prelude.{if◌then◌else◌, Option, Some, None, is_none, slice_get}
 use Rattle.std.specs.List.{list_all, list_any}
 use Rattle.std.specs.Str.{bytes_eq}
 use Rattle.gsi_file.specs.FileAnswers.{least}
@@ -252,14 +253,42 @@ abbrev pub begins_in_two : List Sight → Bool
 begins_in_two [] = false
 begins_in_two (r ∷ rs) = r.second
 
--- Of readings that divide: the first set begins in face II, or the sets may be shifted.
-abbrev pub shift_flaw : List Sight → ℕ → Option Flaw
-shift_flaw rs leading = first_of (
-    flaw_when (begins_in_two (drop leading rs)) kinds.FirstFace (slice_get (drop leading rs) 0)
-    ∷ flaw_when (may_be_shifted (take leading rs)
-    (first_set (starts_of (drop leading rs)) (drop leading rs))) kinds.MayBeShifted
-    (slice_get (drop leading rs) 0)
+-- A single set, read by targets: each of its pairs may have been read at another set-up.
+abbrev pub is_one_by_targets : List (List Sight) → Bool
+is_one_by_targets [] = false
+is_one_by_targets (set ∷ []) = is_by_targets set
+is_one_by_targets (set ∷ next ∷ sets) = false
+
+-- the readings whose target is one of the first set's
+abbrev pub known_in : List Sight → List Sight → List Sight
+known_in first set = filter (λ r. list_any (is_of r.target) first) set
+
+-- Most targets of a set, more than half of them, are targets of the first set. A set reads each of
+-- them twice, so these are more than half of its readings.
+abbrev pub is_mostly_known : List Sight → List Sight → Bool
+is_mostly_known first set = nat_lt (length set) (2 * length (known_in first set))
+
+-- the first reading of the first of these sets of which this isn't so
+abbrev pub stranger_among : List Sight → List (List Sight) → Option Sight
+stranger_among first [] = None
+stranger_among first (set ∷ sets) =
+    if is_mostly_known first set then stranger_among first sets else slice_get set 0
+
+-- The doubt about readings that are sets after these leading ones, the first that stands: the first
+-- set begins in face II; the sets may be shifted; there is but one, read by targets; or a set has
+-- other targets than the first.
+abbrev pub doubt_after : List Sight → List Sight → Option Flaw
+doubt_after leading rs = first_of (
+    flaw_when (begins_in_two rs) kinds.FirstFace (slice_get rs 0)
+    ∷ flaw_when (may_be_shifted leading (first_set (starts_of rs) rs)) kinds.MayBeShifted
+    (slice_get rs 0)
+    ∷ flaw_when (is_one_by_targets (sets_of rs)) kinds.OneSetByTargets (slice_get rs 0)
+    ∷ flaw_found kinds.OtherTargets (stranger_among (first_set (starts_of rs) rs) (sets_of rs))
     ∷ [])
+
+-- The doubt about readings that divide with so many leading ones.
+abbrev pub doubt_flaw : List Sight → ℕ → Option Flaw
+doubt_flaw rs leading = doubt_after (take leading rs) (drop leading rs)
 
 -- all in one face, or none at all
 abbrev pub is_in_one_face : List Sight → Bool
@@ -273,7 +302,7 @@ divided_unless (Some f) leading = Flawed f
 
 -- by the fewest leading readings with which the rest are sets, if there are so few
 abbrev pub divided_by : List Sight → Option ℕ → Divided
-divided_by rs (Some leading) = divided_unless (shift_flaw rs leading) leading
+divided_by rs (Some leading) = divided_unless (doubt_flaw rs leading) leading
 divided_by rs None = divided_unless (latest_flaw rs) 0
 
 -- What a station's readings are: all in one face, so that it has no sets; or sets, after so many

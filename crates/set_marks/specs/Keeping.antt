@@ -1,5 +1,5 @@
 -- What the code keeps of the blocks of a file, and what it answers on the way.
-use Rattle.std.specs.Prelude.{◌≡◌, ℕ, List, [], ◌++◌, length, Bool, true, false, Option, Some, None, Result}
+use Rattle.std.specs.Prelude.{◌≡◌, ℕ, List, ◌++◌, length, Bool, true, false, Option, Some, None, Result}
 use Rattle.std.specs.Prelude.{Ok, Err, ⊤}
 use Rattle.gsi_word.specs.Blocks.{GsiBlock}
 use Rattle.gsi_file.specs.FileAnswers.{FileAnswers}

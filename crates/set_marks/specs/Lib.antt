@@ -2,6 +2,7 @@
 pub mod Stations
 pub mod Divisions
 pub mod SetsInWords
+pub mod BeginsAndEnds
 pub mod Fewest
 pub mod Marking
 pub mod Lines

@@ -1,5 +1,5 @@
 -- What is put into a field file, and what is told of it, by its blocks alone (profile).
-use Rattle.std.specs.Prelude.{ℕ, suc, ◌+◌, ◌-◌, Bool, true, false, ◌&&◌, List, [], ◌∷◌, ◌++◌, length}
+use Rattle.std.specs.Prelude.{ℕ, suc, ◌+◌, ◌-◌, Bool, false, ◌&&◌, List, [], ◌∷◌, ◌++◌, length}
 use Rattle.std.specs.Prelude.{drop, if◌then◌else◌, Option, Some, None, is_none, nat_le, nat_lt}
 use Rattle.std.specs.Prelude.{slice_get}
 use Rattle.station_book.specs.declared.bounds.TheConstants.{MOST_STATIONS}

@@ -1,10 +1,9 @@
 -- What a field file comes to where codes are to be put in: a copy that has them, or its first fault.
-use Rattle.std.specs.Prelude.{◌≡◌, ◌⊎◌, ℕ, ◌+◌, Bool, List, ◌++◌, length, map, reverse, Option, Some}
+use Rattle.std.specs.Prelude.{◌≡◌, ℕ, ◌+◌, List, ◌++◌, length, reverse, Option, Some}
 use Rattle.std.specs.Prelude.{None, Result, Ok, Err, ⊤}
 use Rattle.std.specs.List.{AllZip}
-use Rattle.byte_ends.specs.Source.{Told}
 use Rattle.gsi_word.specs.Blocks.{IsBlock}
-use Rattle.gsi_file.specs.FileAnswers.{FileAnswers, file_answers}
+use Rattle.gsi_file.specs.FileAnswers.{FileAnswers}
 use Rattle.gsi_file.specs.ToCome.{FaultIsNext}
 use Rattle.gsi_file.specs.declared.file_fault.FileKind.{FileKind}
 use Rattle.gsi_file.specs.declared.file_fault.FileFault.TheVariants as file

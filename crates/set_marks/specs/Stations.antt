@@ -1,7 +1,7 @@
 -- The stations of a field file without codes, and their readings, by its blocks alone. Word 11 of a
--- measurement names what is pointed at, or at a set-up line the station; words 84 to 88 are the
--- coordinates of the station and the height of the instrument (GSI manual). A history is the blocks
--- of a file up to some place, the newest first, as in station_book.
+-- measurement names what is pointed at, or at a set-up line the station; words 84 to 86 are the
+-- coordinates of the station, word 88 is the height of the instrument (GSI manual). A history is the
+-- blocks of a file up to some place, the newest first, as in station_book.
 use Rattle.std.specs.Prelude.{ℕ, ◌+◌, ◌-◌, ◌==◌, Bool, ◌&&◌, not, List, [], ◌∷◌, ◌++◌}
 use Rattle.std.specs.Prelude.{length, take, drop, if◌then◌else◌, Option, Some, None, is_some}
 use Rattle.std.specs.List.{list_any}
@@ -23,10 +23,10 @@ use Rattle.set_marks.specs.declared.fault.MarkKind.TheVariants as kinds
 use Rattle.set_marks.specs.declared.sight.Sight.{Sight}
 use Rattle.set_marks.specs.declared.sight.SetUp.{SetUp}
 
--- the words of a set-up line: east, north and height of the station, height of the target at it,
--- height of the instrument
+-- The words of a set-up line: east, north and height of the station, height of the instrument. Word
+-- 87, the height of a target, is none of them: it stands at points that are no stations too.
 abbrev pub set_up_words : List ℕ
-set_up_words = 84 ∷ 85 ∷ 86 ∷ 87 ∷ 88 ∷ []
+set_up_words = 84 ∷ 85 ∷ 86 ∷ 88 ∷ []
 
 -- one of these words stands in the block
 unfoldable pub has_set_up_word : GsiBlock → Bool

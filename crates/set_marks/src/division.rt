@@ -1,17 +1,22 @@
 //! The division of a station's readings into sets.
 
-ghost use Rattle.std.specs.Prelude.{◌≡◌, ◌<◌, IfOk, Some, length, drop, not, ◌&&◌};
+ghost use Rattle.std.specs.Prelude.{◌≡◌, ◌<◌, ◌≤◌, IfOk, Some, length, drop, not, ◌&&◌};
 ghost use Rattle.std.specs.Str.{bytes_eq};
 ghost use Rattle.std.specs.List.{list_any};
 ghost use Rattle.station_book.specs.Places.{is_among};
 ghost use Rattle.set_marks.specs.Leading.{IsLeading};
 ghost use Rattle.set_marks.specs.Divisions.{is_of, part, next_of, end_of, end_by, end_in, starts_of, first_set, sets_flaw, flaw_of, later, targets_of, begins_in_two};
-ghost use Rattle.set_marks.specs.Divisions.{is_pair, may_be_shifted, shift_flaw, last_target, first_target, divided};
+ghost use Rattle.set_marks.specs.Divisions.{is_pair, may_be_shifted, last_target, first_target, divided, parts_at};
+ghost use Rattle.set_marks.specs.Divisions.{is_one_by_targets, known_in, is_mostly_known, stranger_among, flaw_found, doubt_after, doubt_flaw};
+ghost use Rattle.set_marks.specs.declared.fault.MarkKind.TheVariants.{OtherTargets};
 
 use crate::bounds::MOST_SETS;
 use crate::fault::MarkKind;
-use crate::flaw::{Flaw, flaw_at};
-use crate::set::{first_target, front, has_pair, is_in_one_face, is_of, last_target, set_flaw};
+use crate::flaw::{Flaw, flaw_at, flaw_found};
+use crate::set::{
+    first_target, front, has_pair, is_by_targets, is_in_one_face, is_of, last_target, set_flaw,
+    sight_at,
+};
 use crate::sight::Sight;
 use crate::starts::{starts, starts_of};
 use adjust_kernel::Name;
@@ -260,19 +265,90 @@ fn begins_in_two(sights: &[Sight]) -> bool
     }
 }
 
-/// Of readings that divide: the first set begins in face II, or the sets may be shifted.
-fn shift_flaw(alloc: Global, sights: &[Sight], leading: usize) -> Result<Option<Flaw>, AllocError>
-    ensures { IfOk result (λ o. o ≡ shift_flaw sights.now leading) }
+/// Whether there is a single set, and it is read by targets.
+fn is_one_by_targets(starts: &[usize], sights: &[Sight]) -> bool
+    ensures { result ≡ is_one_by_targets
+        (parts_at (end_by starts.now sights.now) starts.now sights.now) }
 {
-    let rest = behind(leading, sights);
-    if begins_in_two(rest) {
-        return Ok(Some(flaw_at(MarkKind::FirstFace, rest.get(0))));
+    match starts {
+        [from] => is_by_targets(part(*from, sights.len(), sights)),
+        [] | [_, _, ..] => false,
     }
-    let starts = starts_of(alloc, rest)?;
-    if may_be_shifted(front(leading, sights), first_set(&starts, rest)) {
-        return Ok(Some(flaw_at(MarkKind::MayBeShifted, rest.get(0))));
+}
+
+/// How many of these readings are of targets that the first set has.
+fn count_known(first: &[Sight], set: &[Sight]) -> usize
+    ensures known { result ≡ length (known_in first.now set.now) }
+    ensures few { result ≤ length set.now }
+{
+    let mut count = 0;
+    let mut left = set;
+    'sights: while let Some((sight, rest)) = left.split_first() {
+        if reads_target(first, &sight.target) {
+            count += 1;
+        }
+        left = rest;
+    }
+    count
+}
+
+/// Whether most targets of a set are targets of the first.
+fn is_mostly_known(first: &[Sight], set: &[Sight]) -> bool
+    ensures { result ≡ is_mostly_known first.now set.now }
+{
+    set.len() < 2 * count_known(first, set)
+}
+
+/// The first set that has other targets than the first, by its first reading.
+fn strangers_flaw(
+    alloc: Global,
+    starts: &[usize],
+    sights: &[Sight],
+) -> Result<Option<Flaw>, AllocError>
+    ensures { IfOk result (λ o. o ≡ flaw_found OtherTargets
+        (stranger_among (first_set starts.now sights.now)
+        (parts_at (end_by starts.now sights.now) starts.now sights.now))) }
+{
+    let first = first_set(starts, sights);
+    let mut left = starts;
+    'sets: while let Some((from, rest)) = left.split_first() {
+        let to = end_of_set(alloc, rest, starts, sights)?;
+        let set = part(*from, to, sights);
+        if !is_mostly_known(first, set) {
+            return Ok(flaw_found(MarkKind::OtherTargets, sight_at(set, 0)));
+        }
+        left = rest;
     }
     Ok(None)
+}
+
+/// The doubt about readings that are sets after these leading ones.
+fn doubt_after(
+    alloc: Global,
+    leading: &[Sight],
+    sights: &[Sight],
+) -> Result<Option<Flaw>, AllocError>
+    ensures { IfOk result (λ o. o ≡ doubt_after leading.now sights.now) }
+{
+    let first = sight_at(sights, 0);
+    if begins_in_two(sights) {
+        return Ok(Some(flaw_at(MarkKind::FirstFace, first)));
+    }
+    let starts = starts_of(alloc, sights)?;
+    if may_be_shifted(leading, first_set(&starts, sights)) {
+        return Ok(Some(flaw_at(MarkKind::MayBeShifted, first)));
+    }
+    if is_one_by_targets(&starts, sights) {
+        return Ok(Some(flaw_at(MarkKind::OneSetByTargets, first)));
+    }
+    strangers_flaw(alloc, &starts, sights)
+}
+
+/// The doubt about readings that divide with so many leading ones.
+fn doubt_of(alloc: Global, sights: &[Sight], leading: usize) -> Result<Option<Flaw>, AllocError>
+    ensures { IfOk result (λ o. o ≡ doubt_flaw sights.now leading) }
+{
+    doubt_after(alloc, front(leading, sights), behind(leading, sights))
 }
 
 /// What a station's readings are.
@@ -283,7 +359,7 @@ pub fn divide(alloc: Global, sights: &[Sight]) -> Result<Divided, AllocError>
         return Ok(Divided::NoSets);
     }
     match find_leading(alloc, sights)? {
-        Leading::Divides(leading) => match shift_flaw(alloc, sights, leading)? {
+        Leading::Divides(leading) => match doubt_of(alloc, sights, leading)? {
             Some(flaw) => Ok(Divided::Flawed(flaw)),
             None => Ok(Divided::Sets(leading)),
         },

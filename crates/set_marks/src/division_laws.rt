@@ -1,13 +1,27 @@
 //! Laws of the division of a station's readings into sets. The functions do nothing.
 
-ghost use Rattle.std.specs.Prelude.{◌≡◌, ℕ, List};
+ghost use Rattle.std.specs.Prelude.{◌≡◌, ◌≤◌, ℕ, List, filter, length};
 ghost use Rattle.set_marks.specs.declared.division.Divided.TheVariants.{Sets};
 ghost use Rattle.set_marks.specs.declared.sight.Sight.{Sight};
-ghost use Rattle.set_marks.specs.Divisions.{divided};
+ghost use Rattle.set_marks.specs.Divisions.{divided, starts_of, end_in};
+ghost use Rattle.set_marks.specs.BeginsAndEnds.{begins_set, places_from, EndsLastSet};
 ghost use Rattle.set_marks.specs.SetsInWords.{AreSets};
 
 /// Where sets are recognized, each reads each of its targets once in each face, and one after
 /// another they are the readings between the leading ones and those behind.
 pub fn sets_in_words()
     ensures { (rs : List Sight) (leading : ℕ) → divided rs ≡ Sets leading → AreSets rs leading }
+{}
+
+/// Sets begin exactly where a reading is of the opening target and this was read an even number of
+/// times before: at those of all places, in their order.
+pub fn sets_begin()
+    ensures { (rs : List Sight) → starts_of rs ≡ filter (begins_set rs) (places_from 0 rs) }
+{}
+
+/// The last of several sets ends right after the last reading of a target that a set before it has.
+/// A single set ends with the readings.
+pub fn last_set_ends()
+    ensures several { (rs : List Sight) → 2 ≤ length (starts_of rs) → EndsLastSet rs }
+    ensures single { (rs : List Sight) → length (starts_of rs) ≡ 1 → end_in rs ≡ length rs }
 {}

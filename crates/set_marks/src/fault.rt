@@ -61,6 +61,14 @@ pub enum MarkKind {
     /// The readings before the first set may belong to the sets, and these be shifted.
     #[error("the readings before the first set may belong to the sets")]
     MayBeShifted,
+    /// The station has a single set, read by targets: nothing shows that all its pairs are of one
+    /// set-up. Put codes 10 and 20 before it by hand, if the field book says so.
+    #[error("a single set is read by targets, and nothing shows that it is one")]
+    OneSetByTargets,
+    /// No more than half of the set's targets are targets of the station's first set: the
+    /// instrument was set up again. Mark the readings before and after in copies of their own.
+    #[error("no more than half of the set's targets are targets of the first set")]
+    OtherTargets,
     /// A station of this name had sets: the point was set up again.
     #[error("a station of this name had sets before")]
     StationTwice,
@@ -96,6 +104,8 @@ impl MarkKind {
             MarkKind::OneSet => "OneSet",
             MarkKind::FirstFace => "FirstFace",
             MarkKind::MayBeShifted => "MayBeShifted",
+            MarkKind::OneSetByTargets => "OneSetByTargets",
+            MarkKind::OtherTargets => "OtherTargets",
             MarkKind::StationTwice => "StationTwice",
             MarkKind::TooManyStations => "TooManyStations",
             MarkKind::NameTooLong => "NameTooLong",

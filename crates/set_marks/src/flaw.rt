@@ -2,7 +2,7 @@
 
 ghost use Rattle.std.specs.Prelude.{◌≡◌, ◌∷◌, [], option_map};
 ghost use Rattle.station_book.specs.Faults.{first_of};
-ghost use Rattle.set_marks.specs.Divisions.{flaw_at, flaw_when};
+ghost use Rattle.set_marks.specs.Divisions.{flaw_at, flaw_found, flaw_when};
 
 use crate::fault::MarkKind;
 use crate::sight::Sight;
@@ -37,6 +37,16 @@ pub(crate) fn flaw_when(test: bool, kind: MarkKind, sight: Option<&Sight>) -> Op
         Some(flaw_at(kind, sight))
     } else {
         None
+    }
+}
+
+/// The same, at a reading that was found, if one was.
+pub(crate) fn flaw_found(kind: MarkKind, sight: Option<&Sight>) -> Option<Flaw>
+    ensures { result ≡ flaw_found kind (option_map (λ s. s.now) sight.entry) }
+{
+    match sight {
+        Some(_) => Some(flaw_at(kind, sight)),
+        None => None,
     }
 }
 

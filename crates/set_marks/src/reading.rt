@@ -39,16 +39,12 @@ fn has_word(block: &Block<'_>, index: u8) -> bool
 }
 
 /// Whether a block has a word of a set-up line: east, north or height of the station, height of the
-/// target at it, height of the instrument.
+/// instrument.
 #[tactic(auto, unfolding(crate::specs::Stations::has_set_up_word))]
 fn has_set_up_word(block: &Block<'_>) -> bool
     ensures { result ≡ has_set_up_word (block_of block.now) }
 {
-    has_word(block, 84)
-        || has_word(block, 85)
-        || has_word(block, 86)
-        || has_word(block, 87)
-        || has_word(block, 88)
+    has_word(block, 84) || has_word(block, 85) || has_word(block, 86) || has_word(block, 88)
 }
 
 /// Whether the zenith angle of a reading is of face II.

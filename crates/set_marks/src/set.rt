@@ -110,7 +110,7 @@ fn is_by_faces(set: &[Sight]) -> bool
 
 /// Whether each target is read in both faces before the next.
 // It calls itself once for each two readings of a set, of which there are at most 200.
-fn is_by_targets(set: &[Sight]) -> bool
+pub(crate) fn is_by_targets(set: &[Sight]) -> bool
     ensures { result ≡ is_by_targets set.now }
 {
     match set {

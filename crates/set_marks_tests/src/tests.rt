@@ -4,8 +4,8 @@ use station_book::BookKind;
 use std::alloc::Global;
 
 /// The bytes of a field file of GSI-8, one block for each pair of bytes: the name of a target, and
-/// `1` or `2` for the face in which it is read; the name of a station and `p` for its set-up line;
-/// or `c` and a code's first digit.
+/// `1` or `2` for the face in which it is read, or `h` for its height alone; the name of a station
+/// and `p` for its set-up line; or `c` and a code's first digit.
 fn file(alloc: Global, text: &[u8]) -> Option<Vec<u8>> {
     let mut bytes = Vec::new(alloc);
     for pair in 0..text.len() / 2 {
@@ -19,6 +19,7 @@ fn file(alloc: Global, text: &[u8]) -> Option<Vec<u8>> {
             bytes.push(named).ok()?;
             let rest: &[u8] = match kind {
                 b'p' => b" 88..10+00001543",
+                b'h' => b" 87..10+00001500",
                 b'1' => b" 21.102+01234567 22.102+09876543",
                 b'2' => b" 21.102+21234567 22.102+30123457",
                 _ => b" 21.102+01234567",
@@ -57,13 +58,15 @@ fn rows_are_marked(rt: HostRuntime) {
     assert!(rt; is_marked(a, b"A1A2A1B1C1C2B2A2A1B1C1C2B2A2"));
     assert!(rt; is_marked(a, b"A1B1B2A2A1B1B2A2d1e1"));
     assert!(rt; is_marked(a, b"1pA1B1B2A22pA1B1B2A2"));
+    assert!(rt; is_marked(a, b"A1B1C1C2B2A2A1D1B1E1C1C2E2B2D2A2"));
+    assert!(rt; is_marked(a, b"AhA1B1B2A2BhA1B1B2A2"));
 }
 
 // The blocks are those that a plain program of the rule names.
 #[test]
 fn each_fault_stands_at_its_block(rt: HostRuntime) {
     let a = rt.alloc();
-    let rows: [(&[u8], u32, MarkKind); 18] = [
+    let rows: [(&[u8], u32, MarkKind); 23] = [
         (b"A1B1c2B2A2", 3, MarkKind::HasCodes),
         (b"A1B1B2A21pA1B1B2A2", 5, MarkKind::HasSetUp),
         (b"A1B1B2A2A1B1B1", 7, MarkKind::ReadTwice),
@@ -79,6 +82,15 @@ fn each_fault_stands_at_its_block(rt: HostRuntime) {
         (b"A2A1B1B2A2A1B1B2", 1, MarkKind::FirstFace),
         (b"B1B2A1A2B1B2A1A2B1B2", 3, MarkKind::MayBeShifted),
         (b"B1A1A2B2B1A1A2B2B1", 2, MarkKind::MayBeShifted),
+        (b"A1A2B1B2C1C2D1D2", 1, MarkKind::OneSetByTargets),
+        (b"1pA1B1B2A22pA1A2B1B2", 7, MarkKind::OneSetByTargets),
+        (b"A1B1B2A2A1C1C2A2", 5, MarkKind::OtherTargets),
+        (b"A1B1B2A2A1B1C1D1D2C2B2A2", 5, MarkKind::OtherTargets),
+        (
+            b"A1B1B2A2A1B1C1C2B2A2A1C1D1D2C2A2",
+            11,
+            MarkKind::OtherTargets,
+        ),
         (b"A1B1C1", 4, MarkKind::NoSets),
         (b"1p", 2, MarkKind::NoSets),
         (b"1pA1B1B2A21pA1B1B2A2", 7, MarkKind::StationTwice),

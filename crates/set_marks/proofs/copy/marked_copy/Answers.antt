@@ -1,7 +1,6 @@
-use Rattle.std.proofs.Common.{◌≡◌, List, ℕ, rules}
-use Rattle.std.specs.Prelude.{IfOk, Result, Ok, Err}
-use Rattle.set_marks.specs.declared.mark.Mark.{Mark}
-use Rattle.set_marks.specs.Copies.{woven, AreOrdered, BeginsLine, IsMarkedCopy}
+use Rattle.std.proofs.Common.{◌≡◌}
+use Rattle.std.specs.Prelude.{IfOk, Ok, Err}
+use Rattle.set_marks.specs.Copies.{woven, IsMarkedCopy}
 use Rattle.set_marks.proofs.Identity.{made_is_copy}
 use Rattle.set_marks.proofs.copy.marked_copy.Goals as goal
 

@@ -1,8 +1,6 @@
-use Rattle.std.proofs.Common.{◌≡◌, ◌≤◌, ◌+◌, ◌-◌, ◌++◌, ℕ, List, length, drop, take, rules, sym, ap, subst, ◌∙◌, arith}
+use Rattle.std.proofs.Common.{◌≡◌, ◌+◌, ◌-◌, ◌++◌, ℕ, List, length, drop, ap, ◌∙◌, arith}
 use Rattle.std.proofs.lemmas.List.{length-drop}
 use Rattle.gsi_file.specs.Parts.{parts}
-use Rattle.set_marks.specs.declared.mark.Mark.{Mark}
-use Rattle.set_marks.specs.Copies.{AreOrdered}
 use Rattle.set_marks.specs.Placing.{placed_from}
 use Rattle.set_marks.proofs.Walking.{next_value, last_value, next_begins, next_rest}
 use Rattle.set_marks.proofs.Ordering.{up_to}

@@ -1,4 +1,4 @@
-use Rattle.std.proofs.Common.{rules, refl, ap, ◌∙◌, length, option_map, nat_lt, not}
+use Rattle.std.proofs.Common.{rules, refl, ◌∙◌, length, option_map, nat_lt, not}
 use Rattle.set_marks.proofs.Few.{order_flaw_is}
 use Rattle.set_marks.proofs.set.order_flaw.Goals as goal
 

@@ -1,4 +1,4 @@
-use Rattle.std.proofs.Common.{◌≡◌, ◌++◌, List, rules, sym, ap, ◌∙◌}
+use Rattle.std.proofs.Common.{◌++◌, List, rules, sym, ap, ◌∙◌}
 use Rattle.set_marks.specs.declared.division.Divided.TheVariants.{Sets}
 use Rattle.set_marks.specs.declared.recognized.Recognized.{Recognized}
 use Rattle.set_marks.proofs.Few.{is_told}

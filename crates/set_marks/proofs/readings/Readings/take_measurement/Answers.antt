@@ -1,4 +1,4 @@
-use Rattle.std.proofs.Common.{◌≡◌, rules, sym, ap, ◌∙◌}
+use Rattle.std.proofs.Common.{rules}
 use Rattle.gsi_word.specs.BlockViews.{block_of}
 use Rattle.set_marks.proofs.Sighting.{adds_sight}
 use Rattle.set_marks.proofs.readings.Readings.take_measurement.Goals as goal

@@ -1,0 +1,279 @@
+-- Where sets begin, and where the last of them ends, in words.
+use Rattle.std.proofs.Common.{◌≡◌, ℕ, zero, suc, ◌+◌, ◌≤◌, Bool, true, false, ◌&&◌, ◌||◌, not, List, [], ◌∷◌, ◌++◌, length, filter, take, Some, refl, sym, ap, subst, ◌∙◌, inl, inr, arith, append_assoc, All}
+use Rattle.std.specs.Prelude.{slice_get, if◌then◌else◌}
+use Rattle.std.specs.List.{list_any}
+use Rattle.std.specs.Str.{bytes_eq}
+use Rattle.std.proofs.Math.Seq.{take-append_seam}
+use Rattle.std.proofs.lemmas.Bool.{cases_Bool, or_parts, or_left}
+use Rattle.std.proofs.lemmas.List.{append-nil, length-append}
+use Rattle.std.proofs.Math.Bool.{or_assoc}
+use Rattle.std.proofs.lemmas.List.Elements.{filter-append, All-nil, All-cons, All-head, All-tail}
+use Rattle.std.proofs.lemmas.List.Folds.{list_any-append}
+use Rattle.std.proofs.lemmas.Slice.Eq.{bytes_eq-Decides}
+use Rattle.station_book.specs.Places.{is_among, with_new}
+use Rattle.set_marks.specs.declared.sight.Sight.{Sight}
+use Rattle.set_marks.specs.Divisions.{is_of, first_target, starts_of, starts_from, last_place, end_in, end_by, end_of, names_with, targets_of}
+use Rattle.set_marks.proofs.SetsInWords.{first_start}
+use Rattle.set_marks.specs.BeginsAndEnds.{count_of, is_even, begins_by, begins_set, places_from, was_read, EndsLastSet}
+
+-- What stands at the seam of two lists.
+at_seam : (front rs : List Sight) (r : Sight) → slice_get (front ++ r ∷ rs) (length front) ≡ Some r
+at_seam [] rs r = refl
+at_seam (f ∷ front) rs r = at_seam front rs r
+
+-- One reading more is counted, or not.
+count_more : (name : List ℕ) (front : List Sight) (r : Sight) → is_of name r ≡ true
+    → count_of name (front ++ r ∷ []) ≡ suc (count_of name front)
+count_more name front r h = ap length (filter-append (is_of name) front (r ∷ []))
+    ∙ length-append (filter (is_of name) front) (filter (is_of name) (r ∷ []))
+    ∙ rw h (omega arith)
+
+count_same : (name : List ℕ) (front : List Sight) (r : Sight) → is_of name r ≡ false
+    → count_of name (front ++ r ∷ []) ≡ count_of name front
+count_same name front r h = ap length (filter-append (is_of name) front (r ∷ []))
+    ∙ rw h (ap length (append-nil (filter (is_of name) front)))
+
+-- At the seam a set begins, or not.
+begins_at : (name : List ℕ) (front rs : List Sight) (r : Sight)
+    → begins_by name (front ++ r ∷ rs) (length front)
+    ≡ (is_of name r && is_even (count_of name front))
+begins_at name front rs r = rw (at_seam front rs r, take-append_seam front (r ∷ rs)) refl
+
+moved : (name : List ℕ) (even : Bool) (front rs : List Sight) (r : Sight)
+    → starts_from name even (length (front ++ r ∷ [])) rs
+    ≡ filter (begins_by name ((front ++ r ∷ []) ++ rs)) (places_from (length (front ++ r ∷ [])) rs)
+    → starts_from name even (suc (length front)) rs
+    ≡ filter (begins_by name (front ++ r ∷ rs)) (places_from (suc (length front)) rs)
+moved name even front rs r e =
+    let one : (front ++ r ∷ []) ++ rs ≡ front ++ r ∷ rs = append_assoc front (r ∷ []) rs in
+    let long : length (front ++ r ∷ []) ≡ suc (length front) =
+    length-append front (r ∷ []) ∙ omega arith in
+    ap (λ (k : ℕ). starts_from name even k rs) (sym long) ∙ e
+    ∙ (λ i. filter (begins_by name (one i)) (places_from (long i) rs))
+
+-- The places from the seam on at which sets begin.
+begins_from : (name : List ℕ) (even : Bool) (front rs : List Sight)
+    → even ≡ is_even (count_of name front)
+    → starts_from name even (length front) rs
+    ≡ filter (begins_by name (front ++ rs)) (places_from (length front) rs)
+begins_from name even front [] is = refl
+begins_from name even front (r ∷ rs) is = elim (cases_Bool (is_of name r)) [
+  | inl h ↦ elim (cases_Bool even) [
+    | inl v ↦
+        let odd : false ≡ is_even (count_of name (front ++ r ∷ [])) =
+        sym (ap is_even (count_more name front r h) ∙ ap not (sym is ∙ v)) in
+        let here : begins_by name (front ++ r ∷ rs) (length front) ≡ true =
+        begins_at name front rs r ∙ rw (h, sym is ∙ v) refl in
+        rw (h, v, here) (ap (λ xs. length front ∷ xs)
+        (moved name false front rs r (begins_from name false (front ++ r ∷ []) rs odd)))
+    | inr v ↦
+        let now : true ≡ is_even (count_of name (front ++ r ∷ [])) =
+        sym (ap is_even (count_more name front r h) ∙ ap not (sym is ∙ v)) in
+        let here : begins_by name (front ++ r ∷ rs) (length front) ≡ false =
+        begins_at name front rs r ∙ rw (h, sym is ∙ v) refl in
+        rw (h, v, here) (moved name true front rs r
+        (begins_from name true (front ++ r ∷ []) rs now))
+  ]
+  | inr h ↦
+      let now : even ≡ is_even (count_of name (front ++ r ∷ [])) =
+      is ∙ sym (ap is_even (count_same name front r h)) in
+      let here : begins_by name (front ++ r ∷ rs) (length front) ≡ false =
+      begins_at name front rs r ∙ rw h refl in
+      rw (h, here) (moved name even front rs r
+      (begins_from name even (front ++ r ∷ []) rs now))
+]
+
+-- Sets begin just at the places of which the definition in words says so.
+pub sets_begin : (rs : List Sight) → starts_of rs ≡ filter (begins_set rs) (places_from 0 rs)
+sets_begin rs = begins_from (first_target rs) true [] rs refl
+
+-- The last of a place and those after it is none before it.
+with_first : (at : ℕ) (ps : List ℕ) → (1 ≤ length ps → suc at ≤ last_place ps)
+    → at ≤ last_place (at ∷ ps)
+with_first at [] above = omega arith
+with_first at (p ∷ ps) above =
+    let one : 1 ≤ length (p ∷ ps) = omega arith in
+    let more : suc at ≤ last_place (p ∷ ps) = above one in omega (arith, more)
+
+-- No place of a set's begin is below the first.
+starts_above : (name : List ℕ) (even : Bool) (at : ℕ) (rs : List Sight)
+    → 1 ≤ length (starts_from name even at rs) → at ≤ last_place (starts_from name even at rs)
+starts_above name even at [] some = absurd (omega (arith, some))
+starts_above name even at (r ∷ rs) some = elim (cases_Bool (is_of name r)) [
+  | inl h ↦ elim (cases_Bool even) [
+    | inl v ↦ rw (h, v) (with_first at (starts_from name false (suc at) rs)
+        (starts_above name false (suc at) rs))
+    | inr v ↦
+        let above : suc at ≤ last_place (starts_from name true (suc at) rs) =
+        starts_above name true (suc at) rs (rw (h, v) at some) in
+        rw (h, v) (omega (arith, above))
+  ]
+  | inr h ↦
+      let above : suc at ≤ last_place (starts_from name even (suc at) rs) =
+      starts_above name even (suc at) rs (rw h at some) in
+      rw h (omega (arith, above))
+]
+
+-- Two names of which one is listed are not of different bytes.
+same_listed : (names : List (List ℕ)) (name other : List ℕ) → bytes_eq name other ≡ true
+    → is_among names name ≡ true → is_among names other ≡ true
+same_listed names name other e h =
+    subst (λ (n : List ℕ). is_among names n ≡ true) ((bytes_eq-Decides name other).0 e) h
+
+or_none : (b : Bool) → (b || false) ≡ b
+or_none true = refl
+or_none false = refl
+
+or_listed : (a b : Bool) → (b ≡ true → a ≡ true) → a ≡ (a || b)
+or_listed true b both = refl
+or_listed false true both = both refl
+or_listed false false both = refl
+
+-- With a name more, what is listed.
+among_with : (names : List (List ℕ)) (name other : List ℕ)
+    → is_among (with_new names name) other ≡ (is_among names other || bytes_eq name other)
+among_with names name other = elim (cases_Bool (is_among names name)) [
+  | inl h ↦ rw h (or_listed (is_among names other) (bytes_eq name other)
+      (λ e. same_listed names name other e h))
+  | inr h ↦ rw h (list_any-append (λ x. bytes_eq x other) names (name ∷ [])
+      ∙ ap (λ b. is_among names other || b) (or_none (bytes_eq name other)))
+]
+
+-- With the targets of readings, what is listed.
+among_names : (names : List (List ℕ)) (name : List ℕ) (rs : List Sight)
+    → is_among (names_with names rs) name ≡ (is_among names name || list_any (is_of name) rs)
+among_names names name [] = sym (or_none (is_among names name))
+among_names names name (r ∷ rs) =
+    among_names (with_new names r.target) name rs
+    ∙ ap (λ b. b || list_any (is_of name) rs) (among_with names r.target name)
+    ∙ or_assoc (is_among names name) (is_of name r) (list_any (is_of name) rs)
+
+-- Of some readings, the last whose target is among some names.
+record LastKnown (names : List (List ℕ)) (end at : ℕ) (rs : List Sight) : Type 0 where
+  pub front : List Sight
+  pub last : Sight
+  pub after : List Sight
+  pub readings : rs ≡ front ++ last ∷ after
+  pub here : end_of names end at rs ≡ at + (length front + 1)
+  pub known : is_among names last.target ≡ true
+  pub strange : All (λ r. is_among names r.target ≡ false) after
+
+none_known : (known : List (List ℕ)) (end at : ℕ) (rs : List Sight)
+    → list_any (λ r. is_among known r.target) rs ≡ false → end_of known end at rs ≡ end
+none_known known end at [] e = refl
+none_known known end at (r ∷ rs) e =
+    let parts = or_parts (is_among known r.target) (list_any (λ s. is_among known s.target) rs) e in
+    rw parts.0 (none_known known end (suc at) rs parts.1)
+
+all_strange : (known : List (List ℕ)) (rs : List Sight)
+    → list_any (λ r. is_among known r.target) rs ≡ false
+    → All (λ r. is_among known r.target ≡ false) rs
+all_strange known [] e = All-nil (λ (r : Sight). is_among known r.target ≡ false)
+all_strange known (r ∷ rs) e =
+    let parts = or_parts (is_among known r.target) (list_any (λ s. is_among known s.target) rs) e in
+    All-cons (λ (s : Sight). is_among known s.target ≡ false) r rs parts.0
+    (all_strange known rs parts.1)
+
+same_strange : (p q : Sight → Bool) → ((r : Sight) → p r ≡ q r) → (rs : List Sight)
+    → All (λ r. p r ≡ false) rs → All (λ r. q r ≡ false) rs
+same_strange p q same [] all = All-nil (λ (r : Sight). q r ≡ false)
+same_strange p q same (r ∷ rs) all = All-cons (λ (s : Sight). q s ≡ false) r rs
+    (sym (same r) ∙ All-head (λ (s : Sight). p s ≡ false) r rs all)
+    (same_strange p q same rs (All-tail (λ (s : Sight). p s ≡ false) r rs all))
+
+last_known : (known : List (List ℕ)) (end at : ℕ) (rs : List Sight)
+    → list_any (λ r. is_among known r.target) rs ≡ true → LastKnown known end at rs
+last_known known end at [] e = cc
+last_known known end at (r ∷ rs) e =
+    elim (cases_Bool (list_any (λ s. is_among known s.target) rs)) [
+      | inl h ↦
+          let later = last_known known (if is_among known r.target then suc at else end) (suc at)
+          rs h
+          in record {
+            front = r ∷ later.front;
+            last = later.last;
+            after = later.after;
+            readings = ap (λ xs. r ∷ xs) later.readings;
+            here = later.here ∙ omega arith;
+            known = later.known;
+            strange = later.strange;
+          }
+      | inr h ↦
+          let here : is_among known r.target ≡ true = or_first (is_among known r.target)
+          (list_any (λ s. is_among known s.target) rs) h e in
+          record {
+            front = [];
+            last = r;
+            after = rs;
+            readings = refl;
+            here = rw here (none_known known (suc at) (suc at) rs h ∙ omega arith);
+            known = here;
+            strange = all_strange known rs h;
+          }
+    ] where
+      or_first : (a b : Bool) → b ≡ false → (a || b) ≡ true → a ≡ true
+      or_first true b f g = refl
+      or_first false b f g = cc
+
+-- The opening target is one that a set before the last has.
+opening_read : (r : Sight) (rs : List Sight) (k : ℕ)
+    → 1 ≤ k → list_any (is_of r.target) (take k (r ∷ rs)) ≡ true
+opening_read r rs zero le = absurd (omega (arith, le))
+opening_read r rs (suc k) le = or_left (is_of r.target r) (list_any (is_of r.target) (take k rs))
+    ((bytes_eq-Decides r.target r.target).1 refl)
+
+several_above : (r : Sight) (rs : List Sight) → 2 ≤ length (starts_of (r ∷ rs))
+    → 1 ≤ last_place (starts_of (r ∷ rs))
+several_above r rs many =
+    by (first_start r rs) (starts_from r.target false 1 rs) refl where
+      by : starts_of (r ∷ rs) ≡ 0 ∷ starts_from r.target false 1 rs
+          → (ps : List ℕ) → starts_from r.target false 1 rs ≡ ps → 1 ≤ last_place (starts_of (r ∷ rs))
+      by is [] e = let two : 2 ≤ length {A = ℕ} (0 ∷ []) =
+          subst (λ (qs : List ℕ). 2 ≤ length (0 ∷ qs)) e
+          (subst (λ (qs : List ℕ). 2 ≤ length qs) is many) in absurd (omega (arith, two))
+      by is (p ∷ ps) e =
+          let some : 1 ≤ length (starts_from r.target false 1 rs) =
+          subst (λ (qs : List ℕ). 1 ≤ length qs) (sym e) (omega arith) in
+          let above : 1 ≤ last_place (p ∷ ps) = subst (λ (qs : List ℕ). 1 ≤ last_place qs) e
+          (starts_above r.target false 1 rs some) in
+          subst (λ (qs : List ℕ). 1 ≤ last_place qs) (sym (is ∙ ap (λ qs. 0 ∷ qs) e)) above
+
+-- Where the last of several sets ends, by the names that a set before it has.
+ends_by : (rs : List Sight) (starts : List ℕ) → starts_of rs ≡ starts → 2 ≤ length starts
+    → end_in rs ≡ end_of (targets_of (take (last_place (starts_of rs)) rs)) 0 0 rs
+ends_by rs [] is many = absurd (omega (arith, many))
+ends_by rs (from ∷ []) is many = absurd (omega (arith, many))
+ends_by rs (from ∷ to ∷ later) is many =
+    ap (λ (ps : List ℕ). end_by ps rs) is
+    ∙ ap (λ (ps : List ℕ). end_of (targets_of (take (last_place ps) rs)) 0 0 rs) (sym is)
+
+-- The last of several sets ends where the definition in words says so.
+pub last_set_ends : (rs : List Sight) → 2 ≤ length (starts_of rs) → EndsLastSet rs
+last_set_ends [] many = absurd (omega (arith, many))
+last_set_ends (r ∷ rs) many =
+    let all = r ∷ rs in
+    let known = targets_of (take (last_place (starts_of all)) all) in
+    let read : (name : List ℕ) → is_among known name ≡ was_read all name =
+    λ name. among_names [] name (take (last_place (starts_of all)) all) in
+    let opening : is_among known r.target ≡ true = read r.target
+    ∙ opening_read r rs (last_place (starts_of all)) (several_above r rs many) in
+    let found = last_known known 0 0 all (or_left (is_among known r.target)
+    (list_any (λ s. is_among known s.target) rs) opening) in
+    record {
+      front = found.front;
+      last = found.last;
+      after = found.after;
+      readings = found.readings;
+      end = ends_by all (starts_of all) refl many ∙ found.here ∙ omega arith;
+      known = sym (read found.last.target) ∙ found.known;
+      strange = same_strange (λ r. is_among known r.target) (λ r. was_read all r.target)
+          (λ r. read r.target) found.after found.strange;
+    }
+
+-- A single set ends with the readings.
+pub single_set_ends : (rs : List Sight) → length (starts_of rs) ≡ 1 → end_in rs ≡ length rs
+single_set_ends rs one = by (starts_of rs) refl where
+  by : (starts : List ℕ) → starts_of rs ≡ starts → end_in rs ≡ length rs
+  by [] is = ap (λ (ps : List ℕ). end_by ps rs) is
+  by (from ∷ []) is = ap (λ (ps : List ℕ). end_by ps rs) is
+  by (from ∷ to ∷ later) is = absurd (omega (arith, sym (ap length is) ∙ one))

@@ -1,0 +1,51 @@
+-- Where the sets of a station begin and where the last of them ends, in words.
+use Rattle.std.specs.Prelude.{◌≡◌, ℕ, zero, suc, ◌+◌, Bool, true, false, ◌&&◌, not}
+use Rattle.std.specs.Prelude.{List, [], ◌∷◌, ◌++◌, length, filter, take, All}
+use Rattle.std.specs.Prelude.{Option, Some, None, slice_get}
+use Rattle.std.specs.List.{list_any}
+use Rattle.set_marks.specs.declared.sight.Sight.{Sight}
+use Rattle.set_marks.specs.Divisions.{is_of, first_target, starts_of, last_place, end_in}
+
+-- how many of these readings are of this target
+abbrev pub count_of : List ℕ → List Sight → ℕ
+count_of name rs = length (filter (is_of name) rs)
+
+-- whether a number is even
+abbrev pub is_even : ℕ → Bool
+is_even zero = true
+is_even (suc n) = not (is_even n)
+
+-- whether there is a reading, and it is of this target
+abbrev pub is_some_of : List ℕ → Option Sight → Bool
+is_some_of name None = false
+is_some_of name (Some r) = is_of name r
+
+-- whether the reading at this place is of this target, and that was read an even number of times
+-- before
+abbrev pub begins_by : List ℕ → List Sight → ℕ → Bool
+begins_by name rs at = is_some_of name (slice_get rs at) && is_even (count_of name (take at rs))
+
+-- A set begins at this place: the reading there is of the opening target, and that was read an even
+-- number of times before.
+abbrev pub begins_set : List Sight → ℕ → Bool
+begins_set rs at = begins_by (first_target rs) rs at
+
+-- the places of these readings, of which the first stands at this one
+abbrev pub places_from : ℕ → List Sight → List ℕ
+places_from at [] = []
+places_from at (r ∷ rs) = at ∷ places_from (suc at) rs
+
+-- whether a set before the last has this target
+abbrev pub was_read : List Sight → List ℕ → Bool
+was_read rs name = list_any (is_of name) (take (last_place (starts_of rs)) rs)
+
+-- Where the last of several sets ends: right after a reading of a target that a set before it has;
+-- and no reading after that is of such a target.
+pub record EndsLastSet (rs : List Sight) : Type 0 where
+  pub front : List Sight
+  pub last : Sight
+  pub after : List Sight
+  pub readings : rs ≡ front ++ last ∷ after
+  pub end : end_in rs ≡ length front + 1
+  pub known : was_read rs last.target ≡ true
+  pub strange : All (λ r. was_read rs r.target ≡ false) after
