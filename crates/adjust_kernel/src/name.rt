@@ -7,9 +7,9 @@ ghost use Rattle.std.specs.Prelude.{◌≡◌, ◌<◌, ℕ, List, length, drop,
 ghost use Rattle.std.specs.Str.{bytes_eq};
 ghost use Rattle.adjust_kernel.specs.Names.{IsName, padded};
 
-mod eight;
+mod ends;
 
-use self::eight::{EIGHT, end_of_eight};
+use self::ends::{EIGHT, end_of_eight, end_of_sixteen};
 use crate::bounds::LONGEST_NAME;
 use std::fmt;
 use std::hash::{Hash, Hasher};
@@ -70,19 +70,21 @@ impl Name {
     }
 
     /// The name that some bytes have from this place on, which is known to be one: nothing is
-    /// tested. Where there are eight of them, they are moved as one number.
+    /// tested. Where there are eight or sixteen of them, they are moved as one number.
     #[inline(always)]
     pub fn of_end(bytes: &[u8], from: usize) -> Name
         requires { IsName (drop from bytes.now) }
         ensures { result ≡ drop from bytes.now }
     {
-        if bytes.len() == EIGHT {
-            return Name {
-                bytes: end_of_eight(bytes, from),
-                len: bytes.len() - from,
-            };
+        let kept = match bytes.len() {
+            EIGHT => end_of_eight(bytes, from),
+            LONGEST_NAME => end_of_sixteen(bytes, from),
+            _ => return Name::from_valid(&bytes[from..]),
+        };
+        Name {
+            bytes: kept,
+            len: bytes.len() - from,
         }
-        Name::from_valid(&bytes[from..])
     }
 
     /// Its bytes.

@@ -2,7 +2,7 @@
 -- and keep the largest limit, an exact adjustment with nearest full turns keeps it. The bound: along
 -- the observations that carry the angles, at most 139 of them, the two choices go apart by the
 -- limit each, so that an observation's turns differ from those of its ends by less than one turn.
-use Rattle.std.proofs.Common.{◌≡◌, ℕ, suc, zero, ◌+◌, ◌-◌, ◌*◌, ◌/◌, ◌≤◌, ◌<◌, Bool, true, false, List, [], ◌∷◌, length}
+use Rattle.std.proofs.Common.{◌≡◌, ℕ, suc, zero, ◌+◌, ◌-◌, ◌*◌, ◌≤◌, ◌<◌, Bool, true, false, List, [], ◌∷◌, length}
 use Rattle.std.proofs.Common.{All, ℤ, pos, negsuc, ◌+ℤ◌, arith, ap, refl, sym, ◌∙◌, subst, map}
 use Rattle.std.proofs.Math.IntN.{◌*ℤ◌, ◌-ℤ◌}
 use Rattle.std.proofs.Math.Nat.{mul-le-mul, mul-le-mul_left}
@@ -17,7 +17,7 @@ use Rattle.adjust_kernel.specs.Pairs.{turned_by}
 use Rattle.adjust_kernel.specs.Residuals.{Choice, residual, sum_of_squares}
 use Rattle.adjust_kernel.specs.Stations.{StationValue, IsStation}
 use Rattle.adjust_kernel.specs.TurnedObservations.{TurnedObservation}
-use Rattle.adjust_kernel.specs.Turns.{AreTurnedWhole, IsLimited, with_turns}
+use Rattle.adjust_kernel.specs.Turns.{IsLimited, with_turns}
 use Rattle.adjust_kernel.specs.Within.{IsWithin}
 use Rattle.adjust_kernel.proofs.BalanceLaws.{IsBalanced, all_vanish}
 use Rattle.adjust_kernel.proofs.GreatestLaws.{size_within, within_size}
@@ -27,12 +27,13 @@ use Rattle.adjust_kernel.proofs.ObservationLaws.{IsPlaced}
 use Rattle.adjust_kernel.proofs.PairedTurns.{Pair, paired, retuned, difference, differences-all}
 use Rattle.adjust_kernel.proofs.PairedTurns.{paired-all, turns_by}
 use Rattle.adjust_kernel.proofs.Ring.{num, ◌⊕◌, ◌⊖◌, ◌⊗◌, same_value}
-use Rattle.adjust_kernel.proofs.SumLaws.{AllByRecursion-map, AllByRecursion-both}
+use Rattle.adjust_kernel.proofs.SumLaws.{AllByRecursion-map}
 use Rattle.adjust_kernel.proofs.TurnLaws.{limited_is_least_over_turns, taken, taken_squares, taken_up}
 use Rattle.exact_adjustment.specs.Adjustments.{AdjustmentValue, choice_by}
 use Rattle.exact_adjustment.specs.Exact.{AddsUp, IsExact, KeepsLimit, observed_by}
 use Rattle.exact_adjustment.specs.LeastOf.{AreTied, observed_with}
-use Rattle.exact_adjustment.specs.Nearest.{HasNearestTurns}
+use Rattle.exact_adjustment.specs.Nearest.{HasNearestTurns, IsNearest}
+use Rattle.exact_adjustment.proofs.CarriedLaws.{has_obs, held_together}
 use Rattle.exact_adjustment.proofs.ExactLaws.{adjusted, as_many, count, few, long, placed, turns_again}
 use Rattle.exact_adjustment.proofs.PairLaws.{kept, kept-all, kept-back, firsts-all, retuned-all}
 use native.Mathlib.Decide.{dec_lt}
@@ -101,6 +102,10 @@ within_change d e m n x y a b =
 nothing : (d : ℕ) → IsWithin (pos (0 * d)) (pos 0)
 nothing d = record { low = omega (arith, ints); high = omega (arith, ints) }
 
+half_is_within : (d : ℕ) (z : ℤ) → d ≡ 1 → IsNearest z → IsWithin (pos (40_000_000 * d)) z
+half_is_within d z e h = let l = h.low in let u = h.high in
+    record { low = omega (arith, ints, e); high = omega (arith, ints, e) }
+
 -- Whether a number is 0.
 abbrev is_zero : ℤ → Bool
 is_zero (pos zero) = true
@@ -126,7 +131,7 @@ same_limit d e m x y some h w =
     mul-le-mul_left e above in omega (arith, some, f, g, l))
 
 -- A rotation leaves residuals as they are.
-rotated : (d e v : ℕ) (a a' o o' k rotation : ℤ) → pos e *ℤ a -ℤ pos d *ℤ a' ≡ rotation
+pub rotated : (d e v : ℕ) (a a' o o' k rotation : ℤ) → pos e *ℤ a -ℤ pos d *ℤ a' ≡ rotation
     → pos e *ℤ o -ℤ pos d *ℤ o' ≡ rotation
     → pos e *ℤ (a -ℤ o -ℤ pos d *ℤ (pos v +ℤ pos TURN *ℤ k))
     ≡ pos d *ℤ (a' -ℤ o' -ℤ pos e *ℤ (pos v +ℤ pos TURN *ℤ k))
@@ -190,8 +195,11 @@ module _ (station : StationValue) (a : AdjustmentValue) (is_station : IsStation 
       (recursion_from_All (λ r. IsWithin (pos (2_000 * c.denominator)) (residual c r))
       (with_turns rs turns) limited_here))
       (paired-all (λ r. IsWithin (pos (40_000_000 * angles.denominator)) (residual angles r)) rs turns
-      (recursion_from_All (λ r. IsWithin (pos (40_000_000 * angles.denominator))
-      (residual angles r)) rs near_by.nearest))
+      (AllByRecursion-map (λ (r : TurnedObservation). IsNearest (residual angles r))
+      (λ (r : TurnedObservation). IsWithin (pos (40_000_000 * angles.denominator)) (residual angles r))
+      (λ (r : TurnedObservation) h. half_is_within angles.denominator (residual angles r) near_by.whole h) rs
+      (recursion_from_All (λ (r : TurnedObservation). IsNearest (residual angles r)) rs
+      near_by.nearest)))
     where
       all_three : (xs : List Pair) → AllByRecursion (λ (x : Pair). IsPlaced sets targets x.0) xs
           → AllByRecursion
@@ -235,7 +243,8 @@ module _ (station : StationValue) (a : AdjustmentValue) (is_station : IsStation 
       pairs known)) connected
     where
       connected : IsDivided sets targets (map difference (kept agrees pairs)) → ⊥
-      connected d = near_by.carried d.part_of_set d.part_of_target
+      connected d = held_together station a.turns angles exact.each (has_obs station is_station)
+          near_by.reached near_by.carried d.part_of_set d.part_of_target
           (All-from_recursion InOnePart rs
           (firsts-all InOnePart rs turns same_length
           (AllByRecursion-map (λ (x : Pair). agrees x ≡ true → IsInside x) (λ (x : Pair). InOnePart x.0)

@@ -1,15 +1,13 @@
 -- What holds a station together, said of rows and of turns.
-use Rattle.std.proofs.Common.{◌≡◌, ℕ, Bool, true, false, List, [], ◌∷◌, map, length, ℤ, pos, arith, ap, refl, sym, ◌∙◌, subst}
+use Rattle.std.proofs.Common.{◌≡◌, Bool, true, false, List, [], ◌∷◌, map, length, ℤ, pos, arith, ap, refl, ◌∙◌, subst}
 use Rattle.std.proofs.lemmas.List.{length-map}
 use Rattle.std.specs.Bool.{OnTrue}
-use Rattle.std.specs.List.{AllByRecursion}
-use Rattle.adjust_kernel.specs.TurnedObservations.{TurnedObservation}
 use Rattle.adjust_kernel.specs.Connected.{IsConnected, IsDivided}
 use Rattle.adjust_kernel.specs.Pairs.{turned_by, turned_by_rows}
 use Rattle.adjust_kernel.specs.Stations.{StationValue}
 use Rattle.adjust_kernel.specs.declared.obs.Obs.{Obs}
 use Rattle.adjust_kernel.specs.declared.row.Row.{Row}
-use Rattle.exact_adjustment.specs.LeastOf.{AreTied, observed_with}
+use Rattle.exact_adjustment.specs.LeastOf.{AreTied}
 use Rattle.exact_adjustment.specs.Sides.{turned}
 
 -- A row with these turns.
@@ -39,22 +37,6 @@ divided_is_untied station h tied =
     tied ks e (subst (IsDivided (length station.sets) (length station.targets))
     (by_rows station.obs ks e) (h (map row_of ks)))
 
--- What stands in one part, by observations, does so by rows of them.
-pub rows_between : (part_of_set part_of_target : ℕ → Bool) (obs : List Obs) (rows : List Row)
-    → AllByRecursion (λ (o : Obs). part_of_set o.set ≡ part_of_target o.target) obs
-    → AllByRecursion (λ (r : TurnedObservation). part_of_set r.set ≡ part_of_target r.target)
-    (turned_by_rows obs rows)
-rows_between p q [] rows h = tt
-rows_between p q (o ∷ obs) [] h = tt
-rows_between p q (o ∷ obs) (r ∷ rows) h = (h.0, rows_between p q obs rows h.1)
-
--- As many rows as observations.
-abbrev pub some_rows : List Obs → List Row
-some_rows obs = map (λ (o : Obs). row_of (pos 0)) obs
-
-pub as_many_rows : (obs : List Obs) → length (some_rows obs) ≡ length obs
-as_many_rows obs = length-map obs (λ (o : Obs). row_of (pos 0))
-
-pub on_true : (b : Bool) (P Q : Type 0) → (P → Q) → OnTrue b P → OnTrue b Q
-on_true true P Q f h = f h
-on_true false P Q f h = tt
+pub on_both : (b : Bool) (P Q R : Type 0) → (P → Q → R) → OnTrue b P → OnTrue b Q → OnTrue b R
+on_both true P Q R f p q = f p q
+on_both false P Q R f p q = tt

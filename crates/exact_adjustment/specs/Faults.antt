@@ -1,14 +1,16 @@
 -- Why a station has no adjustment.
-use Rattle.std.specs.Prelude.{◌≡◌, ℕ, ◌+◌, ◌≤◌, List, length, ℤ, ⊤}
+use Rattle.std.specs.Prelude.{◌≡◌, ℕ, ◌≤◌, List, length, ℤ, ⊤, Option, IfSome}
 use Rattle.adjust_kernel.specs.Residuals.{Choice}
-use Rattle.adjust_kernel.specs.Stations.{StationValue}
+use Rattle.adjust_kernel.specs.Stations.{IsStation, StationValue}
 use Rattle.adjust_kernel.specs.Turns.{IsLimited}
 use Rattle.adjust_kernel.specs.Verdict.{AtNth}
 use Rattle.adjust_kernel.specs.declared.bounds.TheConstants.{LARGEST_RESIDUAL_LIMIT}
-use Rattle.exact_adjustment.specs.Adjustments.{AdjustmentValue}
-use Rattle.exact_adjustment.specs.Exact.{AddsUp, IsExact, IsGreatestAbove}
+use Rattle.exact_adjustment.specs.Adjustments.{AdjustmentValue, adjustment_of}
+use Rattle.exact_adjustment.specs.Exact.{AddsUp, IsExact, IsGreatestAbove, KeepsLimit}
 use Rattle.exact_adjustment.specs.LeastOf.{AreTied, observed_with}
 use Rattle.exact_adjustment.specs.Nearest.{HasNearestTurns}
+use Rattle.modular_solver.specs.Said.{WasSaid}
+use Rattle.modular_solver.specs.declared.found.Found.{Found}
 use Rattle.exact_adjustment.specs.declared.fault.AdjustFault.{AdjustFault}
 use Rattle.exact_adjustment.specs.declared.fault.AdjustFault.TheVariants.{NotConnected, Residual}
 use Rattle.exact_adjustment.specs.declared.fault.AdjustFault.TheVariants.{NotFound, Memory}
@@ -20,19 +22,45 @@ NoneKeepsLimit station limit =
     (c : Choice) (turns : List ℤ) → length turns ≡ length station.obs → 1 ≤ c.denominator
     → AddsUp station c turns → IsLimited limit c (observed_with station turns) → ⊥
 
+-- The parts that the solver names, as an adjustment.
+abbrev pub parts_of : Found → AdjustmentValue
+parts_of found = adjustment_of found.denominator found.directions.items found.orientations.items
+    found.turns.items
+
 -- In the exact adjustment with nearest full turns, the residual of the observation at this place is
 -- above the limit, and the first of the greatest.
 pub record IsFar (station : StationValue) (limit place : ℕ) : Type 0 where
+  pub rules : IsStation station
   pub adjustment : AdjustmentValue
   pub exact : IsExact station adjustment
   pub nearest : HasNearestTurns station adjustment.turns
   pub greatest : IsGreatestAbove station adjustment limit place
 
--- When each fault is answered. That none was found comes only of a station that is held together.
+-- These are an exact adjustment of the station, which keeps the largest residual limit.
+abbrev pub IsAnswer : StationValue → Found → Type 0
+IsAnswer station found =
+    IsExact station (parts_of found) × KeepsLimit station (parts_of found) LARGEST_RESIDUAL_LIMIT
+
+-- None was found: the solver was asked for this station, and what it said is nothing, or no exact
+-- adjustment that keeps the largest residual limit.
+pub record IsNotFound (station : StationValue) : Type 0 where
+  pub tied : AreTied station
+  pub found : Option Found
+  pub said : WasSaid (length station.sets) (length station.targets) station.obs found
+  pub refused : IfSome found (λ numbers. ¬ IsAnswer station numbers)
+
+-- When each fault is answered. Memory runs out only of a station that is held together.
 abbrev pub IsAdjustFault : StationValue → AdjustFault → Type 0
 IsAdjustFault station NotConnected = ¬ AreTied station
 IsAdjustFault station (Residual number) =
     AreTied station × NoneKeepsLimit station LARGEST_RESIDUAL_LIMIT
     × AtNth (IsFar station LARGEST_RESIDUAL_LIMIT) number
-IsAdjustFault station NotFound = AreTied station
-IsAdjustFault station Memory = ⊤
+IsAdjustFault station NotFound = IsNotFound station
+IsAdjustFault station Memory = AreTied station
+
+-- The fault is the station's own: not that none was found, nor that memory ran out.
+abbrev pub IsOfStation : AdjustFault → Type 0
+IsOfStation NotConnected = ⊤
+IsOfStation (Residual number) = ⊤
+IsOfStation NotFound = ⊥
+IsOfStation Memory = ⊥

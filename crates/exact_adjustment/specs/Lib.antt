@@ -6,4 +6,5 @@ pub mod Exact
 pub mod Nearest
 pub mod Faults
 -- The inside.
+pub mod Carrying
 pub mod Sides

@@ -12,7 +12,7 @@ use crate::fault::AdjustFault;
 use crate::nearest::are_nearest;
 use crate::residuals::greatest_above;
 use adjust_kernel::{LARGEST_RESIDUAL_LIMIT, ResidualLimit, Station, is_connected};
-use modular_solver::{Found, PRIMES, find};
+use modular_solver::{Found, find};
 use std::alloc::Global;
 
 /// The largest residual limit: no observation may lie further from an adjustment that is answered.
@@ -33,7 +33,7 @@ fn tested(alloc: Global, station: &Station) -> Result<Adjustment, AdjustFault>
 {
     let sets = station.sets().len();
     let targets = station.targets().len();
-    let Some(found) = find(alloc, sets, targets, station.obs(), &PRIMES)? else {
+    let Some(found) = find(alloc, sets, targets, station.obs())? else {
         return Err(AdjustFault::NotFound);
     };
     let Found {
@@ -54,13 +54,7 @@ fn tested(alloc: Global, station: &Station) -> Result<Adjustment, AdjustFault>
         return Ok(adjustment);
     };
     let turns = adjustment.turns();
-    if !are_nearest(
-        alloc,
-        station,
-        turns,
-        &first_directions,
-        &first_orientations,
-    )? {
+    if !are_nearest(station, turns, &first_directions, &first_orientations) {
         return Err(AdjustFault::NotFound);
     }
     Err(AdjustFault::Residual(place as u32 + 1))

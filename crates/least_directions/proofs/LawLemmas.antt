@@ -1,4 +1,5 @@
 -- The lemmas of the laws, by the names of the laws: what proofs of other crates cite.
+pub use Rattle.least_directions.proofs.LeastLaws.{one_distance, one_list}
 use Rattle.std.proofs.Common.{ℕ, ◌*◌, ◌≤◌, List}
 use Rattle.adjust_kernel.specs.Stations.{StationValue}
 use Rattle.directions_apart.specs.declared.units.TheConstants.{UNIT}

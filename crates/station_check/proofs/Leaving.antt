@@ -74,7 +74,7 @@ left_by_sheet A (Err Write) gsi o h = absurd o
 left_by_sheet A (Err Memory) gsi o h = h.unfailed
 
 -- The same fault with another answer beside it.
-left_with : (A B : Type 0) (fault : Fault) (gsi : ReaderChange)
+pub left_with : (A B : Type 0) (fault : Fault) (gsi : ReaderChange)
     → LeavesFile {A = A} (Err fault) gsi → LeavesFile {A = B} (Err fault) gsi
 left_with A B (Gsi (file.At number what)) gsi h = h
 left_with A B (Gsi file.Memory) gsi h = h

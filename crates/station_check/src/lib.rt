@@ -36,6 +36,7 @@ mod label;
 pub mod laws;
 mod list;
 mod list_lines;
+mod list_note;
 mod means;
 mod page;
 mod put;
@@ -59,6 +60,8 @@ pub use refused::{
 };
 pub use runs::{DONE, REFUSED, refuse, run_check, run_list, run_means, run_words};
 pub use survey::stations_of_file;
-pub use verdict_line::{LONGEST_U32, LONGEST_VERDICT_LINE, VerdictLine, add, add_numbered};
+pub use verdict_line::{
+    LONGEST_U32, LONGEST_U64, LONGEST_VERDICT_LINE, VerdictLine, add, add_numbered,
+};
 pub use whole_text::write_whole;
 pub use words::write_words;

@@ -36,7 +36,8 @@ pub(crate) fn put<const N: usize>(room: &mut Room, at: usize, text: &[u8; N]) ->
     put_bytes(room, at, &text)
 }
 
-/// Puts bytes of a length that is known: a load and a store too.
+/// Puts bytes of a length that is known: a load and a store too. They are cut to that length, which
+/// changes nothing, so that the compiler knows it.
 #[inline(always)]
 pub(crate) fn put_known<const N: usize>(room: &mut Room, at: usize, bytes: &[u8]) -> usize
     requires room { at + N ≤ PAGE }
@@ -45,7 +46,7 @@ pub(crate) fn put_known<const N: usize>(room: &mut Room, at: usize, bytes: &[u8]
     ensures text { take result room.new ≡ take at room.old ++ bytes.now }
 {
     let mut text = [0; N];
-    text.copy_from_slice(bytes);
+    text.copy_from_slice(&bytes[..N]);
     put(room, at, &text)
 }
 

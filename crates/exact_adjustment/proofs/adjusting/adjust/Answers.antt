@@ -1,8 +1,3 @@
-use Rattle.std.proofs.Common.{rules, refl, Ok, Err, Result}
-use Rattle.std.specs.Prelude.{OnOk}
-use Rattle.exact_adjustment.specs.Adjustments.{AdjustmentValue}
-use Rattle.exact_adjustment.specs.LeastOf.{AreTied}
-use Rattle.exact_adjustment.specs.declared.fault.AdjustFault.{AdjustFault}
 use Rattle.exact_adjustment.proofs.TieLaws.{divided_is_untied, tied_by_rows}
 use Rattle.exact_adjustment.proofs.adjusting.adjust.Goals as goal
 

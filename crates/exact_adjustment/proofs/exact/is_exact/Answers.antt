@@ -1,4 +1,4 @@
-use Rattle.std.proofs.Common.{◌≡◌, ◌<◌, ℕ, ◌∙◌, length, pos, refl, sym, arith, true, false}
+use Rattle.std.proofs.Common.{◌≡◌, ◌∙◌, refl, sym, arith, true, false}
 use Rattle.exact_adjustment.proofs.exact.is_exact.Goals as goal
 
 pub returns-then-are_targets_even : goal.returns-then-are_targets_even

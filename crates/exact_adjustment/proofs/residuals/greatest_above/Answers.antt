@@ -1,5 +1,5 @@
-use Rattle.std.proofs.Common.{◌≡◌, ◌<◌, ◌≤◌, ◌∙◌, ◌*◌, ℕ, length, pos, refl, sym, ap, ap₂, arith, get_or}
-use Rattle.std.proofs.Common.{below_more, subst, true, false, map, FitsSigned}
+use Rattle.std.proofs.Common.{◌≡◌, ◌<◌, ◌≤◌, ◌∙◌, ◌*◌, length, pos, refl, sym, ap, arith, get_or}
+use Rattle.std.proofs.Common.{below_more, subst, true, false, FitsSigned}
 use Rattle.std.specs.Int.RustNames.{unsigned_abs}
 use Rattle.std.proofs.lemmas.Int.{ints, to_z-of_z}
 use Rattle.std.proofs.lemmas.List.{get_or-map}

@@ -1,73 +1,17 @@
-use Rattle.std.proofs.Common.{◌≡◌, Err, refl, rules}
-use Rattle.byte_ends.proofs.Coming.{came_so}
-use Rattle.gsi_file.specs.FileAnswers.{file_answers}
-use Rattle.station_check.specs.declared.fault.Fault.TheVariants.{Write}
-use Rattle.station_check.proofs.Leaving.{left_by, none_written, none_unasked, of_list}
-use Rattle.station_check.proofs.Refusing.{list_refused}
+use Rattle.std.proofs.Common.{◌≡◌, Err, rules}
+use Rattle.byte_ends.specs.Sink.{writer_change}
+use Rattle.byte_ends.specs.Source.{reader_change}
+use Rattle.station_check.proofs.Counted.{list_alone, refusal_alone}
 use Rattle.station_check.proofs.list.write_list.Goals as goal
-
-pub returns-in_err-stations : goal.returns-in_err-stations
-returns-in_err-stations g c =
-    let fault = c.in_err-stations.field-0.0 in
-    let is_its : c.from_residual.result ≡ Err fault = search rules in
-    let read = rw c.in_err-stations.was at c.stations_of_file-surveyed.ensures.surveys in
-    let of_file = rw c.in_err-stations.was at c.stations_of_file-surveyed.ensures.of_file in
-    rw is_its (
-      c.stations_of_file-surveyed.result.1,
-      record {
-        list = record {
-          came = came_so _ _ _ read.came
-              (λ gsi s. list_refused (Unit {0}) c.args.limits (file_answers gsi) _ _ _ of_file s);
-          left = left_by (Unit {0}) _ fault _ c.in_err-stations.was
-              c.stations_of_file-surveyed.ensures.surveys.left;
-        };
-        of_list = of_list fault of_file;
-        fails = none_written (Unit {0}) fault _ of_file refl;
-        handed = tt;
-        unwritten = none_unasked (Unit {0}) fault _ refl;
-      },
-    )
 
 pub returns : goal.returns
 returns g c =
-    let read = rw c.in_ok-stations.was at c.stations_of_file-surveyed.ensures.surveys in (
-      c.stations_of_file-surveyed.result.1,
-      record {
-        list = record {
-          came = came_so _ _ _ read.came
-              (λ gsi s. (
-                _,
-                record { stations = _; survey = s; text_is = refl },
-                c.in_ok-write_stations.ensures.ok,
-              ));
-          left = read.left;
-        };
-        of_list = tt;
-        fails = c.in_ok-write_stations.ensures.failed;
-        handed = c.in_ok-write_stations.ensures.handed_on;
-        unwritten = tt;
-      },
-    )
+    let run = rw c.in_ok-write_noted_list.was at c.write_noted_list.ensures in
+    (run.0, list_alone _ _ c.in_ok-write_noted_list.field-0 _ run.1)
 
-pub returns-in_err-write_stations : goal.returns-in_err-write_stations
-returns-in_err-write_stations g c =
-    let is_its : c.from_residual-in_err-write_stations.result ≡ Err Write = search rules in
-    let read = rw c.in_ok-stations.was at c.stations_of_file-surveyed.ensures.surveys in
-    rw is_its (
-      c.stations_of_file-surveyed.result.1,
-      record {
-        list = record {
-          came = came_so _ _ _ read.came
-              (λ gsi s. (
-                _,
-                record { stations = _; survey = s; text_is = refl },
-                c.in_err-write_stations.ensures.err,
-              ));
-          left = read.left;
-        };
-        of_list = tt;
-        fails = c.in_err-write_stations.ensures.failed;
-        handed = tt;
-        unwritten = tt;
-      },
-    )
+pub returns-in_err-write_noted_list : goal.returns-in_err-write_noted_list
+returns-in_err-write_noted_list g c =
+    let fault = c.in_err-write_noted_list.field-0.0 in
+    let is_its : c.from_residual.result ≡ Err fault = search rules in
+    let run = rw c.in_err-write_noted_list.was at c.write_noted_list.ensures in
+    rw is_its (run.0, refusal_alone _ _ fault _ run.1)

@@ -1,22 +1,25 @@
-use Rattle.std.proofs.Common.{Err, subst, sym, refl}
-use Rattle.byte_ends.proofs.Coming.{anything_came}
-use Rattle.byte_ends.specs.Source.{Told, reader_change}
+use Rattle.byte_ends.proofs.Coming.{came_so}
 use Rattle.gsi_file.specs.FileAnswers.{file_answers}
-use Rattle.station_check.specs.Came.{ReadsFile}
-use Rattle.station_check.specs.Surveys.{Surveys}
-use Rattle.station_check.specs.declared.fault.Fault.TheVariants.{Memory}
+use Rattle.station_book.specs.declared.stations.Stations.{Stations}
+use Rattle.station_check.specs.declared.survey.Survey.{Survey}
+use Rattle.station_check.proofs.Counted.{stations_alone, fault_alone}
+use Rattle.station_check.proofs.Leaving.{left_with}
 use Rattle.station_check.proofs.survey.stations_of_file.Goals as goal
+
+pub returns-in-Ok-clause-surveys : goal.returns-in-Ok-clause-surveys
+returns-in-Ok-clause-surveys g c =
+    let read = rw c.in-Ok.is at c.survey_of_file-survey.ensures.surveys in
+    record {
+      came = came_so _ _ _ read.came
+          (λ t h. stations_alone c.args.limits (file_answers t) c.in-Ok.survey h);
+      left = read.left;
+    }
 
 pub returns-in-Err-clause-surveys : goal.returns-in-Err-clause-surveys
 returns-in-Err-clause-surveys g c =
-    let told = g.R.Source.told in
-    let failed = g.R.Source.failed in
-    let gave = g.R.Source.gave in
-    let gsi = c.args.gsi in
-    subst (λ (r : _). ReadsFile (reader_change told failed gave gsi r) (Err Memory)
-    (λ file. Surveys c.args.limits file (Err Memory))) (sym c.in-Err.ensures.back)
-    (record {
-      came = anything_came told failed gave gsi
-          (λ (t : Told). Surveys c.args.limits (file_answers t) (Err Memory)) (λ t. tt);
-      left = refl;
-    })
+    let read = rw c.in-Err.is at c.survey_of_file-survey.ensures.surveys in
+    record {
+      came = came_so _ _ _ read.came
+          (λ t h. fault_alone c.args.limits (file_answers t) c.in-Err.fault h);
+      left = left_with Survey Stations c.in-Err.fault _ read.left;
+    }

@@ -1,0 +1,49 @@
+-- The lemmas of the laws, by the names of the laws: what proofs of other crates cite.
+use Rattle.std.proofs.Common.{◌≡◌, ℕ, ◌+◌, ap, refl, sym, ◌∙◌}
+use Rattle.adjust_kernel.specs.Stations.{StationValue}
+use Rattle.adjust_kernel.specs.Verdict.{AtNth}
+use Rattle.adjust_kernel.specs.declared.bounds.TheConstants.{LARGEST_RESIDUAL_LIMIT}
+use Rattle.exact_adjustment.specs.Adjustments.{AdjustmentValue, choice_by}
+use Rattle.exact_adjustment.specs.Exact.{IsExact, KeepsLimit}
+use Rattle.exact_adjustment.specs.Faults.{IsAdjustFault, IsFar, IsOfStation}
+use Rattle.exact_adjustment.specs.LeastOf.{AreTied}
+use Rattle.exact_adjustment.specs.declared.fault.AdjustFault.{AdjustFault}
+use Rattle.exact_adjustment.specs.declared.fault.AdjustFault.TheVariants.{NotConnected, Residual}
+use Rattle.exact_adjustment.specs.declared.fault.AdjustFault.TheVariants.{NotFound, Memory}
+use Rattle.exact_adjustment.proofs.OneLaws.{one_greatest}
+
+-- The number of the greatest residual is one.
+one_number : (station : StationValue) (limit number other : ℕ) → AreTied station
+    → AtNth (IsFar station limit) number → AtNth (IsFar station limit) other → number ≡ other
+one_number station limit number other tied first second =
+    let f = first.2 in
+    let g = second.2 in
+    let e = one_greatest station f.rules tied limit limit first.0 second.0 f.adjustment
+    g.adjustment f.exact g.exact f.nearest g.nearest f.greatest g.greatest in
+    first.1 ∙ ap (λ (n : ℕ). n + 1) e ∙ sym second.1
+
+-- A station has one fault of its own at most.
+pub one_fault : (station : StationValue) (fault other : AdjustFault)
+    → IsOfStation fault → IsOfStation other
+    → IsAdjustFault station fault → IsAdjustFault station other → fault ≡ other
+one_fault station NotConnected NotConnected own also stands too = refl
+one_fault station NotConnected (Residual m) own also stands too = absurd (stands too.0)
+one_fault station NotConnected NotFound own also stands too = absurd also
+one_fault station NotConnected Memory own also stands too = absurd also
+one_fault station (Residual n) NotConnected own also stands too = absurd (too stands.0)
+one_fault station (Residual n) (Residual m) own also stands too =
+    ap Residual (one_number station LARGEST_RESIDUAL_LIMIT n m stands.0 stands.2 too.2)
+one_fault station (Residual n) NotFound own also stands too = absurd also
+one_fault station (Residual n) Memory own also stands too = absurd also
+one_fault station NotFound other own also stands too = absurd own
+one_fault station Memory other own also stands too = absurd own
+
+-- A station that is adjusted within the limit has none.
+pub never_both : (station : StationValue) (a : AdjustmentValue) (fault : AdjustFault)
+    → AreTied station → IsExact station a → KeepsLimit station a LARGEST_RESIDUAL_LIMIT
+    → IsOfStation fault → IsAdjustFault station fault → ⊥
+never_both station a NotConnected tied exact limited own stands = stands tied
+never_both station a (Residual n) tied exact limited own stands =
+    stands.1 (choice_by a) a.turns exact.each exact.rules.positive exact.sums limited
+never_both station a NotFound tied exact limited own stands = own
+never_both station a Memory tied exact limited own stands = own
