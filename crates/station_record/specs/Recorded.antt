@@ -10,7 +10,12 @@ use Rattle.station_check.specs.Promise.{IsAnswer}
 use Rattle.station_check.specs.RunEndings.{PrintsAnswer}
 use Rattle.station_check.specs.VerdictLines.{accepted_line}
 use Rattle.station_check.specs.declared.fault.Fault.{Fault}
-use Rattle.station_check.specs.declared.fault.Fault.TheVariants.{Write}
+use Rattle.station_check.specs.declared.fault.Fault.TheVariants as check
+use Rattle.station_compare.specs.Answers.{IsComparison}
+use Rattle.station_compare.specs.FaultTexts.{agreement_line}
+use Rattle.station_compare.specs.declared.agreement.Agreement.{Agreement}
+use Rattle.station_compare.specs.declared.fault.CompareFault.{CompareFault}
+use Rattle.station_compare.specs.declared.fault.CompareFault.TheVariants as compare
 
 -- The line of an answer, and then one for each of its two files: a digest and a name.
 abbrev pub recorded_text : List ℕ → List ℕ → List ℕ → List ℕ → List ℕ → List ℕ
@@ -27,4 +32,14 @@ pub record IsRecordedCheck {A : Type 0} (limits : FaceLimits) (most : Option ℕ
   pub answers : IsAnswer limits most gsi sheet verdict
   pub printed : PrintsAnswer (λ a. recorded_text (accepted_line a)
       (sha256 answers.gsi_bytes) gsi_name (sha256 answers.sheet_bytes) sheet_name)
-      Write verdict r out
+      check.Write verdict r out
+
+-- The same of a run of the comparison.
+pub record IsRecordedCompare {A : Type 0} (limits : FaceLimits) (within : ℕ) (station : List ℕ)
+    (gsi : ReaderChange) (gsi_name : List ℕ) (table : ReaderChange) (table_name : List ℕ)
+    (r : Result A CompareFault) (out : WriterChange) : Type 0 where
+  pub verdict : Result Agreement CompareFault
+  pub compares : IsComparison limits within gsi table station verdict
+  pub printed : PrintsAnswer (λ a. recorded_text (agreement_line a)
+      (sha256 compares.gsi_bytes) gsi_name (sha256 compares.table_bytes) table_name)
+      compare.Write verdict r out

@@ -1,11 +1,16 @@
-//! The check as a call that says which bytes it judged.
+//! The check and the comparison as calls that say which bytes they judged.
 //!
-//! After the line of an acceptance stands one line a file, as `sha256sum` prints it: the SHA-256
-//! digest of the very bytes that were read of the file and judged, and the file's name. So `sha256sum -c` says whether a file is still the one that was judged. At a
-//! refusal no digest is printed, since the files may not have been read whole.
+//! After the line of an acceptance or an agreement stands one line a file, as `sha256sum` prints
+//! it: the SHA-256 digest of the very bytes that were read of the file and judged, and the file's
+//! name. So `sha256sum -c` says whether a file is still the one that was judged. At a refusal no
+//! digest is printed, since the files may not have been read whole.
 #![tactic(auto)]
 
 mod check;
+mod compare;
 mod lines;
+mod named;
 
 pub use check::run_check_recorded;
+pub use compare::run_compare_recorded;
+pub use named::NamedReader;

@@ -1,53 +1,31 @@
--- What a check promises of two digesting readers, of the readers that they ask.
-use Rattle.std.proofs.Common.{◌≡◌, ℕ, List, [], Option, Bool, Result, Ok, Err, ap, refl, sym, subst, ◌∙◌}
-use Rattle.std.specs.Prelude.{OnOk}
+-- What the check promises of two digesting readers, of the readers that they ask.
+use Rattle.std.proofs.Common.{◌≡◌, ℕ, List, [], Option, Bool, Result, Ok, Err, ap, refl, subst}
 use Rattle.adjust_kernel.specs.declared.accepted.Accepted.{Accepted}
 use Rattle.byte_digests.proofs.Histories.{digested}
 use Rattle.byte_digests.specs.Digesting.{reader_of, hasher_of, histories}
 use Rattle.byte_digests.specs.declared.digesting.Digesting.{Digesting}
-use Rattle.byte_ends.specs.Came.{IsReadOut, HasBroken}
+use Rattle.byte_ends.specs.Sink.{WriterChange}
 use Rattle.byte_ends.specs.Source.{Told, ReaderChange, reader_change}
 use Rattle.gsi_file.specs.declared.file_fault.FileFault.TheVariants as file
 use Rattle.gsi_file.specs.declared.file_fault.FileKind.TheVariants as kind
 use Rattle.sha2.specs.Hashers.{Holds256}
+use Rattle.sha2.specs.Sha256.{sha256}
 use Rattle.sheet_format.specs.declared.fault.SheetFault.TheVariants as sheet
 use Rattle.station_book.specs.Limits.{FaceLimits}
 use Rattle.station_check.specs.Answerable.{LeavesFile}
-use Rattle.sha2.specs.Sha256.{sha256}
-use Rattle.byte_ends.specs.Sink.{WriterChange}
 use Rattle.station_check.specs.Promise.{IsAnswer}
-use Rattle.station_check.specs.RunEndings.{PrintsAnswer}
-use Rattle.station_check.specs.VerdictLines.{accepted_line}
-use Rattle.station_record.specs.Recorded.{IsRecordedCheck, recorded_text}
 use Rattle.station_check.specs.Refused.{IsUnreadAtFileFault}
+use Rattle.station_check.specs.RunEndings.{PrintsAnswer}
 use Rattle.station_check.specs.SheetInput.{LeavesReader}
+use Rattle.station_check.specs.VerdictLines.{accepted_line}
 use Rattle.station_check.specs.declared.fault.Fault.{Fault}
 use Rattle.station_check.specs.declared.fault.Fault.TheVariants.{Gsi, Book, SheetRead, Sheet}
 use Rattle.station_check.specs.declared.fault.Fault.TheVariants.{NoStation, Means, Kernel, Write}
 use Rattle.station_check.specs.declared.fault.Fault.TheVariants.{Memory}
+use Rattle.station_record.proofs.Alike.{AreAlike, out_too, broken_too, none_too}
+use Rattle.station_record.specs.Recorded.{IsRecordedCheck, recorded_text}
 
--- Two readers are alike in what they tell after and in whether a read of them failed.
-pub record AreAlike (s t : ReaderChange) : Type 0 where
-  pub told : s.told' ≡ t.told'
-  pub failed : s.failed ≡ t.failed
-  pub failed' : s.failed' ≡ t.failed'
-
-out_too : (s t : ReaderChange) → AreAlike s t → IsReadOut s → IsReadOut t
-out_too s t a h = record {
-  ended = sym a.told ∙ h.ended;
-  unfailed = sym a.failed' ∙ h.unfailed ∙ a.failed;
-}
-
-broken_too : (s t : ReaderChange) → AreAlike s t → HasBroken s → HasBroken t
-broken_too s t a h = record {
-  broken = sym a.told ∙ h.broken;
-  failed = sym a.failed' ∙ h.failed;
-}
-
-none_too : (s t : ReaderChange) → AreAlike s t → s.failed' ≡ s.failed → t.failed' ≡ t.failed
-none_too s t a h = sym a.failed' ∙ h ∙ a.failed
-
--- So an answer leaves the one as it leaves the other.
+-- An answer leaves a reader as it leaves one that is like it.
 pub file_too : {A : Type 0} (r : Result A Fault) (s t : ReaderChange) → AreAlike s t
     → LeavesFile r s → LeavesFile r t
 file_too (Ok x) s t a h = out_too s t a h
@@ -135,8 +113,3 @@ recorded limits most gsi sheet gsi_name sheet_name verdict a d e is_d is_e r out
       (subst (λ (t : List ℕ). PrintsAnswer (λ x. recorded_text (accepted_line x) t gsi_name e
       sheet_name) Write verdict r out) is_d p);
 }
-
--- What holds, whatever was answered, is so with Ok.
-pub always_ok : {T E P : Type 0} (r : Result T E) → P → OnOk r P
-always_ok (Ok x) p = p
-always_ok (Err e) p = tt
