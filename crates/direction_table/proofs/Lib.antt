@@ -1,13 +1,20 @@
 pub mod Digits
 pub mod Sizes
-pub mod WrittenDirections
+pub mod FieldsAt
 pub mod TwoColumns
 pub mod NamedTargets
 pub mod RowsTaken
+pub mod RecordSteps
 pub mod RowsRead
 pub mod NextRows
+pub mod FirstRows
 pub mod StatedDirections
 pub mod OneAnswer
+pub mod PlainDirections
+pub mod PlainRows
+pub mod WrittenDirections
 pub mod TableLengths
 pub mod TableAgain
+pub mod UsualLimits
 pub mod LawLemmas
+mod Examples

@@ -9,7 +9,7 @@ use Rattle.std.proofs.lemmas.List.Folds.{list_any_at, list_any_none}
 use Rattle.std.proofs.lemmas.List.Quantifiers.{position-Some}
 use Rattle.std.proofs.lemmas.List.Sums.{fails_before_first}
 use Rattle.std.proofs.lemmas.Slice.Eq.{bytes_eq-Decides}
-use Rattle.direction_table.specs.Rows.{has_name}
+use Rattle.direction_table.specs.FieldForms.{has_name}
 
 -- Whether a target has this name.
 abbrev pub is_named : List ℕ → List ℕ → Bool

@@ -7,9 +7,9 @@ use Rattle.std.proofs.Math.Seq.{take-append_seam}
 use Rattle.std.proofs.lemmas.Bool.{cases_lt}
 use Rattle.std.proofs.lemmas.List.{append-nil, get_or-map, length-map, map-append}
 use Rattle.std.proofs.lemmas.Option.{none-some}
-use Rattle.sheet_format.specs.Rows.{records_of}
 use Rattle.direction_table.specs.Faults.{HasNoFault, IsFirstFaultOfTable, NoFaultBefore, fault_at}
 use Rattle.direction_table.specs.Faults.{row_fault}
+use Rattle.direction_table.specs.Separators.{rows_of}
 use Rattle.direction_table.specs.Tables.{IsFaultOrMemory, IsFirstMissing, IsMissingOrMemory}
 use Rattle.direction_table.specs.Tables.{IsNoneAt, IsTableFault, IsTableText, stated_by}
 use Rattle.direction_table.specs.declared.fault.RowKind.{RowKind}
@@ -63,7 +63,8 @@ never-both targets bytes directions (Row number kind) text fault =
 never-both targets bytes directions (Missing number) text fault =
     let (short, clean, missing_at) = fault in
     let (place, counted, first) = missing_at in
-    not-missing (stated_by (records_of bytes) targets) directions place text.stated first.inside
+    not-missing (stated_by
+    (rows_of targets bytes) targets) directions place text.stated first.inside
     first.here
 never-both targets bytes directions Memory text fault = absurd fault
 
@@ -102,9 +103,9 @@ one-fault targets bytes (Row n j) TooLong a b = absurd (omega (arith, b, a.0))
 one-fault targets bytes (Row n j) (Row m k) a b =
     let (short, p, at_p, one) = a in
     let (short2, q, at_q, two) = b in
-    let place = same-place targets (records_of bytes) p q j k one two in
+    let place = same-place targets (rows_of targets bytes) p q j k one two in
     let number : n ≡ m = omega (arith, at_p, at_q, place) in
-    rw (number, same-kind targets (records_of bytes) p q j k one two place) refl
+    rw (number, same-kind targets (rows_of targets bytes) p q j k one two place) refl
 one-fault targets bytes (Row n j) (Missing m) a b =
     let (short, p, at_p, one) = a in
     absurd (none-some j (sym (b.1 p) ∙ one.here))
@@ -116,7 +117,8 @@ one-fault targets bytes (Missing n) (Row m k) a b =
 one-fault targets bytes (Missing n) (Missing m) a b =
     let (p, at_p, one) = a.2 in
     let (q, at_q, two) = b.2 in
-    let place = one-place (IsNoneAt (stated_by (records_of bytes) targets)) p q one.here two.here
+    let place = one-place (IsNoneAt (stated_by
+    (rows_of targets bytes) targets)) p q one.here two.here
     one.before two.before in
     let number : n ≡ m = omega (arith, at_p, at_q, place) in
     rw number refl
@@ -152,8 +154,8 @@ answers-fault items targets bytes (Err g) ok err f fault = elim err [
 -- Where no row has a fault and all targets have directions, the bytes are a table of these.
 pub whole-table : {V : Type 0} (items : V → List ℤ) (targets : List (List ℕ)) (bytes : List ℕ)
     (stated : List (Option ℤ)) (r : Result V TableFault) → length bytes ≤ LONGEST_TABLE
-    → HasNoFault targets (records_of bytes)
-    → stated ≡ stated_by (records_of bytes) targets → IfOk r (λ v. stated ≡ map Some (items v))
+    → HasNoFault targets (rows_of targets bytes)
+    → stated ≡ stated_by (rows_of targets bytes) targets → IfOk r (λ v. stated ≡ map Some (items v))
     → IfOk r (λ v. IsTableText targets bytes (items v))
 whole-table items targets bytes stated (Ok v) short clean same all = record {
   short = short;
@@ -165,8 +167,8 @@ whole-table items targets bytes stated (Err f) short clean same all = tt
 -- Where no row has a fault, the first target that is missing is the fault of the bytes.
 pub missing-fault : {V : Type 0} (targets : List (List ℕ)) (bytes : List ℕ)
     (stated : List (Option ℤ)) (r : Result V TableFault) → length bytes ≤ LONGEST_TABLE
-    → HasNoFault targets (records_of bytes)
-    → stated ≡ stated_by (records_of bytes) targets → IfErr r (IsMissingOrMemory stated)
+    → HasNoFault targets (rows_of targets bytes)
+    → stated ≡ stated_by (rows_of targets bytes) targets → IfErr r (IsMissingOrMemory stated)
     → IfErr r (IsFaultOrMemory targets bytes)
 missing-fault targets bytes stated (Ok v) short clean same none = tt
 missing-fault targets bytes stated (Err f) short clean same none = elim none [
@@ -227,12 +229,12 @@ all-or-first stated (None ∷ rest) items e =
     )
 
 decided-rows : (targets : List (List ℕ)) (bytes : List ℕ) → length bytes ≤ LONGEST_TABLE
-    → (before rest : List (List (List ℕ))) → records_of bytes ≡ before ++ rest
-    → NoFaultBefore targets (records_of bytes) (length before) → TableOrFault targets bytes
+    → (before rest : List (List (List ℕ))) → rows_of targets bytes ≡ before ++ rest
+    → NoFaultBefore targets (rows_of targets bytes) (length before) → TableOrFault targets bytes
 decided-rows targets bytes short before [] whole clean =
-    let none = clean-end targets (records_of bytes) before (whole ∙ append-nil before) clean in
-    elim (all-or-first (stated_by (records_of bytes) targets)
-    (stated_by (records_of bytes) targets) [] refl) [
+    let none = clean-end targets (rows_of targets bytes) before (whole ∙ append-nil before) clean in
+    elim (all-or-first (stated_by (rows_of targets bytes) targets)
+    (stated_by (rows_of targets bytes) targets) [] refl) [
       | inl all ↦ inl (all.0, record { short = short; faultless = none; stated = all.1 })
       | inr first ↦ inr (Missing first.0, (short, none, first.1))
     ]
@@ -241,11 +243,11 @@ decided-rows targets bytes short before (row ∷ rest) whole clean =
     ++ (row ∷ [])) rest)
   where
     by : (o : Option RowKind) → row_fault targets before row ≡ o
-        → (records_of bytes ≡ (before ++ (row ∷ [])) ++ rest
-        → NoFaultBefore targets (records_of bytes) (length (before ++ (row ∷ [])))
+        → (rows_of targets bytes ≡ (before ++ (row ∷ [])) ++ rest
+        → NoFaultBefore targets (rows_of targets bytes) (length (before ++ (row ∷ [])))
         → TableOrFault targets bytes) → TableOrFault targets bytes
     by None e later = later (whole ∙ sym (append_assoc before (row ∷ []) rest))
-        (clean-more targets (records_of bytes) before rest row whole clean e)
+        (clean-more targets (rows_of targets bytes) before rest row whole clean e)
     by (Some k) e later = inr (
       Row (length before + 1) k,
       (
@@ -253,7 +255,7 @@ decided-rows targets bytes short before (row ∷ rest) whole clean =
         length before,
         refl,
         first-here targets
-            (records_of bytes) before rest row k whole clean e,
+            (rows_of targets bytes) before rest row k whole clean e,
       ),
     )
 
@@ -261,6 +263,6 @@ decided-rows targets bytes short before (row ∷ rest) whole clean =
 pub table-or-fault : (targets : List (List ℕ)) (bytes : List ℕ) → TableOrFault targets bytes
 table-or-fault targets bytes = elim (cases_lt LONGEST_TABLE (length bytes)) [
   | inl long ↦ inr (TooLong, long)
-  | inr short ↦ decided-rows targets bytes short [] (records_of bytes) refl
+  | inr short ↦ decided-rows targets bytes short [] (rows_of targets bytes) refl
       (λ earlier below. absurd (omega (arith, below)))
 ]

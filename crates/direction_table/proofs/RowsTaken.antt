@@ -10,10 +10,12 @@ use Rattle.std.proofs.lemmas.Bool.{cases_Bool, cases_lt, eqb-false, eqb-true, fa
 use Rattle.std.proofs.lemmas.List.{ext_get_or, get_or-map, length-map}
 use Rattle.std.proofs.lemmas.Slice.Eq.{bytes_eq-Decides}
 use Rattle.adjust_kernel.specs.Stations.{AreTargets}
-use Rattle.direction_table.specs.Faults.{columns_fault, entry_fault, row_fault, unless}
-use Rattle.direction_table.specs.Gons.{direction_value}
-use Rattle.direction_table.specs.Rows.{Fields, beside_name, columns_of, direction_in, has_name}
+use Rattle.direction_table.specs.Faults.{columns_fault, entry_fault, stating_fault, unless}
+use Rattle.direction_table.specs.FewestDecimals.{counted, row_decimals}
+use Rattle.direction_table.specs.Gons.{count_of_decimals, direction_value, is_direction}
+use Rattle.direction_table.specs.Rows.{Fields, beside_name, columns_of, direction_in}
 use Rattle.direction_table.specs.Rows.{name_of}
+use Rattle.direction_table.specs.FieldForms.{has_name}
 use Rattle.direction_table.specs.declared.fault.RowKind.{RowKind}
 use Rattle.direction_table.specs.declared.fault.RowKind.TheVariants as fault
 use Rattle.direction_table.proofs.TwoColumns.{direction-column, name-column}
@@ -93,8 +95,8 @@ kept targets before directions row place c d t same =
 pub twice : (targets : List (List ℕ)) (before : List (List (List ℕ))) (row : List (List ℕ))
     (place : ℕ) (c : Fields) (v : ℤ)
     → Taken targets row place c → entry_fault targets c ≡ None
-    → direction_in before c.name ≡ Some v → row_fault targets before row ≡ Some fault.Twice
-unfolding row_fault
+    → direction_in before c.name ≡ Some v → stating_fault targets before row ≡ Some fault.Twice
+unfolding stating_fault
 twice targets before row place c v t clean there =
     ap (columns_fault targets (map name_of before)) t.columns
     ∙ ap (λ (o : Option RowKind). option_or o
@@ -105,8 +107,8 @@ twice targets before row place c v t clean there =
 pub faultless : (targets : List (List ℕ)) (before : List (List (List ℕ))) (row : List (List ℕ))
     (place : ℕ) (c : Fields)
     → Taken targets row place c → entry_fault targets c ≡ None → direction_in before c.name ≡ None
-    → row_fault targets before row ≡ None
-unfolding row_fault
+    → stating_fault targets before row ≡ None
+unfolding stating_fault
 faultless targets before row place c t clean none =
     ap (columns_fault targets (map name_of before)) t.columns
     ∙ ap (λ (o : Option RowKind). option_or o
@@ -115,15 +117,16 @@ faultless targets before row place c t clean none =
 
 -- A row that has not two columns has that fault.
 pub columns-refused : (targets : List (List ℕ)) (before : List (List (List ℕ)))
-    (row : List (List ℕ)) → columns_of row ≡ None → row_fault targets before row ≡ Some fault.Fields
-unfolding row_fault
+    (row : List (List ℕ)) → columns_of row ≡ None
+    → stating_fault targets before row ≡ Some fault.Fields
+unfolding stating_fault
 columns-refused targets before row none = ap (columns_fault targets (map name_of before)) none
 
 -- The fault of a row's columns in themselves is the fault of the row.
 pub entry-refused : (targets : List (List ℕ)) (before : List (List (List ℕ))) (row : List (List ℕ))
     (c : Fields) (k : RowKind) → columns_of row ≡ Some c → entry_fault targets c ≡ Some k
-    → row_fault targets before row ≡ Some k
-unfolding row_fault
+    → stating_fault targets before row ≡ Some k
+unfolding stating_fault
 entry-refused targets before row c k columns found =
     ap (columns_fault targets (map name_of before)) columns
     ∙ ap (λ (o : Option RowKind). option_or o
@@ -225,3 +228,13 @@ pub lifted-cases : {T E : Type 0} (r : Result T E) (P Q : E → Type 0) (R : T �
     → IsErr r × IsErrAnd r P → ((k : E) → P k → Q k) → MatchResult r R Q
 lifted-cases (Ok x) P Q R h f = cc (h.0)
 lifted-cases (Err k) P Q R h f = f k h.1
+
+-- The decimals of a row are those of its direction.
+pub decimals-taken : (row : List (List ℕ)) (c : Fields) (decimals : ℕ) → columns_of row ≡ Some c
+    → is_direction c.direction ≡ true → decimals ≡ count_of_decimals c.direction
+    → row_decimals row ≡ counted decimals
+decimals-taken row c decimals columns form count =
+    ap (λ (f : List ℕ). if is_direction f then counted (count_of_decimals f) else None)
+    (direction-column row c columns)
+    ∙ ap (λ (b : Bool). if b then counted (count_of_decimals c.direction) else None) form
+    ∙ ap counted (sym count)

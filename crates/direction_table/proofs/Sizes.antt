@@ -1,62 +1,79 @@
--- The number of a direction without its minus, by the parts before and from its point on.
-use Rattle.std.proofs.Common.{◌≡◌, ◌∙◌, ℕ, true, false, List, take, drop, ap, sym}
-use Rattle.std.specs.Prelude.{◌&&◌, ◌+◌, ◌*◌, ◌^◌}
+-- The number of a direction without its sign, by the parts before and after its point.
+use Rattle.std.proofs.Common.{◌≡◌, ◌∙◌, ℕ, ◌≤◌, arith, true, false, Bool, List, take, drop, length}
+use Rattle.std.proofs.Common.{ap, sym, refl}
+use Rattle.std.specs.Prelude.{◌&&◌, ◌+◌, ◌*◌, ◌^◌, nat_le}
 use Rattle.std.specs.Str.Parse.{digits_value}
-use Rattle.direction_table.specs.Gons.{are_digits, fraction_value, is_fraction, is_size, point_of}
-use Rattle.direction_table.specs.Gons.{size_value}
+use Rattle.std.proofs.lemmas.Bool.Decides.{nat_tests}
+use Rattle.direction_table.specs.Gons.{after_first, decimals_part, fraction_value, is_fraction}
+use Rattle.direction_table.specs.Gons.{is_size, is_whole, mark_of, size_value, whole_part}
+
+and-none : (b : Bool) → (b && false) ≡ false
+and-none true = refl
+and-none false = refl
+
+pub at-least : (n : ℕ) → 1 ≤ n → nat_le 1 n ≡ true
+at-least n h = grind (arith, nat_tests)
+
+pub none-there : (n : ℕ) → n ≡ 0 → nat_le 1 n ≡ false
+none-there n h = grind (arith, nat_tests)
 
 -- The parts of a text, with the place of its point.
-pub record Parts (bytes front back : List ℕ) (place : ℕ) : Type 0 where
-  pub point : place ≡ point_of bytes
+pub record Parts (bytes front back decimals : List ℕ) (place : ℕ) : Type 0 where
+  pub mark : place ≡ mark_of bytes
   pub before : front ≡ take place bytes
   pub after : back ≡ drop place bytes
+  pub rest : decimals ≡ after_first back
 
-front-is : (bytes front back : List ℕ) (place : ℕ) → Parts bytes front back place
-    → take (point_of bytes) bytes ≡ front
-front-is bytes front back place p = sym (p.before ∙ ap (λ n. take n bytes) p.point)
+module _ (bytes front back decimals : List ℕ) (place : ℕ)
+    (p : Parts bytes front back decimals place) where
+  pub whole-is : whole_part bytes ≡ front
+  whole-is = sym (p.before ∙ ap (λ n. take n bytes) p.mark)
 
-back-is : (bytes front back : List ℕ) (place : ℕ) → Parts bytes front back place
-    → drop (point_of bytes) bytes ≡ back
-back-is bytes front back place p = sym (p.after ∙ ap (λ n. drop n bytes) p.point)
+  pub decimals-is : decimals_part bytes ≡ decimals
+  decimals-is = sym (p.rest ∙ ap after_first (p.after ∙ ap (λ n. drop n bytes) p.mark))
 
--- A number has its form exactly where both its parts have theirs.
-pub parts-size : (bytes front back : List ℕ) (place : ℕ) → Parts bytes front back place
-    → is_size bytes ≡ (are_digits 3 front && is_fraction back)
-parts-size bytes front back place p =
-    ap (λ f. are_digits 3 f && is_fraction (drop (point_of bytes) bytes))
-    (front-is bytes front back place p)
-    ∙ ap (λ b. are_digits 3 front && is_fraction b) (back-is bytes front back place p)
+  -- A number has its form exactly where its parts have theirs, and one of them has a digit.
+  pub parts-size : is_size bytes
+      ≡ (nat_le 1 (length front + length decimals) && (is_whole front && is_fraction decimals))
+  parts-size =
+      ap (λ f. nat_le 1 (length f + length (decimals_part bytes))
+      && (is_whole f && is_fraction (decimals_part bytes))) whole-is
+      ∙ ap (λ d. nat_le 1 (length front + length d) && (is_whole front && is_fraction d))
+      decimals-is
 
--- A number is that of the part before its point, and the fraction from the point on.
-pub parts-value : (bytes front back : List ℕ) (place : ℕ) → Parts bytes front back place
-    → size_value bytes ≡ digits_value 10 front * 10 ^ 9 + fraction_value back
-parts-value bytes front back place p =
-    ap (λ f. digits_value 10 f * 10 ^ 9 + fraction_value (drop (point_of bytes) bytes))
-    (front-is bytes front back place p)
-    ∙ ap (λ b. digits_value 10 front * 10 ^ 9 + fraction_value b) (back-is bytes front back place p)
+  -- A number is that of the part before its point, and the fraction after it.
+  pub parts-value : size_value bytes
+      ≡ digits_value 10 front * 10 ^ 9 + fraction_value decimals
+  parts-value =
+      ap (λ f. digits_value 10 f * 10 ^ 9 + fraction_value (decimals_part bytes)) whole-is
+      ∙ ap (λ d. digits_value 10 front * 10 ^ 9 + fraction_value d) decimals-is
 
--- The whole gon, as units of the ninth decimal, and the fraction make the number.
-pub size-whole : (bytes front back : List ℕ) (place whole fraction : ℕ)
-    → Parts bytes front back place → whole ≡ digits_value 10 front → fraction ≡ fraction_value back
-    → whole * 1000000000 + fraction ≡ size_value bytes
-size-whole bytes front back place whole fraction p w f =
-    ap (λ n. n * 1000000000 + fraction) w ∙ ap (λ n. digits_value 10 front * 1000000000 + n) f
-    ∙ sym (parts-value bytes front back place p)
+  -- The whole gon, as units of the ninth decimal, and the fraction make the number.
+  pub size-whole : (whole fraction : ℕ) → whole ≡ digits_value 10 front
+      → fraction ≡ fraction_value decimals → whole * 1000000000 + fraction ≡ size_value bytes
+  size-whole whole fraction w f =
+      ap (λ n. n * 1000000000 + fraction) w ∙ ap (λ n. digits_value 10 front * 1000000000 + n) f
+      ∙ sym parts-value
 
--- Where both parts have their form, so has the number.
-pub size-both : (bytes front back : List ℕ) (place : ℕ) → Parts bytes front back place
-    → are_digits 3 front ≡ true → is_fraction back ≡ true → is_size bytes ≡ true
-size-both bytes front back place p w f = parts-size bytes front back place p
-    ∙ ap (λ b. b && is_fraction back) w ∙ f
+  -- Where both parts have their form and one has a digit, the number has its form.
+  pub size-both : nat_le 1 (length front + length decimals) ≡ true → is_whole front ≡ true
+      → is_fraction decimals ≡ true → is_size bytes ≡ true
+  size-both some w f = parts-size
+      ∙ ap (λ b. b && (is_whole front && is_fraction decimals)) some
+      ∙ ap (λ b. b && is_fraction decimals) w ∙ f
 
--- Where the part before the point is not 1 to 3 digits, the number has not its form.
-pub size-no-whole : (bytes front back : List ℕ) (place : ℕ) → Parts bytes front back place
-    → are_digits 3 front ≡ false → is_size bytes ≡ false
-size-no-whole bytes front back place p w = parts-size bytes front back place p
-    ∙ ap (λ b. b && is_fraction back) w
+  pub size-no-digit : nat_le 1 (length front + length decimals) ≡ false → is_size bytes ≡ false
+  size-no-digit none = parts-size
+      ∙ ap (λ b. b && (is_whole front && is_fraction decimals)) none
 
--- Where the part from the point on has not its form, neither has the number.
-pub size-no-fraction : (bytes front back : List ℕ) (place : ℕ) → Parts bytes front back place
-    → are_digits 3 front ≡ true → is_fraction back ≡ false → is_size bytes ≡ false
-size-no-fraction bytes front back place p w f = parts-size bytes front back place p
-    ∙ ap (λ b. b && is_fraction back) w ∙ f
+  -- Where a part has not its form, neither has the number.
+  pub size-no-whole : is_whole front ≡ false → is_size bytes ≡ false
+  size-no-whole w = parts-size
+      ∙ ap (λ b. nat_le 1 (length front + length decimals) && (b && is_fraction decimals)) w
+      ∙ and-none (nat_le 1 (length front + length decimals))
+
+  pub size-no-fraction : is_fraction decimals ≡ false → is_size bytes ≡ false
+  size-no-fraction f = parts-size
+      ∙ ap (λ b. nat_le 1 (length front + length decimals) && (is_whole front && b)) f
+      ∙ ap (λ b. nat_le 1 (length front + length decimals) && b) (and-none (is_whole front))
+      ∙ and-none (nat_le 1 (length front + length decimals))

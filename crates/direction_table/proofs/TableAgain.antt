@@ -1,8 +1,8 @@
 -- The text of a table of all targets is a table of them and of their directions.
-use Rattle.std.specs.Prelude.{if◌then◌else◌}
+use Rattle.std.specs.Prelude.{◌&&◌, if◌then◌else◌}
 use Rattle.std.proofs.Common.{◌≡◌, ◌≢◌, ◌∙◌, ℕ, suc, ◌+◌, ◌<◌, Bool, true, false, List, [], ◌∷◌}
 use Rattle.std.proofs.Common.{◌++◌, map, length, get_or, All, AllPairs, Some, None, refl, ap, sym}
-use Rattle.std.proofs.Common.{subst, arith, append_assoc, length-append}
+use Rattle.std.proofs.Common.{pos, subst, arith, append_assoc, length-append}
 use Rattle.std.specs.Str.{bytes_eq}
 use Rattle.std.proofs.lemmas.Bool.{false_from_ne_true, ne_eqb}
 use Rattle.std.proofs.lemmas.List.{append-nil, get_or_append_left, get_or-map, length-map}
@@ -17,8 +17,11 @@ use Rattle.adjust_kernel.specs.Stations.{AreTargets}
 use Rattle.sheet_format.specs.Rows.{records_of}
 use Rattle.sheet_format.proofs.NameTests.{name-test}
 use Rattle.sheet_format.proofs.TextAgain.{back-entries, records-written}
-use Rattle.direction_table.specs.Faults.{HasNoFault, NoFaultBefore, row_fault}
-use Rattle.direction_table.specs.Rows.{direction_in, has_name, name_of}
+use Rattle.direction_table.specs.Faults.{HasNoFault, NoFaultBefore, are_titles, is_first, row_fault}
+use Rattle.direction_table.specs.Faults.{stating_fault}
+use Rattle.direction_table.specs.FieldForms.{has_name}
+use Rattle.direction_table.specs.PlainTables.{IsPlainRow, IsPlainTable}
+use Rattle.direction_table.specs.Rows.{direction_in, name_of}
 use Rattle.direction_table.specs.Tables.{IsTableText, stated_by}
 use Rattle.direction_table.specs.Texts.{AreDecimals, IsWhole}
 use Rattle.direction_table.specs.TableTexts.{directions_of, names_of, row_of, table_text}
@@ -26,7 +29,8 @@ use Rattle.direction_table.specs.declared.table.TargetDirection.{TargetDirection
 use Rattle.direction_table.proofs.NamedTargets.{is_named}
 use Rattle.direction_table.proofs.RowsRead.{clean-end, clean-more}
 use Rattle.direction_table.proofs.TableLengths.{IsWritten, table-short}
-use Rattle.direction_table.proofs.WrittenDirections.{text-below, text-form, text-value}
+use Rattle.direction_table.proofs.PlainRows.{plain-stands}
+use Rattle.direction_table.proofs.WrittenDirections.{text-form, text-plain, text-range, text-value}
 
 -- A text that begins with a name, in quotes or not, has no byte order mark.
 unmarked : (a : ℕ) (text : List ℕ) → a < 128 → strip_bom (a ∷ text) ≡ a ∷ text
@@ -76,21 +80,30 @@ not-found names name others =
     (bytes_eq (get_or names k d) name) (λ same. others k d below
     ((bytes_eq-Decides (get_or names k d) name).0 same)))
 
+-- A row that states a direction without a fault has none.
+none-then : (targets : List (List ℕ)) (before : List (List (List ℕ))) (row : List (List ℕ))
+    → stating_fault targets before row ≡ None → row_fault targets before row ≡ None
+unfolding row_fault
+none-then targets before row e = by (is_first before && are_titles targets row)
+  where
+    by : (b : Bool) → (if b then None else stating_fault targets before row) ≡ None
+    by true = refl
+    by false = e
+
 -- A row of a target, which no row before it names, has no fault.
 clean-row : (targets : List (List ℕ)) (before : List (List (List ℕ))) (count : ℕ)
     (row : TargetDirection) → AreDecimals count → IsWritten count row
     → has_name targets row.name ≡ true → has_name (map name_of before) row.name ≡ false
     → row_fault targets before (row_of count row) ≡ None
-unfolding row_fault
+unfolding stating_fault
 clean-row targets before count row few ok known new =
-    rw (
+    none-then targets before (row_of count row) (rw (
       name-test row.name ok.name,
       text-form count row.direction few ok.exact,
-      text-below count
-          row.direction few ok.exact,
+      text-range count row.direction few ok.exact,
       known,
       new,
-    ) refl
+    ) refl)
 
 -- The name after others.
 at-seam : (before rest : List (List ℕ)) (name d : List ℕ)
@@ -187,12 +200,27 @@ written count stated names exact k d below = record {
   exact = exact k d below;
 }
 
--- The text of a table of all targets is a table of them and of their directions.
-pub table-again : (targets : List (List ℕ)) (count : ℕ) (stated : List TargetDirection)
+-- The rows are plain.
+each-plain : (count : ℕ) (stated : List TargetDirection) → AreDecimals count
+    → All (IsWritten count) stated → All IsPlainRow (map (row_of count) stated)
+each-plain count stated few ok k d below =
+    let inside : k < length stated = omega (arith, below, length-map stated (row_of count)) in
+    let row = get_or stated k (record { name = []; direction = 0 }) in
+    let same : get_or (map (row_of count) stated) k d ≡ row_of count row =
+    get_or-map (row_of count) stated k (record { name = []; direction = 0 }) d inside in
+    subst IsPlainRow (sym same) (record {
+      two = refl;
+      direction = pos row.direction;
+      plain = text-plain count row.direction few
+          (ok k (record { name = []; direction = 0 }) inside).exact;
+    })
+
+-- The text of a table of all targets is a plain table of them and of their directions.
+pub table-plain : (targets : List (List ℕ)) (count : ℕ) (stated : List TargetDirection)
     → AreTargets targets → names_of stated ≡ targets → AreDecimals count
     → All (λ row. IsWhole count row.direction) stated
-    → IsTableText targets (table_text count stated) (directions_of stated)
-table-again targets count stated ok names few exact =
+    → IsPlainTable targets (table_text count stated) (directions_of stated)
+table-plain targets count stated ok names few exact =
     let mine : AreTargets (names_of stated) = subst AreTargets (sym names) ok in
     let each = written count stated mine.names exact in
     let rows = rows-again count stated each in
@@ -203,6 +231,7 @@ table-again targets count stated ok names few exact =
         length-map stated
             (λ (row : TargetDirection). row.name),
       )) few each;
+      plain = subst (All IsPlainRow) (sym rows) (each-plain count stated few each);
       faultless = clean-from targets (records_of (table_text count stated)) [] count stated ok few
           (sym names) rows each (λ earlier below. absurd (omega (arith, below)));
       stated = ap (λ (all : List (List (List ℕ))). stated_by all targets) rows
@@ -210,3 +239,12 @@ table-again targets count stated ok names few exact =
           (sym names)
           ∙ stated-again count stated few mine.different each;
     }
+
+-- So it is a table of them.
+pub table-again : (targets : List (List ℕ)) (count : ℕ) (stated : List TargetDirection)
+    → AreTargets targets → names_of stated ≡ targets → AreDecimals count
+    → All (λ row. IsWhole count row.direction) stated
+    → IsTableText targets (table_text count stated) (directions_of stated)
+table-again targets count stated ok names few exact =
+    plain-stands targets (table_text count stated) (directions_of stated) ok
+    (table-plain targets count stated ok names few exact)

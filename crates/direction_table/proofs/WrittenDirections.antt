@@ -16,23 +16,15 @@ use Rattle.std.proofs.lemmas.Int.Digits.{digits_value_push}
 use Rattle.std.proofs.lemmas.List.Folds.{list_all-append}
 use Rattle.std.proofs.lemmas.Str.{digit_value_digit}
 use Rattle.sheet_format.proofs.CanonicalDecimals.{numerals}
-use Rattle.direction_table.specs.Gons.{are_digits, direction_value, is_below_circle, is_direction}
-use Rattle.direction_table.specs.Gons.{is_negative, is_size, point_of, signed, size_value, unsigned}
+use Rattle.direction_table.specs.Gons.{direction_value, is_direction, is_on_circle}
+use Rattle.direction_table.specs.PlainTables.{IsPlainDirection, after_point, plain_size}
 use Rattle.direction_table.specs.Texts.{AreDecimals, IsWhole, decimals_of, direction_text}
-use Rattle.direction_table.proofs.Sizes.{Parts, parts-size, parts-value}
+use Rattle.direction_table.proofs.PlainDirections.{digit-range, plain-form, plain-range}
+use Rattle.direction_table.proofs.PlainDirections.{plain-value}
 
 -- Tests of numbers.
-at-most : (n most : ℕ) → n ≤ most → nat_le n most ≡ true
-at-most n most h = grind (arith, nat_tests)
-
-below : (n m : ℕ) → n < m → nat_lt n m ≡ true
-below n m h = grind (arith, nat_tests)
-
 digit-glyph : (d : ℕ) → d < 10 → is_ascii_digit (48 + d) ≡ true
 digit-glyph d h = grind (arith, nat_tests)
-
-digit-range : (c : ℕ) → is_ascii_digit c ≡ true → IsInRange 48 57 c
-digit-range c e = grind (arith, nat_tests)
 
 last-digit : (n : ℕ) → is_ascii_digit (48 + n % 10) ≡ true
 last-digit n = digit-glyph (n % 10) (omega arith)
@@ -90,46 +82,6 @@ whole (suc (suc (suc (suc (suc (suc (suc zero))))))) d some h e = omega (arith, 
 whole (suc (suc (suc (suc (suc (suc (suc (suc zero)))))))) d some h e = omega (arith, e)
 whole (suc (suc (suc (suc (suc (suc (suc (suc (suc k))))))))) d some h e = absurd (omega (arith, h))
 
--- The point after digits.
-at-point : (front back : List ℕ) → list_all is_ascii_digit front ≡ true
-    → position_or_len (λ b. b == 46) (front ++ (46 ∷ back)) ≡ length front
-at-point [] back e = refl
-at-point (c ∷ cs) back e =
-    let p = and_parts _ _ e in
-    let r = digit-range c p.0 in
-    rw (ne_eqb c 46 (λ q. absurd (omega (arith, r, q))), at-point cs back p.1) (omega arith)
-
-the-point : (front back : List ℕ) → list_all is_ascii_digit front ≡ true
-    → point_of (front ++ (46 ∷ back)) ≡ length front
-the-point front back e =
-    let size = length-append front (46 ∷ back) in
-    rw (
-      at-point front back e,
-      below (length front) (length (front ++ (46 ∷ back)))
-          (omega (arith, size)),
-    ) refl
-
-parts : (front back : List ℕ) → list_all is_ascii_digit front ≡ true
-    → Parts (front ++ (46 ∷ back)) front (46 ∷ back) (length front)
-parts front back e = record {
-  point = sym (the-point front back e);
-  before = sym (take-append_seam front (46 ∷ back));
-  after = sym (drop-append_seam front (46 ∷ back));
-}
-
--- Digits have no minus before them.
-no-minus : (front rest : List ℕ) → list_all is_ascii_digit front ≡ true → 1 ≤ length front
-    → (unsigned (front ++ rest) ≡ front ++ rest) × (is_negative (front ++ rest) ≡ false)
-no-minus [] rest e some = absurd (omega (arith, some))
-no-minus (c ∷ cs) rest e some =
-    let r = digit-range c (and_parts _ _ e).0 in
-    rw (ne_eqb c 45 (λ q. absurd (omega (arith, r, q)))) (refl, refl)
-
-few : (most : ℕ) (ds : List ℕ) → list_all is_ascii_digit ds ≡ true → 1 ≤ length ds
-    → length ds ≤ most → are_digits most ds ≡ true
-few most ds e some short = and_from _ _ (and_from _ _ (at-most 1 (length ds) some)
-    (at-most (length ds) most short)) e
-
 -- The gon of a direction below a full circle.
 record Front (w : ℕ) : Type 0 where
   digits : list_all is_ascii_digit (decimal w) ≡ true
@@ -150,50 +102,55 @@ front-of w h =
 gons-below : (d : ℕ) → d < 400000000000 → d / 10 ^ 9 < 400
 gons-below d h = omega (arith, h)
 
--- The text of a direction in whole steps of its decimals has the form of a direction.
-pub text-form : (k d : ℕ) → AreDecimals k → IsWhole k d → is_direction (direction_text k d) ≡ true
-text-form k d few-decimals exact =
-    let f = front-of (d / 10 ^ 9) (gons-below d exact.0) in
-    let back = decimals_of k d in
-    let size = many k d in
-    ap is_size ((no-minus (decimal (d / 10 ^ 9)) (46 ∷ back) f.digits f.some).0)
-    ∙ parts-size _ _ _ _ (parts (decimal (d / 10 ^ 9)) back f.digits)
-    ∙ and_from _ _ (few 3 (decimal (d / 10 ^ 9)) f.digits f.some f.short)
-    (few 9 back (all-digits k d) (omega (arith, size, few-decimals.0))
-    (omega (arith, size, few-decimals.1)))
+-- The text of a direction in whole steps of its decimals writes it plainly.
+after-some : (digits : List ℕ) → 1 ≤ length digits → after_point digits ≡ 46 ∷ digits
+after-some [] some = absurd (omega (arith, some))
+after-some (c ∷ cs) some = refl
 
-text-size : (k d : ℕ) → AreDecimals k → IsWhole k d → size_value (direction_text k d) ≡ d
+text-size : (k d : ℕ) → AreDecimals k → IsWhole k d → plain_size (decimal (d / 10 ^ 9))
+    (decimals_of k d) ≡ d
 text-size k d few-decimals exact =
     let f = front-of (d / 10 ^ 9) (gons-below d exact.0) in
-    parts-value _ _ _ _ (parts (decimal (d / 10 ^ 9)) (decimals_of k d) f.digits)
-    ∙ ap (λ n. n * 10 ^ 9 + digits_value 10 (decimals_of k d) * 10 ^
+    ap (λ n. n * 10 ^ 9 + digits_value 10 (decimals_of k d) * 10 ^
     (9 - length (decimals_of k d))) f.value
     ∙ ap (λ n. d / 10 ^ 9 * 10 ^ 9 + digits_value 10 (decimals_of k d) * 10 ^ (9 - n)) (many k d)
     ∙ ap (λ n. d / 10 ^ 9 * 10 ^ 9 + n * 10 ^ (9 - k)) (decimals-value k d few-decimals.1)
     ∙ whole k d few-decimals.0 few-decimals.1 exact.1
 
-unsigned-size : (k d : ℕ) → AreDecimals k → IsWhole k d
-    → size_value (unsigned (direction_text k d)) ≡ d
-unsigned-size k d few-decimals exact =
+pub text-plain : (k d : ℕ) → AreDecimals k → IsWhole k d
+    → IsPlainDirection (direction_text k d) (pos d)
+text-plain k d few-decimals exact =
     let f = front-of (d / 10 ^ 9) (gons-below d exact.0) in
-    ap size_value ((no-minus (decimal (d / 10 ^ 9)) (46 ∷ decimals_of k d) f.digits f.some).0)
-    ∙ text-size k d few-decimals exact
+    let size = many k d in
+    let number = text-size k d few-decimals exact in
+    record {
+      negative = false;
+      whole = decimal (d / 10 ^ 9);
+      decimals = decimals_of k d;
+      spelled = ap (λ (tail : List ℕ). decimal (d / 10 ^ 9) ++ tail)
+          (sym (after-some (decimals_of k d) (omega (arith, size, few-decimals.0))));
+      some = f.some;
+      short = f.short;
+      few = omega (arith, size, few-decimals.1);
+      whole_digits = f.digits;
+      decimal_digits = all-digits k d;
+      below = omega (arith, number, exact.0);
+      value = ap pos (sym number);
+    }
 
--- The text of a direction below a full circle states one below a full circle.
-pub text-below : (k d : ℕ) → AreDecimals k → IsWhole k d → is_below_circle (direction_text k d)
-    ≡ true
-text-below k d few-decimals exact =
-    ap (λ n. nat_lt n 400000000000) (unsigned-size k d few-decimals exact)
-    ∙ below d 400000000000 exact.0
+-- So it has the form of a direction, is on the circle, and is read as that direction.
+pub text-form : (k d : ℕ) → AreDecimals k → IsWhole k d → is_direction (direction_text k d) ≡ true
+text-form k d few-decimals exact =
+    plain-form (direction_text k d) (pos d) (text-plain k d few-decimals exact)
 
--- The text of a direction in whole steps of its decimals is read as that direction.
+pub text-range : (k d : ℕ) → AreDecimals k → IsWhole k d → is_on_circle (direction_text k d) ≡ true
+text-range k d few-decimals exact =
+    plain-range (direction_text k d) (pos d) (text-plain k d few-decimals exact)
+
 pub text-value : (k d : ℕ) → AreDecimals k → IsWhole k d → direction_value (direction_text k d)
     ≡ pos d
 text-value k d few-decimals exact =
-    let f = front-of (d / 10 ^ 9) (gons-below d exact.0) in
-    ap (λ b. signed b (size_value (unsigned (direction_text k d))))
-    ((no-minus (decimal (d / 10 ^ 9)) (46 ∷ decimals_of k d) f.digits f.some).1)
-    ∙ ap pos (unsigned-size k d few-decimals exact)
+    plain-value (direction_text k d) (pos d) (text-plain k d few-decimals exact)
 
 -- The text of a direction has at most 12 bytes: three digits, a point and eight decimals.
 pub text-length : (k d : ℕ) → AreDecimals k → IsWhole k d → length (direction_text k d) ≤ 12

@@ -1,10 +1,12 @@
 -- The faults of the rows of a table, in their order, by the targets and the rows before.
-use Rattle.std.specs.Prelude.{◌≡◌, ℕ, ◌<◌, Bool, not, if◌then◌else◌, List, [], ◌∷◌, map, take, drop}
-use Rattle.std.specs.Prelude.{Option, Some, None}
+use Rattle.std.specs.Prelude.{◌≡◌, ℕ, ◌<◌, Bool, true, false, not, ◌&&◌, if◌then◌else◌, List, []}
+use Rattle.std.specs.Prelude.{◌∷◌, map, take, drop, Option, Some, None}
 use Rattle.std.specs.Option.{option_or}
 use Rattle.sheet_format.specs.Faults.{is_name}
-use Rattle.direction_table.specs.Gons.{is_below_circle, is_direction}
-use Rattle.direction_table.specs.Rows.{Fields, columns_of, has_name, name_of}
+use Rattle.direction_table.specs.FieldForms.{has_name}
+use Rattle.direction_table.specs.Gons.{is_direction, is_on_circle}
+use Rattle.direction_table.specs.Rows.{Fields, beside_name, columns_of, name_of}
+use Rattle.direction_table.specs.Separators.{is_wide}
 use Rattle.direction_table.specs.declared.fault.RowKind.{RowKind}
 use Rattle.direction_table.specs.declared.fault.RowKind.TheVariants as fault
 
@@ -21,7 +23,7 @@ first_fault (test ∷ later) = option_or test (first_fault later)
 abbrev pub direction_fault : List ℕ → Option RowKind
 direction_fault field = first_fault (
     unless (is_direction field) fault.Number
-    ∷ unless (is_below_circle field) fault.Range
+    ∷ unless (is_on_circle field) fault.Range
     ∷ [])
 
 -- What is wrong with the columns of a row in themselves, in order: the name, the direction, and
@@ -39,9 +41,28 @@ columns_fault targets earlier None = Some fault.Fields
 columns_fault targets earlier (Some c) =
     option_or (entry_fault targets c) (unless (not (has_name earlier c.name)) fault.Twice)
 
--- The fault of a row, if it has one, by the targets and the rows before it.
+-- Whether no row is before.
+abbrev pub is_first : List (List (List ℕ)) → Bool
+is_first [] = true
+is_first (row ∷ rows) = false
+
+-- Whether a row is one of titles: it has two columns or more, the first of which is no target's
+-- name and the second no direction.
+abbrev pub are_titles : List (List ℕ) → List (List ℕ) → Bool
+are_titles targets row =
+    is_wide row
+    && (not (has_name targets (name_of row)) && not (is_direction (beside_name row)))
+
+-- The fault of a row that is to state a direction, by the targets and the rows before it.
+unfoldable pub stating_fault :
+    List (List ℕ) → List (List (List ℕ)) → List (List ℕ) → Option RowKind
+stating_fault targets before row = columns_fault targets (map name_of before) (columns_of row)
+
+-- The fault of a row, if it has one, by the targets and the rows before it: titles in the first row
+-- are none.
 unfoldable pub row_fault : List (List ℕ) → List (List (List ℕ)) → List (List ℕ) → Option RowKind
-row_fault targets before row = columns_fault targets (map name_of before) (columns_of row)
+row_fault targets before row =
+    if is_first before && are_titles targets row then None else stating_fault targets before row
 
 -- The fault at a place, by the rows before it and those from there on.
 unfoldable pub fault_between :

@@ -1,5 +1,5 @@
 -- Directions in gon, as programs print them.
-use Rattle.std.specs.Prelude.{ℕ, ◌+◌, ◌-◌, ◌*◌, ◌^◌, Bool, true, false, ◌&&◌, ◌==◌, nat_le, nat_lt}
+use Rattle.std.specs.Prelude.{ℕ, ◌+◌, ◌-◌, ◌*◌, ◌^◌, Bool, true, false, ◌&&◌, ◌||◌, ◌==◌, nat_le}
 use Rattle.std.specs.Prelude.{if◌then◌else◌, List, [], ◌∷◌, length, take, drop, ℤ, pos, unwrap_or}
 use lib.IntN.{neg_ℤ}
 use Rattle.std.specs.Char.{is_ascii_digit}
@@ -7,47 +7,62 @@ use Rattle.std.specs.List.{list_all, position}
 use Rattle.std.specs.Str.Parse.{digits_value}
 use Rattle.direction_table.specs.declared.gon.TheConstants.{CIRCLE}
 
--- At least one digit, and at most so many.
-abbrev pub are_digits : ℕ → List ℕ → Bool
-are_digits most bytes =
-    (nat_le 1 (length bytes) && nat_le (length bytes) most) && list_all is_ascii_digit bytes
+-- A decimal point, or a decimal comma.
+abbrev pub is_mark : ℕ → Bool
+is_mark b = (b == 46) || (b == 44)
 
--- The place of the point of a number, or its end.
-abbrev pub point_of : List ℕ → ℕ
-point_of bytes = unwrap_or (position (λ b. b == 46) bytes) (length bytes)
+-- The place of the decimal point or comma of a number, or its end.
+abbrev pub mark_of : List ℕ → ℕ
+mark_of bytes = unwrap_or (position (λ b. is_mark b) bytes) (length bytes)
 
--- What follows the whole part: nothing, or a point and 1 to 9 digits.
+-- What follows the first byte.
+abbrev pub after_first : List ℕ → List ℕ
+after_first [] = []
+after_first (b ∷ bytes) = bytes
+
+-- The digits before the point of a number.
+abbrev pub whole_part : List ℕ → List ℕ
+whole_part bytes = take (mark_of bytes) bytes
+
+-- The digits after the point of a number.
+abbrev pub decimals_part : List ℕ → List ℕ
+decimals_part bytes = after_first (drop (mark_of bytes) bytes)
+
+-- At most three digits before the point.
+abbrev pub is_whole : List ℕ → Bool
+is_whole digits = nat_le (length digits) 3 && list_all is_ascii_digit digits
+
+-- Any number of digits after it, of which those after the ninth are 0.
 abbrev pub is_fraction : List ℕ → Bool
-is_fraction [] = true
-is_fraction (point ∷ digits) = are_digits 9 digits
+is_fraction digits =
+    list_all is_ascii_digit (take 9 digits) && list_all (λ digit. digit == 48) (drop 9 digits)
 
--- 1 to 3 digits, and optionally a point and 1 to 9 digits (profile).
+-- A number without its sign: digits before the point, after it or both (profile).
 abbrev pub is_size : List ℕ → Bool
-is_size bytes = are_digits 3 (take (point_of bytes) bytes)
-    && is_fraction (drop (point_of bytes) bytes)
+is_size bytes =
+    nat_le 1 (length (whole_part bytes) + length (decimals_part bytes))
+    && (is_whole (whole_part bytes) && is_fraction (decimals_part bytes))
 
--- The fraction in units of the ninth decimal.
+-- A fraction in units of the ninth decimal.
 abbrev pub fraction_value : List ℕ → ℕ
-fraction_value [] = 0
-fraction_value (point ∷ digits) = digits_value 10 digits * 10 ^ (9 - length digits)
+fraction_value digits = digits_value 10 (take 9 digits) * 10 ^ (9 - length (take 9 digits))
 
 -- The number that such bytes write, in units of the ninth decimal of a gon.
 abbrev pub size_value : List ℕ → ℕ
 size_value bytes =
-    digits_value 10 (take (point_of bytes) bytes) * 10 ^ 9
-    + fraction_value (drop (point_of bytes) bytes)
+    digits_value 10 (whole_part bytes) * 10 ^ 9 + fraction_value (decimals_part bytes)
 
--- The digits of a direction without its minus.
+-- The digits of a direction without its sign.
 abbrev pub unsigned : List ℕ → List ℕ
 unsigned [] = []
-unsigned (b ∷ bytes) = if b == 45 then bytes else b ∷ bytes
+unsigned (b ∷ bytes) = if (b == 45) || (b == 43) then bytes else b ∷ bytes
 
 -- Whether a field begins with a minus.
 abbrev pub is_negative : List ℕ → Bool
 is_negative [] = false
 is_negative (b ∷ bytes) = b == 45
 
--- A field is a direction: such a number, with an optional minus before it.
+-- A field is a direction: such a number, with an optional sign before it.
 abbrev pub is_direction : List ℕ → Bool
 is_direction field = is_size (unsigned field)
 
@@ -55,10 +70,18 @@ is_direction field = is_size (unsigned field)
 abbrev pub signed : Bool → ℕ → ℤ
 signed negative size = if negative then neg_ℤ (pos size) else pos size
 
+-- A direction on the circle: a full circle, either way, is 0.
+abbrev pub on_circle : Bool → ℕ → ℤ
+on_circle negative size = if size == CIRCLE then pos 0 else signed negative size
+
 -- The direction that a field writes, in units of the ninth decimal of a gon.
 abbrev pub direction_value : List ℕ → ℤ
-direction_value field = signed (is_negative field) (size_value (unsigned field))
+direction_value field = on_circle (is_negative field) (size_value (unsigned field))
 
--- A direction is less than a full circle, either way.
-abbrev pub is_below_circle : List ℕ → Bool
-is_below_circle field = nat_lt (size_value (unsigned field)) CIRCLE
+-- A direction is a full circle at most, either way.
+abbrev pub is_on_circle : List ℕ → Bool
+is_on_circle field = nat_le (size_value (unsigned field)) CIRCLE
+
+-- How many decimals a field writes.
+abbrev pub count_of_decimals : List ℕ → ℕ
+count_of_decimals field = length (decimals_part (unsigned field))

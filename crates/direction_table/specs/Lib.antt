@@ -1,9 +1,13 @@
 -- The public definitions, which public contracts and laws cite, in the order in which a reader
 -- needs them.
 pub mod Gons
+pub mod FieldForms
+pub mod Separators
 pub mod Rows
 pub mod Faults
 pub mod FaultNames
 pub mod Tables
+pub mod PlainTables
+pub mod FewestDecimals
 pub mod Texts
 pub mod TableTexts

@@ -1,6 +1,5 @@
 -- The rows of a table of directions.
-use Rattle.std.specs.Prelude.{ℕ, Bool, if◌then◌else◌, List, [], ◌∷◌, ℤ, Option, Some, None}
-use Rattle.std.specs.List.{list_any}
+use Rattle.std.specs.Prelude.{ℕ, if◌then◌else◌, List, [], ◌∷◌, ℤ, Option, Some, None}
 use Rattle.std.specs.Str.{bytes_eq}
 use Rattle.direction_table.specs.Gons.{direction_value}
 use Rattle.direction_table.specs.declared.columns.Columns.{Columns}
@@ -29,10 +28,6 @@ abbrev pub beside_name : List (List ℕ) → List ℕ
 beside_name [] = []
 beside_name (name ∷ []) = []
 beside_name (name ∷ field ∷ others) = field
-
--- Whether some of these names is this one.
-abbrev pub has_name : List (List ℕ) → List ℕ → Bool
-has_name names name = list_any (λ other. bytes_eq other name) names
 
 -- The direction that the first of these rows with a name states, in units of the ninth decimal of a
 -- gon; none where no row has this name.

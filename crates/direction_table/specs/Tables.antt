@@ -3,9 +3,9 @@
 use Rattle.std.specs.Prelude.{◌≡◌, ◌⊎◌, ℕ, ◌≤◌, ◌<◌, ◌+◌, List, length, map, slice_index_or, ℤ}
 use Rattle.std.specs.Prelude.{Option, Some, None}
 use Rattle.adjust_kernel.specs.Firsts.{IsFirstWhere}
-use Rattle.sheet_format.specs.Rows.{records_of}
 use Rattle.direction_table.specs.Faults.{HasNoFault, IsFirstFaultOfTable}
 use Rattle.direction_table.specs.Rows.{direction_in}
+use Rattle.direction_table.specs.Separators.{rows_of}
 use Rattle.direction_table.specs.declared.fault.TableFault.{TableFault}
 use Rattle.direction_table.specs.declared.fault.TableFault.TheVariants.{TooLong, Row, Missing}
 use Rattle.direction_table.specs.declared.fault.TableFault.TheVariants.{Memory}
@@ -20,8 +20,8 @@ stated_by rows targets = map (direction_in rows) targets
 pub record IsTableText (targets : List (List ℕ)) (bytes : List ℕ) (directions : List ℤ) :
     Type 0 where
   pub short : length bytes ≤ LONGEST_TABLE
-  pub faultless : HasNoFault targets (records_of bytes)
-  pub stated : stated_by (records_of bytes) targets ≡ map Some directions
+  pub faultless : HasNoFault targets (rows_of targets bytes)
+  pub stated : stated_by (rows_of targets bytes) targets ≡ map Some directions
 
 -- No direction is stated at this place.
 abbrev pub IsNoneAt : List (Option ℤ) → ℕ → Type 0
@@ -38,10 +38,10 @@ abbrev pub IsTableFault : List (List ℕ) → List ℕ → TableFault → Type 0
 IsTableFault targets bytes TooLong = LONGEST_TABLE < length bytes
 IsTableFault targets bytes (Row number kind) =
     (length bytes ≤ LONGEST_TABLE) × (place : ℕ) × (number ≡ place + 1)
-    × IsFirstFaultOfTable targets (records_of bytes) place kind
+    × IsFirstFaultOfTable targets (rows_of targets bytes) place kind
 IsTableFault targets bytes (Missing number) =
-    (length bytes ≤ LONGEST_TABLE) × HasNoFault targets (records_of bytes)
-    × IsFirstMissing (stated_by (records_of bytes) targets) number
+    (length bytes ≤ LONGEST_TABLE) × HasNoFault targets (rows_of targets bytes)
+    × IsFirstMissing (stated_by (rows_of targets bytes) targets) number
 IsTableFault targets bytes Memory = ⊥
 
 -- A refusal is the fault of the bytes, or memory ran out.

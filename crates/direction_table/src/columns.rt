@@ -1,38 +1,55 @@
 //! The two columns of a row.
 
-ghost use Rattle.std.specs.Prelude.{◌≡◌, [], unwrap_or, option_map};
-ghost use Rattle.csv.specs.Records.{field_at, fields_of};
+ghost use Rattle.std.specs.Prelude.{◌≡◌, option_map};
+ghost use Rattle.csv.specs.Records.{fields_of};
+ghost use Rattle.direction_table.specs.Faults as faults;
+ghost use Rattle.direction_table.specs.FieldForms.{tidy};
 ghost use Rattle.direction_table.specs.Rows.{columns_of, columns_view};
 
+use crate::field::{are_blank_from, field, has_target, named, without_blanks};
+use crate::gon::Gons;
+use adjust_kernel::Name;
 use csv::ByteRecord;
 
 /// How many columns a row has.
-const COLUMNS: usize = 2;
+pub(crate) const COLUMNS: usize = 2;
 
-/// The fields of a row that has two.
+/// The fields of a row that has two, tidied.
 #[derive(Clone, Copy)]
 pub(crate) struct Columns<'a> {
     pub(crate) name: &'a [u8],
     pub(crate) direction: &'a [u8],
 }
 
-fn field(row: &ByteRecord, at: usize) -> &[u8]
-    ensures { result.now ≡ unwrap_or (field_at (fields_of row.now) at) [] }
-{
-    row.get(at).unwrap_or(&[])
-}
-
 impl<'a> Columns<'a> {
-    /// The columns of a row, if it has two.
-    pub(crate) fn of(row: &'a ByteRecord) -> Option<Columns<'a>>
-        ensures { option_map columns_view result ≡ columns_of (fields_of row.now) }
+    /// The columns of a row, if it has two, and after them none that isn't blank.
+    pub(crate) fn of(targets: &[Name], row: &'a ByteRecord) -> Option<Columns<'a>>
+        ensures { option_map columns_view result
+            ≡ columns_of (tidy targets.now (fields_of row.now)) }
     {
-        if row.len() != COLUMNS {
+        if row.len() < COLUMNS {
+            return None;
+        }
+        if !are_blank_from(row, COLUMNS) {
             return None;
         }
         Some(Columns {
-            name: field(row, 0),
-            direction: field(row, 1),
+            name: named(targets, field(row, 0)),
+            direction: without_blanks(field(row, 1)),
         })
     }
+}
+
+/// Whether a row is one of titles: it has two columns or more, the first of which is no target's
+/// name and the second no direction.
+pub(crate) fn are_titles(targets: &[Name], row: &ByteRecord) -> bool
+    ensures { result ≡ faults.are_titles targets.now (tidy targets.now (fields_of row.now)) }
+{
+    if row.len() < COLUMNS {
+        return false;
+    }
+    if has_target(targets, named(targets, field(row, 0))) {
+        return false;
+    }
+    Gons::of(without_blanks(field(row, 1))).is_none()
 }

@@ -7,7 +7,8 @@ ghost use Rattle.adjust_kernel.specs.Within.{IsWithin};
 ghost use Rattle.sheet_format.specs.Faults.{is_name};
 ghost use Rattle.direction_table.specs.Faults as faults;
 ghost use Rattle.direction_table.specs.Gons as spec;
-ghost use Rattle.direction_table.specs.Rows.{columns_view, has_name};
+ghost use Rattle.direction_table.specs.FieldForms.{has_name};
+ghost use Rattle.direction_table.specs.Rows.{columns_view};
 
 use crate::columns::Columns;
 use crate::fault::RowKind;
@@ -18,8 +19,16 @@ use adjust_kernel::Name;
 #[derive(Clone, Copy)]
 pub(crate) struct Entry {
     pub(crate) place: usize,
+    pub(crate) stated: Stated,
+}
+
+/// A direction as a row states it.
+#[derive(Clone, Copy)]
+pub(crate) struct Stated {
     /// In units of the ninth decimal of a gon.
     pub(crate) direction: i64,
+    /// How many decimals are written.
+    pub(crate) decimals: usize,
 }
 
 /// The name of a field.
@@ -32,14 +41,20 @@ fn name_of(field: &[u8]) -> Option<Name>
 }
 
 /// The direction of a field, or what is wrong with it.
-fn direction_of(field: &[u8]) -> Result<i64, RowKind>
-    ensures value { IfOk result (λ direction. direction ≡ spec.direction_value field.now) }
-    ensures small { IfOk result (λ direction. IsWithin (pos CIRCLE) direction) }
+fn direction_of(field: &[u8]) -> Result<Stated, RowKind>
+    ensures form { OnOk result (spec.is_direction field.now ≡ true) }
+    ensures value { IfOk result (λ stated. stated.direction ≡ spec.direction_value field.now) }
+    ensures decimals { IfOk result (λ stated. stated.decimals ≡ spec.count_of_decimals field.now) }
+    ensures small { IfOk result (λ stated. IsWithin (pos CIRCLE) stated.direction) }
     ensures faultless { OnOk result (faults.direction_fault field.now ≡ None) }
     ensures err { IfErr result (λ kind. faults.direction_fault field.now ≡ Some kind) }
 {
     let gons = Gons::of(field).ok_or(RowKind::Number)?;
-    gons.on_circle().ok_or(RowKind::Range)
+    let direction = gons.on_circle().ok_or(RowKind::Range)?;
+    Ok(Stated {
+        direction,
+        decimals: gons.decimals,
+    })
 }
 
 /// The place of the first target of this name.
@@ -66,14 +81,18 @@ pub(crate) fn entry_of(columns: &Columns<'_>, targets: &[Name]) -> Result<Entry,
     ensures inside { IfOk result (λ entry. entry.place < length targets.now) }
     ensures name { IfOk result
         (λ entry. slice_index_or targets.now entry.place [] ≡ (columns_view columns.now).name) }
-    ensures direction { IfOk result
-        (λ entry. entry.direction ≡ spec.direction_value (columns_view columns.now).direction) }
-    ensures small { IfOk result (λ entry. IsWithin (pos CIRCLE) entry.direction) }
+    ensures form { OnOk result
+        (spec.is_direction (columns_view columns.now).direction ≡ true) }
+    ensures direction { IfOk result (λ entry. entry.stated.direction
+        ≡ spec.direction_value (columns_view columns.now).direction) }
+    ensures decimals { IfOk result (λ entry. entry.stated.decimals
+        ≡ spec.count_of_decimals (columns_view columns.now).direction) }
+    ensures small { IfOk result (λ entry. IsWithin (pos CIRCLE) entry.stated.direction) }
     ensures err { IfErr result
         (λ kind. faults.entry_fault targets.now (columns_view columns.now) ≡ Some kind) }
 {
     let name = name_of(columns.name).ok_or(RowKind::Name)?;
-    let direction = direction_of(columns.direction)?;
+    let stated = direction_of(columns.direction)?;
     let place = place_of(targets, &name).ok_or(RowKind::Unknown)?;
-    Ok(Entry { place, direction })
+    Ok(Entry { place, stated })
 }

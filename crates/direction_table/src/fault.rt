@@ -12,18 +12,19 @@ use thiserror::Error;
 /// What is wrong with a row of a table, in the order in which it is looked for.
 #[derive(Clone, Copy, Debug, PartialEq, Eq, Drop, Error)]
 pub enum RowKind {
-    /// The row has not two columns: write the name and the direction, with a comma between them.
+    /// The row has not two columns: write the name and the direction, separated as in the first
+    /// row.
     #[error("not two columns")]
     Fields,
     /// Its name is not 1 to 16 bytes from the blank to the tilde: write the name of the field file.
     #[error("the name is not 1 to {most} bytes from the blank to the tilde", most = LONGEST_NAME)]
     Name,
-    /// Its direction is no number of gon in the form of a table: write 1 to 3 digits, a point and
-    /// at most 9 decimals.
+    /// Its direction is no number of gon in the form of a table: write digits, at most 3 before a
+    /// decimal point or comma, and zeros after the ninth decimal.
     #[error("the direction is no number")]
     Number,
-    /// Its direction is a full circle or more: write one below 400 gon.
-    #[error("the direction is a full circle or more")]
+    /// Its direction is more than a full circle: write one of 400 gon at most.
+    #[error("the direction is more than a full circle")]
     Range,
     /// The station has no target of this name: leave the row out, or write the target's name.
     #[error("the station has no target of this name")]

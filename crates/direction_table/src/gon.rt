@@ -1,7 +1,8 @@
 //! Directions in gon as text.
 
-ghost use Rattle.std.specs.Prelude.{◌≡◌, ◌==◌, ◌<◌, ◌≤◌, ◌^◌, ◌*◌, length, pos, true, false, IfSome, IfNone, OnSome};
-ghost use Rattle.std.specs.List.{position};
+ghost use Rattle.std.specs.Prelude.{◌≡◌, ◌==◌, ◌<◌, ◌≤◌, ◌^◌, ◌*◌, ◌+◌, ◌-◌, drop, length, pos, true, false, IfSome, IfNone, OnSome};
+ghost use Rattle.std.specs.Char.{is_ascii_digit};
+ghost use Rattle.std.specs.List.{list_all, position};
 ghost use Rattle.std.specs.Str.Parse.{digits_value};
 ghost use Rattle.adjust_kernel.specs.Within.{IsWithin};
 ghost use Rattle.direction_table.specs.Gons as spec;
@@ -14,68 +15,125 @@ pub(crate) const GON: u64 = 1_000_000_000;
 /// A full circle of 400 gon, in units of the ninth decimal.
 pub const CIRCLE: u64 = 400 * GON;
 
-/// The most decimals of a direction.
+/// The most decimals of a direction that count: those after them are 0.
 pub(crate) const MOST_DECIMALS: usize = 9;
 
 /// The most digits before the point.
 const MOST_WHOLE: usize = 3;
 
-/// The number of digits, if there is one of them and at most so many.
-fn digits_within(digits: &[u8], most: usize) -> Option<u64>
-    requires { most ≤ MOST_DECIMALS }
+/// The number of at most nine digits; of none it is 0.
+fn few_digits(digits: &[u8]) -> Option<u64>
+    requires { length digits.now ≤ MOST_DECIMALS }
     ensures value { IfSome result (λ number. number ≡ digits_value 10 digits.now) }
     ensures bound { IfSome result (λ number. number < 10 ^ 9) }
-    ensures some { OnSome result (spec.are_digits most digits.now ≡ true) }
-    ensures none { IfNone result (spec.are_digits most digits.now ≡ false) }
+    ensures some { OnSome result (list_all is_ascii_digit digits.now ≡ true) }
+    ensures none { IfNone result (list_all is_ascii_digit digits.now ≡ false) }
 {
-    if digits.is_empty() || digits.len() > most {
-        return None;
-    }
     of_digits(digits)
 }
 
-/// A fraction, with the point before its digits, in units of the ninth decimal.
-fn fraction_of(fraction: &[u8]) -> Option<u64>
-    ensures value { IfSome result (λ number. number ≡ spec.fraction_value fraction.now) }
-    ensures bound { IfSome result (λ number. number < 10 ^ 18) }
-    ensures some { OnSome result (spec.is_fraction fraction.now ≡ true) }
-    ensures none { IfNone result (spec.is_fraction fraction.now ≡ false) }
+/// The whole gon, if they are of so few digits.
+fn whole_of(digits: &[u8]) -> Option<u64>
+    ensures value { IfSome result (λ number. number ≡ digits_value 10 digits.now) }
+    ensures bound { IfSome result (λ number. number < 10 ^ 9) }
+    ensures some { OnSome result (spec.is_whole digits.now ≡ true) }
+    ensures none { IfNone result (spec.is_whole digits.now ≡ false) }
 {
-    match fraction {
-        [] => Some(0),
-        [_, digits @ ..] => {
-            let number = digits_within(digits, MOST_DECIMALS)?;
-            Some(number * 10u64.pow((MOST_DECIMALS - digits.len()) as u32))
-        }
+    if digits.len() > MOST_WHOLE {
+        return None;
+    }
+    few_digits(digits)
+}
+
+/// Whether these digits are all 0.
+fn are_zeros(digits: &[u8]) -> bool
+    ensures { result ≡ list_all (λ digit. digit == 48) digits.now }
+{
+    digits.iter().all(|digit| *digit == b'0')
+}
+
+/// At most nine decimals, in units of the ninth.
+fn counted_decimals(digits: &[u8]) -> Option<u64>
+    requires { length digits.now ≤ MOST_DECIMALS }
+    ensures value { IfSome result
+        (λ number. number ≡ digits_value 10 digits.now * 10 ^ (9 - length digits.now)) }
+    ensures bound { IfSome result (λ number. number < 10 ^ 18) }
+    ensures some { OnSome result (list_all is_ascii_digit digits.now ≡ true) }
+    ensures none { IfNone result (list_all is_ascii_digit digits.now ≡ false) }
+{
+    let number = few_digits(digits)?;
+    Some(number * 10u64.pow((MOST_DECIMALS - digits.len()) as u32))
+}
+
+/// The decimals after a point, in units of the ninth.
+fn fraction_of(digits: &[u8]) -> Option<u64>
+    ensures value { IfSome result (λ number. number ≡ spec.fraction_value digits.now) }
+    ensures bound { IfSome result (λ number. number < 10 ^ 18) }
+    ensures some { OnSome result (spec.is_fraction digits.now ≡ true) }
+    ensures none { IfNone result (spec.is_fraction digits.now ≡ false) }
+{
+    let (counted, beyond) = digits.split_at(digits.len().min(MOST_DECIMALS));
+    let fraction = counted_decimals(counted)?;
+    if !are_zeros(beyond) {
+        return None;
+    }
+    Some(fraction)
+}
+
+/// The place of the first decimal point or comma.
+fn first_mark(bytes: &[u8]) -> Option<usize>
+    ensures value { result ≡ position (λ b. spec.is_mark b) bytes.now }
+    ensures inside { IfSome result (λ place. place < length bytes.now) }
+{
+    bytes.iter().position(|b| *b == b'.' || *b == b',')
+}
+
+/// The place of the decimal point or comma of a number, or its end.
+fn mark_of(bytes: &[u8]) -> usize
+    ensures value { result ≡ spec.mark_of bytes.now }
+    ensures inside { result ≤ length bytes.now }
+{
+    first_mark(bytes).unwrap_or(bytes.len())
+}
+
+/// What follows the first byte.
+fn after_first(bytes: &[u8]) -> &[u8]
+    ensures value { result.now ≡ spec.after_first bytes.now }
+{
+    match bytes {
+        [] => &[],
+        [_, rest @ ..] => rest,
     }
 }
 
-/// The place of the first point.
-fn first_point(bytes: &[u8]) -> Option<usize>
-    ensures value { result ≡ position (λ b. b == 46) bytes.now }
-    ensures inside { IfSome result (λ place. place < length bytes.now) }
-{
-    bytes.iter().position(|b| *b == b'.')
+/// A number without its sign.
+#[derive(Clone, Copy)]
+struct Size {
+    /// In units of the ninth decimal of a gon.
+    value: u64,
+    /// How many decimals are written.
+    decimals: usize,
 }
 
-/// The place of the point of a number, or its end.
-fn point_of(bytes: &[u8]) -> usize
-    ensures value { result ≡ spec.point_of bytes.now }
-    ensures inside { result ≤ length bytes.now }
-{
-    first_point(bytes).unwrap_or(bytes.len())
-}
-
-/// The number of a direction without its minus, in units of the ninth decimal of a gon.
-fn size_of(bytes: &[u8]) -> Option<u64>
-    ensures value { IfSome result (λ size. size ≡ spec.size_value bytes.now) }
+/// The number that bytes write without a sign.
+fn size_of(bytes: &[u8]) -> Option<Size>
+    ensures value { IfSome result (λ size. size.value ≡ spec.size_value bytes.now) }
+    ensures decimals { IfSome result
+        (λ size. size.decimals ≡ length (spec.decimals_part bytes.now)) }
     ensures some { OnSome result (spec.is_size bytes.now ≡ true) }
     ensures none { IfNone result (spec.is_size bytes.now ≡ false) }
 {
-    let (whole, fraction) = bytes.split_at(point_of(bytes));
-    let whole = digits_within(whole, MOST_WHOLE)?;
-    let fraction = fraction_of(fraction)?;
-    Some(whole * GON + fraction)
+    let (whole, rest) = bytes.split_at(mark_of(bytes));
+    let decimals = after_first(rest);
+    if whole.len() + decimals.len() == 0 {
+        return None;
+    }
+    let gon = whole_of(whole)?;
+    let fraction = fraction_of(decimals)?;
+    Some(Size {
+        value: gon * GON + fraction,
+        decimals: decimals.len(),
+    })
 }
 
 /// A field that is a direction, taken apart.
@@ -83,6 +141,25 @@ fn size_of(bytes: &[u8]) -> Option<u64>
 pub(crate) struct Gons {
     is_negative: bool,
     size: u64,
+    /// How many decimals are written.
+    pub(crate) decimals: usize,
+}
+
+/// A number with this sign, if these bytes are one.
+fn gons_of(is_negative: bool, bytes: &[u8]) -> Option<Gons>
+    ensures size { IfSome result (λ gons. gons.size ≡ spec.size_value bytes.now) }
+    ensures sign { IfSome result (λ gons. gons.is_negative ≡ is_negative) }
+    ensures decimals { IfSome result
+        (λ gons. gons.decimals ≡ length (spec.decimals_part bytes.now)) }
+    ensures some { OnSome result (spec.is_size bytes.now ≡ true) }
+    ensures none { IfNone result (spec.is_size bytes.now ≡ false) }
+{
+    let size = size_of(bytes)?;
+    Some(Gons {
+        is_negative,
+        size: size.value,
+        decimals: size.decimals,
+    })
 }
 
 impl Gons {
@@ -91,30 +168,30 @@ impl Gons {
         ensures size { IfSome result
             (λ gons. gons.size ≡ spec.size_value (spec.unsigned field.now)) }
         ensures sign { IfSome result (λ gons. gons.is_negative ≡ spec.is_negative field.now) }
+        ensures decimals { IfSome result
+            (λ gons. gons.decimals ≡ spec.count_of_decimals field.now) }
         ensures some { OnSome result (spec.is_direction field.now ≡ true) }
         ensures none { IfNone result (spec.is_direction field.now ≡ false) }
     {
         match field {
-            [b'-', bytes @ ..] => Some(Gons {
-                is_negative: true,
-                size: size_of(bytes)?,
-            }),
-            _ => Some(Gons {
-                is_negative: false,
-                size: size_of(field)?,
-            }),
+            [b'-', bytes @ ..] => gons_of(true, bytes),
+            [b'+', bytes @ ..] => gons_of(false, bytes),
+            _ => gons_of(false, field),
         }
     }
 
-    /// The direction, if it is below a full circle.
+    /// The direction, if it is a full circle at most; a full circle is 0.
     pub(crate) fn on_circle(self) -> Option<i64>
-        ensures value { IfSome result (λ value. value ≡ spec.signed self.is_negative self.size) }
+        ensures value { IfSome result (λ value. value ≡ spec.on_circle self.is_negative self.size) }
         ensures small { IfSome result (λ value. IsWithin (pos CIRCLE) value) }
-        ensures some { OnSome result (self.size < CIRCLE) }
-        ensures none { IfNone result (CIRCLE ≤ self.size) }
+        ensures some { OnSome result (self.size ≤ CIRCLE) }
+        ensures none { IfNone result (CIRCLE < self.size) }
     {
-        if self.size >= CIRCLE {
+        if self.size > CIRCLE {
             return None;
+        }
+        if self.size == CIRCLE {
+            return Some(0);
         }
         let size = self.size as i64;
         Some(if self.is_negative { -size } else { size })

@@ -1,8 +1,8 @@
 //! A table of directions as programs print them, read exactly, with its first fault named.
 //!
-//! A table is CSV of two columns, `NAME,DIRECTION`, one row for each target of a station, in any
-//! order. A direction is in gon: an optional minus, 1 to 3 digits, and optionally a point and 1 to
-//! 9 digits, below 400 in size.
+//! A table has two columns, names and directions, one row for each target of a station, in any
+//! order; titles may stand in the first row. Commas, semicolons, tabs or blanks separate the
+//! columns, as the first row tells. A direction is in gon, with a decimal point or comma.
 #![tactic(auto)]
 
 mod columns;
@@ -10,15 +10,19 @@ mod decimals;
 mod draft;
 mod entry;
 mod fault;
+mod field;
 mod gon;
 pub mod laws;
+mod limit;
 mod reading;
+mod separator;
 mod table;
 mod text;
 
 pub use decimals::{Decimals, MOST_WRITTEN};
 pub use fault::{RowKind, TableFault};
 pub use gon::CIRCLE;
-pub use reading::{LONGEST_TABLE, read_table};
+pub use limit::{USUAL_WITHIN, usual_within};
+pub use reading::{LONGEST_TABLE, StatedTable, read_stated_table, read_table};
 pub use table::{TargetDirection, table_text};
 pub use text::push_direction;

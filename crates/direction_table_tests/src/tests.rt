@@ -2,11 +2,12 @@
 //! what the bytes are.
 
 mod memory;
+mod printed;
 
 use adjust_kernel::{Name, Obs, Station};
 use direction_table::{
-    Decimals, LONGEST_TABLE, RowKind, TableFault, TargetDirection, push_direction, read_table,
-    table_text,
+    Decimals, LONGEST_TABLE, RowKind, TableFault, TargetDirection, push_direction,
+    read_stated_table, read_table, table_text, usual_within,
 };
 use std::alloc::Global;
 use std::process::Abort;
@@ -42,7 +43,7 @@ fn answer_of(rt: &impl Abort, alloc: Global, bytes: &[u8]) -> Result<String, Fai
 }
 
 /// Tables of A and B, and their answers.
-const TABLES: [(&str, &str); 12] = [
+const TABLES: [(&str, &str); 14] = [
     ("A,0\nB,50.00003\n", "[0, 50000030000]"),
     ("B,50.00003\nA,0\n", "[0, 50000030000]"),
     ("A,-0.00001\nB,399.99999\n", "[-10000, 399999990000]"),
@@ -56,7 +57,9 @@ const TABLES: [(&str, &str); 12] = [
     ("A,1\n", "Missing(2)"),
     ("A,1\nB,2\nA,1\n", "Row(3, Twice)"),
     ("A,1\nC,2\n", "Row(2, Unknown)"),
-    ("A,1\nA,2\nC,400\n", "Row(2, Twice)"),
+    ("A,1\nA,2\nC,401\n", "Row(2, Twice)"),
+    ("A,400\nB,-400.000\n", "[0, 0]"),
+    ("A,-399.5\nB,+0.25\n", "[-399500000000, 250000000]"),
     ("A,1\nB,2\n,\n", "Row(3, Name)"),
 ];
 
@@ -69,26 +72,163 @@ fn worked_tables_are_read(rt: HostRuntime) -> Result<(), Fail> {
     Ok(())
 }
 
+/// Tables of A and B in the ways in which programs and people write them, and their answers.
+const WAYS: [(&str, &str); 41] = [
+    // One row of titles, by any separator.
+    ("Name,Direction\nA,0\nB,50.00003\n", "[0, 50000030000]"),
+    (
+        "Punkt;Richtung [gon]\nA;0,0\nB;50,00003\n",
+        "[0, 50000030000]",
+    ),
+    ("Point\tHz\tRemark\nA\t0\nB\t50.00003\n", "[0, 50000030000]"),
+    (
+        "Directions of P7 in gon\nA 0\nB 50.00003\n",
+        "[0, 50000030000]",
+    ),
+    ("\"Point; name\",\"Hz, gon\"\nA,0\nB,1\n", "[0, 1000000000]"),
+    ("C,D\nE,F\nA,0\nB,1\n", "Row(2, Number)"),
+    ("C,D\nC,1\n", "Row(2, Unknown)"),
+    ("C,D\nA,0\n", "Missing(2)"),
+    ("A,D\nA,0\nB,1\n", "Row(1, Number)"),
+    ("Target\nA,0\nB,1\n", "Row(1, Fields)"),
+    // White space around fields.
+    ("A, 0.0\nB, 50.00003\n", "[0, 50000030000]"),
+    ("A ,0.0\n B,50.00003 \n", "[0, 50000030000]"),
+    ("A,0\r\n\"B\t\",\"50.00003\n\"\r\n", "[0, 50000030000]"),
+    // Blank fields at the end.
+    ("A,0,\nB,50.00003,\n", "[0, 50000030000]"),
+    ("A;0;;\nB;50.00003; ;\n", "[0, 50000030000]"),
+    // Semicolons, tabs and blanks.
+    ("A;0,00000\nB;50,00003\n", "[0, 50000030000]"),
+    ("A;0.00000\nB;50.00003\n", "[0, 50000030000]"),
+    ("A\t0\nB\t50.00003\n", "[0, 50000030000]"),
+    ("A\t0\n\nB \t 50,00003\n", "[0, 50000030000]"),
+    ("A 0\nB 50.00003\n", "[0, 50000030000]"),
+    (
+        "  A       0.00000\n  B      50.00003  \n",
+        "[0, 50000030000]",
+    ),
+    ("\"A\"  \"0\"\nB  50,00003\n", "[0, 50000030000]"),
+    ("A\t\t0\nB\t1\n", "Row(1, Fields)"),
+    ("A 0 1\nB 1\n", "Row(1, Fields)"),
+    // One separator is that of all rows.
+    ("A,0\nB;50.00003\n", "Row(2, Fields)"),
+    ("A;0\nB,50.00003\n", "Row(2, Fields)"),
+    ("A 0\nB,50.00003\n", "Row(2, Fields)"),
+    // A decimal comma is none that separates, where another does.
+    ("A,\"0,00000\"\nB,\"50,00003\"\n", "[0, 50000030000]"),
+    ("A;0,5\nB;50,125\n", "[500000000, 50125000000]"),
+    ("A 0,5\nB 50,125\n", "[500000000, 50125000000]"),
+    ("A,0,5\nB,50,125\n", "Row(1, Fields)"),
+    ("A;1.000,5\nB;1\n", "Row(1, Number)"),
+    // Signs, short numbers, many decimals, full circles.
+    ("A,+0.0\nB,+50.00003\n", "[0, 50000030000]"),
+    ("A,.0\nB,.5\n", "[0, 500000000]"),
+    ("A,0.\nB,-50.\n", "[0, -50000000000]"),
+    (
+        "A,0.0000000000\nB,50.00003000000000000000\n",
+        "[0, 50000030000]",
+    ),
+    ("A,400.0000\nB,-400.0\n", "[0, 0]"),
+    ("A,-0.0001\nB,-399.999999999\n", "[-100000, -399999999999]"),
+    ("A,+400.\nB,399.9999999990\n", "[0, 399999999999]"),
+    // No row is hidden.
+    ("A,0\n A ,0\nB,1\n", "Row(2, Twice)"),
+    ("A,0\nB,1\nB ,1\n", "Row(3, Twice)"),
+];
+
+#[test]
+fn tables_are_read_as_programs_write_them(rt: HostRuntime) -> Result<(), Fail> {
+    for (text, expected) in WAYS {
+        let found = answer_of(&rt, rt.alloc(), text.as_bytes())?;
+        assert_eq!(rt; found.as_str(), expected, "of {text}");
+    }
+    Ok(())
+}
+
+/// Tables of targets whose names have blanks or separators, and their answers.
+const ODD_NAMES: [(&str, &str); 7] = [
+    ("A ,1\nA,2\nB;C,3\n", "[2000000000, 1000000000, 3000000000]"),
+    (
+        " A,1\nA ,2\nB;C,3\n",
+        "[1000000000, 2000000000, 3000000000]",
+    ),
+    ("B;C,3\nA,2\nA ,1\n", "[2000000000, 1000000000, 3000000000]"),
+    (
+        "\"B;C\";3\nA;2\nA ;1\n",
+        "[2000000000, 1000000000, 3000000000]",
+    ),
+    ("A;2\nA ;1\nB;C;3\n", "Row(3, Fields)"),
+    ("A  ,1\nA,2\nB;C,3\n", "Row(2, Twice)"),
+    (
+        "A ,1\nA\t,2\nB;C , 3\n",
+        "[2000000000, 1000000000, 3000000000]",
+    ),
+];
+
+#[test]
+fn a_name_is_read_as_it_stands_where_a_target_has_it(rt: HostRuntime) -> Result<(), Fail> {
+    let station = station_of(&rt, rt.alloc(), &[b"A", b"A ", b"B;C"])?;
+    for (text, expected) in ODD_NAMES {
+        let found = match read_table(rt.alloc(), station.targets(), text.as_bytes()) {
+            Ok(directions) => format!(in rt.alloc(); "{directions:?}")?,
+            Err(fault) => format!(in rt.alloc(); "{fault:?}")?,
+        };
+        assert_eq!(rt; found.as_str(), expected, "of {text}");
+    }
+    Ok(())
+}
+
+/// Tables of A and B, their fewest decimals, and the limit that is usual for them.
+const DECIMALS: [(&str, Option<usize>, u32); 9] = [
+    ("A,0\nB,50\n", None, 10),
+    ("A,0\nB,50.00003\n", Some(5), 10),
+    ("A,0.000000\nB,50.000030\n", Some(6), 10),
+    ("A,0.0000\nB,50.0001\n", Some(4), 51),
+    ("Name,Hz\nA,0.000\nB,50.0001\n", Some(3), 501),
+    ("A;0,00\nB;50,0000\n", Some(2), 5_001),
+    ("A 1.5\nB 50.00003\n", Some(1), 50_001),
+    ("A,7.\nB,50.0003\n", Some(4), 51),
+    ("A,0.000000000000\nB,400.0000000000\n", Some(10), 10),
+];
+
+#[test]
+fn the_fewest_decimals_are_told(rt: HostRuntime) -> Result<(), Fail> {
+    let station = station_of(&rt, rt.alloc(), &[b"A", b"B"])?;
+    for (text, decimals, within) in DECIMALS {
+        let table = read_stated_table(rt.alloc(), station.targets(), text.as_bytes()).expect(
+            &rt, "a table",
+        );
+        assert_eq!(rt; table.decimals, decimals, "of {text}");
+        assert_eq!(rt; usual_within(table.decimals), within, "of {text}");
+    }
+    Ok(())
+}
+
 /// First rows, and the fault of each.
-const ROWS: [(&str, &str); 18] = [
+const ROWS: [(&str, &str); 22] = [
     ("A", "Row(1, Fields)"),
     ("A,1,2", "Row(1, Fields)"),
+    ("A,,1", "Row(1, Fields)"),
+    ("A,1,,2", "Row(1, Fields)"),
     (",1", "Row(1, Name)"),
-    ("12345678901234567,x", "Row(1, Name)"),
+    ("12345678901234567,1", "Row(1, Name)"),
     ("A,", "Row(1, Number)"),
     ("A,-", "Row(1, Number)"),
+    ("A,.", "Row(1, Number)"),
     ("A,1e2", "Row(1, Number)"),
-    ("A,+5", "Row(1, Number)"),
+    ("A,+-5", "Row(1, Number)"),
     ("A,--5", "Row(1, Number)"),
-    ("A, 5", "Row(1, Number)"),
-    ("A,5.", "Row(1, Number)"),
-    ("A,.5", "Row(1, Number)"),
+    ("A,5 gon", "Row(1, Number)"),
     ("A,0.0000000001", "Row(1, Number)"),
+    ("A,0.00000000010", "Row(1, Number)"),
     ("A,0001", "Row(1, Number)"),
-    ("A,400", "Row(1, Range)"),
+    ("A,5.0.0", "Row(1, Number)"),
+    ("A,400.000000001", "Row(1, Range)"),
     ("A,401", "Row(1, Range)"),
-    ("C,-400.000000000", "Row(1, Range)"),
+    ("C,-400.1", "Row(1, Range)"),
     ("C,1", "Row(1, Unknown)"),
+    ("a,1", "Row(1, Unknown)"),
 ];
 
 #[test]
@@ -104,7 +244,7 @@ const FAULTS: &str = "\
 row 7: not two columns
 row 7: the name is not 1 to 16 bytes from the blank to the tilde
 row 7: the direction is no number
-row 7: the direction is a full circle or more
+row 7: the direction is more than a full circle
 row 7: the station has no target of this name
 row 7: a row before has this name
 longer than 1048576 bytes

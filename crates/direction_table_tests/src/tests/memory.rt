@@ -168,7 +168,7 @@ fn a_fault_is_answered_once_there_is_memory(rt: HostRuntime) -> Result<(), Fail>
     let (names, _) = TABLES[0];
     let station = station_of(&rt, rt.alloc(), names)?;
     let cases = [
-        ("A,0\nB,1\nC,400\n", TableFault::Row(3, RowKind::Range)),
+        ("A,0\nB,1\nC,401\n", TableFault::Row(3, RowKind::Range)),
         ("A,0\nC,1\n", TableFault::Missing(2)),
     ];
     for (text, fault) in cases {

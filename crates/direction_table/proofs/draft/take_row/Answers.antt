@@ -4,9 +4,11 @@ use Rattle.std.specs.Prelude.{slice_set}
 use Rattle.std.specs.Option.{option_map}
 use Rattle.std.proofs.lemmas.Int.{ints, to_z-of_z}
 use Rattle.csv.specs.Records.{fields_of}
+use Rattle.direction_table.specs.FieldForms.{tidy}
 use Rattle.direction_table.specs.Rows.{columns_of, columns_view}
 use Rattle.direction_table.specs.declared.columns.Columns.{Columns}
-use Rattle.direction_table.proofs.RowsTaken.{Taken, columns-refused, entry-refused, faultless, kept}
+use Rattle.direction_table.proofs.RowsTaken.{Taken, columns-refused, decimals-taken, entry-refused}
+use Rattle.direction_table.proofs.RowsTaken.{faultless, kept}
 use Rattle.direction_table.proofs.RowsTaken.{lifted, none-there, some-there, taken, twice}
 use Rattle.direction_table.proofs.draft.take_row.Goals as goal
 
@@ -17,15 +19,16 @@ returns-in_err-columns-clause-err c =
     let fields = rw c.in_err-columns.ensures.ok_part at c.in_err-columns.ensures.value in
     lifted c.from_residual.result _ _ c.from_residual.ensures.1
     (λ k h before same. columns-refused c.args.targets.now before
-    (fields_of c.args.row.now) none ∙ (cc))
+    (tidy c.args.targets.now (fields_of c.args.row.now)) none ∙ (cc))
 
 pub returns-in_err-entry-clause-err : goal.returns-in_err-entry-clause-err
 returns-in_err-entry-clause-err c =
-    let columns : columns_of (fields_of c.args.row.now)
+    let columns : columns_of (tidy c.args.targets.now (fields_of c.args.row.now))
     ≡ Some (columns_view c.in_ok-columns.columns) = sym c.of.ensures
     ∙ ap (λ (o : Option Columns). option_map columns_view o) c.in_ok-columns.ensures.ok_part in
     lifted c.from_residual-in_err-entry.result _ _ c.from_residual-in_err-entry.ensures.1
-    (λ k h before same. entry-refused c.args.targets.now before (fields_of c.args.row.now)
+    (λ k h before same. entry-refused c.args.targets.now before
+    (tidy c.args.targets.now (fields_of c.args.row.now))
     (columns_view c.in_ok-columns.columns) k columns (c.in_err-entry.ensures.err
     ∙ ap (λ x. Some x) (sym h)))
 
@@ -33,17 +36,19 @@ pub returns-then-is_some-clause-err : goal.returns-then-is_some-clause-err
 returns-then-is_some-clause-err c before same =
     let columns = sym c.of.ensures
     ∙ ap (λ (o : Option Columns). option_map columns_view o) c.in_ok-columns.ensures.ok_part in
-    let t : Taken c.args.targets.now (fields_of c.args.row.now) c.in_ok-entry.entry.place
+    let t : Taken c.args.targets.now
+    (tidy c.args.targets.now (fields_of c.args.row.now)) c.in_ok-entry.entry.place
     (columns_view c.in_ok-columns.columns) = record {
       columns = columns;
       inside = c.in_ok-entry.ensures.inside;
       name = c.in_ok-entry.ensures.name;
     } in
     let stated = kept c.args.targets.now before c.args.directions.now
-    (fields_of c.args.row.now) c.in_ok-entry.entry.place
+    (tidy c.args.targets.now (fields_of c.args.row.now)) c.in_ok-entry.entry.place
     (columns_view c.in_ok-columns.columns) None t same in
     let (v, there) = some-there _ (sym c.is_some.ensures ∙ c.if-is_some.true) in
-    twice c.args.targets.now before (fields_of c.args.row.now) c.in_ok-entry.entry.place
+    twice c.args.targets.now before
+    (tidy c.args.targets.now (fields_of c.args.row.now)) c.in_ok-entry.entry.place
     (columns_view c.in_ok-columns.columns) v t c.in_ok-entry.ensures.faultless (sym stated
     ∙ there)
 
@@ -51,16 +56,18 @@ pub returns-clause-faultless : goal.returns-clause-faultless
 returns-clause-faultless c before same =
     let columns = sym c.of.ensures
     ∙ ap (λ (o : Option Columns). option_map columns_view o) c.in_ok-columns.ensures.ok_part in
-    let t : Taken c.args.targets.now (fields_of c.args.row.now) c.in_ok-entry.entry.place
+    let t : Taken c.args.targets.now
+    (tidy c.args.targets.now (fields_of c.args.row.now)) c.in_ok-entry.entry.place
     (columns_view c.in_ok-columns.columns) = record {
       columns = columns;
       inside = c.in_ok-entry.ensures.inside;
       name = c.in_ok-entry.ensures.name;
     } in
     let stated = kept c.args.targets.now before c.args.directions.now
-    (fields_of c.args.row.now) c.in_ok-entry.entry.place
+    (tidy c.args.targets.now (fields_of c.args.row.now)) c.in_ok-entry.entry.place
     (columns_view c.in_ok-columns.columns) None t same in
-    faultless c.args.targets.now before (fields_of c.args.row.now) c.in_ok-entry.entry.place
+    faultless c.args.targets.now before
+    (tidy c.args.targets.now (fields_of c.args.row.now)) c.in_ok-entry.entry.place
     (columns_view c.in_ok-columns.columns) t c.in_ok-entry.ensures.faultless (sym stated
     ∙ none-there _ (sym c.is_some.ensures ∙ c.if-is_some.false))
 
@@ -68,23 +75,34 @@ pub returns-clause-taken : goal.returns-clause-taken
 returns-clause-taken c before same =
     let columns = sym c.of.ensures
     ∙ ap (λ (o : Option Columns). option_map columns_view o) c.in_ok-columns.ensures.ok_part in
-    let t : Taken c.args.targets.now (fields_of c.args.row.now) c.in_ok-entry.entry.place
+    let t : Taken c.args.targets.now
+    (tidy c.args.targets.now (fields_of c.args.row.now)) c.in_ok-entry.entry.place
     (columns_view c.in_ok-columns.columns) = record {
       columns = columns;
       inside = c.in_ok-entry.ensures.inside;
       name = c.in_ok-entry.ensures.name;
     } in
     let stated = kept c.args.targets.now before c.args.directions.now
-    (fields_of c.args.row.now) c.in_ok-entry.entry.place
+    (tidy c.args.targets.now (fields_of c.args.row.now)) c.in_ok-entry.entry.place
     (columns_view c.in_ok-columns.columns) None t same in
     let small = c.in_ok-entry.ensures.small in
     let low = small.low in
     let high = small.high in
-    let fits : FitsSigned w64 c.in_ok-entry.entry.direction = omega (arith, ints, low, high) in
+    let fits : FitsSigned w64 c.in_ok-entry.entry.stated.direction = omega
+    (arith, ints, low, high) in
     ap (λ z. slice_set c.args.directions.now c.in_ok-entry.entry.place (Some z))
-    (to_z-of_z w64 c.in_ok-entry.entry.direction fits)
+    (to_z-of_z w64 c.in_ok-entry.entry.stated.direction fits)
     ∙ taken c.args.targets.now before c.args.directions.now
-    (fields_of c.args.row.now) c.in_ok-entry.entry.place
-    (columns_view c.in_ok-columns.columns) c.in_ok-entry.entry.direction c.requires.different t
+    (tidy c.args.targets.now (fields_of c.args.row.now)) c.in_ok-entry.entry.place
+    (columns_view c.in_ok-columns.columns) c.in_ok-entry.entry.stated.direction c.requires.different
+    t
     same (sym stated ∙ none-there _ (sym c.is_some.ensures
     ∙ c.if-is_some.false)) c.in_ok-entry.ensures.direction
+
+pub returns-clause-decimals : goal.returns-clause-decimals
+returns-clause-decimals c =
+    let columns = sym c.of.ensures
+    ∙ ap (λ (o : Option Columns). option_map columns_view o) c.in_ok-columns.ensures.ok_part in
+    decimals-taken (tidy c.args.targets.now (fields_of c.args.row.now))
+    (columns_view c.in_ok-columns.columns) c.in_ok-entry.entry.stated.decimals columns
+    c.in_ok-entry.ensures.form c.in_ok-entry.ensures.decimals

@@ -1,7 +1,7 @@
-use Rattle.direction_table.proofs.Digits.{few-digits}
 use Rattle.std.proofs.Common.{arith}
-use Rattle.direction_table.proofs.gon.digits_within.Goals as goal
+use Rattle.direction_table.proofs.Digits.{few-digits}
+use Rattle.direction_table.proofs.gon.few_digits.Goals as goal
 
 pub returns-clause-bound : goal.returns-clause-bound
 returns-clause-bound c = few-digits c.args.digits.now c.of_digits.result c.of_digits.ensures.value
-    c.of_digits.ensures.some (omega arith)
+    c.of_digits.ensures.some c.requires

@@ -1,0 +1,94 @@
+-- The first row of a text by a separator, and the separator that first rows choose.
+use Rattle.std.proofs.Common.{◌≡◌, ◌∙◌, ℕ, ◌+◌, Bool, true, false, List, [], ◌∷◌, map, length}
+use Rattle.std.proofs.Common.{Option, Some, refl, ap, sym, arith}
+use Rattle.std.specs.Prelude.{find, unwrap_or}
+use Rattle.csv.specs.Machine.{ends_at_end}
+use Rattle.csv.specs.Reading.{ReadRecord, records_from, source_of, strip_bom}
+use Rattle.csv.specs.declared.parser.State.{State}
+use Rattle.csv.specs.declared.parser.State.TheVariants as st
+use Rattle.csv.specs.declared.reader.Reader.{Reader}
+use Rattle.csv.proofs.ReadFacts.{rows-end}
+use Rattle.direction_table.specs.Separators.{begins_with_target, byte_of, config_of, first_of}
+use Rattle.direction_table.specs.Separators.{is_wide}
+use Rattle.direction_table.specs.Separators.{kept, rows_by, separator_of}
+use Rattle.direction_table.specs.declared.separator.Separator.{Separator}
+use Rattle.direction_table.specs.declared.separator.Separator.TheVariants.{Comma, Semicolon, Tab}
+use Rattle.direction_table.specs.declared.separator.Separator.TheVariants.{Blanks}
+use Rattle.direction_table.proofs.NextRows.{next-row}
+use Rattle.direction_table.proofs.RecordSteps.{records-end}
+
+-- The first record that is read is the first row.
+pub first-record : {R : Type 0} (s : Separator) (rem : R → Option (List ℕ)) (a b : Reader R)
+    (fields : List (List ℕ)) (bytes : List ℕ) → a.config ≡ config_of s
+    → a.state ≡ st.StartRecord → source_of rem a ≡ Some (strip_bom bytes)
+    → ReadRecord rem a b true fields → first_of (rows_by s bytes) ≡ kept s fields
+first-record s rem a b fields bytes config state source got =
+    let y = strip_bom bytes in
+    let next = next-row (byte_of s) rem a b fields y (length y + 1) config source got
+    (ap ends_at_end state) (omega arith) in
+    ap (λ (rows : List (List (List ℕ))). first_of (map (kept s) rows))
+    (ap (λ (from : State). records_from (config_of s) (length y + 1) from y) (sym state)
+    ∙ next.rows)
+
+-- Where no record is read there is no row.
+pub no-record : {R : Type 0} (s : Separator) (rem : R → Option (List ℕ)) (a b : Reader R)
+    (fields : List (List ℕ)) (bytes : List ℕ) → a.config ≡ config_of s
+    → a.state ≡ st.StartRecord → source_of rem a ≡ Some (strip_bom bytes)
+    → ReadRecord rem a b false fields → rows_by s bytes ≡ []
+no-record s rem a b fields bytes config state source got =
+    let y = strip_bom bytes in
+    let end = rows-end rem a b fields (config_of s) y config source got in
+    ap (λ (rows : List (List (List ℕ))). map (kept s) rows)
+    (ap (λ (from : State). records_from (config_of s) (length y + 1) from y) (sym state)
+    ∙ records-end (byte_of s) (length y + 1) a.state y end)
+
+-- What is asked of the first row by a separator.
+abbrev pub named_by : List (List ℕ) → List ℕ → Separator → Bool
+named_by targets bytes s = begins_with_target targets (first_of (rows_by s bytes))
+
+abbrev pub wide_by : List ℕ → Separator → Bool
+wide_by bytes s = is_wide (first_of (rows_by s bytes))
+
+-- The separator by the answers to both questions.
+abbrev pub chosen : (Separator → Bool) → (Separator → Bool) → Separator
+chosen f g = unwrap_or (find f (Comma ∷ Semicolon ∷ Tab ∷ Blanks ∷ []))
+    (unwrap_or (find g (Semicolon ∷ Tab ∷ Comma ∷ [])) Blanks)
+
+pub is-chosen : (targets : List (List ℕ)) (bytes : List ℕ)
+    → separator_of targets bytes ≡ chosen (named_by targets bytes) (wide_by bytes)
+unfolding separator_of
+is-chosen targets bytes = refl
+
+module _ (f g : Separator → Bool) where
+  pub comma-named : f Comma ≡ true → chosen f g ≡ Comma
+  comma-named a = rw a refl
+
+  pub semicolon-named : f Comma ≡ false → f Semicolon ≡ true → chosen f g ≡ Semicolon
+  semicolon-named a b = rw (a, b) refl
+
+  pub tab-named : f Comma ≡ false → f Semicolon ≡ false → f Tab ≡ true → chosen f g ≡ Tab
+  tab-named a b c = rw (a, b, c) refl
+
+  pub blanks-named : f Comma ≡ false → f Semicolon ≡ false → f Tab ≡ false → f Blanks ≡ true
+      → chosen f g ≡ Blanks
+  blanks-named a b c d = rw (a, b, c, d) refl
+
+  pub none-named : f Comma ≡ false → f Semicolon ≡ false → f Tab ≡ false → f Blanks ≡ false
+      → chosen f g ≡ unwrap_or (find g (Semicolon ∷ Tab ∷ Comma ∷ [])) Blanks
+  none-named a b c d = rw (a, b, c, d) refl
+
+  -- The separator where no first row begins with a target.
+  abbrev by_width : Separator
+  by_width = unwrap_or (find g (Semicolon ∷ Tab ∷ Comma ∷ [])) Blanks
+
+  pub semicolon-wide : g Semicolon ≡ true → by_width ≡ Semicolon
+  semicolon-wide a = rw a refl
+
+  pub tab-wide : g Semicolon ≡ false → g Tab ≡ true → by_width ≡ Tab
+  tab-wide a b = rw (a, b) refl
+
+  pub comma-wide : g Semicolon ≡ false → g Tab ≡ false → g Comma ≡ true → by_width ≡ Comma
+  comma-wide a b c = rw (a, b, c) refl
+
+  pub none-wide : g Semicolon ≡ false → g Tab ≡ false → g Comma ≡ false → by_width ≡ Blanks
+  none-wide a b c = rw (a, b, c) refl

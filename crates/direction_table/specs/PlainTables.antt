@@ -1,0 +1,58 @@
+-- Plain tables: commas between names and directions, a decimal point, at most nine decimals, and
+-- nothing loose. So the program itself writes tables.
+use Rattle.std.specs.Prelude.{◌≡◌, ℕ, ◌+◌, ◌-◌, ◌*◌, ◌^◌, ◌≤◌, ◌<◌, Bool, true, false, List, []}
+use Rattle.std.specs.Prelude.{◌∷◌, ◌++◌, length, map, All, ℤ, Some, if◌then◌else◌}
+use Rattle.std.specs.Char.{is_ascii_digit}
+use Rattle.std.specs.List.{list_all}
+use Rattle.std.specs.Str.Parse.{digits_value}
+use Rattle.sheet_format.specs.Rows.{records_of}
+use Rattle.direction_table.specs.Faults.{HasNoFault}
+use Rattle.direction_table.specs.Gons.{direction_value, signed}
+use Rattle.direction_table.specs.Rows.{beside_name}
+use Rattle.direction_table.specs.Tables.{stated_by}
+use Rattle.direction_table.specs.declared.gon.TheConstants.{CIRCLE}
+use Rattle.direction_table.specs.declared.reading.TheConstants.{LONGEST_TABLE}
+
+-- A minus, or nothing.
+abbrev pub minus : Bool → List ℕ
+minus negative = if negative then 45 ∷ [] else []
+
+-- A point and the decimals after it, or nothing.
+abbrev pub after_point : List ℕ → List ℕ
+after_point [] = []
+after_point (digit ∷ digits) = 46 ∷ digit ∷ digits
+
+-- The number of digits before and after a point, in units of the ninth decimal.
+abbrev pub plain_size : List ℕ → List ℕ → ℕ
+plain_size whole decimals =
+    digits_value 10 whole * 10 ^ 9 + digits_value 10 decimals * 10 ^ (9 - length decimals)
+
+-- A field writes a direction plainly: an optional minus, 1 to 3 digits, and optionally a point and
+-- 1 to 9 digits; it is less than a full circle in size.
+pub record IsPlainDirection (field : List ℕ) (direction : ℤ) : Type 0 where
+  pub negative : Bool
+  pub whole : List ℕ
+  pub decimals : List ℕ
+  pub spelled : field ≡ minus negative ++ (whole ++ after_point decimals)
+  pub some : 1 ≤ length whole
+  pub short : length whole ≤ 3
+  pub few : length decimals ≤ 9
+  pub whole_digits : list_all is_ascii_digit whole ≡ true
+  pub decimal_digits : list_all is_ascii_digit decimals ≡ true
+  pub below : plain_size whole decimals < CIRCLE
+  pub value : direction ≡ signed negative (plain_size whole decimals)
+
+-- A row is plain: it has two fields, and the second writes a direction plainly.
+pub record IsPlainRow (row : List (List ℕ)) : Type 0 where
+  pub two : length row ≡ 2
+  pub direction : ℤ
+  pub plain : IsPlainDirection (beside_name row) direction
+
+-- Bytes are a plain table of these targets and directions: all records, as `csv` reads them by
+-- default, are plain rows, none has a fault, and of each target a row states its direction.
+pub record IsPlainTable (targets : List (List ℕ)) (bytes : List ℕ) (directions : List ℤ)
+    : Type 0 where
+  pub short : length bytes ≤ LONGEST_TABLE
+  pub plain : All IsPlainRow (records_of bytes)
+  pub faultless : HasNoFault targets (records_of bytes)
+  pub stated : stated_by (records_of bytes) targets ≡ map Some directions
