@@ -5,6 +5,7 @@ pub mod Comparing
 pub mod Answers
 pub mod Directions
 pub mod OwnDirections
+pub mod OneAnswer
 pub mod Faults
 pub mod FaultNames
 pub mod FaultTexts

@@ -1,11 +1,15 @@
 //! Laws of the definitions that contracts cite. The functions do nothing.
 
-ghost use Rattle.std.specs.Prelude.{◌≤◌, ℕ, false, List, Err};
+ghost use Rattle.std.specs.Prelude.{◌≡◌, ◌≤◌, ◌⊎◌, ℕ, false, List, Result, Err};
+ghost use Rattle.byte_ends.specs.Source.{Told};
+ghost use Rattle.direction_table.specs.Texts.{AreDecimals};
 ghost use Rattle.gsi_file.specs.FileAnswers.{FileAnswers};
 ghost use Rattle.station_book.specs.Limits.{FaceLimits, AreLimits};
 ghost use Rattle.station_compare.specs.Agreeing.{Agrees};
 ghost use Rattle.station_compare.specs.Answers.{Compares};
-ghost use Rattle.station_compare.specs.Directions.{StatesDirections};
+ghost use Rattle.station_compare.specs.Directions.{StatesDirections, TellsDirections};
+ghost use Rattle.station_compare.specs.OneAnswer.{IsNoMemory, IsSettled};
+ghost use Rattle.station_compare.specs.OneAnswer.{IsUpToAdjustment};
 ghost use Rattle.station_compare.specs.OwnDirections.{MayRefuse};
 ghost use Rattle.station_compare.specs.declared.agreement.Agreement.{Agreement};
 ghost use Rattle.station_compare.specs.declared.fault.CompareFault.{CompareFault};
@@ -25,4 +29,31 @@ pub fn directions_agree()
         → 6 ≤ count → StatesDirections limits file name count text
         → Compares limits file (record { bytes = text; fails = false }) name within (Err fault)
         → MayRefuse within fault }
+{}
+
+/// What came of two readers has one answer of `compare`, and what came of one has one of
+/// `directions`: the fault that stands first is one, and so are its number, how far a table is
+/// apart and each printed digit. Two answers alone may stand in the place of another: out of memory
+/// in that of any, and that no adjustment was found in that of those from the adjustment on.
+pub fn one_answer()
+    ensures compare { (limits : FaceLimits) (file : FileAnswers) (stated : Told) (name : List ℕ)
+        (within : ℕ) (r s : Result Agreement CompareFault) → AreLimits limits
+        → IsSettled r → IsSettled s
+        → Compares limits file stated name within r → Compares limits file stated name within s
+        → r ≡ s }
+    ensures directions { (limits : FaceLimits) (file : FileAnswers) (name : List ℕ) (count : ℕ)
+        (r s : Result (List ℕ) CompareFault) → AreLimits limits → AreDecimals count
+        → IsSettled r → IsSettled s
+        → TellsDirections limits file name count r → TellsDirections limits file name count s
+        → r ≡ s }
+{}
+
+/// What came of two readers has an answer of `compare` that is not that memory ran out, or it comes
+/// without fault to the adjustment of a station that is held together. What the solver gives for
+/// it, no contract says.
+pub fn some_answer()
+    ensures { (limits : FaceLimits) (file : FileAnswers) (stated : Told) (name : List ℕ)
+        (within : ℕ) → AreLimits limits → ((r : Result Agreement CompareFault)
+        × Compares limits file stated name within r × IsNoMemory r)
+        ⊎ IsUpToAdjustment limits file stated name }
 {}

@@ -20,4 +20,4 @@ pub use compare::{compare_bytes, compare_sources};
 pub use directions::{directions_text, write_directions};
 pub use fault::CompareFault;
 pub use refused::refusal_line;
-pub use runs::{run_compare, run_directions};
+pub use runs::{refuse, run_compare, run_directions};

@@ -85,7 +85,7 @@ fn print_verdict<W: Sink>(
 }
 
 /// Writes the line of a refusal, and answers its status.
-fn refuse<E: Sink>(fault: CompareFault, err: &mut E) -> u8
+pub fn refuse<E: Sink>(fault: CompareFault, err: &mut E) -> u8
     ensures status { result ≡ 1 }
     ensures line { WritesOrFails (refusal_line fault)
         (writer_change E.failed E.holds E.handed_on err.old err.new) }

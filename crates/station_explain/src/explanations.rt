@@ -108,13 +108,15 @@ pub fn explanation_meant<'a>(groups: &[&'a [Explanation]], name: &str) -> Option
 
 /// The explanations of all faults that the line of a refusal can name, in groups, about in the
 /// order in which they are looked for.
-pub fn all_explanations() -> [&'static [Explanation]; 11] {
+pub fn all_explanations() -> [&'static [Explanation]; 13] {
     [
         file_faults(),
         station_faults(),
         number_faults(),
         angle_faults(),
         face_faults(),
+        block_mark_faults(),
+        set_mark_faults(),
         row_faults(),
         value_faults(),
         match_faults(),
@@ -185,8 +187,8 @@ the line. A line without any word has 'Word 1', so has a line of titles or remar
 sheet in the place of the field file.",
             example: "refused: block 6: Word 3",
             remedy: "\
-Look at that word. A word that is cut in the last line comes of a transfer that broke
-off: transfer the file again. Two blanks between words are one too many. The words of a line have 16
+Look at that word. A cut word in the last line means that the transfer broke off:
+transfer the file again. Two blanks between words are one too many. The words of a line have 16
 bytes of content where it begins with '*', and else 8. For a line of titles, check a copy without
 it; for a sheet, name GSI first and SHEET second.",
         },
@@ -227,8 +229,10 @@ in one face and not in the other. The end of the file has the number after the l
             example: "refused: block 4: OneFace",
             remedy: "\
 Look in 'station_check words GSI' for the target that stands once in the set. A name
-that is spelled in two ways is two targets. Where a face is missing, check a copy without the other
-reading.",
+that is spelled in two ways is two targets: of the examples, prepare.py gives a block another name
+in a copy. Where a face is missing, or the set was broken off, check a copy without the other
+reading or without the set: prepare.py has --blocks and --set for that. Detail points in one face
+come after a block of code 30.",
         },
         Explanation {
             names: &["WordTwice"],
@@ -256,8 +260,10 @@ Check a copy that has the name of the station as word 42 of that block.",
 A block of code 20 opens a set of the station that is open, and no block before it has code 10.",
             example: "refused: block 1: SetOutside",
             remedy: "\
-Check a copy that has a block of code 10, with the name of the station in word 42,
-before the set.",
+Codes 10 and 20 may be those of your office, for something else. Then leave them out of
+a copy, with 'prepare.py --without-codes' of the examples, and put in the codes of stations and sets
+with 'station_check mark'. Else check a copy that has a block of code 10, with the name of the
+station in word 42, before the set.",
         },
         Explanation {
             names: &["SetNumber"],
@@ -280,11 +286,14 @@ fn number_faults() -> &'static [Explanation] {
             meaning: "a set is opened on a station that had sets before",
             when: "\
 The station that is open has the name of an earlier one with sets, which another code 10 opened. A
-file has one occupation of a station.",
+file has one occupation of a station. As 'mark: StationTwice', a set-up line has the name of an
+earlier one after which sets were read.",
             example: "refused: block 14: StationTwice",
             remedy: "\
-Where the instrument was not moved, check a copy without the second code 10, and the
-sets go on. Else give the second occupation a name, or a file, of its own in the copy.",
+Where the instrument was not moved, check a copy without the second code 10, or set-up
+line, and the sets go on. Else give the second occupation a name of its own in a copy, with
+'prepare.py --rename BLOCK NAME' of the examples: BLOCK is that of its code 10 or its set-up line,
+before the one that is named.",
         },
         Explanation {
             names: &["SetTwice"],
@@ -299,16 +308,19 @@ In a copy, give one of the two sets another number, in word 42 of its code 20.",
             names: &["TooManyStations"],
             meaning: "the field file has more than 1000 stations with sets",
             when: "\
-The block opens the first set of a station, and 1000 other stations have sets.",
+The block opens the first set of a station, and 1000 other stations have sets. As 'mark:
+TooManyStations' it is the first reading of such a station.",
             example: "refused: block 4002: TooManyStations",
             remedy: "\
-Divide a copy before a block that opens a station, with code 10.",
+Divide a copy before a block that opens a station, with code 10, or before a set-up
+line.",
         },
         Explanation {
             names: &["TooManySets"],
             meaning: "a station has more than 40 sets",
             when: "\
-The block opens a set of a station that has 40.",
+The block opens a set of a station that has 40. As 'mark: TooManySets' it is the first reading of
+such a set.",
             example: "refused: block 122: TooManySets",
             remedy: "\
 Copy some of the sets into a file of their own, to be adjusted by themselves.",
@@ -348,8 +360,8 @@ Place 5 of word 21 (Hz) or word 22 (Zenith) of a reading, which says how the val
 of '.', '0', '2' and '3'.",
             example: "refused: block 3: Hz InputMode",
             remedy: "\
-See where this value comes from. A set has values that the instrument measured; one
-that was typed or computed is no reading.",
+See where this value comes from. A set has values that the instrument measured; one that
+was typed or computed is no reading.",
         },
         Explanation {
             names: &["Hz Sign", "Zenith Sign"],
@@ -408,17 +420,21 @@ of it read as one.",
             remedy: "\
 Check a copy without the reading that does not count: for a repeated pointing the field
 book says which. Of the examples, prepare.py leaves out closing sights, or blocks by their numbers,
-and writes a log. A closing sight after the code 30 of its set is passed over. Where each target has
-this fault, set the instrument to zenith angles.",
+and writes a log. An orientation sight before the code 20 of the first set is passed over, and so
+are closing sights and detail points after a code 30. Where each target has this fault, set the
+instrument to zenith angles.",
         },
         Explanation {
             names: &["TooManyTargets"],
             meaning: "a station has more than 100 targets",
             when: "\
-The reading is of a target that its station has not had, and the station has 100.",
+The reading is of a target that its station has not had, and the station has 100. As 'mark:
+TooManyTargets', more than 200 readings would be one set.",
             example: "refused: block 103: TooManyTargets",
             remedy: "\
-Copy some of the sets into a file of their own, to be adjusted by themselves.",
+Copy some of the sets into a file of their own, to be adjusted by themselves. To 'mark',
+leave detail points that stand before the sets out of a copy, with 'prepare.py --blocks' of the
+examples.",
         },
         Explanation {
             names: &["TwoC"],
@@ -447,6 +463,207 @@ all are alike, the instrument has that index error, and a wider limit may be sta
     ]
 }
 
+/// Faults of the blocks and stations of a file into which codes are to be put.
+fn block_mark_faults() -> &'static [Explanation] {
+    &[
+        Explanation {
+            names: &["HasCodes"],
+            meaning: "codes are to be put in, and the file has code 10, 20 or 30",
+            when: "\
+The block has code 10, 20 or 30. They open stations and sets, or end sets, so 'mark' puts none of
+them into a file that has one.",
+            example: "refused: block 3: mark: HasCodes",
+            remedy: "\
+See what they mean. If they are those of this program, the file needs no 'mark': run
+'station_check list GSI'. If they are those of your office, for something else, leave them out of a
+copy with 'prepare.py --without-codes' of the examples, and mark that. Codes that begin stations
+stay in: without them two occupations can pass for one.",
+        },
+        Explanation {
+            names: &["HasSetUp"],
+            meaning: "--station names the station, and a line of the file does too",
+            when: "\
+The block is a set-up line: a point number without a direction, with the coordinates of a station or
+the height of the instrument, in words 84, 85, 86 or 88. A station begins there and has that name,
+so --station cannot name one.",
+            example: "refused: block 1: mark: HasSetUp",
+            remedy: "\
+Leave --station out. If the name in the line is wrong, give the block another one in a
+copy, with 'prepare.py --rename BLOCK NAME' of the examples.",
+        },
+        Explanation {
+            names: &["NoSetUp"],
+            meaning: "nothing names the station of a reading",
+            when: "\
+The block is a reading. No set-up line stands before it, and --station does not name its station. A
+set-up line is a point number without a direction, with a word 84, 85, 86 or 88.",
+            example: "refused: block 1: mark: NoSetUp",
+            remedy: "\
+If the file is of one station, name it: 'station_check mark --station NAME GSI'. If
+set-up lines come later, leave the readings before the first out of a copy. A file of several
+stations without set-up lines is to be divided first: 'mark' cannot see where another begins.",
+        },
+        Explanation {
+            names: &["NameTooLong"],
+            meaning: "the name of the station is too long for a line of GSI-8",
+            when: "\
+The code lines get the width of the lines beside them. The name has more than 8 characters, and the
+first reading in a set stands in a line of GSI-8.",
+            example: "refused: block 1: mark: NameTooLong",
+            remedy: "\
+State a shorter name with --station; or rename the set-up line in a copy.",
+        },
+        Explanation {
+            names: &["NoSets"],
+            meaning: "no station of the file has sets",
+            when: "\
+All readings of each station are in one face, or the file has no readings. The number is that after
+the last block.",
+            example: "refused: block 4: mark: NoSets",
+            remedy: "\
+See 'station_check words GSI'. A detail survey, a traverse in one face or a levelling
+file has no two-face directions. Face II has zenith angles above 200 gon: where none is, the
+instrument recorded elevations, or means of both faces.",
+        },
+    ]
+}
+
+/// Faults of readings that are to be sets.
+fn set_mark_faults() -> &'static [Explanation] {
+    &[
+        Explanation {
+            names: &["ReadTwice"],
+            meaning: "a target is read again in one face before the next set begins",
+            when: "\
+Sets begin at the 1st, 3rd, 5th .. reading of the first target, or of that after up to three
+readings outside. This reading repeats a target of its set in the same face: a repeated pointing, a
+closing sight, a name with other letters in face II, small ones too, detail points before the sets,
+or another station whose set-up line is missing.",
+            example: "refused: block 7: mark: ReadTwice",
+            remedy: "\
+Leave out of a copy what belongs to no set, and mark that. Of the examples, prepare.py
+does, with a log: --closing for closing sights, --blocks for a pointing that the field book calls
+bad, or for detail points and orientation sights before the first set. Where a target has two
+names, --rename BLOCK NAME gives blocks the right one.",
+        },
+        Explanation {
+            names: &["FaceMissing"],
+            meaning: "a target is read in one face only before the next set begins",
+            when: "\
+Sets begin at the 1st, 3rd, 5th .. reading of the first target, or of that after up to three
+readings outside. In the set of this reading its target has none in the other face: a reading is
+missing, a name is spelled in two ways, the set was broken off, or the sets begin elsewhere.",
+            example: "refused: block 10: mark: FaceMissing",
+            remedy: "\
+Compare the set with the field book by 'station_check words GSI'. Of the examples,
+prepare.py makes a copy: --broken-off leaves out a last set that was broken off, --blocks a lone
+reading, and --rename BLOCK NAME corrects a misspelled name. Mark that copy.",
+        },
+        Explanation {
+            names: &["OneTarget"],
+            meaning: "a set would have one target",
+            when: "\
+The first target is read in both faces and then comes again, as an orientation in both faces before
+the sets does, or a closing pair. Nothing shows where that set ends.",
+            example: "refused: block 4: mark: OneTarget",
+            remedy: "\
+Leave the pair that belongs to no set out of a copy, with 'prepare.py --blocks' of the
+examples, or closing pairs with --closing, and mark that.",
+        },
+        Explanation {
+            names: &["Order"],
+            meaning: "a set is read in another order than the first one, or in none",
+            when: "\
+A set is read by faces, all targets in one face and then in the other, or target by target, both
+faces of each before the next; and all sets of a station are read in the same of these two ways. The
+set of this reading is not.",
+            example: "refused: block 7: mark: Order",
+            remedy: "\
+See in the field book where the sets begin. Where a reading was added later, leave both
+readings of that target in this set out of a copy. Where the sets are right as they are, put the
+codes into a copy by hand; FORMATS.md has the lines.",
+        },
+        Explanation {
+            names: &["EndsElsewhere"],
+            meaning: "a set ends with another target than the first set",
+            when: "\
+All sets of a station end with one target: otherwise readings of one set could pass for those of the
+next. The set of this reading ends with another. It was broken off, its last target could not be
+seen, or the sets begin elsewhere.",
+            example: "refused: block 16: mark: EndsElsewhere",
+            remedy: "\
+Leave a last set that was broken off out of a copy, with 'prepare.py --broken-off' of
+the examples, and mark that. Where only the last target is missing, put the codes into a copy by
+hand, or leave that target out of all sets.",
+        },
+        Explanation {
+            names: &["OneSet"],
+            meaning: "one set after other readings could begin elsewhere",
+            when: "\
+Some readings would stand outside before the sets, and only one set would follow, which begins at
+this reading. A second one shows that sets begin there; nothing else does.",
+            example: "refused: block 4: mark: OneSet",
+            remedy: "\
+Leave the orientation or check sights before the set out of a copy, with 'prepare.py
+--blocks' of the examples, and mark that.",
+        },
+        Explanation {
+            names: &["FirstFace"],
+            meaning: "the first set begins in face II",
+            when: "\
+The readings fit as sets only if the first set begins with this reading, in face II. Sets mostly
+begin in face I, so these may begin elsewhere: a reading is missing or too many before it or further
+on, as where the last set was broken off.",
+            example: "refused: block 1: mark: FirstFace",
+            remedy: "\
+See in the field book where the sets begin. Of the examples, prepare.py leaves out of a
+copy what belongs to no set: a last set that was broken off with --broken-off, the lone reading of a
+target with --blocks. Mark that copy. If the sets were begun in face II, put the codes into a copy
+by hand; FORMATS.md has the lines.",
+        },
+        Explanation {
+            names: &["MayBeShifted"],
+            meaning: "readings before the first set may belong to the sets",
+            when: "\
+The readings fit as sets only if the first set begins with this reading, after up to three others.
+One of these is in face II without its reading in face I, or is of the target that ends the sets:
+then each set may be shifted by some readings, as where a check sight comes at the end.",
+            example: "refused: block 3: mark: MayBeShifted",
+            remedy: "\
+See in the field book where the sets begin. If the readings before this one are an
+orientation or a check sight, leave them out of a copy with 'prepare.py --blocks' of the examples;
+else what is too many at the end: a check sight with --blocks, a last set that was broken off with
+--broken-off. Mark that copy.",
+        },
+        Explanation {
+            names: &["OneSetByTargets"],
+            meaning: "a single set is read target by target",
+            when: "\
+The readings of the station would be one set, in which both faces of each target follow each other.
+Nothing shows that all its pairs are of one set-up: an orientation before a set, or two short
+occupations, are read just so.",
+            example: "refused: block 1: mark: OneSetByTargets",
+            remedy: "\
+See in the field book what it is. If it is one set, put the codes into a copy by hand;
+FORMATS.md has the lines. If the instrument was set up twice, divide a copy there, and put the codes
+into each part. A second set of these targets, or a set that is read by faces, is marked.",
+        },
+        Explanation {
+            names: &["OtherTargets"],
+            meaning: "a set has other targets than the first set of its station",
+            when: "\
+The set begins with this reading, and no more than half of its targets are targets of the first set:
+the instrument was set up again and no line says so, or the first set lacks many targets.",
+            example: "refused: block 5: mark: OtherTargets",
+            remedy: "\
+If the instrument was set up again there, mark two copies, each with its own --station
+NAME: with 'prepare.py --blocks' of the examples leave out all from this block on in one, and all
+before it in the other. If it is one station, put the codes into a copy by hand; FORMATS.md has the
+lines.",
+        },
+    ]
+}
+
 /// Faults of the bytes and the first rows of a sheet.
 fn row_faults() -> &'static [Explanation] {
     &[
@@ -461,7 +678,7 @@ See that the path names a sheet or a table: none that a station needs is so long
         },
         Explanation {
             names: &["Fields"],
-            meaning: "a row has not the columns of a sheet or of a table",
+            meaning: "this row has the wrong number of columns",
             when: "\
 A row of a sheet has five columns, separated by four commas, where columns may be empty; a row of a
 table has two, the name and the direction. A column that begins with a quote goes on to the next
@@ -576,12 +793,12 @@ fn match_faults() -> &'static [Explanation] {
             when: "\
 No station of the field file that has sets has the name in the sheet or, for 'compare', 'directions'
 and 'means', the name STATION. Names are compared byte by byte. A job that was recorded without
-blocks of the codes 10 and 20 has no station, and an empty list.",
+blocks of the codes 10 and 20, as most jobs are, has no station and an empty list.",
             example: "refused: no station",
             remedy: "\
-See the names by 'station_check list GSI'. Blanks and small letters count; zeros at the
-left of a name in the field file do not. Where the list is empty, look for codes by 'station_check
-words GSI'. Of the examples, mark_sets.py puts them into a copy of a plain job.",
+'station_check list GSI' lists the names. Blanks and small letters count; zeros at the
+left of a name in the field file do not. If the list is empty, put the codes into a copy with
+'station_check mark GSI' or 'station_check mark --station NAME GSI'.",
         },
         Explanation {
             names: &["Incomplete"],

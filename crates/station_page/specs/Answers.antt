@@ -1,14 +1,17 @@
 -- What each call answers, of the very bytes that it was given. `room` is how many bytes there is
 -- room for, `answered` the status, and `shown` what was handed out.
-use Rattle.std.specs.Prelude.{◌≢◌, ℕ, Bool, List, [], Some, Result, Err, IfErr, ⊤}
+use Rattle.std.specs.Prelude.{◌≡◌, ◌≢◌, ℕ, Bool, List, [], Some, Result, Err, IfErr, ⊤}
 use Rattle.std.specs.Borrow.{Bor}
 use Rattle.gsi_file.specs.FileAnswers.{file_answers}
 use Rattle.adjust_kernel.specs.declared.accepted.Accepted.{Accepted}
 use Rattle.station_book.specs.Limits.{FaceLimits}
+use Rattle.set_marks.specs.Markings.{AnswersMark}
+use Rattle.set_marks.specs.declared.fault.MarkFault.{MarkFault}
+use Rattle.set_marks.specs.declared.marked.Marked.{Marked}
 use Rattle.station_check.specs.Came.{handed_in}
 use Rattle.station_check.specs.Answerable.{IsOfCheck}
 use Rattle.station_check.specs.declared.fault.Fault.{Fault}
-use Rattle.station_check.specs.declared.fault.Fault.TheVariants.{Write}
+use Rattle.station_check.specs.declared.fault.Fault.TheVariants.{Memory, Write}
 use Rattle.station_check.specs.RunEndings.{status_of}
 use Rattle.station_check.specs.Listing.{WritesList}
 use Rattle.station_check.specs.Means.{WritesMeans}
@@ -21,8 +24,9 @@ use Rattle.station_compare.specs.declared.fault.CompareFault.{CompareFault}
 use Rattle.station_explain.specs.declared.explanations.Explanation.{Explanation}
 use Rattle.station_page.specs.Explained.{AnswersLine, explanation_or_refusal}
 use Rattle.station_page.specs.HandedOut.{HandsOut, verdict_line, text_or_refusal, refusal_text}
-use Rattle.station_page.specs.HandedOut.{comparison_line, table_or_refusal}
-use Rattle.station_page.specs.Limits.{States, residual_limit}
+use Rattle.station_page.specs.HandedOut.{comparison_line, table_or_refusal, copy_text}
+use Rattle.station_page.specs.HandedOut.{notes_or_refusal}
+use Rattle.station_page.specs.Limits.{States, residual_limit, stated_name}
 use Rattle.station_page.specs.declared.explain.Unexplained.{Unexplained}
 
 -- The status and the line are those of the verdict on these bytes, of which the whole promise is
@@ -62,13 +66,15 @@ pub record IsMeansOf (two_c two_i : ℕ) (gsi name : List ℕ) (room answered : 
   pub hands_out : HandsOut (status_of answer) (text_or_refusal text answer) room answered shown
 
 -- The status, the text and the line of a refusal are those of the words of these bytes; no write
--- fails. At a fault of the file its line stands beside the words of the blocks before it.
+-- fails. At a fault of the file its line stands beside the words of the blocks before it; where
+-- memory ran out it stands alone.
 pub record IsWordsOf (gsi : List ℕ) (room refusal_room answered : ℕ) (shown refusal : List ℕ)
     : Type 0 where
   pub answer : Result ℕ Fault
   pub text : List ℕ
   pub writes : WritesWords answer (Some []) (Some text) (file_answers (handed_in gsi))
   pub unfailed : answer ≢ Err Write
+  pub alone : answer ≡ Err Memory → text ≡ []
   pub status : ℕ
   pub hands_text_out : HandsOut (status_of answer) text room status shown
   pub hands_line_out : HandsOut status (refusal_text answer) refusal_room answered refusal
@@ -92,6 +98,16 @@ pub record IsComparisonOf (two_c two_i : ℕ) (gsi table name : List ℕ) (withi
   pub answer : Result Agreement CompareFault
   pub compares : Compares limits (file_answers (handed_in gsi)) (handed_in table) name within answer
   pub hands_out : HandsOut (status_of answer) (comparison_line answer) room answered shown
+
+-- The status, the copy and what is told of it, or the line of the refusal, are those of putting
+-- codes into these bytes, by the name that is stated.
+pub record IsMarkOf (gsi name : List ℕ) (room notes_room answered : ℕ) (shown notes : List ℕ)
+    : Type 0 where
+  pub answer : Result Marked MarkFault
+  pub marks : AnswersMark (stated_name name) gsi (file_answers (handed_in gsi)) answer
+  pub status : ℕ
+  pub hands_copy_out : HandsOut (status_of answer) (copy_text answer) room status shown
+  pub hands_notes_out : HandsOut status (notes_or_refusal answer) notes_room answered notes
 
 -- The status and the text are those of the explanation that a line asks for, of the faults of a
 -- table.

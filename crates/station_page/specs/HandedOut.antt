@@ -7,6 +7,11 @@ use Rattle.station_compare.specs.FaultTexts.{agreement_line}
 use Rattle.station_compare.specs.FaultTexts as compare
 use Rattle.station_compare.specs.declared.agreement.Agreement.{Agreement}
 use Rattle.station_compare.specs.declared.fault.CompareFault.{CompareFault}
+use Rattle.set_marks.specs.declared.fault.MarkFault.{MarkFault}
+use Rattle.set_marks.specs.declared.marked.Marked.{Marked}
+use Rattle.station_mark.specs.FaultTexts as mark
+use Rattle.station_mark.specs.Notes.{notes_of}
+use Rattle.station_mark.specs.declared.fault.PrintFault.TheVariants.{Mark}
 use Rattle.station_page.specs.declared.hand_out.TheConstants.{TOO_LITTLE_ROOM}
 
 -- The text is handed out whole, with this status, exactly where there is room for it; else nothing
@@ -39,3 +44,13 @@ comparison_line (Err fault) = compare.refusal_line fault
 abbrev pub table_or_refusal : Result (List ℕ) CompareFault → List ℕ
 table_or_refusal (Ok table) = table
 table_or_refusal (Err fault) = compare.refusal_line fault
+
+-- the copy with codes; at a refusal nothing
+abbrev pub copy_text : Result Marked MarkFault → List ℕ
+copy_text (Ok m) = m.copy.items
+copy_text (Err fault) = []
+
+-- what is told of it, or the line of the refusal
+abbrev pub notes_or_refusal : Result Marked MarkFault → List ℕ
+notes_or_refusal (Ok m) = notes_of m
+notes_or_refusal (Err fault) = mark.refusal_line (Mark fault)

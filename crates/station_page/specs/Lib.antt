@@ -4,5 +4,7 @@ pub mod Limits
 pub mod Answers
 pub mod HandedOut
 pub mod Explained
--- The inside: what a text in memory holds. No public contract cites it.
+-- The inside: what a text in memory holds, and a copy with its notes. No public contract cites
+-- them.
 pub mod Texts
+pub mod Noted

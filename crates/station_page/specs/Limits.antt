@@ -1,6 +1,7 @@
 -- The limits that a page states by numbers (profile).
-use Rattle.std.specs.Prelude.{◌≡◌, ◌≤◌, ℕ, Bool, true, false, Option, Some, None, ⊤}
+use Rattle.std.specs.Prelude.{◌≡◌, ◌≤◌, ℕ, Bool, true, false, List, [], ◌∷◌, Option, Some, None, ⊤}
 use Rattle.adjust_kernel.specs.declared.bounds.TheConstants.{LARGEST_RESIDUAL_LIMIT}
+use Rattle.adjust_kernel.specs.Names.{IsName}
 use Rattle.station_book.specs.Limits.{FaceLimits}
 use Rattle.station_book.specs.declared.limits.TheConstants.{LARGEST_LIMIT}
 use Rattle.station_page.specs.declared.compare.TheConstants.{LARGEST_WITHIN}
@@ -27,3 +28,14 @@ pub record States (two_c two_i : ℕ) (limits : FaceLimits) : Type 0 where
 abbrev pub residual_limit : Bool → ℕ → Option ℕ
 residual_limit true residual = Some residual
 residual_limit false residual = None
+
+-- These bytes may be handed in as the name of a file's one station: they are a name, or none, where
+-- no name is stated.
+abbrev pub MayBeStated : List ℕ → Type 0
+MayBeStated [] = ⊤
+MayBeStated (byte ∷ bytes) = IsName (byte ∷ bytes)
+
+-- the name that they state
+abbrev pub stated_name : List ℕ → Option (List ℕ)
+stated_name [] = None
+stated_name (byte ∷ bytes) = Some (byte ∷ bytes)

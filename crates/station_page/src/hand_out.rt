@@ -6,7 +6,7 @@ ghost use Rattle.station_page.specs.HandedOut.{HandsOut, text_or_refusal};
 
 use station_check::{DONE, Fault, REFUSED, refusal_line};
 
-/// The status where a number is out of its range: nothing is answered.
+/// The status where a number or a name is out of its range: nothing is answered.
 pub(crate) const OUT_OF_RANGE: u8 = 2;
 
 /// The status where the text has more bytes than there is room for: it is to be asked for again,

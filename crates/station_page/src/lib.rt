@@ -8,12 +8,13 @@
 //! | `station_page_words` | hands out the words of a field file |
 //! | `station_page_directions` | hands out the table of a station's least-squares directions |
 //! | `station_page_compare` | compares a table of directions, and hands out the line of the answer |
+//! | `station_page_mark` | hands out a copy of a field file with codes put in, and what was recognized |
 //! | `station_page_explain` | hands out what the fault means that a text names |
 //!
 //! Each is given whole files as slices, and numbers in the place of options. It hands out its text
 //! at the front of a slice, and how long that is. Its answer is the status of the program's
-//! command, 0 or 1; where it could answer nothing it is one of its own: 2 for a number out of its
-//! range, 3 for a slice with too little room.
+//! command, 0 or 1; where it could answer nothing it is one of its own: 2 for a number or a name
+//! out of its range, 3 for a slice with too little room.
 //!
 //! What a page does is this crate and what makes a module of it, which no contract speaks of.
 #![tactic(auto)]
@@ -24,6 +25,7 @@ mod directions;
 mod explain;
 mod hand_out;
 mod list;
+mod mark;
 mod means;
 mod text;
 mod words;

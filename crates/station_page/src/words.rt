@@ -5,7 +5,7 @@ ghost use Rattle.gsi_file.specs.FileAnswers.{file_answers};
 ghost use Rattle.station_check.specs.Came.{handed_in};
 ghost use Rattle.station_check.specs.RunEndings.{status_of};
 ghost use Rattle.station_check.specs.Words.{WritesWords};
-ghost use Rattle.station_check.specs.declared.fault.Fault.TheVariants.{Write};
+ghost use Rattle.station_check.specs.declared.fault.Fault.TheVariants.{Memory, Write};
 ghost use Rattle.station_page.specs.Answers.{IsWordsOf};
 ghost use Rattle.station_page.specs.HandedOut.{refusal_text};
 ghost use Rattle.station_page.specs.Texts.{text_of};
@@ -16,7 +16,7 @@ use station_check::{DONE, Fault, REFUSED, VerdictLine, handed_in, refusal_line, 
 use std::alloc::Global;
 
 /// Hands out the words of a whole field file; at a fault of the file those of the blocks before it,
-/// and in `refusal` the line of the refusal.
+/// and in `refusal` the line of the refusal. Where memory ran out there is that line alone.
 ///
 /// Answers 0 where all blocks were read, 1 at a refusal, and 3 where `out` or `refusal` has too
 /// little room.
@@ -45,11 +45,13 @@ fn words_of(alloc: Global, gsi: &[u8]) -> (Result<u32, Fault>, Text)
     ensures writes { WritesWords result.0 (Some []) (Some (text_of result.1))
         (file_answers (handed_in gsi.now)) }
     ensures unfailed { result.0 ≢ Err Write }
+    ensures alone { result.0 ≡ Err Memory → text_of result.1 ≡ [] }
 {
     let mut text = Text::new(alloc);
     match write_words(alloc, handed_in(gsi), &mut text) {
-        // A text in memory can't be written where there is no memory for it.
-        Err(Fault::Write) => (Err(Fault::Memory), Text::new(alloc)),
+        // A text in memory can't be written where there is no memory for it. What came before is
+        // dropped: nobody knows where it ends.
+        Err(Fault::Write | Fault::Memory) => (Err(Fault::Memory), Text::new(alloc)),
         answer => (answer, text),
     }
 }

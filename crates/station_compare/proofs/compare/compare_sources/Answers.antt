@@ -1,12 +1,11 @@
-use Rattle.std.proofs.Common.{◌≡◌, rules, [], Result, Ok, Err, ap, refl, sym, subst, ◌∙◌}
+use Rattle.std.proofs.Common.{◌≡◌, rules, [], Err, ap, refl, sym, subst, ◌∙◌}
 use Rattle.std.proofs.Common.{option_copied}
 use Rattle.adjust_kernel.specs.Stations.{StationValue}
-use Rattle.byte_ends.proofs.Coming.{came_so, given_none, some_left}
+use Rattle.byte_ends.proofs.Coming.{given_none, some_left}
 use Rattle.byte_ends.specs.Came.{BytesCame}
 use Rattle.byte_ends.specs.Input.{input_within}
-use Rattle.byte_ends.specs.Source.{Told, given_then, reader_change}
+use Rattle.byte_ends.specs.Source.{reader_change}
 use Rattle.direction_table.specs.declared.reading.TheConstants.{LONGEST_TABLE}
-use Rattle.gsi_file.specs.FileAnswers.{file_answers}
 use Rattle.station_check.proofs.LawLemmas.{station_of_file}
 use Rattle.station_compare.proofs.Comparisons.{compares_by_file, compares_by_table, asked}
 use Rattle.station_compare.proofs.Comparisons.{left_by_table, unasked, left_alone, left_by_file}

@@ -1,0 +1,209 @@
+-- Each input has an answer that is not that memory ran out, where it does not rest on an adjustment.
+use Rattle.std.proofs.Common.{◌≡◌, ◌⊎◌, inl, inr, ℕ, Bool, List, [], ◌∷◌, map, length}
+use Rattle.std.proofs.Common.{Option, Some, None, Result, Ok, Err, ℤ, pos, refl, sym, subst, arith}
+use Rattle.std.proofs.lemmas.List.{length-map}
+use Rattle.std.proofs.lemmas.List.Elements.{All-from_recursion, recursion_from_All}
+use Rattle.std.specs.List.{AllByRecursion}
+use Rattle.std.specs.Prelude.{⊤}
+use Rattle.adjust_kernel.proofs.ConnectionLaws.{connected_or_divided}
+use Rattle.adjust_kernel.specs.Connected.{IsConnected, IsDivided}
+use Rattle.adjust_kernel.specs.Pairs.{turned_by}
+use Rattle.adjust_kernel.specs.Stations.{StationValue}
+use Rattle.adjust_kernel.specs.TurnedObservations.{TurnedObservation}
+use Rattle.adjust_kernel.specs.Turns.{with_turns}
+use Rattle.adjust_kernel.specs.declared.obs.Obs.{Obs}
+use Rattle.byte_ends.specs.Input.{Input, Ended, BrokeOff, RanPast, input_within}
+use Rattle.byte_ends.specs.Source.{Told}
+use Rattle.direction_table.proofs.LawLemmas.{some_answer as table_or_fault}
+use Rattle.direction_table.specs.Tables.{IsTableFault, IsTableText}
+use Rattle.direction_table.specs.declared.fault.TableFault.{TableFault}
+use Rattle.direction_table.specs.declared.fault.TableFault.TheVariants as table
+use Rattle.direction_table.specs.declared.reading.TheConstants.{LONGEST_TABLE}
+use Rattle.exact_adjustment.specs.LeastOf.{AreTied, observed_with}
+use Rattle.exact_adjustment.specs.declared.fault.AdjustFault.TheVariants as adjust
+use Rattle.gsi_file.specs.FileAnswers.{FileAnswers}
+use Rattle.gsi_file.specs.declared.file_fault.FileKind.{FileKind}
+use Rattle.station_book.proofs.LawLemmas as book
+use Rattle.station_book.specs.Faults.{fault_at_end}
+use Rattle.station_book.specs.Limits.{AreLimits, FaceLimits}
+use Rattle.station_book.specs.Places.{History}
+use Rattle.station_book.specs.Stations.{SurveyedStation, station_named}
+use Rattle.station_book.specs.declared.fault.BookKind.{BookKind}
+use Rattle.station_check.proofs.Acceptance.{came_well}
+use Rattle.station_check.proofs.LawLemmas.{some_outcome, station_of_file}
+use Rattle.station_check.specs.Outcomes.{ComesTo, FileComesTo, at_end}
+use Rattle.station_check.specs.StationOfFile.{IsStationOfFile}
+use Rattle.station_check.specs.Surveys.{IsSurvey}
+use Rattle.station_check.specs.declared.fault.Fault.{Fault}
+use Rattle.station_check.specs.declared.fault.Fault.TheVariants as lines
+use Rattle.station_compare.proofs.Comparisons.{compares_by_table}
+use Rattle.station_compare.specs.Answers.{Compares}
+use Rattle.station_compare.specs.Comparing.{ByInput}
+use Rattle.station_compare.specs.OneAnswer.{IsNoMemory, IsUpToAdjustment}
+use Rattle.station_compare.specs.declared.agreement.Agreement.{Agreement}
+use Rattle.station_compare.specs.declared.fault.CompareFault.{CompareFault}
+use Rattle.station_compare.specs.declared.fault.CompareFault.TheVariants.{File, TableRead, Table}
+use Rattle.station_compare.specs.declared.fault.CompareFault.TheVariants.{Adjust}
+
+-- A fault of lines is that of the file or of the book.
+abbrev IsOfALine : Fault → Type 0
+IsOfALine (lines.Gsi fault) = ⊤
+IsOfALine (lines.Book fault) = ⊤
+IsOfALine fault = ⊥
+
+abbrev IsOfALineIfAny : Result History Fault → Type 0
+IsOfALineIfAny (Ok blocks) = ⊤
+IsOfALineIfAny (Err fault) = IsOfALine fault
+
+at_the_end : (past : History) (o : Option BookKind) → IsOfALineIfAny (at_end past o)
+at_the_end past None = tt
+at_the_end past (Some kind) = tt
+
+of_a_line : (limits : FaceLimits) (past : History) (xs : List (List ℕ)) (last : Option FileKind)
+    (r : Result History Fault) → ComesTo limits past xs last r → IsOfALineIfAny r
+of_a_line limits past [] (Some kind) r h = subst IsOfALineIfAny (sym h) tt
+of_a_line limits past [] None r h =
+    subst IsOfALineIfAny (sym h) (at_the_end past (fault_at_end past))
+of_a_line limits past (x ∷ xs) last r (inl h) = subst IsOfALineIfAny (sym h.answer) tt
+of_a_line limits past (x ∷ xs) last r (inr (inl h)) = subst IsOfALineIfAny (sym h.answer) tt
+of_a_line limits past (x ∷ xs) last r (inr (inr h)) =
+    of_a_line limits (h.block ∷ past) xs last r h.after
+
+-- Whether a station's observations hold it together does not depend on full turns.
+between : (p q : ℕ → Bool) (obs : List Obs) (ks ls : List ℤ) → length ks ≡ length obs
+    → AllByRecursion (λ (r : TurnedObservation). p r.set ≡ q r.target)
+    (with_turns (map (λ o. turned_by o (pos 0)) obs) ks)
+    → AllByRecursion (λ (r : TurnedObservation). p r.set ≡ q r.target)
+    (with_turns (map (λ o. turned_by o (pos 0)) obs) ls)
+between p q [] ks ls e h = tt
+between p q (o ∷ obs) [] ls e h = absurd (omega (arith, e))
+between p q (o ∷ obs) (k ∷ ks) [] e h = tt
+between p q (o ∷ obs) (k ∷ ks) (l ∷ ls) e h = (h.0, between p q obs ks ls (omega (arith, e)) h.1)
+
+divided_too : (station : StationValue) (ks ls : List ℤ) → length ks ≡ length station.obs
+    → IsDivided (length station.sets) (length station.targets) (observed_with station ks)
+    → IsDivided (length station.sets) (length station.targets) (observed_with station ls)
+divided_too station ks ls e d = record {
+  part_of_set = d.part_of_set;
+  part_of_target = d.part_of_target;
+  none_between = All-from_recursion Inside (observed_with station ls)
+      (between d.part_of_set d.part_of_target station.obs ks ls e
+      (recursion_from_All Inside (observed_with station ks) d.none_between));
+  first_part = d.first_part;
+  second_part = d.second_part;
+}
+  where
+    Inside : TurnedObservation → Type 0
+    Inside r = d.part_of_set r.set ≡ d.part_of_target r.target
+
+tied_or_not : (station : StationValue) → AreTied station ⊎ (AreTied station → ⊥)
+tied_or_not station =
+    by (connected_or_divided (length station.sets) (length station.targets)
+    (observed_with station none))
+  where
+    none : List ℤ
+    none = map (λ (o : Obs). pos 0) station.obs
+
+    count : length none ≡ length station.obs
+    count = length-map station.obs (λ (o : Obs). pos 0)
+
+    by : IsConnected (length station.sets) (length station.targets) (observed_with station none)
+        ⊎ IsDivided (length station.sets) (length station.targets) (observed_with station none)
+        → AreTied station ⊎ (AreTied station → ⊥)
+    by (inl c) = inl (λ ks e d. c (divided_too station ks none e d))
+    by (inr d) = inr (λ tied. tied none count d)
+
+-- What is answered of a station and the bytes of a table.
+module _ (station : StationValue) (within : ℕ) where
+  -- The table is one of a station that is held together.
+  record IsTied (input : Input) : Type 0 where
+    pub tied : AreTied station
+    pub bytes : List ℕ
+    pub whole : input ≡ Ended bytes
+    pub directions : List ℤ
+    pub states : IsTableText station.targets bytes directions
+
+  abbrev Answer : Input → Type 0
+  Answer input =
+      ((r : Result Agreement CompareFault) × ByInput station within input r × IsNoMemory r)
+      ⊎ IsTied input
+
+  by_bytes : (bytes : List ℕ) → ((directions : List ℤ) × IsTableText station.targets bytes directions)
+      ⊎ ((fault : TableFault) × IsTableFault station.targets bytes fault)
+      → AreTied station ⊎ (AreTied station → ⊥) → Answer (Ended bytes)
+  by_bytes bytes (inr h) t = inl (Err (Table h.0), h.1, tt)
+  by_bytes bytes (inl h) (inl tied) = inr (record {
+    tied = tied;
+    bytes = bytes;
+    whole = refl;
+    directions = h.0;
+    states = h.1;
+  })
+  by_bytes bytes (inl h) (inr loose) = inl (
+    Err (Adjust adjust.NotConnected),
+    record { directions = h.0; states = h.1; fault_stands = loose },
+    tt,
+  )
+
+  by_input : (input : Input) → Answer input
+  by_input (Ended bytes) =
+      by_bytes bytes (table_or_fault station.targets bytes) (tied_or_not station)
+  by_input (BrokeOff bytes) = inl (Err TableRead, inl refl, tt)
+  by_input RanPast = inl (Err (Table table.TooLong), inl refl, tt)
+
+module _ (limits : FaceLimits) (small : AreLimits limits) (file : FileAnswers) (stated : Told)
+    (name : List ℕ) (within : ℕ) where
+  abbrev AnAnswer : Type 0
+  AnAnswer =
+      ((r : Result Agreement CompareFault) × Compares limits file stated name within r
+      × IsNoMemory r)
+      ⊎ IsUpToAdjustment limits file stated name
+
+  by_fault : (fault : Fault) → FileComesTo limits file (Err fault) → IsOfALine fault → AnAnswer
+  by_fault (lines.Gsi fault) h of = inl (Err (File (lines.Gsi fault)), h, tt)
+  by_fault (lines.Book fault) h of = inl (Err (File (lines.Book fault)), h, tt)
+  by_fault lines.NoStation h of = absurd of
+  by_fault lines.SheetRead h of = absurd of
+  by_fault (lines.Sheet fault) h of = absurd of
+  by_fault (lines.Means fault) h of = absurd of
+  by_fault (lines.Kernel fault) h of = absurd of
+  by_fault lines.Write h of = absurd of
+  by_fault lines.Memory h of = absurd of
+
+  by_its : (its : SurveyedStation) → IsStationOfFile limits file name its
+      → Answer its.station within (input_within LONGEST_TABLE stated) → AnAnswer
+  by_its its of (inl a) =
+      inl (a.0, compares_by_table limits file stated name within its a.0 of a.1, a.2)
+  by_its its of (inr t) = inr (record {
+    its = its;
+    station = of;
+    tied = t.tied;
+    bytes = t.bytes;
+    whole = t.whole;
+    directions = t.directions;
+    states = t.states;
+  })
+
+  by_name : (stations : List SurveyedStation) → IsSurvey limits file stations
+      → (its : Option SurveyedStation) → station_named name stations ≡ its → AnAnswer
+  by_name stations survey None e = inl (
+    Err (File lines.NoStation),
+    record { stations = stations; survey = survey; none = e },
+    tt,
+  )
+  by_name stations survey (Some its) e =
+      let of = (station_of_file limits file name its small).0
+      (record { stations = stations; survey = survey; named = e }) in
+      by_its its of (by_input its.station within (input_within LONGEST_TABLE stated))
+
+  by_outcome : (came : Result History Fault) → FileComesTo limits file came → AnAnswer
+  by_outcome (Err fault) h =
+      by_fault fault h (of_a_line limits [] file.lines file.last (Err fault) h)
+  by_outcome (Ok blocks) h =
+      let well = came_well limits [] file.lines file.last blocks tt h in
+      let survey = book.some_survey limits blocks small well.faultless in
+      by_name survey.0 (record { blocks = blocks; file = h; stations_are = survey.1 })
+      (station_named name survey.0) refl
+
+  pub some_answer : AnAnswer
+  some_answer = let came = some_outcome limits file in by_outcome came.0 came.1

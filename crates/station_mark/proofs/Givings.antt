@@ -1,0 +1,111 @@
+-- What a reader gave is all of the file, or enough for its answers.
+use Rattle.std.proofs.Common.{◌≡◌, ℕ, ◌<◌, Bool, true, false, List, [], ◌++◌, length, Option, None, Some}
+use Rattle.std.proofs.Common.{Result, Ok, Err, ap, sym, subst, ◌∙◌, inl, inr, ◌⊎◌, refl}
+use Rattle.std.proofs.lemmas.List.{append-nil}
+use Rattle.byte_ends.proofs.Coming.{left_is}
+use Rattle.byte_ends.specs.Came.{IsReadOut, HasBroken, NoReadFailed}
+use Rattle.byte_ends.specs.Source.{Told, ReaderChange, MayGive, HasGiven, given_then, ended, broken_off}
+use Rattle.gsi_file.specs.FileAnswers.{FileAnswers, file_answers, answers_within}
+use Rattle.gsi_file.specs.ToCome.{FaultIsNext, only}
+use Rattle.gsi_file.specs.declared.bounds.TheConstants.{LONGEST_FILE}
+use Rattle.gsi_file.specs.declared.file_fault.FileKind.{FileKind}
+use Rattle.gsi_file.specs.declared.file_fault.FileFault.TheVariants as file
+use Rattle.gsi_file.specs.declared.file_fault.FileKind.TheVariants as kind
+use Rattle.set_marks.specs.Markings.{AnswersMark, IsFileFault}
+use Rattle.set_marks.specs.declared.fault.MarkFault.{MarkFault}
+use Rattle.set_marks.specs.declared.fault.MarkFault.TheVariants.{File, Reading, At, Memory}
+use Rattle.set_marks.specs.declared.marked.Marked.{Marked}
+use Rattle.station_mark.proofs.PastLimits.{past_limit, failed_at_end, past_at_end, no_read_at_end}
+use Rattle.station_mark.proofs.PastLimits.{IsFaultAtEnd, IsNoRead}
+use Rattle.station_mark.specs.Answers.{IsMarkAnswer, LeavesMarked}
+use Rattle.station_mark.specs.Giving.{IsAllGiven, IsLeft}
+
+-- These bytes, and then a failed read or not.
+abbrev pub told_of : List ℕ → Bool → Told
+told_of bytes fails = record { bytes = bytes; fails = fails }
+
+-- Where nothing is left, the bytes are all.
+all_of : (bytes : List ℕ) (fails : Bool) (told : Option Told) (left : Told)
+    → told ≡ Some (told_of [] fails) → MayGive told left
+    → file_answers (given_then bytes left) ≡ file_answers (told_of bytes fails)
+all_of bytes fails told left e may =
+    ap (λ (t : Told). file_answers (given_then bytes t)) (left_is told (told_of [] fails) left e may)
+    ∙ ap (λ (b : List ℕ). file_answers (told_of b fails)) (append-nil bytes)
+
+-- Whatever is left, the file's answers are those of the bytes that were kept.
+same_answers : (reader : ReaderChange) (bytes : List ℕ) (fails : Bool)
+    → IsLeft LONGEST_FILE (length bytes) fails reader → (left : Told) → MayGive reader.told' left
+    → file_answers (given_then bytes left) ≡ file_answers (told_of bytes fails)
+same_answers reader bytes true h left may = all_of bytes true reader.told' left h.broken may
+same_answers reader bytes false (inl h) left may = all_of bytes false reader.told' left h.ended may
+same_answers reader bytes false (inr h) left may =
+    past_limit LONGEST_FILE bytes left.bytes left.fails false h.0
+
+-- Where the file's lines end without a fault, the reader has ended.
+ends : (reader : ReaderChange) (bytes : List ℕ) (fails : Bool)
+    → IsLeft LONGEST_FILE (length bytes) fails reader
+    → (file_answers (told_of bytes fails)).last ≡ None → IsReadOut reader
+ends reader bytes true h e =
+    absurd (subst (λ (o : Option FileKind). IsFaultAtEnd o) e (failed_at_end LONGEST_FILE bytes))
+ends reader bytes false (inl h) e = h
+ends reader bytes false (inr h) e =
+    absurd (subst (λ (o : Option FileKind). IsFaultAtEnd o) e
+    (past_at_end LONGEST_FILE bytes false h.0))
+
+-- Where they end with a failed read, the reader has broken off.
+breaks_off : (reader : ReaderChange) (bytes : List ℕ) (fails : Bool)
+    → IsLeft LONGEST_FILE (length bytes) fails reader
+    → (file_answers (told_of bytes fails)).last ≡ Some kind.Read → HasBroken reader
+breaks_off reader bytes true h e = h
+breaks_off reader bytes false h e =
+    absurd (subst (λ (o : Option FileKind). IsNoRead o) e (no_read_at_end LONGEST_FILE bytes))
+
+-- A failed read comes last.
+read_is_last : (a : FileAnswers) (number : ℕ) → IsFileFault a number kind.Read
+    → a.last ≡ Some kind.Read
+read_is_last a number h = ap (λ (b : FileAnswers). b.last) h.split ∙ next h.left h.fault
+  where
+    next : (left : FileAnswers) → FaultIsNext left kind.Read → left.last ≡ Some kind.Read
+    next left (inl e) = ap (λ (b : FileAnswers). b.last) e
+    next left (inr (line, rest, e, none)) = absurd none
+
+leaves : (reader : ReaderChange) (bytes : List ℕ) (fails : Bool) (station : Option (List ℕ))
+    (r : Result Marked MarkFault) → IsLeft LONGEST_FILE (length bytes) fails reader
+    → AnswersMark station bytes (file_answers (told_of bytes fails)) r → LeavesMarked r reader
+leaves reader bytes fails station (Ok m) h a = ends reader bytes fails h a.are_blocks.ended
+leaves reader bytes fails station (Err (Reading number what)) h a =
+    ends reader bytes fails h a.are_blocks.ended
+leaves reader bytes fails station (Err (At number what)) h a =
+    ends reader bytes fails h a.are_blocks.ended
+leaves reader bytes fails station (Err (File (file.At number kind.Read))) h a =
+    breaks_off reader bytes fails h (read_is_last _ number a)
+leaves reader bytes fails station (Err (File (file.At number kind.FileTooLong))) h a = tt
+leaves reader bytes fails station (Err (File (file.At number kind.LineTooLong))) h a = tt
+leaves reader bytes fails station (Err (File (file.At number (kind.Byte at)))) h a = tt
+leaves reader bytes fails station (Err (File (file.At number (kind.Word nth)))) h a = tt
+leaves reader bytes fails station (Err (File (file.At number kind.FirstWord))) h a = tt
+leaves reader bytes fails station (Err (File file.Memory)) h a = tt
+leaves reader bytes fails station (Err Memory) h a = tt
+
+-- What is answered of the bytes that were kept is the answer on what the reader gave.
+pub answered : (station : Option (List ℕ)) (reader : ReaderChange) (bytes : List ℕ) (fails : Bool)
+    (r : Result Marked MarkFault) → IsAllGiven LONGEST_FILE reader bytes fails
+    → AnswersMark station bytes (file_answers (told_of bytes fails)) r
+    → IsMarkAnswer station reader r
+answered station reader bytes fails r h a = record {
+  bytes = bytes;
+  reads = h.reads;
+  marks = λ left may. subst (λ (f : FileAnswers). AnswersMark station bytes f r)
+      (sym (same_answers reader bytes fails h.left left may)) a;
+  reader = leaves reader bytes fails station r h.left a;
+}
+
+-- Where memory ran out, nothing is said of the bytes that the reader gave.
+pub out_of_memory : (station : Option (List ℕ)) (reader : ReaderChange) (bytes : List ℕ)
+    → HasGiven reader bytes → IsMarkAnswer station reader (Err Memory)
+out_of_memory station reader bytes h = record {
+  bytes = bytes;
+  reads = h;
+  marks = λ left may. tt;
+  reader = tt;
+}

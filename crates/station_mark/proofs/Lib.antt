@@ -1,0 +1,3 @@
+pub mod PastLimits
+pub mod Givings
+pub mod Telling

@@ -1,0 +1,94 @@
+use Rattle.std.proofs.Common.{◌≡◌, ℕ, List, Ok, Err, refl, subst, ◌∙◌, ap}
+use Rattle.std.specs.Prelude.{codes}
+use Rattle.std.specs.List.{flat_map}
+use Rattle.byte_ends.specs.Sink.{writer_change}
+use Rattle.set_marks.specs.declared.fault.MarkFault.TheVariants.{Memory}
+use Rattle.set_marks.specs.declared.recognized.Recognized.{Recognized}
+use Rattle.station_check.specs.RunEndings.{WritesOrFails}
+use Rattle.station_mark.specs.Notes.{note_line, notes_text, notes_of}
+use Rattle.station_mark.specs.declared.fault.PrintFault.TheVariants.{Mark, Write}
+use Rattle.station_mark.proofs.Givings.{out_of_memory}
+use Rattle.station_mark.proofs.Telling.{told}
+use Rattle.station_mark.proofs.runs.run_mark.Goals as goal
+
+pub returns-in-Err : goal.returns-in-Err
+returns-in-Err g c = (
+  c.in-Err.ensures.0,
+  record {
+    answer = Err (Mark c.in-Err.fault);
+    so = record {
+      marking = Err c.in-Err.fault;
+      answers = c.in-Err.ensures.1;
+      printed = (refl, refl);
+    };
+    exits = c.refuse.ensures.status;
+    reports = c.refuse.ensures.line;
+  },
+)
+
+pub returns-in_default : goal.returns-in_default
+returns-in_default g c = (
+  c.in-Ok.ensures.0,
+  record {
+    answer = Err (Mark Memory);
+    so = record {
+      marking = Err Memory;
+      answers = out_of_memory c.args.station _ c.in-Ok.ensures.1.bytes c.in-Ok.ensures.1.reads;
+      printed = (refl, refl);
+    };
+    exits = c.refuse-in_default.ensures.status;
+    reports = c.refuse-in_default.ensures.line;
+  },
+)
+
+pub returns-in-Ok-write_whole : goal.returns-in-Ok-write_whole
+returns-in-Ok-write_whole g c =
+    let m = c.in-Ok.marked in
+    let err = writer_change g.E.Sink.failed g.E.Sink.holds g.E.Sink.handed_on c.args.err.now
+    c.tell.new.err in
+    let notes : c.deref-in-Ok-write_whole.result.now ≡ notes_of m =
+    c.deref-in-Ok-write_whole.ensures.value
+    ∙ (c.in-Ok-notes_text.ensures
+    ∙ ap (λ (stations : List Recognized). notes_text stations) c.deref.ensures.value) in
+    let written = subst (λ (text : List ℕ). WritesOrFails text err) notes c.tell.ensures.notes in (
+      c.in-Ok.ensures.0,
+      record {
+        answer = Ok m;
+        so = record {
+          marking = Ok m;
+          answers = c.in-Ok.ensures.1;
+          printed = (
+            refl,
+            record {
+              got = rw c.deref-2.ensures.value at c.in-Ok-write_whole.ensures.ok;
+              unfailed = c.in-Ok-write_whole.ensures.failed;
+            },
+            c.in-Ok-write_whole.ensures.handed_on,
+          );
+        };
+        exits = c.tell.ensures.status;
+        reports = told (flat_map note_line m.stations.items) 110
+            (codes "ote: compare this with the field book\n") err written;
+      },
+    )
+
+pub returns : goal.returns
+returns g c = (
+  c.in-Ok.ensures.0,
+  record {
+    answer = Err Write;
+    so = record {
+      marking = Ok c.in-Ok.marked;
+      answers = c.in-Ok.ensures.1;
+      printed = (
+        refl,
+        record {
+          got = rw c.deref-2.ensures.value at c.in-Err-write_whole.ensures.err;
+          call_failed = c.in-Err-write_whole.ensures.failed;
+        },
+      );
+    };
+    exits = c.refuse-in-Err-write_whole.ensures.status;
+    reports = c.refuse-in-Err-write_whole.ensures.line;
+  },
+)

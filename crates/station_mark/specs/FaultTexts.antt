@@ -1,0 +1,26 @@
+-- The line of a refusal (profile).
+use Rattle.std.specs.Prelude.{ℕ, List, ◌++◌, codes}
+use Rattle.set_marks.specs.FaultNames.{mark_kind_name}
+use Rattle.set_marks.specs.declared.fault.MarkFault.TheVariants.{File, Reading, At, Memory}
+use Rattle.set_marks.specs.declared.fault.MarkKind.{MarkKind}
+use Rattle.station_book.specs.declared.fault.BookFault.TheVariants as book
+use Rattle.station_check.specs.FaultTexts.{numbered_place}
+use Rattle.station_check.specs.VerdictLines.{refusal_line as check_refusal_line}
+use Rattle.station_check.specs.declared.fault.Fault.TheVariants as check
+use Rattle.station_mark.specs.declared.fault.PrintFault.{PrintFault}
+use Rattle.station_mark.specs.declared.fault.PrintFault.TheVariants.{Mark, Write}
+
+-- the line of what keeps a file from being marked, at the block of this number
+abbrev pub unmarked_line : ℕ → MarkKind → List ℕ
+unmarked_line number kind =
+    codes "refused: " ++ (numbered_place (codes "block ") number
+    ++ (codes "mark: " ++ (mark_kind_name kind ++ codes "\n")))
+
+-- The line of a refusal. That of a line of the file, of a reading by itself, and of memory and
+-- writing is the one that every command has.
+abbrev pub refusal_line : PrintFault → List ℕ
+refusal_line (Mark (File fault)) = check_refusal_line (check.Gsi fault)
+refusal_line (Mark (Reading number kind)) = check_refusal_line (check.Book (book.At number kind))
+refusal_line (Mark (At number kind)) = unmarked_line number kind
+refusal_line (Mark Memory) = check_refusal_line check.Memory
+refusal_line Write = check_refusal_line check.Write

@@ -1,0 +1,7 @@
+-- The public definitions, which public contracts cite, in the order in which a reader needs them.
+pub mod Answers
+pub mod Notes
+pub mod FaultTexts
+pub mod Runs
+-- The inside: what is kept of a reader. No public contract cites it.
+pub mod Giving

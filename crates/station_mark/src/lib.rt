@@ -1,0 +1,26 @@
+//! Codes for a field file that was recorded without them, as a command: the copy, the notes of what
+//! was recognized, the line of a refusal, and the exit status.
+//!
+//! | Call | Does |
+//! |---|---|
+//! | `mark_bytes` | puts codes into a copy of the field file that a reader gives, or answers its first fault |
+//! | `mark_source` | the same, and gives the reader back |
+//! | `notes_text` | what is told of the stations of a marked file |
+//! | `refusal_line` | the line of a refusal |
+//! | `run_mark` | the command: the copy on `out`, the notes or the line of a refusal on `err`, and the exit status |
+//!
+//! The rule by which codes are put in is `set_marks`.
+#![tactic(auto)]
+
+mod fault;
+mod given;
+mod mark;
+mod notes;
+mod refused;
+mod runs;
+
+pub use fault::PrintFault;
+pub use mark::{mark_bytes, mark_source};
+pub use notes::{note_line, notes_text};
+pub use refused::refusal_line;
+pub use runs::run_mark;

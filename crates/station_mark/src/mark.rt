@@ -1,0 +1,50 @@
+//! The copy of what a reader gives.
+
+ghost use Rattle.byte_ends.specs.Source.{reader_change, UntilDropped};
+ghost use Rattle.station_mark.specs.Answers.{IsMarkAnswer};
+
+use crate::given::all_given;
+use adjust_kernel::Name;
+use byte_ends::Source;
+use gsi_file::LONGEST_FILE;
+use set_marks::{MarkFault, Marked, mark_file};
+use std::alloc::Global;
+
+/// Puts codes into a copy of a field file: 10 where a station begins, 20 where a set begins, 30
+/// before the first reading after a set that is in none. `station` is the name of the file's one
+/// station, where its lines set none up.
+///
+/// The file is read whole first, whatever its lines are.
+///
+/// # Errors
+///
+/// The first fault of the file's lines, a failed read among them; else the first of a block; else
+/// the first of a station; or `Memory`.
+pub fn mark_bytes<R: Source>(
+    alloc: Global,
+    gsi: R,
+    station: Option<Name>,
+) -> Result<Marked, MarkFault>
+    ensures { UntilDropped R.told R.failed R.gave gsi (λ gsi. IsMarkAnswer station gsi result) }
+{
+    let (answer, _gsi) = mark_source(alloc, gsi, station);
+    answer
+}
+
+/// Puts codes into a copy of a field file, and gives its reader back.
+///
+/// It answers as [`mark_bytes`], and says of the reader what came of it and how it is left: the
+/// answer is that of the very bytes by which its histories have grown.
+pub fn mark_source<R: Source>(
+    alloc: Global,
+    gsi: R,
+    station: Option<Name>,
+) -> (Result<Marked, MarkFault>, R)
+    ensures { IsMarkAnswer station (reader_change R.told R.failed R.gave gsi result.1) result.0 }
+{
+    let mut reader = gsi;
+    match all_given(alloc, &mut reader, LONGEST_FILE) {
+        Ok(given) => (mark_file(alloc, &given.bytes, given.fails, station), reader),
+        Err(_) => (Err(MarkFault::Memory), reader),
+    }
+}

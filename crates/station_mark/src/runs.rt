@@ -1,0 +1,73 @@
+//! The command `mark`, over a source of bytes and sinks: it makes its call, and answers the exit
+//! status.
+
+ghost use Rattle.std.specs.Prelude.{◌≡◌};
+ghost use Rattle.byte_ends.specs.Sink.{writer_change};
+ghost use Rattle.byte_ends.specs.Source.{UntilDropped};
+ghost use Rattle.station_check.specs.RunEndings.{RunWithNotes, WritesOrFails};
+ghost use Rattle.station_mark.specs.FaultTexts.{refusal_line};
+ghost use Rattle.station_mark.specs.Notes.{notes_of};
+ghost use Rattle.station_mark.specs.Runs.{IsMarkRun};
+
+use crate::fault::PrintFault;
+use crate::mark::mark_bytes;
+use crate::notes::notes_text;
+use crate::refused::refusal_line;
+use adjust_kernel::Name;
+use byte_ends::{Sink, Source};
+use set_marks::MarkFault;
+use station_check::{DONE, REFUSED, write_whole};
+use std::alloc::Global;
+
+/// Prints a copy of a field file with codes put in, and answers the exit status: 0 where all of the
+/// copy was written to `out`, else 1, with the line of a refusal on `err`. After the copy `err`
+/// gets the notes of what was recognized. Where `err` fails, they are lost and the status stays.
+// Out of line, so that runs without it need no room for it on the stack.
+#[inline(never)]
+pub fn run_mark<R: Source, W: Sink, E: Sink>(
+    alloc: Global,
+    gsi: R,
+    station: Option<Name>,
+    out: &mut W,
+    err: &mut E,
+) -> u8
+    ensures { UntilDropped R.told R.failed R.gave gsi (λ gsi. RunWithNotes notes_of refusal_line
+        (IsMarkRun station gsi)
+        result (writer_change W.failed W.holds W.handed_on out.old out.new)
+        (writer_change E.failed E.holds E.handed_on err.old err.new)) }
+{
+    let marked = match mark_bytes(alloc, gsi, station) {
+        Ok(marked) => marked,
+        Err(fault) => return refuse(PrintFault::Mark(fault), err),
+    };
+    // Memory is taken before a byte is written.
+    let Ok(notes) = notes_text(alloc, &marked.stations) else {
+        return refuse(PrintFault::Mark(MarkFault::Memory), err);
+    };
+    match write_whole(out, &marked.copy) {
+        Ok(()) => tell(&notes, err),
+        Err(_) => refuse(PrintFault::Write, err),
+    }
+}
+
+/// Writes notes, and answers the status.
+fn tell<E: Sink>(notes: &[u8], err: &mut E) -> u8
+    ensures status { result ≡ 0 }
+    ensures notes { WritesOrFails notes.now
+        (writer_change E.failed E.holds E.handed_on err.old err.new) }
+{
+    // Where `err` fails, they are lost.
+    let _ = err.write_all(notes);
+    DONE
+}
+
+/// Writes the line of a refusal, and answers its status.
+fn refuse<E: Sink>(fault: PrintFault, err: &mut E) -> u8
+    ensures status { result ≡ 1 }
+    ensures line { WritesOrFails (refusal_line fault)
+        (writer_change E.failed E.holds E.handed_on err.old err.new) }
+{
+    // Where `err` fails, the line is lost.
+    let _ = err.write_all(refusal_line(fault).as_slice());
+    REFUSED
+}
