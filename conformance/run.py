@@ -10,7 +10,7 @@ import sys
 import tempfile
 from pathlib import Path
 from shutil import copytree
-from typing import NamedTuple
+from typing import Iterable, NamedTuple
 
 FOLDER = Path(__file__).resolve().parent
 
@@ -18,42 +18,52 @@ FOLDER = Path(__file__).resolve().parent
 TIME = 60
 
 
+# Status, standard output, standard error.
+Answer = tuple[int, bytes, bytes]
+
+
 class Case(NamedTuple):
     name: str
-    args: list
+    args: list[str]
     stdin: bytes
-    expected: tuple  # status, standard output, standard error
+    expected: Answer
 
 
-def content(folder, name):
+def content(folder: Path, name: str) -> bytes:
     """The bytes of a file of a case; none where it isn't there."""
     return (folder / name).read_bytes() if (folder / name).exists() else b""
 
 
-def case_in(folder):
+def case_in(folder: Path) -> Case:
     status = int(content(folder, "status") or b"0")
     expected = status, content(folder, "stdout"), content(folder, "stderr")
     args = content(folder, "args").decode().splitlines()
     return Case(folder.name, args, content(folder, "stdin"), expected)
 
 
-def names():
+def names() -> list[str]:
     """The names of all cases."""
     return sorted(path.parent.name for path in FOLDER.glob("*/args"))
 
 
-def cases(chosen=()):
+def cases(chosen: Iterable[str] = ()) -> list[Case]:
     return [case_in(FOLDER / name) for name in sorted(chosen) or names()]
 
 
-def answer(command, case, time=TIME):
+def answer(command: Iterable[str | Path], case: Case, time: float = TIME) -> Answer | None:
     """What a program answers in a copy of the case's folder; None where it takes longer.
 
     `command` is the program and what stands before the words of the case."""
     with tempfile.TemporaryDirectory() as top:
         folder = copytree(FOLDER / case.name, Path(top) / "case")
-        pipes = dict.fromkeys(["stdin", "stdout", "stderr"], subprocess.PIPE)
-        run = subprocess.Popen([*command, *case.args], cwd=folder, start_new_session=True, **pipes)
+        run = subprocess.Popen(
+            [*command, *case.args],
+            cwd=folder,
+            start_new_session=True,
+            stdin=subprocess.PIPE,
+            stdout=subprocess.PIPE,
+            stderr=subprocess.PIPE,
+        )
         try:
             stdout, stderr = run.communicate(case.stdin, timeout=time)
         except subprocess.TimeoutExpired:
@@ -66,7 +76,7 @@ def answer(command, case, time=TIME):
 # ---------------------------------------------------------------- the command line
 
 
-def program(text):
+def program(text: str) -> list[str]:
     """The command of a program: a path, a name on the search path, or one of them with arguments.
     Paths are made absolute, since each case runs in a folder of its own."""
     words = [text] if shutil.which(text) else shlex.split(text)
@@ -77,7 +87,7 @@ def program(text):
     return [os.path.abspath(found), *absolute]
 
 
-def command_line():
+def command_line() -> argparse.ArgumentParser:
     parser = argparse.ArgumentParser(
         description="Runs a program over the cases of this folder, and prints what differs.",
         epilog="Exit status: 0 all passed, 1 not all, 2 a mistake on the command line.",
@@ -94,12 +104,12 @@ def command_line():
     return parser
 
 
-def said(found, time):
+def said(found: Answer | None, time: float) -> str:
     """What is printed of an answer."""
-    return f"no answer in {time:g} s" if found is None else found
+    return f"no answer in {time:g} s" if found is None else str(found)
 
 
-def main():
+def main() -> None:
     parser = command_line()
     asked = parser.parse_intermixed_args()
     if unknown := sorted(set(asked.cases) - set(names())):

@@ -8,90 +8,116 @@ use Rattle.clap.specs.declared.error.Error.{Error}
 use Rattle.clap.specs.declared.error.kind.ErrorKind.{ErrorKind}
 use Rattle.clap.specs.declared.error.kind.ErrorKind.TheVariants.{DisplayHelp, DisplayVersion}
 use Rattle.clap.specs.declared.error.kind.ErrorKind.TheVariants.{OutOfMemory}
-use Rattle.station_check.specs.RunEndings.{Run, WritesOrFails}
-use Rattle.station_check.specs.Runs.{IsCheckRun, IsListRun, IsMeansRun, IsWordsRun}
+use Rattle.station_check.specs.ListNotes.{unchecked_note}
+use Rattle.station_check.specs.RunEndings.{Run, RunWithNotes, WritesOrFails}
+use Rattle.station_check.specs.Runs.{IsCheckRun, IsMeansRun, IsNotedListRun, IsWordsRun}
 use Rattle.station_check.specs.VerdictLines.{refusal_line}
 use Rattle.station_check.specs.declared.fault.Fault.TheVariants.{Memory}
 use Rattle.station_compare.specs.FaultTexts.{refusal_line as compare_refusal_line}
 use Rattle.station_compare.specs.Runs.{IsCompareRun, IsDirectionsRun}
 use Rattle.station_explain.specs.Explaining.{IsExplainRun}
 use Rattle.station_explain.specs.declared.explanations.Explanation.{Explanation}
+use Rattle.station_mark.specs.FaultTexts.{refusal_line as mark_refusal_line}
+use Rattle.station_mark.specs.Notes.{notes_of}
+use Rattle.station_mark.specs.Runs.{IsMarkRun}
 use Rattle.station_program.specs.CommandLine.{Asked, IsAskedForBy, IsMistakeIn}
 use Rattle.station_program.specs.Hosts.{Known, Readers, IsAsKnown, IsUnread, IsTakenIn}
 use Rattle.station_program.specs.Hosts.{change_of}
 use Rattle.station_program.specs.Unopened.{unopened_line}
+use Rattle.station_program.specs.declared.command_line.Digests.TheVariants as digests
 use Rattle.station_program.specs.declared.command_line.Request.{Request}
 use Rattle.station_program.specs.declared.command_line.Request.TheVariants as request
 use Rattle.station_program.specs.declared.host.NoWords.{NoWords}
 use Rattle.station_program.specs.declared.host.NoWords.TheVariants as no_words
 use Rattle.station_program.specs.declared.run.TheConstants.{NOT_TEXT}
+use Rattle.station_record.specs.Recorded.{IsRecordedCheck, IsRecordedCompare}
+use Rattle.station_record.specs.declared.named.NamedReader.{NamedReader}
 
 -- A request whose files are open was answered with this exit status: by a run of its own kind, over
 -- its own files, or over standard input where it names none, with its limits, its residual limit,
 -- its station, its decimals, its nearness or its fault; and this is what the run made of the two
--- sinks.
+-- sinks. The run is recorded, under the names of the files, exactly where digests are asked for.
 abbrev pub IsRun : {F I : Type 0} → Readers F → Readers I → I → List (Bor (List Explanation))
-    → WriterChange → WriterChange → Request F → ℕ → Type 0
-IsRun {F} files inputs input faults out err (request.Check gsi sheet limits residual) status =
-    (sheet' : F) × IsTakenIn files gsi (λ gsi. Run {A = ⊤} refusal_line
-    (IsCheckRun limits residual gsi (change_of files sheet sheet')) status out err)
+    → WriterChange → WriterChange → Request (NamedReader F) → ℕ → Type 0
+IsRun {F} files inputs input faults out err
+    (request.Check gsi sheet limits residual digests.Omitted) status =
+    (sheet' : F) × IsTakenIn files gsi.reader (λ gsi. Run {A = ⊤} refusal_line
+    (IsCheckRun limits residual gsi (change_of files sheet.reader sheet')) status out err)
+IsRun files inputs input faults out err
+    (request.Check gsi sheet limits residual digests.Printed) status =
+    IsTakenIn files gsi.reader (λ gsi_change. IsTakenIn files sheet.reader (λ sheet_change.
+    Run {A = ⊤} refusal_line (IsRecordedCheck limits residual
+    gsi_change gsi.name.now sheet_change sheet.name.now) status out err))
 IsRun files inputs input faults out err (request.Means gsi station limits) status =
-    IsTakenIn files gsi (λ gsi. Run {A = ⊤} refusal_line
+    IsTakenIn files gsi.reader (λ gsi. Run {A = ⊤} refusal_line
     (IsMeansRun limits gsi station.now) status out err)
 IsRun files inputs input faults out err (request.Directions gsi station limits decimals) status =
-    IsTakenIn files gsi (λ gsi. Run {A = ⊤} compare_refusal_line
+    IsTakenIn files gsi.reader (λ gsi. Run {A = ⊤} compare_refusal_line
     (IsDirectionsRun limits gsi station.now decimals) status out err)
-IsRun {F} files inputs input faults out err (request.Compare gsi station table limits within)
-    status =
-    (table' : F) × IsTakenIn files gsi (λ gsi. Run {A = ⊤} compare_refusal_line
-    (IsCompareRun limits within gsi (change_of files table table') station.now) status out err)
+IsRun {F} files inputs input faults out err
+    (request.Compare gsi station table limits within digests.Omitted) status =
+    (table' : F) × IsTakenIn files gsi.reader (λ gsi. Run {A = ⊤} compare_refusal_line
+    (IsCompareRun limits within gsi (change_of files table.reader table') station.now)
+    status out err)
+IsRun files inputs input faults out err
+    (request.Compare gsi station table limits within digests.Printed) status =
+    IsTakenIn files gsi.reader (λ gsi_change. IsTakenIn files table.reader (λ table_change.
+    Run {A = ⊤} compare_refusal_line (IsRecordedCompare limits within station.now
+    gsi_change gsi.name.now table_change table.name.now) status out err))
+IsRun files inputs input faults out err (request.Mark gsi station) status =
+    IsTakenIn files gsi.reader (λ gsi. RunWithNotes notes_of mark_refusal_line
+    (IsMarkRun station gsi) status out err)
 IsRun files inputs input faults out err (request.List gsi limits) status =
-    IsTakenIn files gsi (λ gsi. Run {A = ⊤} refusal_line (IsListRun limits gsi) status out err)
+    IsTakenIn files gsi.reader (λ gsi. RunWithNotes unchecked_note refusal_line
+    (IsNotedListRun limits gsi) status out err)
 IsRun files inputs input faults out err (request.Words gsi) status =
-    IsTakenIn files gsi (λ gsi. Run refusal_line (IsWordsRun gsi) status out err)
+    IsTakenIn files gsi.reader (λ gsi. Run refusal_line (IsWordsRun gsi) status out err)
 IsRun files inputs input faults out err request.WordsOfInput status =
     IsTakenIn inputs input (λ gsi. Run refusal_line (IsWordsRun gsi) status out err)
 IsRun files inputs input faults out err (request.Explain fault) status =
     Run {A = ⊤} refusal_line (IsExplainRun faults (option_map (λ e. e.now) fault)) status out err
 
--- The files of a request were opened, each the one of its path, and all else of it is as it was
--- asked for. `known` is what is known of the file of a path.
-abbrev pub IsOpened : {F : Type 0} → Readers F → (List ℕ → Option Told) → Asked → Request F
-    → Type 0
-IsOpened files known (request.Check gsi sheet limits residual)
-    (request.Check field_file stated limits' residual') =
-    IsUnread files (known gsi.now) field_file
-    × IsUnread files (known sheet.now) stated
-    × (limits' ≡ limits) × (residual' ≡ residual)
+-- The files of a request were opened, each the one of its path, which is its name, and all else of
+-- it is as it was asked for. `known` is what is known of the file of a path.
+abbrev pub IsOpened : {F : Type 0} → Readers F → (List ℕ → Option Told) → Asked
+    → Request (NamedReader F) → Type 0
+IsOpened files known (request.Check gsi sheet limits residual digests)
+    (request.Check field_file stated limits' residual' digests') =
+    IsUnread files known gsi.now field_file
+    × IsUnread files known sheet.now stated
+    × (limits' ≡ limits) × (residual' ≡ residual) × (digests' ≡ digests)
 IsOpened files known (request.Means gsi station limits)
     (request.Means field_file station' limits') =
-    IsUnread files (known gsi.now) field_file
+    IsUnread files known gsi.now field_file
     × (station'.now ≡ station.now) × (limits' ≡ limits)
 IsOpened files known (request.Directions gsi station limits decimals)
     (request.Directions field_file station' limits' decimals') =
-    IsUnread files (known gsi.now) field_file
+    IsUnread files known gsi.now field_file
     × (station'.now ≡ station.now) × (limits' ≡ limits) × (decimals' ≡ decimals)
-IsOpened files known (request.Compare gsi station table limits within)
-    (request.Compare field_file station' stated limits' within') =
-    IsUnread files (known gsi.now) field_file
+IsOpened files known (request.Compare gsi station table limits within digests)
+    (request.Compare field_file station' stated limits' within' digests') =
+    IsUnread files known gsi.now field_file
     × (station'.now ≡ station.now)
-    × IsUnread files (known table.now) stated
-    × (limits' ≡ limits) × (within' ≡ within)
+    × IsUnread files known table.now stated
+    × (limits' ≡ limits) × (within' ≡ within) × (digests' ≡ digests)
+IsOpened files known (request.Mark gsi station) (request.Mark field_file station') =
+    IsUnread files known gsi.now field_file × (station' ≡ station)
 IsOpened files known (request.List gsi limits) (request.List field_file limits') =
-    IsUnread files (known gsi.now) field_file × (limits' ≡ limits)
+    IsUnread files known gsi.now field_file × (limits' ≡ limits)
 IsOpened files known (request.Words gsi) (request.Words field_file) =
-    IsUnread files (known gsi.now) field_file
+    IsUnread files known gsi.now field_file
 IsOpened files known request.WordsOfInput request.WordsOfInput = ⊤
 IsOpened files known (request.Explain fault) (request.Explain fault') = fault' ≡ fault
 IsOpened files known asked other = ⊥
 
 -- A request names a file by this path.
 abbrev pub NamesFile : Asked → List ℕ → Type 0
-NamesFile (request.Check gsi sheet limits residual) path = (path ≡ gsi.now) ⊎ (path ≡ sheet.now)
+NamesFile (request.Check gsi sheet limits residual digests) path = (path ≡ gsi.now) ⊎ (path ≡ sheet.now)
 NamesFile (request.Means gsi station limits) path = path ≡ gsi.now
 NamesFile (request.Directions gsi station limits decimals) path = path ≡ gsi.now
-NamesFile (request.Compare gsi station table limits within) path =
+NamesFile (request.Compare gsi station table limits within digests) path =
     (path ≡ gsi.now) ⊎ (path ≡ table.now)
+NamesFile (request.Mark gsi station) path = path ≡ gsi.now
 NamesFile (request.List gsi limits) path = path ≡ gsi.now
 NamesFile (request.Words gsi) path = path ≡ gsi.now
 NamesFile request.WordsOfInput path = ⊥
@@ -102,7 +128,7 @@ NamesFile (request.Explain fault) path = ⊥
 pub record IsAnswered {F I : Type 0} (host : Known F I)
     (faults : List (Bor (List Explanation))) (out err : WriterChange) (asked : Asked)
     (status : ℕ) : Type 0 where
-  pub opened : Request F
+  pub opened : Request (NamedReader F)
   pub of_files : IsOpened host.files host.file asked opened
   pub run : IsRun host.files host.inputs host.input faults out err opened status
 

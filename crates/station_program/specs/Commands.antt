@@ -4,7 +4,7 @@ use Rattle.std.specs.Prelude.{◌∷◌, [], ℕ, pos, true, false, List, Some, 
 use Rattle.clap.specs.Lexer.{usize_max}
 use Rattle.clap.specs.Simple.{new_shape}
 use Rattle.clap.specs.Words.{App, Rule, Shape, Text, new_rule}
-use Rattle.clap.specs.declared.builder.action.ArgAction.TheVariants.{Set, Append}
+use Rattle.clap.specs.declared.builder.action.ArgAction.TheVariants.{Set, SetTrue, Append}
 use Rattle.clap.specs.declared.builder.value_parser.ValueParser.TheVariants.{Signed}
 use Rattle.adjust_kernel.specs.declared.bounds.TheConstants.{LARGEST_RESIDUAL_LIMIT}
 use Rattle.station_book.specs.declared.limits.TheConstants.{LARGEST_LIMIT}
@@ -51,6 +51,21 @@ within_rule = usual_rule (codes "within") 0 1_000_000 (codes "10")
 abbrev pub decimals_rule : Rule
 decimals_rule = usual_rule (codes "decimals") 1 8 (codes "6")
 
+-- The flag `--sha256`: digests are printed.
+abbrev pub digests_rule : Rule
+digests_rule = record (new_rule (codes "sha256")) {
+  long = Some (codes "sha256");
+  action = Some SetTrue;
+}
+
+-- The option `--station NAME`, which may be left out: the name of the file's one station.
+abbrev pub stated_name_rule : Rule
+stated_name_rule = record (new_rule (codes "station")) {
+  long = Some (codes "station");
+  action = Some Set;
+  value_names = 1;
+}
+
 -- The path of the field file.
 abbrev pub field_file_rule : Rule
 field_file_rule = given_rule (codes "GSI")
@@ -78,7 +93,7 @@ alone s = record { top = s; subs = [] }
 abbrev pub compare_words : Shape
 compare_words = command (codes "compare")
     (field_file_rule ∷ station_rule ∷ given_rule (codes "TABLE")
-    ∷ two_c_rule ∷ two_i_rule ∷ within_rule ∷ [])
+    ∷ two_c_rule ∷ two_i_rule ∷ within_rule ∷ digests_rule ∷ [])
 
 -- `directions GSI STATION`
 abbrev pub directions_words : Shape
@@ -88,12 +103,17 @@ directions_words = command (codes "directions")
 -- `check GSI SHEET`
 abbrev pub check_words : Shape
 check_words = command (codes "check")
-    (field_file_rule ∷ given_rule (codes "SHEET") ∷ two_c_rule ∷ two_i_rule ∷ residual_rule ∷ [])
+    (field_file_rule ∷ given_rule (codes "SHEET")
+    ∷ two_c_rule ∷ two_i_rule ∷ residual_rule ∷ digests_rule ∷ [])
 
 -- `means GSI STATION`
 abbrev pub means_words : Shape
 means_words =
     command (codes "means") (field_file_rule ∷ station_rule ∷ two_c_rule ∷ two_i_rule ∷ [])
+
+-- `mark GSI`
+abbrev pub mark_words : Shape
+mark_words = command (codes "mark") (field_file_rule ∷ stated_name_rule ∷ [])
 
 -- `list GSI`
 abbrev pub list_words : Shape
@@ -115,6 +135,6 @@ the_program = record {
     has_version = true;
     propagate_version = true;
   };
-  subs = compare_words ∷ directions_words ∷ check_words ∷ means_words ∷ list_words ∷ words_words
-      ∷ explain_words ∷ [];
+  subs = compare_words ∷ directions_words ∷ check_words ∷ means_words ∷ mark_words ∷ list_words
+      ∷ words_words ∷ explain_words ∷ [];
 }

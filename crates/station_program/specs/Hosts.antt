@@ -3,6 +3,7 @@ use Rattle.std.specs.Prelude.{◌≡◌, ℕ, Bool, false, List, Option, IfSome}
 use Rattle.byte_ends.specs.Source.{Told, ReaderChange, UntilDropped, reader_change}
 use Rattle.clap.specs.Words.{Text}
 use Rattle.station_program.specs.declared.host.NoWords.{NoWords}
+use Rattle.station_record.specs.declared.named.NamedReader.{NamedReader}
 
 -- What was given is what is known of it, where that is known.
 abbrev pub IsAsKnown : {A : Type 0} → Option A → A → Type 0
@@ -53,7 +54,10 @@ known_of words may_lack files file may_not_open inputs input = record {
   input = input;
 }
 
--- A reader as it is when it is opened: it tells what is known of it, and no read of it has failed.
-pub record IsUnread {R : Type 0} (seen : Readers R) (known : Option Told) (reader : R) : Type 0 where
-  pub tells : seen.told reader ≡ known
-  pub unfailed : seen.failed reader ≡ false
+-- The file of a path, as it is when it is opened: it has the path for its name, its reader tells
+-- what is known of the path, and no read of it has failed.
+pub record IsUnread {R : Type 0} (seen : Readers R) (known : List ℕ → Option Told) (path : List ℕ)
+    (file : NamedReader R) : Type 0 where
+  pub named : file.name.now ≡ path
+  pub tells : seen.told file.reader ≡ known path
+  pub unfailed : seen.failed file.reader ≡ false

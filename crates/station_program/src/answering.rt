@@ -3,15 +3,17 @@
 ghost use Rattle.std.specs.Prelude.{◌≡◌, ◌≤◌, IfOk, IfErr, OnErr, true, false};
 ghost use Rattle.byte_ends.specs.Sink.{writer_change};
 ghost use Rattle.station_program.specs.Answering.{IsAnswered, IsOpened, IsRun, NamesFile};
-ghost use Rattle.station_program.specs.Hosts.{known_of, readers};
+ghost use Rattle.station_program.specs.Hosts.{IsUnread, known_of, readers};
 
-use crate::command_line::Request;
+use crate::command_line::{Digests, Request};
 use crate::host::Host;
 use crate::unopened::Unopened;
 use byte_ends::{Failed, Sink, Source};
 use station_check::{run_check, run_list, run_means, run_words};
 use station_compare::{run_compare, run_directions};
 use station_explain::{Explanation, run_explain};
+use station_mark::run_mark;
+use station_record::{NamedReader, run_check_recorded, run_compare_recorded};
 use std::alloc::Global;
 
 /// The exit status of a request. All its files are opened before any is read, the field file first.
@@ -44,7 +46,7 @@ pub fn answer<'a, H: Host, W: Sink, E: Sink>(
 fn open_files<'a, H: Host>(
     host: &H,
     request: &Request<'a, &'a str>,
-) -> Result<Request<'a, H::File>, Unopened<'a>>
+) -> Result<Request<'a, NamedReader<'a, H::File>>, Unopened<'a>>
     ensures opened { IfOk result
         (IsOpened (readers H.File.told H.File.failed H.File.gave) (H.known_file host.now)
         request.now) }
@@ -57,11 +59,13 @@ fn open_files<'a, H: Host>(
             sheet,
             limits,
             residual,
+            digests,
         } => Request::Check {
             gsi: open(host, gsi)?,
             sheet: open(host, sheet)?,
             limits,
             residual,
+            digests,
         },
         Request::Means {
             gsi,
@@ -89,12 +93,18 @@ fn open_files<'a, H: Host>(
             table,
             limits,
             within,
+            digests,
         } => Request::Compare {
             gsi: open(host, gsi)?,
             station,
             table: open(host, table)?,
             limits,
             within,
+            digests,
+        },
+        Request::Mark { gsi, station } => Request::Mark {
+            gsi: open(host, gsi)?,
+            station,
         },
         Request::List { gsi, limits } => Request::List {
             gsi: open(host, gsi)?,
@@ -111,14 +121,18 @@ fn open_files<'a, H: Host>(
     })
 }
 
-fn open<'a, H: Host>(host: &H, path: &'a str) -> Result<H::File, Unopened<'a>>
-    ensures known { IfOk result (λ file. H.File.told file ≡ H.known_file host.now path.now) }
-    ensures unfailed { IfOk result (λ file. H.File.failed file ≡ false) }
+/// The file of a path, which has the path for its name.
+fn open<'a, H: Host>(host: &H, path: &'a str) -> Result<NamedReader<'a, H::File>, Unopened<'a>>
+    ensures opened { IfOk result (IsUnread (readers H.File.told H.File.failed H.File.gave)
+        (H.known_file host.now) path.now) }
     ensures unopened { IfErr result (λ unopened. unopened.path.now ≡ path.now) }
     ensures fails { OnErr result (H.may_not_open host.now path.now ≡ true) }
 {
     match host.open(path) {
-        Ok(file) => Ok(file),
+        Ok(reader) => Ok(NamedReader {
+            name: path.as_bytes(),
+            reader,
+        }),
         Err(Failed) => Err(Unopened { path }),
     }
 }
@@ -129,7 +143,7 @@ fn run_request<F: Source, I: Source, W: Sink, E: Sink>(
     alloc: Global,
     input: I,
     faults: &[&'static [Explanation]],
-    request: Request<'_, F>,
+    request: Request<'_, NamedReader<'_, F>>,
     out: &mut W,
     err: &mut E,
 ) -> u8
@@ -145,36 +159,79 @@ fn run_request<F: Source, I: Source, W: Sink, E: Sink>(
             mut sheet,
             limits,
             residual,
-        } => run_check(alloc, gsi, &mut sheet, limits, residual, out, err),
+            digests: Digests::Omitted,
+        } => run_check(
+            alloc,
+            gsi.reader,
+            &mut sheet.reader,
+            limits,
+            residual,
+            out,
+            err,
+        ),
+        Request::Check {
+            gsi,
+            sheet,
+            limits,
+            residual,
+            digests: Digests::Printed,
+        } => run_check_recorded(alloc, gsi, sheet, limits, residual, out, err),
         Request::Means {
             gsi,
             station,
             limits,
-        } => run_means(alloc, gsi, station.as_bytes(), limits, out, err),
+        } => run_means(alloc, gsi.reader, station.as_bytes(), limits, out, err),
         Request::Directions {
             gsi,
             station,
             limits,
             decimals,
-        } => run_directions(alloc, gsi, station.as_bytes(), limits, decimals, out, err),
+        } => run_directions(
+            alloc,
+            gsi.reader,
+            station.as_bytes(),
+            limits,
+            decimals,
+            out,
+            err,
+        ),
         Request::Compare {
             gsi,
             station,
             mut table,
             limits,
             within,
+            digests: Digests::Omitted,
         } => run_compare(
             alloc,
-            gsi,
-            &mut table,
+            gsi.reader,
+            &mut table.reader,
             station.as_bytes(),
             limits,
             within,
             out,
             err,
         ),
-        Request::List { gsi, limits } => run_list(alloc, gsi, limits, out, err),
-        Request::Words { gsi } => run_words(alloc, gsi, out, err),
+        Request::Compare {
+            gsi,
+            station,
+            table,
+            limits,
+            within,
+            digests: Digests::Printed,
+        } => run_compare_recorded(
+            alloc,
+            gsi,
+            table,
+            station.as_bytes(),
+            limits,
+            within,
+            out,
+            err,
+        ),
+        Request::Mark { gsi, station } => run_mark(alloc, gsi.reader, station, out, err),
+        Request::List { gsi, limits } => run_list(alloc, gsi.reader, limits, out, err),
+        Request::Words { gsi } => run_words(alloc, gsi.reader, out, err),
         Request::WordsOfInput => run_words(alloc, input, out, err),
         Request::Explain { fault } => run_explain(alloc, faults, fault, out, err),
     }

@@ -11,15 +11,17 @@ ghost use Rattle.station_program.specs.Commands.{words_words, explain_words, giv
 ghost use Rattle.station_program.specs.Commands.{field_file_rule, station_rule, number_rule};
 ghost use Rattle.station_program.specs.Commands.{limit_rule, two_c_rule, two_i_rule, residual_rule};
 ghost use Rattle.station_program.specs.Commands.{within_rule, decimals_rule, fault_rule};
+ghost use Rattle.station_program.specs.Commands.{digests_rule, mark_words, stated_name_rule};
 ghost use Rattle.station_program.specs.CommandLine.{StatesLimits, StatesNumber, StatesResidual};
 ghost use Rattle.station_program.specs.CommandLine.{StatesNoLimits, StatesNoNumber};
-ghost use Rattle.station_program.specs.CommandLine.{StatesNoResidual};
+ghost use Rattle.station_program.specs.CommandLine.{StatesNoResidual, StatesDigests};
+ghost use Rattle.station_program.specs.CommandLine.{StatesName, StatesNoName};
 ghost use Rattle.station_program.specs.CommandLine.{IsAskedFor, IsGiven, IsMissing, IsAskedForBy};
 ghost use Rattle.station_program.specs.CommandLine.{IsMistakeIn};
 ghost use Rattle.station_program.specs.CommandLine.{AsksToExplain, IsMistakenName, LacksNeed};
 
 use crate::help;
-use adjust_kernel::{LARGEST_RESIDUAL_LIMIT, ResidualLimit};
+use adjust_kernel::{LARGEST_RESIDUAL_LIMIT, Name, ResidualLimit};
 use clap::error::ErrorKind;
 use clap::{Arg, ArgAction, ArgMatches, Command, Error, value_parser};
 use direction_table::{Decimals, MOST_WRITTEN};
@@ -49,6 +51,10 @@ const WITHIN: &str = "within";
 
 const DECIMALS: &str = "decimals";
 
+const SHA256: &str = "sha256";
+
+const STATED_NAME: &str = "station";
+
 /// The limit of a face difference that no option states, in units of 0.00001 gon.
 const USUAL_LIMIT: &str = "2000";
 
@@ -61,6 +67,17 @@ const LARGEST_WITHIN: u32 = 1_000_000;
 /// How many decimals a direction is written with where no option states it.
 const USUAL_DECIMALS: &str = "6";
 
+/// Whether the digests of the two files that were judged are printed.
+#[derive(Clone, Copy, Debug, PartialEq, Eq)]
+pub enum Digests {
+    /// None is.
+    Omitted,
+
+    /// After the line of an acceptance or an agreement stands one line a file, as `sha256sum` prints
+    /// it.
+    Printed,
+}
+
 /// What the program is asked to do with files of type `F`: their paths, or the files once they are
 /// open.
 #[derive(Debug, Drop)]
@@ -71,6 +88,7 @@ pub enum Request<'a, F> {
         sheet: F,
         limits: Limits,
         residual: Option<ResidualLimit>,
+        digests: Digests,
     },
 
     /// Prints the sheet of means of a station of a field file.
@@ -96,6 +114,14 @@ pub enum Request<'a, F> {
         table: F,
         limits: Limits,
         within: u32,
+        digests: Digests,
+    },
+
+    /// Prints a copy of a field file with codes put in. The name is that of the file's one station,
+    /// where its lines set none up.
+    Mark {
+        gsi: F,
+        station: Option<Name>,
     },
 
     /// Lists the stations of a field file.
@@ -139,11 +165,8 @@ pub fn asked_for<'a>(
     }
     match request_of(&matches) {
         Some(request) => Ok(request),
-        // The parse has tested what is missing here, so this is not met.
-        None => Err(program.error(
-            ErrorKind::ValueValidation,
-            "an argument is missing or out of its range",
-        )?),
+        // The parse has tested all but the name that is stated to 'mark'.
+        None => Err(program.error(ErrorKind::ValueValidation, help::NO_NAME)?),
     }
 }
 
@@ -161,6 +184,7 @@ fn program<'a>(alloc: Global) -> Result<Command<'a>, Error>
         .subcommand(directions_command(alloc)?)?
         .subcommand(check_command(alloc)?)?
         .subcommand(means_command(alloc)?)?
+        .subcommand(mark_command(alloc)?)?
         .subcommand(list_command(alloc)?)?
         .subcommand(words_command(alloc)?)?
         .subcommand(explain_command(alloc)?)?;
@@ -179,7 +203,7 @@ fn compare_command<'a>(alloc: Global) -> Result<Command<'a>, Error>
         .arg(station_name(alloc))?
         .arg(given(alloc, TABLE).help("The table of directions, comma-separated text"))?;
     let command = with_limits(alloc, command)?;
-    Ok(command.arg(within(alloc))?)
+    Ok(command.arg(within(alloc))?.arg(digests_flag(alloc))?)
 }
 
 fn directions_command<'a>(alloc: Global) -> Result<Command<'a>, Error>
@@ -207,7 +231,11 @@ fn check_command<'a>(alloc: Global) -> Result<Command<'a>, Error>
         .arg(field_file(alloc))?
         .arg(given(alloc, SHEET).help("The sheet, comma-separated text"))?;
     let command = with_limits(alloc, command)?;
-    Ok(command.arg(residual_limit(alloc))?)
+    Ok(
+        command
+            .arg(residual_limit(alloc))?
+            .arg(digests_flag(alloc))?,
+    )
 }
 
 fn means_command<'a>(alloc: Global) -> Result<Command<'a>, Error>
@@ -221,6 +249,18 @@ fn means_command<'a>(alloc: Global) -> Result<Command<'a>, Error>
         .arg(field_file(alloc))?
         .arg(station_name(alloc))?;
     with_limits(alloc, command)
+}
+
+fn mark_command<'a>(alloc: Global) -> Result<Command<'a>, Error>
+    ensures words { IfOk result (λ command. app_of command ≡ alone mark_words) }
+    ensures memory { IfErr result (λ error. kind_of error ≡ ErrorKind.OutOfMemory) }
+{
+    let command = Command::new(alloc, "mark")
+        .about("Prints a copy of a job without codes, in which codes begin and end the sets")
+        .long_about(help::MARK_LONG_ABOUT)
+        .after_help(help::MARK_EXAMPLE)
+        .arg(field_file(alloc))?;
+    Ok(command.arg(stated_name(alloc))?)
 }
 
 fn list_command<'a>(alloc: Global) -> Result<Command<'a>, Error>
@@ -280,6 +320,18 @@ fn station_name<'a>(alloc: Global) -> Arg<'a>
     given(alloc, STATION).help("The name of the station")
 }
 
+/// The option with the name of the file's one station.
+fn stated_name<'a>(alloc: Global) -> Arg<'a>
+    ensures { rule_of result ≡ stated_name_rule }
+{
+    Arg::new(alloc, STATED_NAME)
+        .long(STATED_NAME)
+        .value_name("NAME")
+        .action(ArgAction::Set)
+        .help("The name of the station, of a file without set-up lines")
+        .long_help(help::STATION_LONG_HELP)
+}
+
 /// An argument that must be given.
 fn given<'a>(alloc: Global, name: &'a str) -> Arg<'a>
     ensures { rule_of result ≡ given_rule name.entry.now }
@@ -335,6 +387,16 @@ fn decimals<'a>(alloc: Global) -> Arg<'a>
         .long_help(help::DECIMALS_LONG_HELP)
 }
 
+fn digests_flag<'a>(alloc: Global) -> Arg<'a>
+    ensures { rule_of result ≡ digests_rule }
+{
+    Arg::new(alloc, SHA256)
+        .long(SHA256)
+        .action(ArgAction::SetTrue)
+        .help("Print the SHA-256 digests of both files after the line of the answer")
+        .long_help(help::SHA256_LONG_HELP)
+}
+
 /// An option with a number from a smallest up to a largest.
 fn number<'a>(alloc: Global, name: &'a str, smallest: u32, largest: u32) -> Arg<'a>
     ensures { rule_of result ≡ number_rule name.entry.now smallest largest }
@@ -357,11 +419,16 @@ fn request_of<'a>(matches: &ArgMatches<'a>) -> Option<Request<'a, &'a str>>
             sheet: found.get_str(SHEET)?,
             limits: limits_of(found)?,
             residual: residual_of(found)?,
+            digests: digests_of(found),
         }),
         Some(("means", found)) => Some(Request::Means {
             gsi: found.get_str(GSI)?,
             station: station_of(found)?,
             limits: limits_of(found)?,
+        }),
+        Some(("mark", found)) => Some(Request::Mark {
+            gsi: found.get_str(GSI)?,
+            station: stated_name_of(found)?,
         }),
         Some(("list", found)) => Some(Request::List {
             gsi: found.get_str(GSI)?,
@@ -382,6 +449,7 @@ fn request_of<'a>(matches: &ArgMatches<'a>) -> Option<Request<'a, &'a str>>
             table: found.get_str(TABLE)?,
             limits: limits_of(found)?,
             within: within_of(found)?,
+            digests: digests_of(found),
         }),
         Some(_) => None,
         None => Some(Request::WordsOfInput),
@@ -440,6 +508,18 @@ fn station_of<'a>(found: &ArgMatches<'a>) -> Option<&'a str>
     found.get_str(STATION)
 }
 
+/// The name that is stated of the file's one station, or that there is none, unless no station can
+/// have it.
+fn stated_name_of(found: &ArgMatches<'_>) -> Option<Option<Name>>
+    ensures stated { IfSome result (StatesName (found_of found.now)) }
+    ensures none { IfNone result (StatesNoName (found_of found.now)) }
+{
+    let Some(name) = found.get_str(STATED_NAME) else {
+        return Some(None);
+    };
+    Some(Some(Name::new(name.as_bytes())?))
+}
+
 /// The limits of face differences, unless one is missing or out of its range.
 fn limits_of(found: &ArgMatches<'_>) -> Option<Limits>
     ensures stated { IfSome result (StatesLimits (found_of found.now)) }
@@ -480,4 +560,14 @@ fn within_of(found: &ArgMatches<'_>) -> Option<u32>
         return None;
     }
     Some(within)
+}
+
+/// Whether digests are printed.
+fn digests_of(found: &ArgMatches<'_>) -> Digests
+    ensures { StatesDigests (found_of found.now) result }
+{
+    match found.get_one(SHA256) {
+        Some(true) => Digests::Printed,
+        _ => Digests::Omitted,
+    }
 }

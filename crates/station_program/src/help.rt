@@ -30,6 +30,7 @@ Examples:
   station_check directions field.gsi S1 > table.csv
   station_check check field.gsi sheet.csv
   station_check means field.gsi S1 > sheet.csv
+  station_check mark job.gsi > marked.gsi
   station_check list field.gsi
   station_check < field.gsi
   gunzip -c field.gsi.gz | station_check list /dev/stdin
@@ -129,6 +130,39 @@ Exit status:
 Example:
   station_check means field.gsi S1 > sheet.csv";
 
+pub const MARK_LONG_ABOUT: &str = "\
+Prints a copy of a field file that was recorded without codes 10, 20 and 30, with lines put in that
+have them: code 10 begins a station, 20 a set, 30 ends a set. Nothing else is changed. The other
+commands read the copy.
+
+A station begins at each set-up line, as instruments record one: a block that begins with the point
+number and has the word 84, 85, 86 or 88, and no direction. A file without set-up lines is one
+station, which --station names. A set begins where the first target is read again. Readings before
+the first set and after the last stay outside of the sets. What could be read in two ways is refused
+at a block, and then nothing is printed.
+
+What was found is told on standard error, a line a station: compare it with the field book.";
+
+pub const MARK_EXAMPLE: &str = "\
+Exit status:
+  0  the whole copy was written
+  1  refused: the first fault is named on standard error, and nothing was written, unless a write
+     failed
+  2  a mistake on the command line, or GSI cannot be opened
+
+Example:
+  station_check mark job.gsi > marked.gsi
+
+  note: station P7: 4 sets, 6 targets; 1 reading before them and 2 after stay outside
+  note: compare this with the field book";
+
+pub const STATION_LONG_HELP: &str = "\
+The name of the station, of a file without set-up lines: 1 to 16 characters of
+ASCII, from the blank to '~'. Zeros on the left are no part of it";
+
+pub const NO_NAME: &str = "\
+the name of a station has 1 to 16 characters of ASCII, from the blank to '~'";
+
 pub const LIST_LONG_ABOUT: &str = "\
 Lists the stations of a field file that have sets. Under each station stand its observations: the
 set, the target, the two-face direction p in half units (0.005 mgon), and the face differences in
@@ -200,3 +234,9 @@ How near the directions must be, in units of 0.001 mgon: 0 to 1000000. Rounding 
 pub const DECIMALS_LONG_HELP: &str = "\
 How many decimals of a gon a direction is written with: 1 to 8. The sixth is of
 0.001 mgon";
+
+pub const SHA256_LONG_HELP: &str = "\
+Print the SHA-256 digests of both files after the line of the answer. They are those of
+the bytes that were read and judged, each beside the path as it was given, as sha256sum
+prints them: 'sha256sum -c' tells later whether a file is still the same. At a refusal
+none is printed";

@@ -13,4 +13,5 @@ returns-clause-words c =
     let limited =
     c.in_ok-command-2.ensures.limits
     ∙ ap (λ (a : App). with_rule (with_rule a two_c_rule) two_i_rule) sheeted in
-    adds_rule _ _ _ _ _ c.in_ok-arg-2.ensures limited c.residual_limit.ensures refl
+    let residual = adds_rule _ _ _ _ _ c.in_ok-arg-2.ensures limited c.residual_limit.ensures refl in
+    adds_rule _ _ _ _ _ c.in_ok-arg-3.ensures residual c.digests_flag.ensures refl

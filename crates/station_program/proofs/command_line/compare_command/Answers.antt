@@ -14,4 +14,5 @@ returns-clause-words c =
     let limited =
     c.in_ok-command-2.ensures.limits
     ∙ ap (λ (a : App). with_rule (with_rule a two_c_rule) two_i_rule) tabled in
-    adds_rule _ _ _ _ _ c.in_ok-arg-3.ensures limited c.within.ensures refl
+    let near = adds_rule _ _ _ _ _ c.in_ok-arg-3.ensures limited c.within.ensures refl in
+    adds_rule _ _ _ _ _ c.in_ok-arg-4.ensures near c.digests_flag.ensures refl

@@ -13,6 +13,7 @@ returns-in_ok-residual_of-in-Some-check-default-clause-asked c = record {
   of_sheet = search rules;
   of_limits = search rules;
   of_residual = search rules;
+  of_digests = search rules;
 }
 
 pub returns-in_ok-limits_of-in-Some-means-default-clause-asked :
@@ -69,6 +70,17 @@ returns-in_ok-within_of-in-Some-compare-default-clause-asked c = record {
   of_table = search rules;
   of_limits = search rules;
   of_within = search rules;
+  of_digests = search rules;
+}
+
+pub returns-in_ok-stated_name_of-in-Some-mark-default-clause-asked :
+    goal.returns-in_ok-stated_name_of-in-Some-mark-default-clause-asked
+returns-in_ok-stated_name_of-in-Some-mark-default-clause-asked c = record {
+  found = found_of c.in-Some-mark-default.found.now;
+  met = meets c.args.matches.now (codes "mark") (found_of c.in-Some-mark-default.found.now)
+      (search rules) (search rules);
+  field_file = search rules;
+  of_station = search rules;
 }
 
 pub returns-in-None-clause-asked : goal.returns-in-None-clause-asked
@@ -221,6 +233,21 @@ returns-in_err-within_of-in-Some-compare-default-clause-none c =
     (search (rules, c.in-Some-compare-default.ensures.rows))
     (inr (inr (inr (inr (inr (inl (refl, inr (inr (inr (inr (search rules)))))))))))
 
+pub returns-in_err-get_str-in-Some-mark-default-clause-none :
+    goal.returns-in_err-get_str-in-Some-mark-default-clause-none
+returns-in_err-get_str-in-Some-mark-default-clause-none c =
+    lacks_need c.from_residual-in_err-get_str-in-Some-mark-default.result c.args.matches.now
+    (codes "mark") (found_of c.in-Some-mark-default.found.now) (search rules) (search rules)
+    (inr (inr (inr (inr (inr (inr (inl (refl, inl (search rules)))))))))
+
+pub returns-in_err-stated_name_of-in-Some-mark-default-clause-none :
+    goal.returns-in_err-stated_name_of-in-Some-mark-default-clause-none
+returns-in_err-stated_name_of-in-Some-mark-default-clause-none c =
+    lacks_need c.from_residual-in_err-stated_name_of-in-Some-mark-default.result
+    c.args.matches.now (codes "mark") (found_of c.in-Some-mark-default.found.now) (search rules)
+    (search rules)
+    (inr (inr (inr (inr (inr (inr (inl (refl, inr (search rules)))))))))
+
 pub returns-in-Some-clause-none : goal.returns-in-Some-clause-none
 returns-in-Some-clause-none c =
     let met = meets c.args.matches.now c.in-Some.field-0.0.now (found_of c.in-Some.field-0.1.now)
@@ -230,6 +257,7 @@ returns-in-Some-clause-none c =
       met = met;
       lacks = inr (inr
           (inr (inr (inr
+          (inr
           (inr (
             search rules,
             search rules,
@@ -237,5 +265,6 @@ returns-in-Some-clause-none c =
             search rules,
             search rules,
             search rules,
-          ))))));
+            search rules,
+          )))))));
     }
