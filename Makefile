@@ -15,14 +15,20 @@ TABLE := examples/station_s1_directions.csv
 SOURCES := $(shell find crates \( -name out -o -name '*_tests' -o -name must-fail \) -prune \
   -o -type f \( -name '*.rt' -o -name '*.antt' \) -print)
 
-# The manual page and the completions.
-SHARED := $(sort $(shell find share -type f))
+# The manual page and the completions, below packaging/.
+SHARED := $(sort $(shell cd packaging && find share -type f))
 
-# The documents and the examples, as they lie in the repository, so that their links hold; those to crates/ and
-# conformance/ lead to the sources, which are not installed.
+# The documents and the examples, as they lie in the repository, so that their links hold; those to
+# sources, which are not installed, become plain text.
 DOCUMENTS := README.md CHANGELOG.md $(sort $(wildcard docs/*.md docs/*.png)) \
   $(sort $(wildcard examples/*.md examples/*.gsi examples/*.csv examples/*.txt examples/*.svg examples/*.py))
 DOCUMENT_FOLDER := share/doc/station_check
+UNLINKED = sed -E 's/\[([^][]*)\]\((\.\.\/)*((crates|conformance|page|tests)\/[^)]*|HANDLES)\)/\1/g'
+
+# The scripts of examples/ that an office uses, on the path under names of their own.
+TOOLS := adjust check_folder prepare residuals
+TOOL_FILES := $(sort $(notdir $(wildcard examples/*.py)))
+TOOL_FOLDER := share/station_check
 
 # Where `make dist` puts what it makes.
 DIST ?= build/dist
@@ -78,7 +84,7 @@ run: $(PROGRAM)
 # Makes the page that checks in a browser, one file, of the proved calls.
 page: $(PAGE)
 
-$(PAGE): $(PROVED)/station_compare $(PROVED)/station_explain $(SOURCES) \
+$(PAGE): $(PROVED)/station_compare $(PROVED)/station_mark $(PROVED)/station_explain $(SOURCES) \
   $(wildcard page/*.py page/*.js page/*.css) page/heap.c page/station_check.html
 	@$(NEED_TOOLCHAIN)
 	@RT='$(RT)' $(PYTHON) page/build.py $@
@@ -101,21 +107,35 @@ check:
 bench: $(PROGRAM)
 	@$(PYTHON) bench/bench.py $(BENCH)
 
-# Copies the proved program to $(PREFIX)/bin, its manual page and completions to $(PREFIX)/share, as they lie in
-# share/, and documents and examples to $(PREFIX)/share/doc. After a build it needs no toolchain.
+# Copies the proved program to $(PREFIX)/bin, its manual pages and completions to $(PREFIX)/share, as they lie in
+# packaging/share, and documents and examples to $(PREFIX)/share/doc. The tools are links to scripts of their
+# own, so that they work where documents are left out. After a build it needs no toolchain.
 install: $(PROGRAM)
 	install -d '$(DESTDIR)$(PREFIX)/bin'
 	install -m 755 $(PROGRAM) '$(DESTDIR)$(PREFIX)/bin/station_check'
-	@put() { install -d "$$(dirname "$$2")" && install -m 644 "$$1" "$$2"; }; \
-	for file in $(SHARED); do put "$$file" "$(DESTDIR)$(PREFIX)/$$file" || exit 1; done; \
-	for file in $(DOCUMENTS); do put "$$file" "$(DESTDIR)$(PREFIX)/$(DOCUMENT_FOLDER)/$$file" || exit 1; done
+	@put() { install -d "$$(dirname "$$3")" && install -m "$$1" "$$2" "$$3"; }; \
+	for file in $(SHARED); do put 644 "packaging/$$file" "$(DESTDIR)$(PREFIX)/$$file" || exit 1; done; \
+	for file in $(TOOL_FILES); do \
+	  case $$(head -n 1 "examples/$$file") in '#!'*) mode=755 ;; *) mode=644 ;; esac; \
+	  put $$mode "examples/$$file" "$(DESTDIR)$(PREFIX)/$(TOOL_FOLDER)/$$file" || exit 1; \
+	done; \
+	for tool in $(TOOLS); do \
+	  ln -sf "../$(TOOL_FOLDER)/$$tool.py" "$(DESTDIR)$(PREFIX)/bin/station_check_$${tool#check_}" || exit 1; \
+	done; \
+	for file in $(DOCUMENTS); do \
+	  copy="$(DESTDIR)$(PREFIX)/$(DOCUMENT_FOLDER)/$$file"; \
+	  put 644 "$$file" "$$copy" || exit 1; \
+	  case $$file in *.md) $(UNLINKED) "$$file" > "$$copy" || exit 1 ;; esac; \
+	done
 
-# Removes what `make install` put there, and the folders of the documents where nothing else is left in them.
+# Removes what `make install` put there, and its own folders where nothing else is left in them.
 uninstall:
 	rm -f '$(DESTDIR)$(PREFIX)/bin/station_check' $(SHARED:%='$(DESTDIR)$(PREFIX)/%')
+	rm -f $(foreach tool,$(TOOLS:check_%=%),'$(DESTDIR)$(PREFIX)/bin/station_check_$(tool)')
+	rm -rf $(TOOL_FILES:%='$(DESTDIR)$(PREFIX)/$(TOOL_FOLDER)/%') '$(DESTDIR)$(PREFIX)/$(TOOL_FOLDER)/__pycache__'
 	rm -f $(DOCUMENTS:%='$(DESTDIR)$(PREFIX)/$(DOCUMENT_FOLDER)/%')
-	@for folder in docs examples ''; do \
-	  rmdir "$(DESTDIR)$(PREFIX)/$(DOCUMENT_FOLDER)/$$folder" 2> /dev/null || true; \
+	@for folder in $(DOCUMENT_FOLDER)/docs $(DOCUMENT_FOLDER)/examples $(DOCUMENT_FOLDER) $(TOOL_FOLDER); do \
+	  rmdir "$(DESTDIR)$(PREFIX)/$$folder" 2> /dev/null || true; \
 	done
 
 # An archive of what is installed, a Debian package where dpkg-deb is found, the page where it was made, and their
@@ -126,17 +146,39 @@ dist: $(PROGRAM)
 clean:
 	rm -rf crates/*/out build
 
-# Proves a crate over those that it stands on. What the proof says stays in out/build.log, also where
-# a later run finds the crate proved and so says nothing. A failed proof is a failed build.
+# Proves a crate over those that it stands on. A failed proof is a failed build. What the proof says
+# stays in out/build.log, also where a later run finds the crate proved and so says nothing; where the
+# log is lost or older than the sources, since a run was cut off or the crate was proved by hand,
+# `rt check` says it again.
+#
+# `rt` works in one crate at a time of all that stand on the same library, since it keeps others out of
+# the folders of both. So a crate is proved in a room of its own: its sources and those of the crates
+# below it, with their libraries, as links. What it leaves goes back to the crate's folder; what a run
+# that was cut off left there goes back when the next one begins. The stamp has the time at which the
+# room was made, so that a source that changes during its proof is proved again.
+ROOM = build/rooms/$*
+LOG = crates/$*/out/build.log
+
 $(CRATES:%=$(PROVED)/%): $(PROVED)/%: crates.txt HANDLES | $(PROVED)
 	@$(NEED_TOOLCHAIN)
-	@mkdir -p crates/$*/out
 	@rm -f $@ $(foreach crate,$(CRATES),$(if $(filter $*,$(under_$(crate))),$(PROVED)/$(crate)))
-	@cd crates/$* && log=out/build.log && \
-	{ $(RT) $(if $(filter $*,$(PROGRAM_CRATE)),run,lib) < /dev/null > $$log.new 2>&1 || { \
-	  $(call say,$* is NOT PROVED: crates/$*/$$log.new ends with) && tail -n 20 $$log.new >&2; exit 1; }; } && \
-	if [ -s $$log.new ]; then mv $$log.new $$log; else rm $$log.new; fi
-	@flock $(PROVED) sh -c 'touch $@ && $(call say,$* is proved$(comma) $$(ls $(PROVED) | wc -l) of $(words $(CRATES)))'
+	@if [ -d $(ROOM)/crates/$*/out ] && [ ! -d crates/$*/out ]; then mv $(ROOM)/crates/$*/out crates/$*; fi
+	@rm -rf $(ROOM) && mkdir -p $(ROOM)/crates crates/$*/out && cp HANDLES $(ROOM)
+	@sed -n '$(foreach crate,$* $(under_$*),/^$(crate)[ :]/p;)' crates.txt > $(ROOM)/crates.txt
+	@cp -rl $(foreach crate,$* $(under_$*),crates/$(crate)) $(ROOM)/crates
+	@rm -rf $(foreach crate,$(under_$*),$(ROOM)/crates/$(crate)/out/incremental) $(ROOM)/crates/$*/out
+	@mv crates/$*/out $(ROOM)/crates/$*
+	@(cd $(ROOM)/crates/$* && log=out/build.log && \
+	$(RT) $(if $(filter $*,$(PROGRAM_CRATE)),run,lib) < /dev/null > $$log.new 2>&1 && { \
+	  [ -s $$log.new ] || { [ -s $$log ] && [ -z "$$(find . -name out -prune -o -type f -newer $$log \
+	  \( -name '*.rt' -o -name '*.antt' \) -print)" ]; } || $(RT) check > $$log.new 2>&1; }); \
+	status=$$?; mv $(ROOM)/crates/$*/out crates/$* || exit 1; \
+	[ $$status -eq 0 ] || { $(call say,$* is NOT PROVED: $(LOG).new ends with); \
+	  tail -n 20 $(LOG).new >&2; rm -rf $(ROOM); exit 1; }; \
+	if [ -s $(LOG).new ]; then mv $(LOG).new $(LOG); else rm $(LOG).new; fi
+	@flock $(PROVED) sh -c 'touch -r $(ROOM)/HANDLES $@ && \
+	$(call say,$* is proved$(comma) $$(ls $(PROVED) | wc -l) of $(words $(CRATES)))'
+	@rm -rf $(ROOM)
 
 $(PROVED):
 	@mkdir -p $@

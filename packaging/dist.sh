@@ -5,8 +5,9 @@
 #     sh packaging/dist.sh PROGRAM FOLDER PAGE
 #
 # CRATES names those that the program is made of, lowest first; MAINTAINER, as 'Name <address>',
-# stands in the Debian package.
+# stands in the Debian package, where it is not whoever made the last commit.
 set -eu
+umask 022
 
 program=$1
 page=$3
@@ -22,12 +23,15 @@ time=${SOURCE_DATE_EPOCH:-$(git log -1 --format=%ct 2> /dev/null || echo 0)}
 glibc=$(grep -a -o 'GLIBC_[0-9.]*' "$program" | sed 's/GLIBC_//' |
   sort -t. -k1,1n -k2,2n | tail -n 1)
 
-# What the program was proved with, by the logs of its build.
+# The address of those who make the package: the last commit's, where none is stated.
+maintainer=${MAINTAINER:-$(git log -1 --format='%an <%ae>' 2> /dev/null || echo 'unknown <unknown@localhost>')}
+
+# What a packed program was proved with, by the logs of its build.
 proved() {
   cat << END
 station_check $version for $platform
 commit: $commit
-SHA-256 of the program: $(sha256sum "$program" | cut -d ' ' -f 1)
+SHA-256 of the program: $(sha256sum "$1" | cut -d ' ' -f 1)
 toolchain: $("${RT:-rt}" --version 2> /dev/null || echo 'not at hand when this was packed')
 needs: Linux on x86-64 (x86-64-v2) with glibc $glibc or later
 
@@ -48,12 +52,17 @@ README.md says what is proved, what is only tested, and what is trusted.
 END
 }
 
-# The files of an installation below a folder, with their note and checksums.
+# The files of an installation below a folder, with their note. The program has no symbols.
 fill() {
   root=$1 prefix=$2
   rm -rf "$root"
   MAKEFLAGS='' make -s -o "$program" PROGRAM="$program" DESTDIR="$root" PREFIX="$prefix" install
-  proved > "$root$prefix/share/doc/station_check/PROVED"
+  packed=$root$prefix/bin/station_check
+  if command -v strip > /dev/null && [ "$(head -c 4 "$packed" | tail -c 3)" = ELF ]; then
+    strip -R .comment "$packed"
+  fi
+  cp packaging/copyright "$root$prefix/share/doc/station_check"
+  proved "$packed" > "$root$prefix/share/doc/station_check/PROVED"
 }
 
 fill "$dist/$name" ''
@@ -65,8 +74,18 @@ made=$name.tar.gz
 if command -v dpkg-deb > /dev/null; then
   root=$dist/deb
   fill "$root" /usr
-  gzip -9 -n "$root/usr/share/man/man1/station_check.1"
+  gzip -9 -n "$root"/usr/share/man/man1/*.1
   mv "$root/usr/share/zsh/site-functions" "$root/usr/share/zsh/vendor-completions"
+  # Debian has documents below the name of the package.
+  mv "$root/usr/share/doc/station_check" "$root/usr/share/doc/station-check"
+  ln -s station-check "$root/usr/share/doc/station_check"
+  gzip -9 -n > "$root/usr/share/doc/station-check/changelog.gz" << END
+station-check ($version) unstable; urgency=medium
+
+  * CHANGELOG.md, beside this file, says what changed.
+
+ -- $maintainer  $(LC_ALL=C date -u -R -d "@$time")
+END
   mkdir "$root/DEBIAN"
   cat > "$root/DEBIAN/control" << END
 Package: station-check
@@ -74,13 +93,14 @@ Version: $version
 Architecture: amd64
 Section: science
 Priority: optional
-Depends: libc6 (>= $glibc)
-Recommends: python3 (>= 3.10)
-Maintainer: ${MAINTAINER:-unknown <unknown@localhost>}
-Description: checks survey station adjustments against the field file
- A total station writes directions to a field file in Leica's GSI format. Some
- program adjusts them, and writes a sheet. station_check accepts the sheet or
- names the first fault of either. Its code is proved against its contracts.
+Depends: libc6 (>= $glibc), python3 (>= 3.10)
+Installed-Size: $(find "$root/usr" -type f -printf '%s\n' | awk '{ n += int(($1 + 1023) / 1024) } END { print n }')
+Maintainer: $maintainer
+Description: prints least-squares directions of a GSI file, and checks yours
+ A total station writes the sets of directions that it measured to a field file,
+ in Leica's GSI format. station_check prints the least-squares directions of a
+ station, and checks those of another program against them: rounded ones in a
+ table, or exact fractions in a sheet. Its code is proved against its contracts.
 END
   (cd "$root" && find usr -type f | sort | xargs md5sum > DEBIAN/md5sums)
   find "$root" -exec touch -h -d "@$time" {} +

@@ -13,7 +13,7 @@ import time
 import unittest
 from concurrent.futures import ProcessPoolExecutor, as_completed
 from pathlib import Path
-from typing import NamedTuple
+from typing import Collection, Iterator, NamedTuple
 
 FOLDERS = [str(Path(__file__).resolve().parent / name) for name in ("cli", "page")]
 
@@ -38,10 +38,10 @@ class Outcome(NamedTuple):
 
     name: str
     seconds: float
-    failures: list  # what each says
-    skipped: list  # why
+    failures: list[str]  # what each says
+    skipped: list[str]  # why
 
-    def line(self):
+    def line(self) -> str:
         """Its line, as it is told when it has ended."""
         what = "FAILED" if self.failures else "skipped" if self.skipped else "ok"
         return f"{self.seconds:6.1f} s  {self.name}: {what}"
@@ -50,12 +50,13 @@ class Outcome(NamedTuple):
 class Counts(NamedTuple):
     passed: int
     failed: int
-    skipped: list  # why, of how many tests, and which
+    skipped: list[str]  # why, of how many tests, and which
 
 
-def load():
+def load() -> Iterator[unittest.TestCase]:
     """All tests, one by one."""
     sys.path[:0] = FOLDERS
+    suites: list[unittest.TestSuite | unittest.TestCase]
     suites = [unittest.TestLoader().discover(folder) for folder in FOLDERS]
     while suites:
         suite = suites.pop()
@@ -65,7 +66,7 @@ def load():
             yield suite
 
 
-def outcome_of(name):
+def outcome_of(name: str) -> Outcome:
     """Runs the test of a name."""
     result, start = unittest.TestResult(), time.monotonic()
     if FOLDERS[0] not in sys.path:
@@ -77,12 +78,12 @@ def outcome_of(name):
     return Outcome(name, time.monotonic() - start, failures, skipped)
 
 
-def place(name):
+def place(name: str) -> tuple[int, str]:
     """Where a test stands in the order in which they begin."""
     return next((at for at, word in enumerate(LONGEST) if word in name), len(LONGEST)), name
 
 
-def outcomes(names):
+def outcomes(names: list[str]) -> Iterator[Outcome]:
     """Runs tests side by side, and gives what came of each when it has ended."""
     processes = len(os.sched_getaffinity(0))
     anew = multiprocessing.get_context("spawn")
@@ -95,20 +96,20 @@ def outcomes(names):
                 yield test.result()
 
 
-def reasons(ended):
+def reasons(ended: list[Outcome]) -> list[str]:
     """Why tests were skipped, a line for each reason."""
-    of_reason = {}
+    of_reason: dict[str, list[str]] = {}
     for outcome in ended:
         for why in outcome.skipped[:1]:
             of_reason.setdefault(why, []).append(outcome.name.rpartition(".")[2])
     return [f"{why}: {len(names)} tests: {', '.join(names)}" for why, names in of_reason.items()]
 
 
-def run(words=()):
+def run(words: Collection[str] = ()) -> Counts:
     """Runs the tests whose names have one of the words, or all, and counts them."""
     names = [test.id() for test in load()]
     chosen = [name for name in names if not words or any(word in name for word in words)]
-    start, ended = time.monotonic(), []
+    start, ended = time.monotonic(), list[Outcome]()
     print(f"tests of the command line: {len(chosen)}", flush=True)
     for outcome in outcomes(chosen):
         ended.append(outcome)
@@ -122,7 +123,7 @@ def run(words=()):
     return Counts(passed, len(failed), reasons(ended))
 
 
-def main():
+def main() -> int:
     counts = run(sys.argv[1:])
     for what in counts.skipped:
         print(f"SKIPPED: {what}")

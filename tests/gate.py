@@ -12,6 +12,7 @@ import tempfile
 import threading
 import time
 from pathlib import Path
+from typing import Iterator
 
 import command_line
 
@@ -52,7 +53,7 @@ FAILED = re.compile(r"^rt: (FAILED: |\w+ NOT PROVED|.*(NOT REFUSED|BAD EDIT): )"
 SAY = 60
 
 
-def numbers_in(*paths):
+def numbers_in(*paths: str) -> list[int]:
     """The numbers in these files, or none where one is missing or sets no limit."""
     try:
         words = [word for path in paths for word in Path(path).read_text().split()]
@@ -61,7 +62,7 @@ def numbers_in(*paths):
     return [int(word) for word in words] if all(map(str.isdigit, words)) else []
 
 
-def processors():
+def processors() -> int:
     """How many processors there are to use."""
     found = [len(os.sched_getaffinity(0))]
     for paths in TIME_LIMITS:
@@ -70,13 +71,13 @@ def processors():
     return min(found)
 
 
-def memory():
+def memory() -> int:
     """How much memory there is to use, in bytes."""
     found = [os.sysconf("SC_PAGE_SIZE") * os.sysconf("SC_PHYS_PAGES")]
     return min(found + [limit for path in MEMORY_LIMITS for limit in numbers_in(path)])
 
 
-def environment(room):
+def environment(room: str) -> dict[str, str]:
     """The environment of `rt ci`: one check at a time for each processor, as far as memory goes,
     and a folder of its own for what it writes meanwhile.
 
@@ -93,15 +94,18 @@ class Progress:
     """How far `rt ci` is, by what it says: it tells of a proof when it has ended, of a crate's wrong
     bodies when the first of them is tried, and of each of these at its own end."""
 
-    def __init__(self):
+    def __init__(self) -> None:
         self.start = time.monotonic()
         names = re.findall(r"^(\w+)(?: staticlib)?:", (ROOT / "crates.txt").read_text(), re.MULTILINE)
         self.wrong = {name: len([*(ROOT / "crates" / name).glob("must-fail/*.edit")]) for name in names}
         # The minutes at which each crate was proved, its tests were, and its wrong bodies were begun.
-        self.proved, self.tested, self.begun = {}, {}, {}
-        self.notes, self.failed = [], []
+        self.proved: dict[str, float] = {}
+        self.tested: dict[str, float] = {}
+        self.begun: dict[str, float] = {}
+        self.notes: list[str] = []
+        self.failed: list[str] = []
 
-    def hear(self, line):
+    def hear(self, line: str) -> None:
         """Takes note of a line of `rt ci`."""
         for said, minutes in [(PROVED, self.proved), (TESTED, self.tested), (TRIED, self.begun)]:
             if found := said.match(line):
@@ -111,21 +115,21 @@ class Progress:
         if FAILED.match(line):
             self.failed.append(line.rstrip("\n"))
 
-    def minutes(self):
+    def minutes(self) -> float:
         return (time.monotonic() - self.start) / 60
 
-    def lacking(self):
+    def lacking(self) -> list[str]:
         """The crates that are not yet proved."""
         return [crate for crate in self.wrong if crate not in self.proved]
 
-    def line(self):
+    def line(self) -> str:
         lacking = self.lacking()
         proved = f"not yet proved: {', '.join(lacking)}" if lacking else "all crates proved"
         begun = sum(self.wrong[crate] for crate in self.begun)
         wrong = f"wrong bodies begun: those of {len(self.begun)} crates, {begun} of {sum(self.wrong.values())}"
         return f"gate: {self.minutes():.0f} min: {proved}; tests of {len(self.tested)}; {wrong}"
 
-    def times(self):
+    def times(self) -> Iterator[str]:
         """A table of when each crate's work was done."""
         yield f"{'minutes':26}{'proved':>8}{'tests':>8}{'wrong bodies begun':>24}"
         for crate, wrong in self.wrong.items():
@@ -134,7 +138,7 @@ class Progress:
             begun = f"{self.begun[crate]:.1f} ({wrong})" if crate in self.begun else ""
             yield f"{crate:26}{columns}{begun:>24}"
 
-    def show(self, has_ended):
+    def show(self, has_ended: threading.Event) -> None:
         """Says how far it is until it has ended."""
         while not has_ended.wait(SAY):
             print(self.line(), flush=True)
@@ -147,33 +151,40 @@ class Page:
     what they had before, and then they would be proved once more.
     """
 
-    def __init__(self, room):
-        self.log, self.build = Path(room) / "page.log", None
+    def __init__(self, room: str) -> None:
+        self.log = Path(room) / "page.log"
+        self.build: subprocess.Popen[bytes] | None = None
 
-    def begin(self):
+    def begin(self) -> None:
         """Begins to make it, where that was not yet begun."""
         if not self.build:
             PAGE.parent.mkdir(exist_ok=True)
             with open(self.log, "w", encoding="utf-8") as log:
-                words = [sys.executable, PAGE_BUILD, "--proved", PAGE]
+                words = [sys.executable, str(PAGE_BUILD), "--proved", str(PAGE)]
                 self.build = subprocess.Popen(words, stdout=log, stderr=subprocess.STDOUT)
 
-    def failure(self):
+    def failure(self) -> list[str]:
         """What it said where it could not be made."""
         if not self.build or self.build.wait() == 0:
             return []
         return ["FAILED: the page could not be made", *self.log.read_text().splitlines()[-20:]]
 
 
-def proofs_passed_and_failed(progress, page, room):
+def proofs_passed_and_failed(progress: Progress, page: Page, room: str) -> tuple[int, int]:
     """Runs `rt ci`, shows what it prints, and answers its counts; a run with no counts is one
     failure. The page is begun where all is proved."""
     command = [os.environ.get("RT", "rt"), "ci"]
     counts, has_ended = None, threading.Event()
-    options = {"cwd": ROOT, "env": environment(room)}
-    streams = {"stdout": subprocess.PIPE, "stderr": subprocess.STDOUT, "text": True}
     clock = threading.Thread(target=progress.show, args=(has_ended,), daemon=True)
-    with subprocess.Popen(command, **options, **streams) as gate:
+    with subprocess.Popen(
+        command,
+        cwd=ROOT,
+        env=environment(room),
+        stdout=subprocess.PIPE,
+        stderr=subprocess.STDOUT,
+        text=True,
+    ) as gate:
+        assert gate.stdout
         clock.start()
         for line in gate.stdout:
             print(line, end="", flush=True)
@@ -190,7 +201,7 @@ def proofs_passed_and_failed(progress, page, room):
     return passed, failed
 
 
-def begin(progress):
+def begin(progress: Progress) -> None:
     """Says what the gate does, and how long it takes."""
     times = " and ".join(f"{minutes} minutes on {n}" for n, minutes in MINUTES.items())
     print(f"gate: it takes about {times} processors; here it has {processors()}")
@@ -199,24 +210,24 @@ def begin(progress):
     print(f"gate: tries {wrong} wrong bodies, and runs the program and the tests", flush=True)
 
 
-def take_program():
+def take_program() -> None:
     """Copies the program that `rt ci` built to where it is run from."""
     PROGRAM.parent.mkdir(exist_ok=True)
     shutil.copy(LINKED, PROGRAM)
 
 
-def show_loudly(lines):
+def show_loudly(lines: list[str]) -> None:
     """Says at the end what was not tested, and what failed."""
     if lines:
         print(f"\n{'!' * 70}", *lines, f"{'!' * 70}\n", sep="\n", flush=True)
 
 
-def loudly(skipped):
+def loudly(skipped: list[str]) -> list[str]:
     """A line for each thing that was skipped."""
     return [f"SKIPPED: {what}" for what in skipped]
 
 
-def run_all():
+def run_all() -> tuple[int, int, list[str]]:
     """Runs it all; answers how many passed and failed, and what is to be said loudly of it."""
     with tempfile.TemporaryDirectory(prefix="station_check-gate-") as room:
         # The program and the tests are run below it by a user who owns nothing.
@@ -234,7 +245,7 @@ def run_all():
     return passed + counts.passed, counts.failed, loudly(progress.notes + counts.skipped)
 
 
-def main():
+def main() -> int:
     if sys.version_info < (3, 10):
         sys.exit("the gate needs Python 3.10 or later: name it as PYTHON=/path/to/python3")
     passed, failed, said = run_all()

@@ -3,10 +3,11 @@
 With SWEEP in the environment whole sweeps are run, not samples of them.
 """
 
-from typing import NamedTuple, Optional
+from pathlib import Path
+from typing import Iterable, NamedTuple, Optional
 
 import model
-from program import EXAMPLE, EXAMPLE_TABLE, SWEEP, ProgramTest, answer_of, side_by_side
+from program import EXAMPLE, EXAMPLE_TABLE, SWEEP, Answer, ProgramTest, answer_of, side_by_side
 
 FIELD = EXAMPLE.read_bytes()
 SHEET = model.means(FIELD, b"S1")[1]
@@ -21,15 +22,17 @@ class Case(NamedTuple):
     command: str
     gsi: bytes
     sheet: bytes = b""
-    station: str = "S1"
+    station: Optional[str] = "S1"  # of `mark` none where it isn't stated
     limits: model.Limits = model.Limits()
     residual: Optional[int] = None
     decimals: int = model.USUAL_DECIMALS
     within: int = model.USUAL_WITHIN
 
-    def expected(self):
+    def expected(self) -> Answer:
         """What the model answers."""
-        name = self.station.encode()
+        name = None if self.station is None else self.station.encode()
+        if self.command == "mark":
+            return model.marked(self.gsi, name)
         if self.command == "words":
             return model.words(self.gsi)
         if self.command == "list":
@@ -42,11 +45,13 @@ class Case(NamedTuple):
             return model.compared(self.gsi, name, self.sheet, self.limits, self.within)
         return model.check(self.gsi, self.sheet, self.limits, self.residual)
 
-    def args(self, gsi, sheet):
+    def args(self, gsi: Path, sheet: Path) -> list:
         """The words of its command line, over these paths."""
         options = [f"--two-c={self.limits.two_c}", f"--two-i={self.limits.two_i}"]
         if self.residual is not None:
             options.append(f"--residual={self.residual}")
+        if self.command == "mark":
+            return ["mark", *([] if self.station is None else [f"--station={self.station}"]), gsi]
         return {
             "words": ["words", gsi],
             "list": ["list", *options, gsi],
@@ -61,14 +66,14 @@ class Case(NamedTuple):
         }[self.command]
 
 
-def sample(cases, step):
+def sample(cases: Iterable[Case], step: int) -> list[Case]:
     """Every so-many-th case, and all of them in a sweep."""
     cases = list(cases)
     return cases if SWEEP else cases[::step]
 
 
 class AgainstModel(ProgramTest):
-    def answer(self, place, case):
+    def answer(self, place: int, case: Case) -> Answer:
         """What the program answers, over files of this run alone."""
         gsi, sheet = self.folder / f"{place}.gsi", self.folder / f"{place}.csv"
         gsi.write_bytes(case.gsi)
@@ -78,9 +83,9 @@ class AgainstModel(ProgramTest):
         sheet.unlink()
         return answer
 
-    def compare(self, cases):
+    def compare(self, cases: Iterable[Case]) -> list[Answer]:
         """Runs all cases and gives the program's answers; fails where the model has another."""
-        cases, found = list(cases), []
+        cases, found = list(cases), list[Answer]()
         self.assertTrue(cases)
         for case, answer in zip(cases, side_by_side(self.answer, range(len(cases)), cases)):
             found.append(answer)

@@ -124,8 +124,11 @@ class FieldFile:
             targets = []
         turned = self.random.randrange(CIRCLE)
         gross = 9_000 if self.goes_wrong(3) else 0
-        error = lambda: self.random.choice([gross, 0]) + self.random.randint(-9, 9)
-        near = lambda direction: direction + turned + error()
+
+        def near(direction):
+            error = self.random.choice([gross, 0]) + self.random.randint(-9, 9)
+            return direction + turned + error
+
         pairs = [self.pair(target, near(direction)) for target, direction in targets]
         readings = [first for first, _ in pairs] + [second for _, second in reversed(pairs)]
         if self.random.random() < 0.3:
@@ -178,6 +181,110 @@ def field_file(random):
     for name in names:
         field.station(name)
     return field.text(), field.limits
+
+
+# ---------------------------------------------------------------- jobs without codes
+
+
+# How the readings of a set follow each other, by its targets: capitals in face I.
+WAYS = {
+    "there and back": lambda targets: [(t, 1) for t in targets] + [(t, 2) for t in targets[::-1]],
+    "twice": lambda targets: [(t, face) for face in (1, 2) for t in targets],
+    "by targets": lambda targets: [(t, face) for t in targets for face in (1, 2)],
+}
+
+
+class Job:
+    """A job that is written sight by sight, as a generated file is block by block."""
+
+    def __init__(self, random):
+        self.random = random
+        self.lines = FieldFile(random, random.choice([0, 0, 0.003]))
+        self.lines.limits = Limits()
+
+    def set_up(self, name):
+        more = self.random.choice([84, 85, 86, 87, 88, 88, 88])
+        words = [["11", self.lines.number(), "+", name], [f"{more}", "..10", "+", "1543"]]
+        self.lines.add(*words)
+
+    def sight(self, target, face):
+        direction = sum(map(ord, target)) * 100_000 + (face - 1) * HALF_CIRCLE
+        error = self.random.randint(-40, 40)
+        zenith = 10_000_000 if face == 1 else 30_000_000 + error
+        self.lines.reading(target, direction + error, zenith)
+
+    def leading(self, targets):
+        """Sights for orientation and checks."""
+        chosen = self.random.choice([*targets, "X"])
+        faces = self.random.choice([[]] * 6 + [[1], [1], [1, 2], [2], [1, 1], [1, 1, 1, 1]])
+        for face in faces:
+            self.sight(chosen, face)
+
+    def changed(self, sights):
+        """The sights of a set, of which one may be missing, twice, changed or too many."""
+        place = self.random.randrange(len(sights))
+        before, one, after = sights[:place], sights[place], sights[place + 1 :]
+        return self.random.choice([
+            before + after,
+            before + [one, one] + after,
+            before + [(one[0].lower(), one[1])] + after,
+            before + after + [one],
+            sights + sights[:1],
+            sights + sights[-1:],
+            sights[: max(place, 1)],
+            sights + [(one[0], 1), (one[0], 2)],
+            [(target, 3 - face) for target, face in sights],
+        ])
+
+    def sets(self, targets):
+        way = WAYS[self.random.choice(list(WAYS))]
+        turned = self.random.random() < 0.1  # the first face changes from set to set
+        other = self.random.random() < 0.04
+        count = self.random.choice([0, 1, 1, 2, 2, 3])
+        for number in range(count):
+            seen = list(targets)
+            if len(seen) > 2 and self.random.random() < 0.15:
+                seen.remove(self.random.choice(seen[1:]))
+            if number and self.random.random() < 0.1:
+                between = self.random.sample("FGHJ", self.random.randint(1, 3))
+                seen = [seen[0], *between, *seen[1:][-1:]]
+            way = WAYS[self.random.choice(list(WAYS))] if other else way
+            sights = way(seen)
+            if turned and number % 2:
+                sights = [(target, 3 - face) for target, face in sights]
+            sights = self.changed(sights) if self.random.random() < 0.12 else sights
+            for sight in sights:
+                self.sight(*sight)
+
+    def trailing(self, targets):
+        """Check sights and detail points."""
+        if self.random.random() < 0.1:
+            for face in self.random.choice([[1], [1, 2]]):
+                self.sight(targets[0], face)
+        for number in range(self.random.choice([0, 0, 0, 1, 3])):
+            self.sight(f"{100 + number}", self.random.choice([1, 1, 1, 2]))
+
+    def station(self):
+        targets = self.random.sample(["A", "B", "C", "D", "E"], self.random.randint(1, 4))
+        self.leading(targets)
+        self.sets(targets)
+        self.trailing(targets)
+        if self.random.random() < 0.05:
+            code = self.random.choice(["10", "20", "30", "99", "7"])
+            self.lines.code(code, self.random.choice([None, "1"]))
+
+
+def job(random):
+    """A job without codes, and the name of its station that is stated, if one is."""
+    made = Job(random)
+    stated = random.choice([None, None, "S1", "S1", "NINEBYTES", "A B"])
+    if random.random() < 0.05:
+        made.sight("A", 1)
+    for _ in range(random.choice([1, 1, 1, 2, 2, 3]) if stated is None else 1):
+        if (stated is None) != (random.random() < 0.03):
+            made.set_up(random.choice(["S1", "S2", "S3", "00S4", "A B", "P7"]))
+        made.station()
+    return made.lines.text(), stated
 
 
 # ---------------------------------------------------------------- sheets
@@ -282,6 +389,11 @@ def seen_in(random, kind, targets, place):
     return random.sample(targets, random.randint(2, len(targets))) if kind == "gaps" else targets
 
 
+def scattered(random, direction):
+    """A reading near a direction."""
+    return (direction + random.randint(-30, 30)) % CIRCLE
+
+
 def station_to_adjust(random, most_sets=7, most_targets=9):
     """The field file of the station S1, in sets that are complete, have gaps or are a chain; of
     some targets the readings lie on both sides of zero."""
@@ -295,8 +407,10 @@ def station_to_adjust(random, most_sets=7, most_targets=9):
     for place in range(sets):
         begin = random.choice([0, random.randrange(CIRCLE)])
         seen = seen_in(random, kind, targets, place)
-        hz_of = lambda hz: (hz + begin + random.randint(-30, 30)) % CIRCLE
-        readings[place + 1] = [(name, hz_of(hz), hz_of(hz + HALF_CIRCLE)) for name, hz in seen]
+        readings[place + 1] = [
+            (name, *(scattered(random, hz + begin + turned) for turned in (0, HALF_CIRCLE)))
+            for name, hz in seen
+        ]
     return worked.field_file(readings)
 
 
@@ -317,8 +431,8 @@ def stated_of(random, station):
     except model.Refusal:
         directions = [Fraction(random.randrange(CIRCLE), 10**5) for _ in station.targets]
     turned = random.choice([0, 0, Fraction(random.randrange(CIRCLE), 10**5)])
-    turn_of = lambda direction: (direction + turned) % model.CIRCLE_IN_GON
-    return [turn_of(direction) - random.choice([0, 0, 0, 400]) for direction in directions]
+    turned_all = [(direction + turned) % model.CIRCLE_IN_GON for direction in directions]
+    return [direction - random.choice([0, 0, 0, 400]) for direction in turned_all]
 
 
 def change_table_row(random, rows):
@@ -330,12 +444,13 @@ def change_table_row(random, rows):
     elif change == 1:
         rows.append(list(row))
     elif change == 2:
-        row[0] = random.choice([b"", b"Z", b"x" * 17, row[0] + b" ", row[0].lower()])
+        row[0] = random.choice([b"", b"Z", b"x" * 17, row[0] + b" ", b" " + row[0], row[0].lower()])
     elif change == 3:
         row[:] = random.choice([row[:1], [*row, b""]])
     else:
         others = [b"1e2", b"+5", b"400", b"-400", b"401", b"399.999999999", b"-0", b"7.", b".7", b""]
-        row[-1] = random.choice([*others, b"000", b"0.0000000000", row[-1] + b"0", row[-1] + b" "])
+        more = [b"000", b"0.0000000000", b"0.0000000001", b".", b"7,5", b"+-1", b"400.000000001"]
+        row[-1] = random.choice([*others, *more, row[-1] + b"0", row[-1] + b" "])
 
 
 def table_rows(random, station):
@@ -348,9 +463,26 @@ def table_rows(random, station):
     return rows
 
 
+def loosely(random, rows):
+    """The rows of a table as programs write them: by any separator, with titles or without."""
+    separator = random.choice([b",", b";", b"\t", b"  ", b" "])
+    has_commas = separator != b"," and random.random() < 0.5
+    before, after = random.choice([(b"", b""), (b" ", b""), (b"", b" "), (b"\t", b"")])
+    end = random.choice([b"", b"", separator])
+    lines = [b"Target" + separator + b"Hz"] if random.random() < 0.3 else []
+    for row in rows:
+        fields = [field.replace(b".", b",") if has_commas else field for field in row]
+        lines.append((separator + before).join(fields) + after + end)
+    return b"\n".join(lines) + b"\n"
+
+
+def table_text(random, rows):
+    return random.choice([written, loosely])(random, rows)
+
+
 def table_of_station(random, station):
     """A table of a station's directions."""
-    return written(random, table_rows(random, station))
+    return table_text(random, table_rows(random, station))
 
 
 def changed_table(random, station):
@@ -359,10 +491,18 @@ def changed_table(random, station):
     for _ in range(random.choice([0, 0, 0, 0, 1, 1, 2])):
         if rows:
             change_table_row(random, rows)
-    return written(random, rows)
+    return table_text(random, rows)
 
 
 # ---------------------------------------------------------------- cases
+
+
+def cases_of_jobs(place):
+    """Runs over jobs without codes."""
+    random = Random(f"job {SEED} {place}")
+    for nth in range(3):
+        text, stated = job(random)
+        yield Case(f"{place}: job {nth}", "mark", text, station=stated)
 
 
 def cases_of(place):
@@ -398,6 +538,7 @@ def cases_of(place):
 
 def generated(count):
     for place in range(count):
+        yield from cases_of_jobs(place)
         yield from cases_of(place)
 
 

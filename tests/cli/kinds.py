@@ -22,11 +22,19 @@ KERNEL_FAULTS = [
 
 TABLE_ROW_FAULTS = ["Fields", "Name", "Number", "Range", "Unknown", "Twice"]
 
+# Of blocks and of sets of a file into which codes are to be put.
+MARK_FAULTS = [
+    *["HasCodes", "HasSetUp", "NoSetUp", "NameTooLong", "NoSets", "ReadTwice", "FaceMissing"],
+    *["OneTarget", "Order", "EndsElsewhere", "OneSet", "FirstFace", "MayBeShifted"],
+    *["OneSetByTargets", "OtherTargets", "StationTwice"],
+]
+
 WRITTEN = ["accepted", "agrees", "written", "nothing to write"]
 
 # The refusals that files of any size can have.
 REFUSALS = [
     *[f"block n: {fault}" for fault in BLOCK_FAULTS],
+    *[f"block n: mark: {fault}" for fault in MARK_FAULTS],
     *[f"sheet row n: {fault}" for fault in ROW_FAULTS],
     *[f"kernel: {fault}" for fault in KERNEL_FAULTS],
     *["no station", "means: Incomplete"],
@@ -37,7 +45,8 @@ REFUSALS = [
 # Those of files, sheets and tables with too much of something, and of reads that fail.
 OF_COUNTS = [
     *["block n: TooManyTargets", "block n: TooManySets", "block n: TooManyStations"],
-    "sheet row n: TooMany",
+    *["block n: mark: TooManyTargets", "block n: mark: TooManySets"],
+    *["block n: mark: TooManyStations", "sheet row n: TooMany"],
 ]
 OF_BYTES = ["block n: FileTooLong", "sheet: TooLong", "table: TooLong"]
 OF_READS = ["block n: Read", "sheet: Read", "table: Read"]

@@ -9,12 +9,18 @@ import unittest
 from concurrent.futures import ThreadPoolExecutor
 from dataclasses import dataclass, field
 from pathlib import Path
+from typing import Any, Callable, Iterable, Iterator, NoReturn, Sequence, TypeVar
 
 ROOT = Path(__file__).resolve().parents[2]
 PROGRAM = Path(os.environ.get("STATION_CHECK", ROOT / "build" / "station_check"))
 EXAMPLE = ROOT / "examples" / "station_s1.gsi"
 EXAMPLE_SHEET = ROOT / "examples" / "station_s1.csv"
 EXAMPLE_TABLE = ROOT / "examples" / "station_s1_directions.csv"
+
+# Of a run: its exit status, standard output and standard error.
+Answer = tuple[int, bytes, bytes]
+
+T = TypeVar("T")
 
 # Whether whole sweeps are run, and not samples of them.
 SWEEP = "SWEEP" in os.environ
@@ -32,7 +38,7 @@ class Run:
     of directions."""
 
     name: str
-    args: list = field(default_factory=list)
+    args: list[str] = field(default_factory=list)
     stdin: bytes = b""
     file: bytes | None = None
     sheet: bytes | None = None
@@ -41,23 +47,23 @@ class Run:
     status: int = 0
 
 
-def answer_to(command, **options):
+def answer_to(command: Sequence[str | bytes | Path], **options: Any) -> Answer:
     """The status, standard output and standard error of a command."""
     done = subprocess.run(command, capture_output=True, timeout=TIME, **options)
     return done.returncode, done.stdout, done.stderr
 
 
-def answer_of(args, stdin=b"", **options):
+def answer_of(args: Iterable[str | bytes | Path], stdin: bytes | None = b"", **options: Any) -> Answer:
     """The answer of a run of the program."""
     return answer_to([PROGRAM, *args], input=stdin, **options)
 
 
-def answer_in_shell(script, *args):
+def answer_in_shell(script: str, *args: str | bytes | Path) -> Answer:
     """The answer of a script of the shell, in which "$@" is the program and its words."""
     return answer_to(["bash", "-c", script, "bash", PROGRAM, *args])
 
 
-def side_by_side(call, *given):
+def side_by_side(call: Callable[..., T], *given: Iterable[Any]) -> Iterator[T]:
     """What a call answers to each that it is given, in their order, several at a time."""
     pool = ThreadPoolExecutor(os.cpu_count())
     try:
@@ -66,7 +72,7 @@ def side_by_side(call, *given):
         pool.shutdown(cancel_futures=True)
 
 
-def until(is_so):
+def until(is_so: Callable[[], object]) -> None:
     """Waits until something is so, and fails where it does not become so in time."""
     end = time.monotonic() + TIME
     while not is_so():
@@ -75,14 +81,14 @@ def until(is_so):
         time.sleep(0.005)
 
 
-def too_long(*_):
+def too_long(*_: object) -> NoReturn:
     raise TimeoutError(f"the test takes more than {TIME_OF_A_TEST} s")
 
 
 class TimedTest(unittest.TestCase):
     """Tests that end: one that waits for what never comes has failed."""
 
-    def run(self, result=None):
+    def run(self, result: unittest.TestResult | None = None) -> unittest.TestResult | None:
         signal.signal(signal.SIGALRM, too_long)
         signal.alarm(TIME_OF_A_TEST)
         try:
@@ -96,12 +102,12 @@ class ProgramTest(TimedTest):
 
     maxDiff = None
 
-    def setUp(self):
+    def setUp(self) -> None:
         folder = tempfile.TemporaryDirectory()
         self.addCleanup(folder.cleanup)
         self.folder = Path(folder.name)
 
-    def check(self, runs):
+    def check(self, runs: Iterable[Run]) -> None:
         """Makes each run of a table, and compares status, standard output and standard error to the byte."""
         for run in runs:
             with self.subTest(run.name):

@@ -32,8 +32,11 @@ NAMES = ["A", " B", "C ", "D", "TOWER", "1,2", 'a"b', "x y", "-7", "0", "1234567
 
 def readings_of(random, sets, targets, scatter):
     """The readings of a station's sets: each set turned at random, so that some cross zero."""
-    noise = lambda: random.randint(-scatter, scatter)
     station = {}
+
+    def noise():
+        return random.randint(-scatter, scatter)
+
     for number, names in sets.items():
         turned = random.choice([0, CIRCLE - 1, random.randrange(CIRCLE)])
         directions = [(name, targets[name] + turned) for name in names]
@@ -87,8 +90,7 @@ def changes_of(rows):
 
 
 def text_of(rows):
-    as_bytes = lambda row: b",".join(model.field_text(field.encode()) for field in row)
-    return b"".join(as_bytes(row) + b"\n" for row in rows)
+    return b"".join(b",".join(model.field_text(field.encode()) for field in row) + b"\n" for row in rows)
 
 
 class AdjustTest(ProgramTest):

@@ -5,6 +5,7 @@ import resource
 import shlex
 import shutil
 import subprocess
+import sys
 import time
 
 import model
@@ -13,6 +14,7 @@ from program import (
     EXAMPLE_SHEET,
     EXAMPLE_TABLE,
     PROGRAM,
+    ROOT,
     TIME,
     ProgramTest,
     answer_in_shell,
@@ -20,6 +22,9 @@ from program import (
     answer_to,
 )
 from worked import ACCEPTED, AGREES, LIST, SHEET, STATION, TABLE, refused
+
+sys.path.insert(0, str(ROOT / "tools"))
+import manuals  # noqa: E402
 
 # The words of each command for the field file `{gsi}`, and what it answers to the example.
 COMMANDS = {
@@ -245,7 +250,7 @@ class CommandLineTest(ProgramTest):
 
     def test_the_version_is_printed_on_standard_output(self):
         for args in [["--version"], ["-V"]]:
-            self.assert_answer((0, b"station_check 0.1.0\n", b""), args)
+            self.assert_answer((0, f"station_check {manuals.release()[0]}\n".encode(), b""), args)
 
     def test_help_is_printed_on_standard_output(self):
         for args, parts in [

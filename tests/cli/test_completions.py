@@ -10,20 +10,25 @@ import unittest
 from program import PROGRAM, ROOT, ProgramTest
 from test_explain import names
 
-sys.path.insert(0, str(ROOT / "docs"))
+sys.path.insert(0, str(ROOT / "tools"))
 import commands  # noqa: E402
 
-SHARE = ROOT / "share"
+SHARE = ROOT / "packaging" / "share"
 BASH = SHARE / "bash-completion" / "completions" / "station_check"
 ZSH = SHARE / "zsh" / "site-functions"
 FISH = SHARE / "fish" / "vendor_completions.d" / "station_check.fish"
 
-COMMANDS = ["compare", "directions", "check", "means", "list", "words", "explain", "help"]
+COMMANDS = [
+    *["compare", "directions", "check", "means", "mark", "list", "words", "explain", "help"]
+]
 
 FACE_LIMITS = ["--two-c", "--two-i"]
 
-# The option that a command has for itself.
+# The option with a value that a command has for itself.
 OWN_OPTIONS = {"compare": "--within", "directions": "--decimals", "check": "--residual"}
+
+# The flags of a command.
+FLAGS = {"compare": ["--sha256"], "directions": [], "check": ["--sha256"]}
 
 # Asks the completion of bash for a line, whose last word may be empty.
 ASK_BASH = """
@@ -63,7 +68,7 @@ class CompletionsTest(ProgramTest):
         return printed(command, cwd=self.folder).split("\n")[:-1]
 
     def test_what_is_made_of_the_help_is_up_to_date(self):
-        """Where this fails, `python3 docs/commands.py` makes it anew."""
+        """Where this fails, `python3 tools/commands.py` makes it anew."""
         for path, text in commands.pages(PROGRAM):
             with self.subTest(path.name):
                 self.assertEqual(text, path.read_text())
@@ -78,21 +83,23 @@ class CompletionsTest(ProgramTest):
     def test_bash_completes_options(self):
         self.assertEqual(["--help", "--version"], self.of_bash("-"))
         for command, option in OWN_OPTIONS.items():
-            self.assertEqual([*FACE_LIMITS, option, "--help"], self.of_bash(command, "-"))
+            self.assertEqual([*FACE_LIMITS, option, *FLAGS[command], "--help"], self.of_bash(command, "-"))
             self.assertEqual([""], self.of_bash(command, option, ""))
         self.assertEqual(FACE_LIMITS, self.of_bash("check", "field.gsi", "--two"))
         for command in ["means", "list"]:
             self.assertEqual([*FACE_LIMITS, "--help"], self.of_bash(command, "-"))
+        self.assertEqual(["--station", "--help"], self.of_bash("mark", "-"))
         for command in ["words", "explain", "help"]:
             self.assertEqual(["--help"], self.of_bash(command, "-"))
         for words in [["--two-c", ""], ["--two-i", "="], ["--residual", "=", "1"]]:
             self.assertEqual([""], self.of_bash("check", *words))
 
     def test_bash_completes_files(self):
-        for command in ["compare", "directions", "check", "means", "list", "words"]:
+        for command in [name for name in COMMANDS if name not in ("explain", "help")]:
             self.assertEqual(["field.gsi", "sheet.csv"], sorted(self.of_bash(command, "")))
         self.assertEqual(["sheet.csv"], self.of_bash("check", "--two-c", "1", "field.gsi", "s"))
         self.assertEqual(["sheet.csv"], self.of_bash("check", "--two-c", "=", "1", "field.gsi", "s"))
+        self.assertEqual(["sheet.csv"], self.of_bash("check", "--sha256", "field.gsi", "s"))
         self.assertEqual(["sheet.csv"], self.of_bash("compare", "field.gsi", "S1", "s"))
         for words in ["check a b", "means a", "directions a", "compare a", "compare a b c", "list a"]:
             self.assertEqual([""], self.of_bash(*words.split(), ""))
@@ -123,8 +130,8 @@ class CompletionsTest(ProgramTest):
         for line, expected in [
             ("station_check ch", ["check"]),
             ("station_check ", sorted(COMMANDS)),
-            ("station_check check --", ["--help", "--residual", *FACE_LIMITS]),
-            ("station_check compare --", ["--help", *FACE_LIMITS, "--within"]),
+            ("station_check check --", ["--help", "--residual", "--sha256", *FACE_LIMITS]),
+            ("station_check compare --", ["--help", "--sha256", *FACE_LIMITS, "--within"]),
             ("station_check directions --", ["--decimals", "--help", *FACE_LIMITS]),
             ("station_check list --two", FACE_LIMITS),
             ("station_check list f", ["field.gsi"]),

@@ -32,6 +32,7 @@ def command_line():
     parser.add_argument("--residual", type=int)
     parser.add_argument("--decimals", type=int, default=model.USUAL_DECIMALS)
     parser.add_argument("--within", type=int, default=model.USUAL_WITHIN)
+    parser.add_argument("--station", type=str.encode)
     parser.add_argument("command", nargs="?")
     parser.add_argument("operands", nargs="*")
     return parser
@@ -63,6 +64,8 @@ def model_answer(case):
         return model.listed(files[0], limits, fails[0])
     if asked.command == "check":
         return model.check(*files, limits, asked.residual, fails)
+    if asked.command == "mark":
+        return model.marked(files[0], asked.station, fails[0])
     station = asked.operands[1].encode()
     if asked.command == "means":
         return model.means(files[0], station, limits, fails[0])

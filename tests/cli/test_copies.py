@@ -1,5 +1,5 @@
-"""examples/mark_sets.py and examples/prepare.py: copies of a field file with codes put in, or with
-blocks left out or renamed, and the commands that show that nothing else was changed."""
+"""examples/prepare.py: copies of a field file with blocks left out or renamed, and the command that
+shows that nothing else was changed."""
 
 import re
 import subprocess
@@ -8,7 +8,7 @@ import unittest
 
 from pages import environment_of, tools
 from program import ROOT, ProgramTest, answer_of
-from worked import LIST, STATION, edited, field_file, widened
+from worked import STATION, edited
 
 EXAMPLES = ROOT / "examples"
 P7 = (EXAMPLES / "station_p7.gsi").read_bytes()
@@ -49,7 +49,7 @@ def sights_of(text):
     return lines
 
 
-class CopyTest(ProgramTest):
+class PrepareTest(ProgramTest):
     def setUp(self):
         super().setUp()
         self.environment = environment_of(tools(self.folder / "bin"))
@@ -59,12 +59,14 @@ class CopyTest(ProgramTest):
         run = {"cwd": self.folder, "env": self.environment, "timeout": TIME}
         return subprocess.run(command, capture_output=True, text=True, **run)
 
-    def copied(self, script, field, *args):
-        """What a script answers; where it made a copy, the command that it prints is run."""
+    def run_script(self, *args):
+        return self.run_in_folder([sys.executable, EXAMPLES / "prepare.py", *args])
+
+    def copied(self, field, *args):
+        """What the script answers; where it made a copy, the command that it prints is run."""
         self.field.write_bytes(field)
         self.copy.unlink(missing_ok=True)
-        files = [self.field.name, self.copy.name]
-        done = self.run_in_folder([sys.executable, EXAMPLES / script, *files, *args])
+        done = self.run_script(self.field.name, self.copy.name, *args)
         self.assertEqual(field, self.field.read_bytes())
         self.assertEqual(done.returncode == 0, self.copy.exists(), done.stderr)
         if done.returncode == 0:
@@ -92,104 +94,10 @@ class CopyTest(ProgramTest):
             self.assertNotEqual(b"", self.shown())
         self.copy.write_bytes(right)
 
-
-class MarkSetsTest(CopyTest):
-    def marked(self, field, station="S1"):
-        return self.copied("mark_sets.py", field, f"--station={station}")
-
-    def test_the_examples_without_their_codes_have_their_lists_again(self):
-        s1 = without_codes(STATION)
-        for field in [s1, s1.replace(b"\r\n", b"\n"), s1.rstrip(b"\r\n"), b" \n\n" + s1]:
-            self.assertEqual((0, "station S1: 2 sets are marked", ""), self.marked(field))
-            self.assertEqual(LIST, answer_of(["list", self.copy])[1])
-        self.check_changes_are_shown()
-        wide = widened(s1).replace(b"\r", b"\r\n")
-        self.assertEqual(0, self.marked(wide)[0])
-        self.assertEqual(LIST, answer_of(["list", self.copy])[1])
-        sets = b"".join(without_codes(P7).splitlines(keepends=True)[1:])  # without its check sight
-        self.assertEqual((0, "station P7: 4 sets are marked", ""), self.marked(sets, "P7"))
-        self.field.write_bytes(P7)
-        self.assertEqual(answer_of(["list", self.field])[1], answer_of(["list", self.copy])[1])
-
-    def test_other_codes_and_measurements_without_a_direction_stay(self):
-        free = b"410001+00000099 42....+0000TREE\r\n"
-        distance = b"110001+0000000A 31..00+00012345\r\n"
-        self.assertEqual(0, self.marked(free + distance + job("1122", "ABBA") + free)[0])
-
-    def test_sets_begin_where_the_readings_show_it(self):
-        for faces, targets, sets in [
-            ("1122", "ABBA", 1),
-            ("1122" * 3, "ABBA" * 3, 3),
-            ("1122" * 2, "ABAB" * 2, 2),
-            ("2211", "ABBA", 1),
-            ("111222" + "1122", "ABCCBA" + "ACCA", 2),  # with a gap
-            ("1122" + "111222", "ABBA" + "CABBAC", 2),  # that begins elsewhere
-            ("111222" * 2, "ABAABA" * 2, 2),  # with closing sights
-            ("1221" * 2, "AABB" * 2, 2),  # target by target
-            ("1212" * 2, "AABB" * 2, 2),
-            ("12" * 3, "AA" * 3, 3),
-        ]:
-            with self.subTest(faces, targets=targets):
-                said = f"station S1: {sets} sets are marked"
-                self.assertEqual((0, said, ""), self.marked(job(faces, targets)))
-                codes = self.copy.read_bytes().count(b"41....+00000020 ")
-                self.assertEqual(sets, codes)
-
-    def test_what_is_not_plain_is_refused_with_a_reason(self):
-        good = job("1122", "ABBA")
-        for field, said in [
-            (STATION, "block 1 has code 10 already"),
-            (STATION.splitlines(True)[1] + good, "block 1 has code 20 already"),
-            (b"41....+00000099\r\n" + good, "block 1 begins as the lines that would be put in"),
-            (b"", "no block is a reading"),
-            (good.replace(b"\r\n", b"\r"), "its lines end in CR alone"),
-            (edited(good, (b"22.102+1", b"22.104+1")), "block 1: no zenith angle in gon"),
-            (edited(good, (b" 22.102", b" 23.102")), "block 1: no zenith angle in gon"),
-            (edited(good, (b"22.102+10000000", b"22.102+20000000")), "block 1: no face has"),
-            (b"x" + good, "refused: block 1: Word 1"),
-            (good.decode().encode("utf-16"), "refused: block 1: Byte 1"),
-            (job("112", "ABB"), "block 1: set 1, which begins here, has A in one face only"),
-            (job("11221", "ABBAA"), "block 5: the last set begins here, and has one face"),
-            (job("1", "A"), "block 1: the last set begins here, and has one face"),
-            (job("11112222", "ABABBABA"), "block 3: A is read again in face 1"),
-            (job("11222211", "ABBAABBA"), "block 5: A is read again in face 2"),
-            (job("12" * 3, "AABBAA"), "block 5: set 2, which begins with A, has other targets"),
-            (job("12" * 3, "AABBBB"), "set 1 has a target twice before A is read again"),
-        ]:
-            with self.subTest(said):
-                status, _, answer = self.marked(field)
-                self.assertEqual(1, status)
-                self.assertTrue(answer.startswith(f"mark_sets.py: {said}"), answer)
-        self.assertIn("too long for lines of GSI-8", self.marked(good, "NINEBYTES")[2])
-        for name in ["", "0P7", "P\u00e47", "P\n7"]:
-            self.assertEqual(2, self.marked(good, name)[0])
-
-    def test_a_copy_is_a_new_file(self):
-        self.field.write_bytes(job("12", "AA"))
-        script = [sys.executable, EXAMPLES / "mark_sets.py", "--station=S1"]
-        for field, copy, said in [
-            ("field.gsi", "field.gsi", "field.gsi is there already"),
-            ("field.gsi", "none/copy.gsi", "cannot write none/copy.gsi: No such file or directory"),
-            ("none.gsi", "copy.gsi", "cannot read none.gsi: No such file or directory"),
-        ]:
-            done = self.run_in_folder([*script, field, copy])
-            self.assertEqual((1, ""), (done.returncode, done.stdout))
-            self.assertEqual(f"mark_sets.py: {said}\n", done.stderr)
-
-    def test_it_is_said_where_station_check_is_missing(self):
-        self.field.write_bytes(job("12", "AA"))
-        self.environment = {**self.environment, "PATH": str(self.folder)}
-        script = [sys.executable, EXAMPLES / "mark_sets.py", "--station=S1"]
-        done = self.run_in_folder([*script, self.field.name, self.copy.name])
-        said = "mark_sets.py: no station_check is on the path\n"
-        self.assertEqual((1, said), (done.returncode, done.stderr))
-
-
-class PrepareTest(CopyTest):
     def prepared(self, field, *args, why="a reason"):
         log = self.folder / f"{self.copy.name}.log"
         log.unlink(missing_ok=True)
-        answer = self.copied("prepare.py", field, f"--why={why}", *args)
+        answer = self.copied(field, f"--why={why}", *args)
         self.log = log.read_bytes() if log.exists() else None
         self.assertEqual(answer[0] == 0, log.exists())
         return answer
@@ -248,6 +156,35 @@ class PrepareTest(CopyTest):
         for sights in ["ABba", "AaBbAaBb", "ABCcbaABCcba", "AaAaBb", "A", "AA"]:
             status, _, said = self.prepared(sights_of(sights), "--closing")
             self.assertEqual((1, "prepare.py: no set has a closing sight\n"), (status, said))
+
+    def test_a_last_set_that_was_broken_off_is_found_in_a_job_without_codes(self):
+        """Capitals are sights in face I and small letters in face II; | sets the instrument up."""
+        for sights, broken in [
+            ("ABCcbaABC", "......xxx"),
+            ("ABCcbaABCc", "......xxxx"),
+            ("ABCabcABCab", "......xxxxx"),
+            ("ABCcbacbaABCABCc", "............xxxx"),  # faces alternate
+            ("abcCBAabc", "......xxx"),  # sets begin in face II
+            ("AaBbCcAaBbCcAaB", "............xxx"),
+            ("AaBbCcAaBb", "......xxxx"),  # each face is there, and the last target is not
+            ("ABCcbaABba|ABbaAB", "...............xx"),  # a gap; the second station is broken off
+            ("ABCcbaAB|ABbaAB", "......xx.....xx"),
+            ("AABCcbaABC", ".......xxx"),  # an orientation sight comes first
+            ("CcABCcbaABC", "........xxx"),
+            ("ABCcbaABXY", "......xx.."),  # detail points stay
+            ("ABCcbaABCcbaA", "............x"),
+        ]:
+            with self.subTest(sights):
+                numbers = [n for n, mark in enumerate(broken, 1) if mark == "x"]
+                self.assertEqual(numbers, self.left(sights_of(sights), ["--broken-off"]))
+        both = self.left(sights_of("ABCAacbaABCAacbaABCA"), ["--closing", "--broken-off"])
+        self.assertEqual([4, 8, 12, 16, 17, 18, 19, 20], both)
+        none = "prepare.py: no last set was broken off, as far as the readings show it\n"
+        for sights in ["ABCcba", "AABCcbaABCcba", "ABCcbaABba", "AaBbAaBbXY", "AaAaBb", "ABC", "A", ""]:
+            status, _, said = self.prepared(sights_of(sights), "--broken-off")
+            self.assertEqual((1, none), (status, said), sights)
+        said = "prepare.py: the file has codes: leave the set out by --set\n"
+        self.assertEqual((1, "", said), self.prepared(P7, "--broken-off"))
 
     def changed(self, field, args, expected):
         """Compares the copy, and looks at the log: each line as it was and as it is."""
@@ -310,6 +247,12 @@ class PrepareTest(CopyTest):
             self.assertIn("block 1: no plain letter stands for ", said)
 
     def test_the_log_says_what_and_why(self):
+        for args, counts in [
+            (["--blocks", "2"], "1 block is left out"),
+            (["--rename", "1", "P8"], "1 block is changed"),
+            (["--blocks", "2", "--rename", "1,4", "X"], "1 block is left out, 2 blocks are changed"),
+        ]:
+            self.assertEqual((0, counts, ""), self.prepared(P7, *args))
         said = self.prepared(P7, "--blocks", "2", "4-5", why="MAST was moved")
         self.assertEqual((0, "3 blocks are left out", ""), said)
         lines = P7.splitlines(keepends=True)
@@ -318,6 +261,19 @@ class PrepareTest(CopyTest):
             log += b"block %d:\n< %s" % (number, lines[number - 1])
         self.assertEqual(log, self.log)
 
+    def test_a_copy_is_a_new_file(self):
+        self.field.write_bytes(P7)
+        (self.folder / "none.gsi.log").write_bytes(b"")
+        for field, copy, said in [
+            ("field.gsi", "field.gsi", "field.gsi is there already"),
+            ("field.gsi", "no/copy.gsi", "cannot write no/copy.gsi.log: No such file or directory"),
+            ("field.gsi", "none.gsi", "none.gsi.log is there already"),
+            ("none.gsi", "copy.gsi", "cannot read none.gsi: No such file or directory"),
+        ]:
+            done = self.run_script(field, copy, "--blocks", "2", "--why", "a reason")
+            self.assertEqual((1, ""), (done.returncode, done.stdout))
+            self.assertEqual(f"prepare.py: {said}\n", done.stderr)
+
     def test_what_is_not_there_is_refused_with_a_reason(self):
         for args, said in [
             (["--blocks", "52"], "no block 52: the file has 51"),
@@ -325,6 +281,7 @@ class PrepareTest(CopyTest):
             (["--set", "P7", "5"], "station P7 has no set 5"),
             (["--set", "P8", "1"], "station P8 has no set 1"),
             (["--closing"], "no set has a closing sight"),
+            (["--broken-off"], "the file has codes: leave the set out by --set"),
             (["--rename", "1", "x" * 17], "block 1: the name " + "x" * 17 + " is too long"),
             (["--rename", "51", "X"], "block 51 has no name"),
             (["--rename", "52", "X"], "no block 52: the file has 51"),

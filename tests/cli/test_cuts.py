@@ -5,6 +5,7 @@ import unittest
 
 from against_model import FIELD, SHEET, TABLE, AgainstModel, Case, sample
 from program import answer_of
+from worked import JOB
 
 # A blank, a tab, both line ends, and bytes that a field file or a sheet has elsewhere, or nowhere.
 BYTES = [b" ", b"\t", b"\r", b"\n", b"*", b"0", b"9", b"+", b"-", b'"', b",", b"\x80"]
@@ -76,6 +77,13 @@ class CutsTest(AgainstModel):
     def test_every_first_part_of_the_example(self):
         for command, step in [("words", 3), ("list", 3), ("means", 3), ("check", 3), ("directions", 5)]:
             self.compare(sample(cuts(command, b"", FIELD, sheet=SHEET), step))
+
+    def test_every_first_part_of_a_job(self):
+        self.compare(sample(cuts("mark", b"", JOB), 3))
+
+    def test_every_byte_of_a_job_replaced(self):
+        jobs = sample(replaced(JOB), 7)
+        self.compare(Case(name, "mark", job) for name, job in jobs)
 
     def test_every_first_part_of_the_sheet(self):
         lengths = range(len(SHEET) + 1)

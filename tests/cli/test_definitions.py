@@ -6,7 +6,7 @@ import unittest
 
 from program import ROOT
 
-sys.path.insert(0, str(ROOT / "docs"))
+sys.path.insert(0, str(ROOT / "tools"))
 
 import definitions
 
@@ -20,14 +20,20 @@ def promised():
 
 class DefinitionsTest(unittest.TestCase):
     def test_the_page_is_up_to_date(self):
-        """Where this fails, `python3 docs/definitions.py` makes it anew."""
+        """Where this fails, `python3 tools/definitions.py` makes it anew."""
         self.assertEqual(definitions.page(), definitions.PAGE.read_text())
 
     def test_each_definition_of_the_promise_has_a_comment(self):
         for spec in promised():
-            for name, comment in spec.definitions():
-                with self.subTest(file=spec.path.name, definition=name):
-                    self.assertTrue(comment)
+            for definition in spec.definitions():
+                with self.subTest(file=spec.path.name, definition=definition.name):
+                    self.assertTrue(definition.comment)
+
+    def test_each_file_of_definitions_says_what_it_is_about(self):
+        for crate in definitions.crates():
+            for spec in definitions.specs_of(crate):
+                with self.subTest(crate, file=spec.path.name):
+                    self.assertTrue(spec.head())
 
     def test_no_definition_of_the_promise_is_left_out(self):
         """What the promise cites is in files that the list of its crate's definitions names."""

@@ -1,22 +1,26 @@
-"""`make dist`: the archive runs in a container root that holds nothing else but the C library; a page that
-was made lies beside it."""
+"""`make dist`: the archive runs in a container root that holds nothing else but the C library, and so does the
+package; a page that was made lies beside them."""
 
+import hashlib
 import os
 import re
 import shutil
 import subprocess
 import tarfile
+import tempfile
 import unittest
+from pathlib import Path
 
+from pages import page_steps, printed_by
 from program import PROGRAM, ROOT, ProgramTest, answer_of
-from test_install import INSTALLED
+from test_install import INSTALLED, TOOLS
 
 EXAMPLES = "share/doc/station_check/examples"
 
 TIME = 120
 
 # The page's library, and those that no command uses yet.
-NOT_OF_THE_PROGRAM = {"station_page", "byte_digests", "set_marks", "station_record"}
+NOT_OF_THE_PROGRAM = {"station_page"}
 
 
 def output_of(*command, **more):
@@ -29,67 +33,80 @@ def libraries():
     return re.findall(r"(/\S+) \(0x", output_of("ldd", PROGRAM))
 
 
+def dist(folder, page):
+    """What is made, by names, in a folder, with a page beside it where there is one."""
+    names = [f"PROGRAM={PROGRAM}", f"DIST={folder}", f"PAGE={page}"]
+    output_of("make", "-s", "-o", PROGRAM, *names, "dist", cwd=ROOT)
+    output_of("sha256sum", "--check", "SHA256SUMS", cwd=folder)
+    return {path.name: path for path in folder.iterdir()}
+
+
 class DistTest(ProgramTest):
-    def dist(self, name):
-        """What is made, by names, in a folder of this name."""
-        folder = self.folder / name
-        names = [f"PROGRAM={PROGRAM}", f"DIST={folder}", f"PAGE={self.folder / 'page.html'}"]
-        command = ["make", "-s", "-o", PROGRAM, *names, "dist"]
-        output_of(*command, cwd=ROOT)
-        output_of("sha256sum", "--check", "SHA256SUMS", cwd=folder)
-        return {path.name: path for path in folder.iterdir()}
-
-    def archive(self, made):
+    @classmethod
+    def setUpClass(cls):
+        """What most tests look at is made once."""
+        folder = tempfile.TemporaryDirectory()
+        cls.addClassCleanup(folder.cleanup)
+        top = Path(folder.name)
+        cls.made = dist(top / "made", top / "no page")
         version = answer_of(["--version"])[1].decode().split()[1]
-        self.name = f"station_check-{version}-linux-x86_64"
-        return made[f"{self.name}.tar.gz"]
+        cls.name = f"station_check-{version}-linux-x86_64"
 
-    def container(self):
-        """The command that runs a program in a root of its own."""
-        root = self.folder / "root"
+    def archive(self):
+        return tarfile.open(self.made[f"{self.name}.tar.gz"])
+
+    def package(self):
+        """The Debian package."""
+        if not shutil.which("dpkg-deb"):
+            self.skipTest("no dpkg-deb is found")
+        return next(path for name, path in self.made.items() if name.endswith(".deb"))
+
+    def check_in_root(self, root, program, examples):
+        """Runs a program in this root, beside the C library and nothing else."""
+        for library in libraries():
+            (root / library[1:]).parent.mkdir(parents=True, exist_ok=True)
+            shutil.copy(library, root / library[1:])
         own = [] if os.geteuid() == 0 else ["unshare", "--map-root-user"]
-        return [*own, "chroot", str(root)]
+        container = [*own, "chroot", str(root)]
+        try:
+            version = output_of(*container, program, "--version")
+        except (FileNotFoundError, subprocess.CalledProcessError) as why:
+            self.skipTest(f"no container root can be made here: {why}")
+        self.assertEqual(answer_of(["--version"])[1].decode(), version)
+        files = [f"{examples}/station_p7.{end}" for end in ("gsi", "csv")]
+        accepted = output_of(*container, program, "check", *files)
+        self.assertTrue(accepted.startswith("accepted P7: "), accepted)
 
     def test_the_archive_runs_where_nothing_else_is(self):
         root = self.folder / "root"
         root.mkdir()
-        with tarfile.open(self.archive(self.dist("made"))) as archive:
+        with self.archive() as archive:
             archive.extractall(root)
         place = root / self.name
         output_of("sha256sum", "--check", "SHA256SUMS", cwd=place)
         names = [str(path.relative_to(place)) for path in place.rglob("*") if path.is_file()]
-        more = ["SHA256SUMS", "share/doc/station_check/PROVED"]
+        more = ["SHA256SUMS", *(f"share/doc/station_check/{name}" for name in ("PROVED", "copyright"))]
         self.assertEqual(sorted([*INSTALLED, *more]), sorted(names))
-        for library in libraries():
-            (root / library[1:]).parent.mkdir(parents=True, exist_ok=True)
-            shutil.copy(library, root / library[1:])
-        program = f"/{self.name}/bin/station_check"
-        files = [f"/{self.name}/{EXAMPLES}/station_p7.{end}" for end in ("gsi", "csv")]
-        try:
-            version = output_of(*self.container(), program, "--version")
-        except (FileNotFoundError, subprocess.CalledProcessError) as why:
-            self.skipTest(f"no container root can be made here: {why}")
-        self.assertEqual(answer_of(["--version"])[1].decode(), version)
-        accepted = output_of(*self.container(), program, "check", *files)
-        self.assertTrue(accepted.startswith("accepted P7: "), accepted)
+        self.check_in_root(root, f"/{self.name}/bin/station_check", f"/{self.name}/{EXAMPLES}")
 
     def test_the_same_files_give_the_same_archive(self):
-        first, second = self.dist("first"), self.dist("second")
-        self.assertEqual(list(sorted(first)), list(sorted(second)))
-        for name, path in first.items():
+        second = dist(self.folder / "second", self.folder / "no page")
+        self.assertEqual(sorted(self.made), sorted(second))
+        for name, path in self.made.items():
             self.assertEqual(path.read_bytes(), second[name].read_bytes(), name)
 
     def test_a_page_that_was_made_lies_beside_the_archive(self):
-        self.assertNotIn(".html", "".join(self.dist("without")))
+        self.assertNotIn(".html", "".join(self.made))
         (self.folder / "page.html").write_text("the page")
-        made = self.dist("with")
-        name = self.archive(made).name.replace("-linux-x86_64.tar.gz", ".html")
+        made = dist(self.folder / "with", self.folder / "page.html")
+        name = self.name.replace("-linux-x86_64", ".html")
         self.assertEqual("the page", made[name].read_text())
         self.assertIn(name, made["SHA256SUMS"].read_text())
 
     def test_the_note_says_what_the_program_was_proved_with(self):
-        with tarfile.open(self.archive(self.dist("made"))) as archive:
+        with self.archive() as archive:
             note = archive.extractfile(f"{self.name}/share/doc/station_check/PROVED").read()
+            program = archive.extractfile(f"{self.name}/bin/station_check").read()
         crates = re.findall(r"^(\w+):", (ROOT / "crates.txt").read_text(), re.MULTILINE)
         crates = {name for name in crates if not name.endswith("_tests")} - NOT_OF_THE_PROGRAM
         for word in ["commit: ", "toolchain: ", "needs: Linux on x86-64"]:
@@ -98,21 +115,66 @@ class DistTest(ProgramTest):
         line = r"^(\w+)\n  (?:axioms |logic=|no log of make is here)"
         said = re.findall(line, note.decode(), re.MULTILINE)
         self.assertEqual(sorted(crates), sorted(said))
-        self.assertIn(output_of("sha256sum", PROGRAM).split()[0], note.decode())
+        self.assertIn(hashlib.sha256(program).hexdigest(), note.decode())
+
+    def test_the_packed_program_is_the_built_one_without_its_symbols(self):
+        if not shutil.which("objcopy"):
+            self.skipTest("no objcopy is found")
+        with self.archive() as archive:
+            archive.extract(f"{self.name}/bin/station_check", self.folder)
+        packed = self.folder / self.name / "bin" / "station_check"
+        for section in [".text", ".rodata", ".data", ".init_array"]:
+            parts = []
+            for program in (PROGRAM, packed):
+                part = self.folder / "part"
+                part.write_bytes(b"")
+                output_of("objcopy", "--dump-section", f"{section}={part}", program, os.devnull)
+                parts.append(part.read_bytes())
+            self.assertEqual(*parts, section)
+            self.assertTrue(parts[0], section)
+        self.assertNotIn(".symtab", output_of("objdump", "--section-headers", packed))
 
     def test_the_package_has_the_program_and_the_documents(self):
-        if not shutil.which("dpkg-deb"):
-            self.skipTest("no dpkg-deb is found")
-        package = next(path for name, path in self.dist("made").items() if name.endswith(".deb"))
         root = self.folder / "deb"
-        output_of("dpkg-deb", "--raw-extract", package, root)
+        output_of("dpkg-deb", "--raw-extract", self.package(), root)
         output_of("md5sum", "--check", "DEBIAN/md5sums", cwd=root)
-        self.assertEqual(PROGRAM.read_bytes(), (root / "usr/bin/station_check").read_bytes())
         for name in ["man/man1/station_check.1.gz", "zsh/vendor-completions/_station_check"]:
             self.assertTrue((root / "usr/share" / name).exists(), name)
-        for name in ["README.md", "PROVED", "docs/GUIDE.md", "examples/adjust.py"]:
+        for name in ["README.md", "PROVED", "docs/GUIDE.md", "examples/adjust.py", "copyright", "changelog.gz"]:
+            self.assertTrue((root / "usr/share/doc/station-check" / name).exists(), name)
             self.assertTrue((root / "usr/share/doc/station_check" / name).exists(), name)
         self.assertIn("Depends: libc6 (>= 2.", (root / "DEBIAN/control").read_text())
+
+    def test_lintian_has_no_error_and_no_warning(self):
+        if not shutil.which("lintian"):
+            self.skipTest("no lintian is found")
+        words = ["lintian", "--allow-root", "--fail-on", "error,warning", self.package()]
+        done = subprocess.run(words, capture_output=True, text=True, timeout=TIME)
+        self.assertEqual((0, ""), (done.returncode, done.stdout))
+
+    def test_the_package_in_an_empty_root_does_what_the_guide_shows(self):
+        root = self.folder / "root"
+        (root / "var/lib/dpkg/info").mkdir(parents=True)
+        for name in ("status", "available"):
+            (root / "var/lib/dpkg" / name).write_text("")
+        (root / "var/lib/dpkg/updates").mkdir()
+        fakes = [] if os.geteuid() == 0 else ["--force-not-root"]
+        install = ["dpkg", f"--root={root}", "--force-depends", *fakes, "--log=/dev/null"]
+        output_of(*install, "--install", self.package())
+        documents = root / "usr/share/doc/station_check"
+        with self.subTest("in the root"):
+            self.check_in_root(root, "/usr/bin/station_check", f"/usr/{EXAMPLES}")
+        steps = page_steps((documents / "docs" / "GUIDE.md").read_text())
+        work = self.folder / "work"
+        shutil.copytree(documents / "examples", work)
+        for step, printed in zip(steps, printed_by(steps, work, root / "usr/bin/station_check")):
+            with self.subTest(command=step.command):
+                if not step.fits(printed):
+                    self.assertEqual(step.printed, printed)
+        for name in TOOLS.values():
+            self.assertIn("usage: ", output_of(root / "usr/bin" / name, "--help"))
+        output_of(*install, "--remove", "station-check")
+        self.assertEqual([], [path for path in (root / "usr").rglob("*") if "station" in path.name])
 
 
 if __name__ == "__main__":

@@ -2,14 +2,17 @@
 command lines of 1 to 20 words; paths of many forms, beside files of like names that would answer
 otherwise."""
 
+import hashlib
 import itertools
 import random
 import shutil
+import subprocess
 import unittest
+from pathlib import Path
 from typing import NamedTuple
 
 from program import EXAMPLE, EXAMPLE_SHEET, ROOT, SWEEP, ProgramTest, answer_of, side_by_side
-from worked import ACCEPTED, LIST, SHEET, STATION, TABLE, edited, refused
+from worked import ACCEPTED, AGREES, LIST, SHEET, STATION, TABLE, edited, refused
 
 # How many command lines of each command are run beside those that change one option, where not all
 # are.
@@ -46,6 +49,12 @@ WITHIN = Option("--within", "15", "14", refusal("compare: Apart 15"))
 
 DECIMALS = Option("--decimals", "6", "4", (0, b"A,0.0000\nB,50.0000\n", b""))
 
+# The flag that adds a line for each of the two files of a command.
+DIGESTS = "--sha256"
+
+# The commands that have the flag.
+RECORDED = ["check", "compare"]
+
 # The words of each command, its options, and what it answers where none changes anything.
 COMMANDS = {
     "check": ([str(EXAMPLE), str(EXAMPLE_SHEET)], [*LIMITS, RESIDUAL], ACCEPTED),
@@ -70,10 +79,9 @@ NAMES = [
 
 def orders(words, options):
     """The words in their order with each option somewhere, as two words or as one; and the same with
-    `--` after the last option."""
+    `--` after the last option. A flag is an option without a value."""
     for ordered in itertools.permutations(options):
-        for joined in itertools.product([False, True], repeat=len(ordered)):
-            forms = [[f"{o}={v}"] if one else [o, v] for (o, v), one in zip(ordered, joined)]
+        for forms in itertools.product(*[[[o]] if v is None else [[o, v], [f"{o}={v}"]] for o, v in ordered]):
             for places in itertools.combinations(range(len(words) + len(forms)), len(forms)):
                 line, left, rest = [], list(forms), list(words)
                 for place in range(len(words) + len(forms)):
@@ -94,6 +102,21 @@ def runs_of(words, options, stdout):
         changed = [o.answer for o, value in stated if value == "changed"]
         expected = changed[0] if changed else (0, stdout, b"")
         for line in orders(words, [(o.name, getattr(o, value)) for o, value in stated]):
+            yield line, expected
+
+
+def digest_line(path):
+    """The line of a file's digest, where its path has nothing to escape."""
+    return f"{hashlib.sha256(Path(path).read_bytes()).hexdigest()}  {path}\n".encode()
+
+
+def recorded_runs_of(words, options, stdout):
+    """Each command line of a command with the flag and one option at most, and what it answers."""
+    digests = digest_line(words[0]) + digest_line(words[-1])
+    for option, value in [(None, None), *itertools.product(options, ["kept", "changed"])]:
+        expected = option.answer if value == "changed" else (0, stdout + digests, b"")
+        stated = [(option.name, getattr(option, value))] if option else []
+        for line in orders(words, [(DIGESTS, None), *stated]):
             yield line, expected
 
 
@@ -132,6 +155,58 @@ class EdgeTest(ProgramTest):
             plain = [run for run in runs if changes_one(run[0], options)]
             chosen = runs if SWEEP else [*plain, *draw.sample(runs, min(SAMPLE, len(runs)))]
             self.assert_answers([([command, *line], expected) for line, expected in chosen])
+
+    def test_digests_are_printed_where_the_flag_stands_in_each_order(self):
+        table = self.folder / "table.csv"
+        table.write_bytes(TABLE)
+        for command in RECORDED:
+            words, options, _ = COMMANDS[command]
+            words = [word.format(table=table) for word in words]
+            options = [option for option in options if option != WITHIN]
+            stdout = {"check": ACCEPTED, "compare": AGREES}[command]
+            runs = [([command, *line], expected) for line, expected in recorded_runs_of(words, options, stdout)]
+            self.assert_answers(runs)
+            self.assertEqual(len(runs), len({tuple(line) for line, _ in runs}))
+
+    def test_a_flag_has_no_value_and_stands_once(self):
+        for command in RECORDED:
+            words = [word.format(table=EXAMPLE_SHEET) for word in COMMANDS[command][0]]
+            for flags in [[f"{DIGESTS}=true"], [f"{DIGESTS}="], [DIGESTS, DIGESTS], ["--sha"], ["--SHA256"]]:
+                status, stdout, stderr = answer_of([command, *flags, *words])
+                self.assertEqual((2, b""), (status, stdout), flags)
+                self.assertIn(b"error: ", stderr)
+        for command in set(COMMANDS) - set(RECORDED):
+            self.assertEqual((2, b""), answer_of([command, DIGESTS, *COMMANDS[command][0]])[:2])
+
+    def test_a_path_stands_beside_its_digest_as_sha256sum_prints_it(self):
+        """Each path twice: as that of the field file, and as that of the sheet. To `sha256sum` `-` is
+        standard input."""
+        for name in [*NAMES, "a\rb", "\\", "\\n", "./-"]:
+            if name == "-":
+                continue
+            with self.subTest(name=name):
+                path, other = self.empty_folder() / name, self.folder / "other"
+                path.write_bytes(STATION)
+                other.write_bytes(SHEET)
+                self.assert_recorded(["check", DIGESTS, "--", name, "../other"], [name, "../other"], path.parent)
+                path.write_bytes(SHEET)
+                other.write_bytes(STATION)
+                self.assert_recorded(["check", DIGESTS, "--", "../other", name], ["../other", name], path.parent)
+
+    def assert_recorded(self, args, paths, folder):
+        """The acceptance stands, and then what `sha256sum` prints of these paths; and `sha256sum -c`
+        finds the files to be those, and no more so where one has changed."""
+        status, stdout, stderr = answer_of(args, cwd=folder)
+        sums = subprocess.run(["sha256sum", "--", *paths], cwd=folder, check=True, capture_output=True).stdout
+        self.assertEqual((0, ACCEPTED + sums, b""), (status, stdout, stderr))
+        lines = stdout.removeprefix(ACCEPTED)
+        check = ["sha256sum", "--check", "--strict", "--quiet"]
+        self.assertEqual(0, subprocess.run(check, cwd=folder, input=lines, capture_output=True).returncode)
+        changed = folder / paths[0]
+        before = changed.read_bytes()
+        changed.write_bytes(before + b"\n")
+        self.assertEqual(1, subprocess.run(check, cwd=folder, input=lines, capture_output=True).returncode)
+        changed.write_bytes(before)
 
     def test_a_number_counts_however_it_is_written(self):
         for command in ["check", "list"]:
@@ -172,7 +247,7 @@ class EdgeTest(ProgramTest):
                     (STATION, (0, LIST, b"")),
                     (b"Z" + STATION, refusal("block 1: Word 1")),
                     (STATION[1:], refusal("block 1: Word 1")),
-                    (None, (2, b"", f"cannot open {{}}\n".encode())),
+                    (None, (2, b"", b"cannot open {}\n")),
                 ]:
                     with self.subTest(name=name, field=field):
                         folder = self.empty_folder()

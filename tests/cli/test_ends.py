@@ -17,6 +17,7 @@ import test_generated
 from against_model import FIELD, SHEET, TABLE
 from processes import state_of, wants_more
 from program import PROGRAM, TIME, ProgramTest, answer_in_shell, answer_of, until
+from worked import JOB
 
 REFUSED_WRITE = b"refused: write failed\n"
 
@@ -40,6 +41,7 @@ class EndsTest(ProgramTest):
             ["check", self.field, self.sheet],
             ["directions", self.field, "S1"],
             ["compare", self.field, "S1", self.table],
+            ["mark", "--station=S1", self.file("job.gsi", JOB)],
         ]
 
     def file(self, name, content):
@@ -66,11 +68,14 @@ class StreamsTest(EndsTest):
         for args in self.runs:
             for closed in ["<&-", "2>&-", "<&- 2>&-"]:
                 with self.subTest(args[0], closed=closed):
-                    self.assertEqual(answer_of(args), answer_in_shell(f'"$@" {closed}', *args))
+                    status, stdout, said = answer_of(args)
+                    said = b"" if "2>" in closed else said
+                    self.assertEqual((status, stdout, said), answer_in_shell(f'"$@" {closed}', *args))
 
     def test_a_failing_standard_error_changes_no_status(self):
         folder = str(self.folder)
         read = [["words", folder], ["list", folder], ["means", folder, "S1"]]
+        read += [["mark", folder]]
         of_two = [["check", self.field, folder], ["compare", self.field, "S1", folder]]
         for args in [*read, *of_two, ["directions", self.field, "S2"]]:
             for err in ["2> /dev/full", "2>&-"]:
@@ -111,6 +116,8 @@ class FilesTest(EndsTest):
             (["compare", folder, "S1", self.table], "block 1: Read"),
             (["compare", self.field, "S1", folder], "table: Read"),
             (["compare", self.field, "S2", folder], "no station"),
+            (["mark", folder], "block 1: Read"),
+            (["mark", "--station=S1", folder], "block 1: Read"),
         ]:
             with self.subTest(args):
                 self.assertEqual(refused(reason), answer_of(args))
@@ -164,7 +171,7 @@ class FilesTest(EndsTest):
     def test_one_path_for_both_files(self):
         for args, reason in [
             (["check", self.field, self.field], "sheet row 1: Fields"),
-            (["compare", self.field, "S1", self.field], "table row 1: Fields"),
+            (["compare", self.field, "S1", self.field], "table row 2: Number"),
         ]:
             self.assertEqual(refused(reason), answer_of(args))
 

@@ -1,6 +1,5 @@
 """`explain`: each fault is explained, its example is met, and the pages made from it are up to date."""
 
-import os
 import re
 import sys
 
@@ -8,10 +7,9 @@ import model
 import preload
 from kinds import NEVER_MET, OF_BYTES, OF_COUNTS, OF_READS, REFUSALS
 from program import EXAMPLE, PROGRAM, ROOT, ProgramTest, answer_in_shell, answer_of
-from worked import refused
 
 sys.path.insert(0, str(ROOT / "conformance"))
-sys.path.insert(0, str(ROOT / "docs"))
+sys.path.insert(0, str(ROOT / "tools"))
 import faults  # noqa: E402
 import run  # noqa: E402
 
@@ -28,7 +26,7 @@ FAULT_ROW = re.compile(r"^\| (`[^|]*`) \| ")
 WIDEST = 100
 
 # What the line of a refusal has before the name of its fault.
-PLACE = r"^(block \d+|(sheet|table)( row \d+)?|means|kernel|adjust|compare): "
+PLACE = r"^(block \d+(: mark)?|(sheet|table)( row \d+)?|means|kernel|adjust|compare): "
 
 
 def explained(*words):
@@ -43,10 +41,11 @@ def names():
 
 
 def tables_of_faults():
-    """The names in the tables of docs/FORMATS.md whose columns are fault and when."""
+    """The names in the tables of docs/FORMATS.md whose columns are fault and when, with where the
+    fault stands between or not."""
     found, in_table = [], False
     for line in (ROOT / "docs" / "FORMATS.md").read_text().splitlines():
-        if line == "| Fault | When |":
+        if line in ("| Fault | When |", "| Fault | Where | When |"):
             in_table = True
         elif not line.startswith("|"):
             in_table = False
@@ -138,6 +137,8 @@ class ExplainTest(ProgramTest):
             ("Range", ["sheet row 3: Range", "refused: table row 2: Range"]),
             ("Missing", ["Missing 2", "refused: table: Missing 2"]),
             ("Residual", ["kernel: Residual 1", "refused: adjust: Residual 1"]),
+            ("OneSet", ["mark: OneSet", "refused: block 4: mark: OneSet"]),
+            ("TooManySets", ["refused: block 164: mark: TooManySets"]),
             ("Apart", ["Apart 15", "compare: Apart 15", "refused: compare: Apart 15"]),
             ("out of memory", ["refused: out of memory"]),
             ("cannot open", ["Cannot open"]),
@@ -172,7 +173,7 @@ class ExplainTest(ProgramTest):
             (["Byte", "x"], ["Byte"]),
             (["TwoC", ":"], ["TwoC"]),
             (["Residuals"], ["Residual"]),
-            (["FaceTwise"], ["FaceUnclear", "FaceTwice"]),
+            (["FaceTwise"], ["FaceUnclear", "FaceTwice", "FaceMissing"]),
             (["targetsom"], ["TargetRow", "TargetSum"]),
             (["kernel: Residal 17"], ["Residual"]),
         ]:
@@ -227,7 +228,7 @@ class ExplainTest(ProgramTest):
 
 class PagesTest(ProgramTest):
     def test_pages_are_up_to_date(self):
-        """Where this fails, `python3 docs/faults.py` makes them anew."""
+        """Where this fails, `python3 tools/faults.py` makes them anew."""
         for path, text in faults.pages(PROGRAM):
             with self.subTest(path.name):
                 self.assertEqual(text, path.read_text())

@@ -13,6 +13,7 @@ import preload
 import test_generated
 from against_model import FIELD, SHEET, TABLE, sample
 from program import PROGRAM, SWEEP, ProgramTest, answer_to, side_by_side
+from worked import JOB
 
 # The words of each command; without words the field file is standard input.
 COMMANDS = {
@@ -25,6 +26,9 @@ COMMANDS = {
     "compare": ["compare", "{field}", "S1", "{table}"],
 }
 
+# The command whose field file has no codes.
+MARK = {"mark": ["mark", "--station=S1", "{job}"]}
+
 WHOLE = {
     "": model.words(FIELD),
     "words": model.words(FIELD),
@@ -33,6 +37,7 @@ WHOLE = {
     "check": model.check(FIELD, SHEET),
     "directions": model.directions(FIELD, b"S1"),
     "compare": model.compared(FIELD, b"S1", TABLE),
+    "mark": model.marked(JOB, b"S1"),
 }
 
 REFUSED_WRITE = b"refused: write failed\n"
@@ -76,14 +81,15 @@ class FailingEndsTest(ProgramTest):
         super().setUp()
         self.library = preload.built("failing_ends")
         self.field, self.sheet = self.folder / "field.gsi", self.folder / "sheet.csv"
-        self.table = self.folder / "table.csv"
+        self.table, self.job = self.folder / "table.csv", self.folder / "job.gsi"
         self.field.write_bytes(FIELD)
+        self.job.write_bytes(JOB)
         self.sheet.write_bytes(SHEET)
         self.table.write_bytes(TABLE)
 
     def answer(self, command, **limits):
-        paths = {"field": self.field, "sheet": self.sheet, "table": self.table}
-        args = [word.format(**paths) for word in COMMANDS[command]]
+        files = {"field": self.field, "sheet": self.sheet, "table": self.table, "job": self.job}
+        args = [word.format(**files) for word in {**COMMANDS, **MARK}[command]]
         env = {name: str(value) for name, value in limits.items()}
         with open(self.field, "rb") as field:
             env["LD_PRELOAD"] = str(self.library)
@@ -109,6 +115,23 @@ class FailingEndsTest(ProgramTest):
             for command in COMMANDS
         )
         self.check_all(sample(runs, 4))
+
+    def test_a_job_that_fails_or_ends_after_each_byte(self):
+        """For good or once, whatever the reads before it gave."""
+        for text in [JOB, b"\n" * 9_000 + JOB, JOB + b" " * 999 + b"\n" * 9_000]:
+            self.job.write_bytes(text)
+            places = range(len(text) + 1) if text == JOB else [*PLACES, len(text)]
+            runs = (
+                ("mark", {**limits, "READ_MOST": most, "READ_STOPS": stops}, expected)
+                for room in places
+                if room <= len(text)
+                for error in [errno.EIO, 0]
+                for expected in [model.marked(text[:room], b"S1", fails=error != 0)]
+                for limits in [{"READ_PATH": self.job, "READ_ROOM": room, "READ_ERROR": error}]
+                for most in [48, 4_096]
+                for stops in [1, 1_000_000]
+            )
+            self.check_all(sample(runs, 7))
 
     def test_a_sheet_that_fails_after_each_byte(self):
         refused = (1, b"", b"refused: sheet: Read\n")

@@ -4,7 +4,6 @@ import os
 import subprocess
 import sys
 import unittest
-from pathlib import Path
 
 from pages import tools
 from program import ROOT, ProgramTest
@@ -20,6 +19,12 @@ SUMMARY = (
     "{} of {} field files done; of the sheets {} accepted, {} refused, {} not checked"
 )
 
+# What follows it where there are tables.
+TABLES = "; of the tables {} agreed, {} refused, {} not compared"
+
+# What is said of a station that is not done.
+MISSING = "no accepted sheet or agreeing table of station {}"
+
 # Of each ten files, by their last digit, the ones that have something wrong.
 WRONG_SHEET, WRONG_FIELD, NO_FIELD, NO_SHEET = 6, 7, 8, 9
 RIGHT = 6
@@ -32,6 +37,12 @@ THREE = b"".join(edited(STATION, (b"00S1", b"00S%d" % n)) for n in (1, 2, 3))
 SHEETS = {n: edited(SHEET, (b",S1,", b",S%d," % n)) for n in (1, 2, 3)}
 
 WRONG = edited(SHEET, (b"set,1,,-20,", b"set,1,,-21,"))
+
+# Directions of the example: as they are, rounded, and 0.02 mgon off.
+TABLE = b"A,0.000000\nB,50.000030\n"
+ROUNDED = b"A,0.0000\nB,50.0000\n"
+OFF = b"A,0\nB,50.00005\n"
+AGREES = "agrees S1: 2 targets, within {}"
 
 
 def station(number):
@@ -79,10 +90,10 @@ class FolderTest(ProgramTest):
         counts = SUMMARY.format(RIGHT * EACH, FILES - EACH, RIGHT * EACH, 2 * EACH, EACH)
         self.assertEqual(counts, lines[-1])
         refusals = {
-            WRONG_SHEET: ["refused: kernel: TargetSum 1", "no accepted sheet of station S1"],
+            WRONG_SHEET: ["refused: kernel: TargetSum 1", MISSING.format("S1")],
             WRONG_FIELD: ["refused: block 3: Hz Unit"] * 2,
             NO_FIELD: ["no field file of this name; capitals count"],
-            NO_SHEET: ["no accepted sheet of station S1"],
+            NO_SHEET: [MISSING.format("S1")],
         }
         wanted = []
         for number in range(FILES):
@@ -118,14 +129,14 @@ class FolderTest(ProgramTest):
         status, lines = self.answers({**both, "2026.11.csv": its_sheet})
         self.assertEqual((1, SUMMARY.format(1, 2, 1, 1, 0)), (status, lines[-1]))
         self.assertIn("2026.11: refused: kernel: ObsRow 2", lines)
-        self.assertIn("2026.11: no accepted sheet of station S1", lines)
+        self.assertIn(f"2026.11: {MISSING.format('S1')}", lines)
 
     def sorted_answers(self, files):
         status, lines = self.answers(files)
         return status, sorted(lines)
 
     def test_a_field_file_in_capitals_is_seen(self):
-        missing = "JOB2: no accepted sheet of station S1"
+        missing = f"JOB2: {MISSING.format('S1')}"
         files = {"JOB2.GSI": STATION}
         self.assertEqual((1, [missing, SUMMARY.format(0, 1, 0, 0, 0)]), self.answers(files))
         for sheet in ["JOB2.CSV", "JOB2.csv", "JOB2.S1.Csv"]:
@@ -136,7 +147,7 @@ class FolderTest(ProgramTest):
 
     def test_each_station_of_a_field_file_needs_a_sheet(self):
         files = {"three.gsi": THREE, "three.S1.csv": SHEETS[1]}
-        missing = [f"three: no accepted sheet of station S{n}" for n in (2, 3)]
+        missing = [f"three: {MISSING.format(f'S{n}')}" for n in (2, 3)]
         accepted = f"three.S1: {ACCEPTED_S1}"
         summary = SUMMARY.format(0, 1, 1, 0, 0)
         self.assertEqual((1, [accepted, *missing, summary]), self.answers(files))
@@ -149,13 +160,78 @@ class FolderTest(ProgramTest):
         files = {"three.gsi": THREE, **{f"three.S{n}.csv": SHEETS[1] for n in (1, 2, 3)}}
         status, lines = self.answers(files)
         self.assertEqual((1, SUMMARY.format(0, 1, 3, 0, 0)), (status, lines[-1]))
-        missing = [f"three: no accepted sheet of station S{n}" for n in (2, 3)]
+        missing = [f"three: {MISSING.format(f'S{n}')}" for n in (2, 3)]
         self.assertEqual(missing, lines[3:5])
 
     def test_a_field_file_alone_is_not_done(self):
         files = {"2026.11.20.gsi": STATION}
-        missing = "2026.11.20: no accepted sheet of station S1"
+        missing = f"2026.11.20: {MISSING.format('S1')}"
         self.assertEqual((1, [missing, SUMMARY.format(0, 1, 0, 0, 0)]), self.answers(files))
+
+    def test_a_table_that_agrees_does_for_a_sheet(self):
+        for name in ["job.directions", "job.S1.directions", "job.Directions", "job", "job.S1"]:
+            for end in (".csv", ".CSV"):
+                with self.subTest(name + end):
+                    files = {"job.gsi": STATION, name + end: TABLE}
+                    lines = [f"{name}: {AGREES.format(0)}"]
+                    lines.append(SUMMARY.format(1, 1, 0, 0, 0) + TABLES.format(1, 0, 0))
+                    self.assertEqual((0, lines), self.answers(files))
+                    kept = self.folder / "files" / f"{name}.answer"
+                    self.assertEqual(f"{AGREES.format(0)}\n", kept.read_text())
+
+    def test_a_table_that_is_refused_leaves_its_station_to_be_done(self):
+        files = {"job.gsi": STATION, "job.directions.csv": OFF}
+        lines = ["job.directions: refused: compare: Apart 10", f"job: {MISSING.format('S1')}"]
+        lines.append(SUMMARY.format(0, 1, 0, 0, 0) + TABLES.format(0, 1, 0))
+        self.assertEqual((1, lines), self.answers(files, "--within=9"))
+        # An accepted sheet makes it done, and the refusal still shows.
+        status, lines = self.answers({**files, "job.csv": SHEET}, "--within=9")
+        self.assertEqual(SUMMARY.format(1, 1, 1, 0, 0) + TABLES.format(0, 1, 0), lines[-1])
+        self.assertEqual(1, status)
+
+    def test_options_of_compare_are_those_of_tables(self):
+        files = {"job.gsi": STATION, "job.csv": SHEET, "job.directions.csv": ROUNDED}
+        for within, answer in [(14, "refused: compare: Apart 15"), (15, AGREES.format(15))]:
+            status, lines = self.answers(files, f"--within={within}", "--residual=2000")
+            self.assertEqual((within == 14, f"job.directions: {answer}"), (status == 1, lines[1]))
+        status, lines = self.answers(files, "--two-c=9")
+        self.assertEqual(["refused: block 5: TwoC"] * 3, [line.split(": ", 1)[1] for line in lines[:3]])
+
+    def test_sheets_and_tables_of_more_stations_go_together(self):
+        files = {"three.gsi": THREE, "three.S1.csv": SHEETS[1], "three.S2.directions.csv": TABLE}
+        files["three.S3.csv"] = TABLE
+        status, lines = self.answers(files)
+        summary = SUMMARY.format(1, 1, 1, 0, 0) + TABLES.format(2, 0, 0)
+        self.assertEqual((0, summary), (status, lines[-1]))
+        self.assertIn("three.S2.directions: agrees S2: 2 targets, within 0", lines)
+
+    def test_a_table_that_belongs_to_nothing_is_no_mistake(self):
+        files = {"job.gsi": STATION, "job.csv": SHEET, "three.gsi": THREE}
+        files |= {f"three.S{n}.csv": SHEETS[n] for n in (1, 2, 3)}
+        for name, said in [
+            ("other.directions", "a table of directions with no field file of this name; capitals count"),
+            ("job_directions", "a table of directions with no field file of this name; capitals count"),
+            ("three.directions", "of which station? name it three.STATION.directions.csv"),
+        ]:
+            with self.subTest(name):
+                status, lines = self.answers({**files, f"{name}.csv": TABLE})
+                summary = SUMMARY.format(2, 2, 4, 0, 0) + TABLES.format(0, 0, 1)
+                self.assertEqual((0, summary), (status, lines[-1]))
+                self.assertIn(f"{name}: {said}", lines)
+                self.assertFalse((self.folder / "files" / f"{name}.answer").exists())
+
+    def test_a_table_of_a_station_that_is_not_there_is_refused(self):
+        files = {"job.gsi": STATION, "job.S2.directions.csv": TABLE}
+        status, lines = self.answers(files)
+        self.assertEqual((1, "job.S2.directions: refused: no station"), (status, lines[0]))
+
+    def test_a_sheet_stays_a_sheet_whatever_is_wrong_with_it(self):
+        rows = SHEET.splitlines(keepends=True)
+        for sheet in [b"".join(rows[1:]), b"".join(rows[:1]), SHEET.replace(b"sheet,", b"Sheet,"), b"", b"x"]:
+            with self.subTest(sheet):
+                status, lines = self.answers({"job.gsi": STATION, "job.csv": sheet})
+                self.assertEqual((1, SUMMARY.format(0, 1, 0, 1, 0)), (status, lines[-1]))
+                self.assertIn("refused: sheet", lines[0])
 
     def test_a_field_file_without_stations_is_not_done(self):
         for content, said in [(b"", "no station"), (b"x", "refused: block 1: Word 1")]:
@@ -211,7 +287,7 @@ class FolderTest(ProgramTest):
         self.assertEqual(two_c, self.answers(files, "--two-c=9")[1][:-1])
         two_i = ["job: refused: block 6: TwoI"] * 2
         self.assertEqual(two_i, self.answers(files, "--two-i", "1")[1][:-1])
-        residual = ["job: refused: kernel: Residual 1", "job: no accepted sheet of station S1"]
+        residual = ["job: refused: kernel: Residual 1", f"job: {MISSING.format('S1')}"]
         self.assertEqual(residual, self.answers(files, "--residual=0")[1][:-1])
 
     def test_a_folder_of_nothing_has_status_1(self):
@@ -237,7 +313,8 @@ class FolderTest(ProgramTest):
         status, lines, answer = self.run_script(folder=self.folder / "long")
         self.assertEqual((2, []), (status, lines))
         self.assertIn(f"cannot write {long}.answer: File name too long", answer)
-        for options in [["--residual=0.3"], ["--two-c=1", "--two-c=2"], ["--two-x=1"], ["more"]]:
+        mistakes = [["--residual=0.3"], ["--two-c=1", "--two-c=2"], ["--two-x=1"], ["more"], ["--within=x"]]
+        for options in mistakes:
             status, lines, answer = self.run_script(*options)
             self.assertEqual((2, []), (status, lines), options)
             self.assertNotEqual("", answer)

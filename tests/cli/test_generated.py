@@ -33,6 +33,17 @@ def stations_with(sets):
     return lines(*(station(f"S{n}", count, 1) for n, count in enumerate(sets)))
 
 
+def job(name, sets, targets):
+    """The same readings as an instrument records them: after a set-up line, and without codes."""
+    yield f"11....+{name:0>8} 88..10+00001543"
+    yield from (line for line in station(name, sets, targets) if not line.startswith("41"))
+
+
+def jobs(count):
+    """A file of so many such stations."""
+    return lines(*(job(f"S{n}", 2, 2) for n in range(count)))
+
+
 def rows(*counts):
     """A sheet with so many rows of each kind."""
     sheet, targets, sets, observations = counts
@@ -56,6 +67,12 @@ LARGE = [
     Case("1,000 stations, means of the last", "means", THOUSAND, station="S999"),
     Case("1,000 stations, a sheet of the last", "check", THOUSAND, SHEET_OF_LAST),
     Case("1,001 stations", "list", stations_with(1 for _ in range(1_001))),
+    Case("40 sets, no codes", "mark", lines(job("S1", 40, 2)), station=None),
+    Case("41 sets, no codes", "mark", lines(job("S1", 41, 2)), station=None),
+    Case("100 targets, no codes", "mark", lines(job("S1", 2, 100)), station=None),
+    Case("101 targets, no codes", "mark", lines(job("S1", 2, 101)), station=None),
+    Case("1,000 stations, no codes", "mark", jobs(1_000), station=None),
+    Case("1,001 stations, no codes", "mark", jobs(1_001), station=None),
     Case("a sheet of 100 targets and 40 sets", "check", FIELD, rows(1, 100, 40, 4_000)),
     Case("a sheet of 101 targets", "check", FIELD, rows(1, 101, 1, 1)),
     Case("a sheet of 41 sets", "check", FIELD, rows(1, 1, 41, 1)),

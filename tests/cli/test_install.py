@@ -1,13 +1,18 @@
 """`make install` and `make uninstall`, and the manual page."""
 
+import os
 import re
 import shutil
 import subprocess
+import sys
 import unittest
 
 from program import PROGRAM, ROOT, ProgramTest, answer_of, answer_to
 
-MAN_PAGE = "share/man/man1/station_check.1"
+sys.path.insert(0, str(ROOT / "tools"))
+import manuals  # noqa: E402
+
+MAN_PAGES = "share/man/man1"
 
 DOCUMENT_FOLDER = "share/doc/station_check"
 
@@ -17,18 +22,32 @@ DOCUMENTS = [
     *[f"examples/{path.name}" for path in (ROOT / "examples").glob("*.*")],
 ]
 
+# The scripts that are installed as programs, and the names that they have there.
+TOOLS = {
+    "adjust.py": "station_check_adjust",
+    "check_folder.py": "station_check_folder",
+    "prepare.py": "station_check_prepare",
+    "residuals.py": "station_check_residuals",
+}
+
 SHARED = [
     "share/bash-completion/completions/station_check",
     "share/fish/vendor_completions.d/station_check.fish",
-    MAN_PAGE,
+    *[f"{MAN_PAGES}/{name}.1" for name in ["station_check", *TOOLS.values()]],
     "share/zsh/site-functions/_station_check",
 ]
 
 # Where each file is installed from.
-SOURCES = {name: name for name in SHARED}
+SOURCES = {name: f"packaging/{name}" for name in SHARED}
 SOURCES |= {f"{DOCUMENT_FOLDER}/{name}": name for name in DOCUMENTS}
+SOURCES |= {f"share/station_check/{path.name}": f"examples/{path.name}" for path in (ROOT / "examples").glob("*.py")}
+SOURCES |= {f"bin/{name}": f"examples/{script}" for script, name in TOOLS.items()}
 
 INSTALLED = ["bin/station_check", *SOURCES]
+
+# A link to a file of the sources, which are not installed.
+TO_SOURCES = re.compile(r"\[([^][]*)\]\((?:\.\./)*(?:(?:crates|conformance|page|tests)/[^)]*|HANDLES)\)")
+LINK = re.compile(r"\]\(([^)#:]+)(?:#[^)]*)?\)")
 
 OPTIONS = re.compile(r"--[a-z-]+")
 
@@ -59,12 +78,54 @@ class InstallTest(ProgramTest):
                 version = answer_to([installed, "--version"])[1]
                 self.assertEqual(answer_of(["--version"])[1], version)
                 for name, source in SOURCES.items():
-                    copy = self.folder / prefix / name
-                    self.assertEqual((ROOT / source).read_bytes(), copy.read_bytes(), name)
+                    text, copy = (ROOT / source).read_bytes(), self.folder / prefix / name
+                    if name.endswith(".md"):
+                        text = TO_SOURCES.sub(r"\1", text.decode()).encode()
+                    self.assertEqual(text, copy.read_bytes(), name)
                 self.make("uninstall", *settings)
                 self.assertEqual([f"{prefix}bin/other"], self.files())
                 self.assertFalse((self.folder / prefix / DOCUMENT_FOLDER).exists())
                 other.unlink()
+
+
+    def test_each_link_of_an_installed_page_leads_to_a_file_that_is_there(self):
+        self.make("install", f"PREFIX={self.folder}")
+        for name in DOCUMENTS:
+            page = self.folder / DOCUMENT_FOLDER / name
+            for link in LINK.findall(page.read_text()) if name.endswith(".md") else []:
+                with self.subTest(name, link=link):
+                    self.assertTrue((page.parent / link).exists())
+
+    def test_the_tools_work_where_documents_are_left_out(self):
+        self.make("install", f"PREFIX={self.folder}")
+        shutil.rmtree(self.folder / "share" / "doc")
+        work = self.folder / "work"
+        work.mkdir()
+        for name in ["station_p7.gsi", "station_p7.csv"]:
+            shutil.copy(ROOT / "examples" / name, work)
+        path = f"{self.folder / 'bin'}{os.pathsep}{os.environ['PATH']}"
+        for script in [
+            "station_check list station_p7.gsi | station_check_adjust | cmp - station_p7.csv",
+            "station_check check station_p7.gsi station_p7.csv | station_check_residuals station_p7.csv",
+            "station_check_prepare station_p7.gsi copy.txt --set P7 3 --why 'a test'",
+            "station_check_folder .",
+        ]:
+            with self.subTest(script):
+                environment = {**os.environ, "PATH": path, "PYTHONDONTWRITEBYTECODE": "1"}
+                status, *said = answer_to(["bash", "-c", script], cwd=work, env=environment)
+                self.assertEqual(0, status, said)
+
+    def test_a_tool_says_the_name_by_which_it_was_called(self):
+        self.make("install", f"PREFIX={self.folder}")
+        for name, words in [
+            ("station_check_adjust", ["/dev/null"]),
+            ("station_check_folder", [self.folder / "missing"]),
+            ("station_check_residuals", ["/dev/null"]),
+        ]:
+            with self.subTest(name):
+                status, _, said = answer_to([self.folder / "bin" / name, *words], stdin=subprocess.DEVNULL)
+                self.assertNotEqual(0, status)
+                self.assertTrue(said.decode().startswith(f"{name}: "), said)
 
 
 class ManPageTest(ProgramTest):
@@ -77,13 +138,24 @@ class ManPageTest(ProgramTest):
     def check_page(self, program, args):
         if not shutil.which(program):
             self.skipTest(f"no {program} is found")
-        done = subprocess.run([program, *args, ROOT / MAN_PAGE], capture_output=True, text=True, timeout=60)
-        self.assertEqual((0, "", ""), (done.returncode, done.stdout, done.stderr))
+        for page in [name for name in SHARED if name.startswith(MAN_PAGES)]:
+            with self.subTest(page):
+                words = [program, *args, ROOT / SOURCES[page]]
+                done = subprocess.run(words, capture_output=True, text=True, timeout=60)
+                self.assertEqual((0, "", ""), (done.returncode, done.stdout, done.stderr))
+
+    def test_pages_of_tools_and_titles_are_up_to_date(self):
+        """Where this fails, `python3 tools/manuals.py` makes them anew."""
+        for path, text in manuals.pages():
+            with self.subTest(path.name):
+                self.assertEqual(text, path.read_text())
+
+    def test_the_version_is_that_of_the_first_heading_of_the_changes(self):
+        version, _ = manuals.release()
+        self.assertEqual(f"station_check {version}\n", answer_of(["--version"])[1].decode())
 
     def test_it_has_each_command_and_option_of_the_help(self):
-        page = (ROOT / MAN_PAGE).read_text().replace("\\-", "-")
-        version = answer_of(["--version"])[1].decode().strip()
-        self.assertIn(f'"{version}"', page)
+        page = manuals.MAN_PAGE.read_text().replace("\\-", "-")
         for command in ["compare", "directions", "check", "means", "list", "words", "explain"]:
             text = answer_of([command, "--help"])[1].decode()
             self.assertIn(f"station_check {command}\n", page)

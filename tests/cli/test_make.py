@@ -1,12 +1,14 @@
 """`make run`: which crates it proves, in which order, and what it keeps, by a toolchain that only says
 what it was asked."""
 
+import os
 import re
 import shutil
+import signal
 import subprocess
 import unittest
 
-from program import ROOT, ProgramTest
+from program import ROOT, ProgramTest, until
 
 # What each crate stands on: the least that the rules of crates.txt tell apart.
 CRATES = {
@@ -22,20 +24,65 @@ CRATES = {
 }
 PROVED = ["low", "other_low", "middle", "station_compare", "station_explain", "station_program"]
 
-# A toolchain: it waits a moment, keeps what it proved until the sources change, and then says nothing.
+# A toolchain: it keeps others out of the folders of a crate and of those below it, waits a moment,
+# keeps what it proved until the sources change, and then says nothing but where it is asked to check.
+# One of the crates that are to MEET waits until all of them have begun. The one to HOLD keeps something,
+# and goes on when it is told to.
 TOOLCHAIN = """\
-#!/bin/sh
-crate=$(basename "$PWD")
-[ "$1" = --version ] && { echo 'a toolchain'; exit; }
-echo "begin $crate $1" >> "$CALLS"
-sleep 0.2
-if ! cmp -s src/lib.rt out/proved; then
-  grep -q WRONG src/lib.rt && { seq 40; echo 'an open goal'; exit 1; }
-  echo "logic=proved functions=$(wc -l < src/lib.rt)"
-  cp src/lib.rt out/proved
-fi
-[ "$1" = run ] && printf '#!/bin/sh\\n# GLIBC_2.34\\necho station_check 0.0\\n' > out/$crate
-echo "end $crate" >> "$CALLS"
+#!/usr/bin/env python3
+import fcntl
+import os
+import sys
+import time
+from pathlib import Path
+
+crate, verb = Path.cwd().name, sys.argv[1]
+if verb == "--version":
+    print("a toolchain")
+    sys.exit()
+calls, out = Path(os.environ["CALLS"]), Path("out")
+lines = dict(line.split(":") for line in Path("../../crates.txt").read_text().splitlines())
+lines = {name.split()[0]: below.split() for name, below in lines.items()}
+
+
+def under(name):
+    return {name}.union(*(under(low) for low in lines[name] if low in lines))
+
+
+def say(text):
+    with open(calls, "a") as file:
+        file.write(text)
+
+
+folders = [os.open(f"../{name}", os.O_RDONLY) for name in sorted(under(crate))]
+for folder in folders:
+    fcntl.flock(folder, fcntl.LOCK_EX)
+for name in under(crate) - {crate}:
+    assert Path(f"../{name}/out/proved").exists(), f"{name} is not proved"
+say(f"begin {crate} {verb}\\n")
+meet = os.environ.get("MEET", "").split()
+end = time.monotonic() + 10
+while crate in meet and not all(f"begin {name} " in calls.read_text() for name in meet):
+    if time.monotonic() > end:
+        sys.exit(f"{crate} is alone")
+    time.sleep(0.01)
+source = Path("src/lib.rt").read_text()
+if crate == os.environ.get("HOLD"):
+    (out / "begun").write_text("something")
+    say(f"held {crate}\\n")
+    while not (calls.parent / "go_on").exists():
+        time.sleep(0.01)
+time.sleep(0.2)
+if "WRONG" in source:
+    print(*range(40), "an open goal", sep="\\n")
+    sys.exit(1)
+is_new = not (out / "proved").exists() or (out / "proved").read_text() != source
+if is_new or verb == "check":
+    print(f"logic=proved functions={source.count(chr(10))}")
+(out / "proved").write_text(source)
+if verb == "run":
+    (out / crate).write_text("#!/bin/sh\\n# GLIBC_2.34\\necho station_check 0.0\\n")
+say(f"end {crate}\\n")
 """
 
 
@@ -48,7 +95,7 @@ class MakeTest(ProgramTest):
         super().setUp()
         for name in ("Makefile", "HANDLES", "README.md", "CHANGELOG.md"):
             shutil.copy(ROOT / name, self.folder / name)
-        for name in ("docs", "examples", "packaging", "share"):
+        for name in ("docs", "examples", "packaging"):
             shutil.copytree(ROOT / name, self.folder / name, ignore=shutil.ignore_patterns("__pycache__"))
         lines = [f"{crate}: {' '.join(below)}\n" for crate, below in CRATES.items()]
         (self.folder / "crates.txt").write_text("".join(lines))
@@ -58,21 +105,48 @@ class MakeTest(ProgramTest):
         self.toolchain.write_text(TOOLCHAIN)
         self.toolchain.chmod(0o755)
         self.calls = self.folder / "calls"
+        self.go_on = self.folder / "go_on"
 
     def write(self, crate, text):
         (self.folder / "crates" / crate / "src").mkdir(parents=True, exist_ok=True)
         (self.folder / "crates" / crate / "src" / "lib.rt").write_text(text)
 
-    def make(self, *targets, **more):
-        """What make says of the crates, and its status; the calls of the toolchain begin anew."""
+    def write_room(self, crate, text, kept):
+        """A room as a run leaves it that was cut off: with a source, and what was kept of its proof."""
+        room = self.folder / "build" / "rooms" / crate / "crates" / crate
+        for name, content in [("src/lib.rt", text), ("out/begun", kept)]:
+            (room / name).parent.mkdir(parents=True)
+            (room / name).write_text(content)
+
+    def asked(self, targets, more):
+        """What make is asked, and how; the calls of the toolchain begin anew."""
         self.calls.write_text("")
         words = ["make", "--no-print-directory", f"RT={self.toolchain}", *targets]
         environment = {"PATH": "/usr/bin:/bin:/usr/local/bin", "CALLS": str(self.calls), **more}
-        return run_of(*words, cwd=self.folder, env=environment)
+        return words, {"cwd": self.folder, "env": environment}
+
+    def make(self, *targets, **more):
+        """What make says of the crates, and its status."""
+        words, options = self.asked(targets, more)
+        return run_of(*words, **options)
+
+    def begin(self, *targets, **more):
+        """A make whose toolchain is held in a crate, in a process group of its own."""
+        words, options = self.asked(targets, more)
+        streams = {"stdout": subprocess.DEVNULL, "stderr": subprocess.DEVNULL}
+        run = subprocess.Popen(words, start_new_session=True, **options, **streams)
+        until(lambda: "held " in self.calls.read_text())
+        return run
 
     def begun(self):
         """The crates that the toolchain was asked for, in order."""
         return re.findall(r"^begin (\w+)", self.calls.read_text(), re.MULTILINE)
+
+    def stamps(self):
+        return sorted(path.name for path in (self.folder / "build" / "proved").iterdir())
+
+    def rooms(self):
+        return sorted(path.name for path in (self.folder / "build" / "rooms").iterdir())
 
     def log(self, crate):
         return (self.folder / "crates" / crate / "out" / "build.log").read_text()
@@ -100,6 +174,11 @@ class MakeTest(ProgramTest):
                     running.append(running[-1] + (1 if call.startswith("begin") else -1))
                 self.assertEqual(most > 1, max(running) > 1)
 
+    def test_crates_on_the_same_library_are_proved_side_by_side(self):
+        made = self.make("run", "JOBS=4", MEET="middle station_explain")
+        self.assertEqual(0, made.returncode, made.stderr)
+        self.assertEqual([], self.rooms())
+
     def test_what_changed_is_proved_and_what_stands_on_it(self):
         self.make("run")
         for crate, again in [
@@ -126,6 +205,46 @@ class MakeTest(ProgramTest):
         self.assertEqual(0, self.make("run").returncode)
         self.assertEqual(["middle", "station_compare", "station_program"], self.begun())
 
+    def test_a_source_that_changes_during_its_proof_is_proved_again(self):
+        run = self.begin("run", HOLD="middle")
+        changed = self.folder / "changed"
+        changed.write_text("one\ntwo\n")
+        changed.replace(self.folder / "crates" / "middle" / "src" / "lib.rt")
+        self.go_on.touch()
+        self.assertEqual(0, run.wait(timeout=60))
+        self.assertEqual("logic=proved functions=1\n", self.log("middle"))
+        self.assertEqual(0, self.make("run").returncode)
+        self.assertEqual(["middle", "station_compare", "station_program"], self.begun())
+        self.assertEqual("logic=proved functions=2\n", self.log("middle"))
+
+    def test_a_proof_that_was_cut_off_goes_on_from_what_it_kept(self):
+        for how in (signal.SIGINT, signal.SIGTERM, signal.SIGKILL):
+            with self.subTest(how.name):
+                self.make("clean")
+                run = self.begin("run", HOLD="middle")
+                os.killpg(run.pid, how)
+                self.assertNotEqual(0, run.wait(timeout=60))
+                self.assertNotIn("middle", self.stamps())
+                made = self.make("run")
+                self.assertEqual(0, made.returncode, made.stderr)
+                self.assertNotIn("low", self.begun())
+                kept = self.folder / "crates" / "middle" / "out" / "begun"
+                self.assertEqual("something", kept.read_text())
+                self.assertEqual([], self.rooms())
+
+    def test_a_room_that_is_left_over_gives_back_what_was_kept_and_no_source(self):
+        self.write_room("middle", "WRONG\n", "of the room")
+        self.assertEqual(0, self.make("run").returncode)
+        kept = self.folder / "crates" / "middle" / "out" / "begun"
+        self.assertEqual("of the room", kept.read_text())
+        # What was proved by hand since then stays.
+        kept.write_text("by hand")
+        self.write_room("middle", "WRONG\n", "of the room")
+        self.write("middle", "one\ntwo\n")
+        self.assertEqual(0, self.make("run").returncode)
+        self.assertEqual("by hand", kept.read_text())
+        self.assertEqual([], self.rooms())
+
     def test_the_log_of_a_proof_outlasts_a_run_that_has_nothing_to_prove(self):
         self.make("run")
         shutil.rmtree(self.folder / "build")
@@ -134,15 +253,31 @@ class MakeTest(ProgramTest):
         for crate in PROVED:
             self.assertEqual("logic=proved functions=1\n", self.log(crate))
 
+    def test_a_log_that_is_lost_or_older_than_the_sources_is_said_again(self):
+        self.make("run")
+        (self.folder / "crates" / "low" / "out" / "build.log").unlink()
+        self.write("middle", "one\ntwo\n")
+        (self.folder / "crates" / "middle" / "out" / "proved").write_text("one\ntwo\n")
+        shutil.rmtree(self.folder / "build")
+        self.assertEqual(0, self.make("run").returncode)
+        self.assertEqual("logic=proved functions=1\n", self.log("low"))
+        self.assertEqual("logic=proved functions=2\n", self.log("middle"))
+        checked = re.findall(r"^begin (\w+) check$", self.calls.read_text(), re.MULTILINE)
+        self.assertEqual(["low", "middle"], sorted(checked))
+
     def test_the_same_commit_gives_the_same_archive_however_often_it_is_built(self):
         archives = []
-        for _ in range(2):
+        log = self.folder / "crates" / "low" / "out" / "build.log"
+        # At first, where nothing is left to prove, and where a log is lost beside.
+        for _ in range(3):
             shutil.rmtree(self.folder / "build", ignore_errors=True)
+            if len(archives) == 2:
+                log.unlink()
             made = self.make("dist", SOURCE_DATE_EPOCH="1000000000")
             self.assertEqual(0, made.returncode, made.stderr)
             dist = self.folder / "build" / "dist"
             archives.append({path.name: path.read_bytes() for path in dist.iterdir()})
-        self.assertEqual(*archives)
+        self.assertEqual(archives[:1] * 3, archives)
 
 
 if __name__ == "__main__":

@@ -8,6 +8,7 @@ from program import ROOT, TimedTest
 
 GUIDE = ROOT / "docs" / "GUIDE.md"
 ARCHITECTURE = ROOT / "docs" / "ARCHITECTURE.md"
+TESTS = ROOT / "docs" / "TESTS.md"
 PAGES = [ROOT / "README.md", GUIDE]
 
 # All pages whose links a reader follows.
@@ -21,6 +22,17 @@ LINKED = [
 ]
 
 TRUSTED = ROOT / "page" / "README.md"
+
+# The seal of what the solver said stands in its definition, in the contract and the proof of `find`,
+# and in the fault that rests on it.
+SEAL = "WasSaid"
+SOLVER = ROOT / "crates" / "modular_solver"
+SEALED = [
+    SOLVER / "specs" / "Said.antt",
+    SOLVER / "src" / "found.rt",
+    SOLVER / "proofs" / "found" / "find" / "Answers.antt",
+    ROOT / "crates" / "exact_adjustment" / "specs" / "Faults.antt",
+]
 
 # A part of what is trusted, and how many lines it has.
 PART = re.compile(r"^\| \[`[\w.]+`\]\(([\w.]+)\): .* \| (\d+) \|$", re.MULTILINE)
@@ -48,7 +60,7 @@ class PagesTest(TimedTest):
 
     def test_the_guide_runs_each_command_of_the_program(self):
         commands = " ".join(step.command for step in page_steps(GUIDE.read_text()))
-        for command in ["words", "list", "means", "check", "check --residual", "directions", "compare"]:
+        for command in ["mark", "words", "list", "means", "check", "check --residual", "directions", "compare"]:
             self.assertIn(f"station_check {command} ", commands)
 
     def test_links_lead_to_files_and_headings_that_are_there(self):
@@ -70,6 +82,33 @@ class PagesTest(TimedTest):
         for crate, libraries in lines:
             with self.subTest(crate):
                 self.assertEqual(libraries.split(), drawn[crate])
+
+    def test_the_table_of_tests_names_each_of_them(self):
+        rows = re.findall(r"^\| (`test_.*?) \|", TESTS.read_text(), re.MULTILINE)
+        named = [name for row in rows for name in re.findall(r"`(test_\w+\.py)`", row)]
+        files = [path.name for path in (ROOT / "tests" / "cli").glob("test_*.py")]
+        self.assertEqual(sorted(files), sorted(named))
+
+    def test_each_test_that_refuses_a_wrong_body_is_there(self):
+        """The table of bodies that only tests refuse names tests as they are called."""
+        table = TESTS.read_text().partition("## Bodies that only tests refuse")[2].partition("\n## ")[0]
+        names = set(re.findall(r"`(\w+)`", "".join(re.findall(r"^\|.*\| (.*) \|$", table, re.MULTILINE))))
+        crates = {path.name for path in (ROOT / "crates").iterdir()}
+        files = [*ROOT.glob("tests/cli/test_*.py"), *ROOT.glob("crates/*_tests/src/**/*.rt")]
+        called = {name for path in files for name in re.findall(r"\b(?:def|fn) (\w+)", path.read_text())}
+        self.assertGreater(len(names), 40)
+        self.assertEqual(set(), names - crates - called)
+
+    def test_the_seal_of_the_solver_is_opened_by_its_own_proof_alone(self):
+        """The prover lets any proof open it, or cite the solver's proofs: so nothing else may."""
+        folders = ["src", "specs", "proofs"]
+        sources = [path for name in folders for path in ROOT.glob(f"crates/*/{name}/**/*") if path.is_file()]
+        texts = {path: path.read_text() for path in sources}
+        self.assertEqual(sorted(SEALED), sorted(path for path, text in texts.items() if SEAL in text))
+        opened = [path for path in SEALED if re.search(r"\bunfold(ing)?\b", texts[path])]
+        self.assertEqual([SOLVER / "proofs" / "found" / "find" / "Answers.antt"], opened)
+        cited = [path for path, text in texts.items() if "modular_solver.proofs" in text]
+        self.assertEqual([], [path for path in cited if SOLVER not in path.parents])
 
     def test_the_lines_of_what_is_trusted_are_counted(self):
         parts = PART.findall(TRUSTED.read_text())

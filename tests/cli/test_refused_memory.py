@@ -13,7 +13,9 @@ import unittest
 import preload
 import test_generated
 from against_model import FIELD, SHEET, TABLE
+from processes import in_room
 from program import SWEEP, ProgramTest, answer_of, side_by_side
+from worked import JOB
 
 NO_MEMORY = (1, b"", b"refused: out of memory\n")
 
@@ -39,9 +41,16 @@ FILES = {
     "apart": TABLE.replace(b"50.", b"51."),
     "no_direction": TABLE.replace(b"50.", b"+50."),
     "quoted_table": TABLE.replace(b"A", b'"A"'),
+    "job": JOB,
+    "unmarked": JOB[:-50],
     "quoted": SHEET.replace(b"S1", b'"S1"').replace(b"A", b'"A"'),
     "large": test_generated.lines(test_generated.station("S1", 40, 100)),
 }
+
+# The readings of the largest station, by targets.
+FILES["large_job"] = b"".join(
+    line for line in FILES["large"].splitlines(keepends=True) if line.startswith(b"11")
+)
 
 # Each run by its words; {name} is the path of a file.
 RUNS = [
@@ -58,6 +67,12 @@ RUNS = [
     "means {field} S1",
     "means {field} S2",
     "means --two-c 1000000 {face_twice} S1",
+    "mark --station S1 {job}",
+    "mark {job}",
+    "mark --station S1 {field}",
+    "mark --station S1 {unmarked}",
+    "mark --station S1 {first_word}",
+    "mark --station S1 {empty}",
     "directions {field} S1",
     "directions --decimals 1 {field} S2",
     "directions {face_twice} S1",
@@ -96,6 +111,7 @@ LARGE_RUNS = [
     "check {large} {large_sheet}",
     "directions {large} S1",
     "compare {large} S1 {large_table}",
+    "mark --station S1 {large_job}",
 ]
 
 
@@ -127,7 +143,10 @@ class RefusedMemoryTest(ProgramTest):
     def refused_in_turn(self, library, run, refuses_all=False):
         """The answers where one call after the other is refused, until a run meets no refusal."""
         answers = []
-        refused = lambda call: self.refused_run(library, run, call, refuses_all)
+
+        def refused(call):
+            return self.refused_run(library, run, call, refuses_all)
+
         for first in range(1, MOST_CALLS, BATCH):
             batch = list(side_by_side(refused, range(first, first + BATCH)))
             answers += itertools.takewhile(lambda answer: answer is not None, batch)
@@ -185,9 +204,8 @@ class RefusedMemoryTest(ProgramTest):
 
     def answer_in(self, room, run):
         """The answer in so much address space; none where the program couldn't be loaded."""
-        limit = lambda: resource.setrlimit(resource.RLIMIT_AS, (room, room))
         try:
-            answer = answer_of(self.words_of(run), preexec_fn=limit)
+            answer = answer_of(self.words_of(run), preexec_fn=in_room(room))
         except (OSError, subprocess.SubprocessError):
             return None
         return None if answer[0] == 127 else answer

@@ -11,7 +11,7 @@ import unittest
 
 import model
 from against_model import FIELD, SHEET, TABLE, Case, sample
-from processes import peak, wants_more
+from processes import in_room, peak, wants_more
 from program import PROGRAM, TIME, ProgramTest, answer_of, side_by_side, until
 from test_generated import lines, station
 
@@ -43,6 +43,20 @@ def sheet_of(sets, targets):
 def table_of(targets):
     """Its table of directions."""
     return b"".join(b"%d,%d.%02d0000\n" % (t, *divmod(t - 1, 100)) for t in range(1, targets + 1))
+
+
+def without_codes(field):
+    """A field file without its lines of codes."""
+    kept = [line for line in field.split(b"\n") if line.lstrip(b"*")[:2] != b"41"]
+    return b"\n".join(kept)
+
+
+def told(name, sets, targets):
+    """What `mark` tells of a station with so many sets, more than one target and no other reading."""
+    words = f"{sets} set{'s' * (sets > 1)}, {targets} targets"
+    outside = "0 readings before them and 0 after stay outside"
+    notes = f"note: station {name}: {words}; {outside}\nnote: compare this with the field book\n"
+    return notes.encode()
 
 
 def agrees(targets):
@@ -136,6 +150,17 @@ class SizesTest(ProgramTest):
         self.assertEqual((0, table_of(targets), b""), directions, size)
         compare = answer_of(["compare", field, "S1", "/dev/stdin"], table_of(targets))
         self.assertEqual((0, agrees(targets), b""), compare, size)
+        # A single set that is read by targets is refused.
+        if targets > 1 and sets > 1:
+            self.check_marked("S1", field, sets, targets)
+
+    def check_marked(self, name, field, sets, targets):
+        """Without its codes the file gets the same codes again."""
+        text = field.read_bytes()
+        job = self.file(f"{field.name} {name.encode().hex()}.job", without_codes(text))
+        mark = answer_of(["mark", f"--station={name}", job])
+        self.assertEqual((0, text, told(name, sets, targets)), mark, field.name)
+        job.unlink()
 
     def test_each_number_of_sets_and_of_targets(self):
         self.each(self.check_station, [(sets, 3) for sets in range(1, 41)])
@@ -159,6 +184,24 @@ class SizesTest(ProgramTest):
             field.unlink()
 
         self.each(check, range(1, model.MOST_STATIONS + 1))
+
+    def test_each_number_of_stations_is_marked(self):
+        """A set-up line before each of them."""
+        names = [f"S{n}" for n in range(1, model.MOST_STATIONS + 1)]
+        set_ups = [f"11....+{name:0>8} 88..10+00001543\n".encode() for name in names]
+        fields = [lines(station(name, 2, 2)) + b"\n" for name in names]
+        notes = [told(name, 2, 2).splitlines(keepends=True) for name in names]
+
+        def check(count):
+            parts = list(zip(set_ups[:count], fields))
+            text = b"".join(set_up + without_codes(field) for set_up, field in parts)
+            copy = b"".join(set_up + field for set_up, field in parts)
+            said = b"".join([*(first for first, _ in notes[:count]), notes[0][1]])
+            path = self.file(f"{count}.job", text)
+            self.assertEqual((0, copy, said), answer_of(["mark", path]), count)
+            path.unlink()
+
+        self.each(check, sample(range(1, model.MOST_STATIONS + 1), 37))
 
     def test_each_number_of_a_set(self):
         """All numbers in one file; and each in a file of its own of forty sets."""
@@ -188,6 +231,7 @@ class SizesTest(ProgramTest):
                 field = lines(named_station(asked, targets)) + b"\n"
                 sheet = model.means(field, asked.encode())[1]
                 table = model.directions(field, asked.encode())[1]
+                self.check_marked(asked, self.file("field.gsi", field), 2, 2)
                 for command in ["words", "list", "means", "check", "directions", "compare"]:
                     second = table if command == "compare" else sheet
                     paths = self.file("field.gsi", field), self.file("second.csv", second)
@@ -199,9 +243,8 @@ class SizesTest(ProgramTest):
 
     def answer_within(self, room, args):
         """The answer in so many bytes of address space, or none where nothing could be run."""
-        limit = lambda: resource.setrlimit(resource.RLIMIT_AS, (room, room))
         try:
-            return answer_of(args, preexec_fn=limit)
+            return answer_of(args, preexec_fn=in_room(room))
         except (OSError, subprocess.SubprocessError):
             return None
 

@@ -1,8 +1,7 @@
 """The words of a field file, on standard input and of a path."""
 
-import resource
-
 import model
+from processes import in_room
 from program import EXAMPLE, ProgramTest, Run, answer_in_shell, answer_of
 from worked import refused, widened
 
@@ -95,8 +94,7 @@ class WordsTest(ProgramTest):
 
     def test_memory_does_not_grow_with_the_file(self):
         room = 64 * 1024 * 1024
-        limit = lambda: resource.setrlimit(resource.RLIMIT_AS, (room, room))
         lines = LINES * (16_000_000 // len(LINES))
-        status, stdout, stderr = answer_of([], lines, preexec_fn=limit)
+        status, stdout, stderr = answer_of([], lines, preexec_fn=in_room(room))
         self.assertEqual((0, b""), (status, stderr))
         self.assertEqual(len(lines) // len(LINES) * 7, stdout.count(b"\n"))

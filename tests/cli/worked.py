@@ -16,6 +16,23 @@ set 2, target A: p 20000004, 2c 4, 2i 0
 set 2, target B: p 30000012, 2c 4, 2i 0
 """
 
+# The readings of the example without its codes; with codes as `mark` puts them in; and what it tells.
+READINGS = [line for line in STATION.splitlines(keepends=True) if line.startswith(b"11")]
+
+JOB = b"".join(READINGS)
+
+MARKED = b"".join([
+    b"41....+00000010 42....+000000S1\r\n41....+00000020 42....+00000001\r\n",
+    *READINGS[:4],
+    b"41....+00000020 42....+00000002\r\n",
+    *READINGS[4:],
+])
+
+NOTES = (
+    b"note: station S1: 2 sets, 2 targets; 0 readings before them and 0 after stay outside\n"
+    b"note: compare this with the field book\n"
+)
+
 ACCEPTED = b"accepted S1: 2 sets, 2 targets, 4 directions, greatest residual 4/4\n"
 
 AGREES = b"agrees S1: 2 targets, within 0\n"
@@ -24,11 +41,11 @@ AGREES = b"agrees S1: 2 targets, within 0\n"
 ZENITHS = (10_000_000, 30_000_000)
 
 
-def refused(reason):
+def refused(reason: str) -> bytes:
     return f"refused: {reason}\n".encode()
 
 
-def edited(text, *edits):
+def edited(text: bytes, *edits: tuple[bytes, bytes]) -> bytes:
     """A text with some parts in the place of others, each of which must stand in it."""
     for old, new in edits:
         assert old in text, old
@@ -36,14 +53,14 @@ def edited(text, *edits):
     return text
 
 
-def field_file(sets):
+def field_file(sets: dict[int, list[tuple]]) -> bytes:
     """The field file of the station S1 with these sets: in each, face I and then face II backwards.
 
     `sets` has for each number of a set its readings: the name of a target, its directions in face I
     and in face II, and perhaps its zenith angles."""
-    lines = []
+    lines: list[str] = []
 
-    def number():
+    def number() -> int:
         return (len(lines) + 1) % 10_000
 
     lines.append(f"41{number():04}+00000010 42....+000000S1")
@@ -58,10 +75,10 @@ def field_file(sets):
     return "".join(f"{line}\r\n" for line in lines).encode()
 
 
-def widened(narrow):
+def widened(narrow: bytes) -> bytes:
     """The same lines in GSI-16, each ended by CR; the last has no end."""
 
-    def line_of(words):
+    def line_of(words: list[bytes]) -> bytes:
         return b"*" + b" ".join(word[:7] + b"0" * 8 + word[7:] for word in words)
 
     return b"\r".join(line_of(line.split(b" ")) for line in narrow.splitlines())

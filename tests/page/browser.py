@@ -46,7 +46,7 @@ class Page:
         target = self.call("Target.createTarget", url="about:blank")["targetId"]
         attached = self.call("Target.attachToTarget", targetId=target, flatten=True)
         self.session = attached["sessionId"]
-        for domain in ("Page", "DOM", "Runtime", "Network", "Accessibility"):
+        for domain in ("Page", "DOM", "Runtime", "Log", "Network", "Accessibility"):
             self.call(f"{domain}.enable")
         screen = {"width": width, "height": height, "deviceScaleFactor": 1, "mobile": False}
         self.call("Emulation.setDeviceMetricsOverride", **screen)
@@ -198,6 +198,12 @@ class Page:
         self.js("0")
         sent = [one for one in self.events if one.get("method") == "Network.requestWillBeSent"]
         return [one["params"]["request"]["url"] for one in sent]
+
+    def complaints(self):
+        """What went wrong in the page, as its console shows it."""
+        self.js("0")
+        told = {"Runtime.exceptionThrown": "exceptionDetails", "Runtime.consoleAPICalled": "args", "Log.entryAdded": "entry"}
+        return [one["params"][told[one["method"]]] for one in self.events if one.get("method") in told]
 
     def printed(self):
         """The bytes of the page as it is printed, in PDF."""

@@ -22,9 +22,11 @@ const [calls, residualsOf] = ['calls', 'residualsOf'].map(name => vm.runInThisCo
 const core = await WebAssembly.compile(Buffer.from(part('module'), 'base64'));
 
 const options = { ...DEFAULTS }, operands = [];
+let station = '';
 while (words.length > 0) {
   const [word, value] = words.shift().split('=');
-  if (word in options) options[word] = Number(value ?? words.shift());
+  if (word === '--station') station = value ?? words.shift();
+  else if (word in options) options[word] = Number(value ?? words.shift());
   else operands.push(word);
 }
 
@@ -46,6 +48,7 @@ const answers = {
     calls.directions(core, bytesOf(gsi), nameOf(name), ...faces, options['--decimals']),
   compare: (gsi, name, table) =>
     calls.compare(core, bytesOf(gsi), bytesOf(table), nameOf(name), ...faces, options['--within']),
+  mark: gsi => calls.mark(core, bytesOf(gsi), nameOf(station)),
   explain: (line = '') => calls.explain(core, nameOf(line)),
   'explain-bytes': file => calls.explain(core, bytesOf(file)),
   residuals: async (gsi, sheet) => {

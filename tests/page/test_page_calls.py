@@ -22,6 +22,7 @@ import run  # noqa: E402
 PAGE = ROOT / "build" / "station_check.html"
 COMMAND_LINE = Path(__file__).with_name("program.mjs")
 EXAMPLES = [ROOT / "examples" / f"station_p7{end}" for end in (".gsi", ".csv", "_directions.csv")]
+JOB = ROOT / "examples" / "job.gsi"
 
 RT = os.environ.get("RT", "rt")
 
@@ -67,9 +68,11 @@ def node():
 
 
 def is_of_page(case):
-    """Whether the files of a case can be handed in: they are there, and none is a folder."""
+    """Whether the files of a case can be handed in: they are there, and none is a folder. What the
+    program notes beside an empty list is its own."""
     paths = [run.FOLDER / case.name / word for word in case.args if "." in word]
-    return case.expected[0] < 2 and all(path.is_file() for path in paths)
+    is_noted = case.args[:1] == ["list"] and case.expected[0] == 0 and case.expected[2]
+    return not is_noted and case.expected[0] < 2 and all(path.is_file() for path in paths)
 
 
 def changed(data, chance):
@@ -130,6 +133,8 @@ class PageCallsTest(TimedTest):
             ["directions", "--two-c=1000001", gsi, "P7"],
             ["directions", "--decimals=0", gsi, "P7"],
             ["directions", "--decimals=9", gsi, "P7"],
+            ["mark", "--station=SEVENTEEN LETTERS", gsi],
+            ["mark", "--station=P\u00e47", gsi],
         ]:
             with self.subTest(words):
                 self.assertEqual((2, b"", b""), answer_to([*self.command(), *words]))
@@ -162,7 +167,7 @@ class PageCallsTest(TimedTest):
                     self.assertEqual((1, b"", f"refused: {refusal}\n".encode()), answer)
 
     def test_a_text_is_handed_out_whole_or_its_lack_of_room_is_the_status(self):
-        gsi, sheet, table = map(str, EXAMPLES)
+        (gsi, sheet, table), job = map(str, EXAMPLES), str(JOB)
         for words in [
             ["check", gsi, sheet],
             ["list", gsi],
@@ -171,6 +176,7 @@ class PageCallsTest(TimedTest):
             ["directions", gsi, "P7"],
             ["compare", gsi, "P7", table],
             ["explain", "TwoC"],
+            ["mark", job],
             # The same of a refusal; of words it stands beside the words, of which there are none here.
             ["check", gsi, table],
             ["list", sheet],
@@ -179,11 +185,15 @@ class PageCallsTest(TimedTest):
             ["directions", gsi, "P8"],
             ["compare", gsi, "P7", sheet],
             ["explain", "Elephant"],
+            ["mark", gsi],
         ]:
             usual = answer_to([*self.command(), *words])
-            length = sum(map(len, usual[1:]))
+            # The copy of a job and its notes have a room each.
+            length = (max if words[0] == "mark" else sum)(map(len, usual[1:]))
             self.assertGreater(length, 0)
-            for room, expected in [(length, usual), (length - 1, NO_ROOM), (0, NO_ROOM)]:
+            is_copy = words[0] == "mark" and usual[1]
+            short = (*NO_ROOM[:2], usual[2]) if is_copy else NO_ROOM
+            for room, expected in [(length, usual), (length - 1, short), (0, NO_ROOM)]:
                 with self.subTest(words, room=room):
                     answer = answer_to([*self.command(), f"--room={room}", *words])
                     self.assertEqual(expected, answer)
@@ -204,10 +214,11 @@ class PageCallsTest(TimedTest):
     def test_changed_files_have_the_answers_of_the_program(self):
         chance = random.Random(7)
         with tempfile.TemporaryDirectory() as folder:
-            paths = [Path(folder) / path.name for path in EXAMPLES]
-            gsi, sheet, table = map(str, paths)
+            examples = [*EXAMPLES, JOB]
+            paths = [Path(folder) / path.name for path in examples]
+            gsi, sheet, table, job = map(str, paths)
             for nth in range(CHANGED):
-                for path, example in zip(paths, EXAMPLES):
+                for path, example in zip(paths, examples):
                     path.write_bytes(changed(example.read_bytes(), chance))
                 words = chance.choice(
                     [
@@ -216,6 +227,7 @@ class PageCallsTest(TimedTest):
                         ["means", gsi, "P7"],
                         ["directions", gsi, "P7"],
                         ["compare", gsi, "P7", table],
+                        ["mark", job],
                     ]
                 )
                 with self.subTest(nth, words=words):

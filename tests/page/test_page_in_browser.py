@@ -3,6 +3,7 @@
 import base64
 import csv
 import hashlib
+import json
 import re
 import shutil
 import subprocess
@@ -23,10 +24,14 @@ import bench  # noqa: E402
 EXAMPLES = ROOT / "examples"
 FIELD, SHEET, TABLE = (EXAMPLES / f"station_s1{end}" for end in (".gsi", ".csv", "_directions.csv"))
 P7_FIELD, P7_SHEET, P7_TABLE = (EXAMPLES / f"station_p7{end}" for end in (".gsi", ".csv", "_directions.csv"))
+JOB = EXAMPLES / "job.gsi"
 CASES = ROOT / "conformance"
 
 P7_LINE = "accepted P7: 4 sets, 6 targets, 22 directions, greatest residual 85967/1344"
 P7_HEADLINE = "Accepted. Greatest residual 0.32 mgon, set 4, TOWER."
+NOTHING_CHECKED = "Nothing was checked: no code 20 opens a set in this file."
+NOTHING_NAMED = "Nothing was checked yet: the station needs a name."
+NOTHING_RECOGNIZED = "Nothing was checked: the sets of this job are not recognized."
 
 # The directions of P7 as a controller shows them, with four decimals.
 FOUR_DECIMALS = b"TOWER,0.0000\nP3,64.5213\nMAST,139.4045\nP8,212.7572\nCHURCH,278.8606\nP12,345.2092\n"
@@ -225,6 +230,17 @@ class PageInBrowserTest(TimedTest):
             " new Worker(URL.createObjectURL(script)).onmessage = event => told(event.data) })"
         ))
 
+    def test_the_console_stays_empty(self):
+        page = self.page(self.plain())
+        self.state_name(page, "P7")
+        page.give(P7_FIELD, P7_SHEET, self.file("four.csv", FOUR_DECIMALS), self.file(*UNUSED[0][:2]))
+        page.fill("two-c", "0.07")
+        page.fill("two-c", "x")
+        page.fill("two-c", "")
+        page.js("onbeforeprint()")
+        page.empty()
+        self.assertEqual([], page.complaints())
+
     def test_results_have_targets_as_rows_and_sets_as_columns(self):
         page = self.page(P7_FIELD, P7_SHEET)
         rows = page.js(
@@ -256,20 +272,28 @@ class PageInBrowserTest(TimedTest):
         page.give(P7_FIELD)
         self.assertIn("This station has gaps", page.text(".results"))
 
+    # ------------------------------------------------------------ jobs without codes
+
     def plain(self):
         """The field file of P7 as an instrument's own program for sets writes it: without codes."""
         lines = P7_FIELD.read_bytes().splitlines(True)
         return self.file("plain.gsi", b"".join(line for line in lines if not line.startswith(b"*41")))
 
+    def state_name(self, page, name):
+        """States the name of a station where it is asked for."""
+        with page.answered():
+            page.js(
+                f"document.querySelector('.card input').value = {json.dumps(name)};"
+                " document.querySelector('.card form').requestSubmit()"
+            )
+
     def test_a_job_without_codes_is_marked_and_says_what_it_recognized(self):
         page = self.page(self.plain())
-        if not page.js("has('mark')"):
-            self.assertIn("mark_sets.py --station NAME plain.gsi plain_marked.gsi", page.text(".card"))
-            self.skipTest("the module has no call that marks")
-        with page.answered():
-            page.js("document.querySelector('form input').value = 'P7'; document.querySelector('form').requestSubmit()")
+        self.assertIn("no line of it names the station", page.text(".card"))
+        self.state_name(page, "P7")
         self.assertEqual(["open", "Station P7"], self.cards(page)[0][:2])
-        self.assertIn("Station P7: 4 sets, 6 targets.", page.text(".marked"))
+        recognized = "Station P7: 4 sets, 6 targets. 1 reading before the sets and 0 after them stay outside."
+        self.assertEqual(recognized, page.text(".marked p:nth-child(2)"))
         # What was recognized stands before the answer.
         page.give(self.file("plain.csv", P7_SHEET.read_bytes()))
         self.assertEqual([["good", "Station P7", P7_HEADLINE]], self.cards(page))
@@ -279,16 +303,60 @@ class PageInBrowserTest(TimedTest):
         copy = page.saved("Save the copy with codes", "plain_marked.gsi")
         kept = [line for line in copy.splitlines(True) if not line.lstrip(b"*").startswith(b"41")]
         self.assertEqual((self.folder / "plain.gsi").read_bytes(), b"".join(kept))
+        # The protocol says so, and has both files with their digests.
+        page.js("onbeforeprint()")
+        facts = page.text("#protocol .facts")
+        command = "station_check mark --station P7 plain.gsi > plain_marked.gsi"
+        digests = [hashlib.sha256(data).hexdigest() for data in ((self.folder / "plain.gsi").read_bytes(), copy)]
+        for said in [recognized, command, *digests]:
+            self.assertIn(said, facts)
+        # Another name may be stated.
+        self.state_name(page, "P8")
+        self.assertEqual(["open", "Station P8"], self.cards(page)[0][:2])
+
+    def test_each_station_of_a_job_is_recognized_by_its_set_up_line(self):
+        detail = b"*110062+00000000000000P8 88..10+0000000000001500\n*110063+00000000000000P7 21.322"
+        detail += b"+0000000000000023 22.322+0000000009987405\n"
+        page = self.page(self.file("job.gsi", JOB.read_bytes() + detail))
+        self.assertEqual([("open", "Station P7"), ("open", "Station P9")], [tuple(card[:2]) for card in self.cards(page)])
+        self.assertEqual([[
+            "Station P7: 4 sets, 6 targets. 1 reading before the sets and 3 after them stay outside.",
+            "Station P8: no sets. Its 1 reading stays outside, and nothing of it was checked.",
+        ], [
+            "Station P9: 2 sets, 3 targets. 1 reading before the sets and 0 after them stay outside.",
+        ]], page.js(
+            "[...document.querySelectorAll('.marked')].map(part => [...part.querySelectorAll('p')]"
+            ".map(p => p.textContent).slice(1, -1))"
+        ))
+        self.assertEqual("2 answers: 0 in order, 0 refused, 2 with something to do", page.text("#verdict"))
+
+    def test_a_job_whose_sets_are_not_recognized_shows_where_and_what_to_do(self):
+        page = self.page(self.file("rain.gsi", b"".join(JOB.read_bytes().splitlines(True)[:43])))
+        self.assertEqual([["open", "rain.gsi", NOTHING_RECOGNIZED]], self.cards(page))
+        self.assertEqual("open", page.js("$('verdict').className.split(' ')[0]"))
+        self.assertRegex(page.text(".exact samp"), r"^refused: block \d+: mark: \w+$")
+        self.assertTrue(page.text(".where").startswith("Line "), page.text(".where"))
+        self.assertTrue(page.texts(".explanation p:not(.label)")[-1].startswith("What to do: "))
+
+    def test_a_name_that_no_station_can_have_is_asked_for_again(self):
+        wrong = ["P\u00e47", "x" * 17]
+        page = self.page(self.plain())
+        for name in wrong:
+            self.state_name(page, name)
+            self.assertIn("A station cannot have this name", page.text(".card"))
+            self.assertEqual("open", self.cards(page)[0][0])
+        self.state_name(page, "P7")
+        self.assertEqual(["open", "Station P7"], self.cards(page)[0][:2])
 
     def test_what_was_not_checked_is_never_green(self):
         page = self.page(self.plain())
-        headline = "Nothing was checked: no code 20 opens a set in this file."
-        self.assertEqual([["open", "plain.gsi", headline]], self.cards(page))
+        self.assertEqual([["open", "plain.gsi", NOTHING_NAMED]], self.cards(page))
         self.assertIn("45 readings with directions stand outside of sets.", page.text(".card"))
         page.give(P7_SHEET)
         self.assertIn("Not checked, since the field file has no station: station_p7.csv.", page.text(".card"))
         page.empty()
         page.give(self.file("level.gsi", b"110001+000000P1 331.28+00123456\r\n"))
+        self.assertEqual([["open", "level.gsi", NOTHING_CHECKED]], self.cards(page))
         self.assertIn("levelling", page.text(".card"))
         page.empty()
         page.give(P7_SHEET)
@@ -613,8 +681,10 @@ class PageInBrowserTest(TimedTest):
                 holes = [Counter(re.findall(r"\{\w+\}", text)) for text in one.values()]
                 self.assertEqual(1, len({*map(str, map(sorted, holes))}), one)
                 self.assertEqual(1, len({text.count("|") for text in one.values()}))
-        used = {word for script in (ROOT / "page").glob("*.js") for word in re.findall(r"\w+", script.read_text())}
-        self.assertEqual(set(), {*texts} - used - {*re.findall(r'data-(?:text|label)="(\w+)"', PAGE.read_text())})
+        scripts = [path.read_text() for path in (ROOT / "page").glob("*.js") if path.name != "texts.js"]
+        used = {name for script in scripts for name in re.findall(r"'(\w+)'", script)}
+        of_parts = {*re.findall(r'data-(?:text|label)="(\w+)"', PAGE.read_text())}
+        self.assertEqual({*texts}, used & {*texts} | of_parts)
 
     def test_no_text_of_the_page_is_without_its_translations(self):
         page = self.page(P7_FIELD, P7_SHEET, self.file("four.csv", FOUR_DECIMALS), self.file(*UNUSED[0][:2]))

@@ -5,7 +5,7 @@ import unittest
 
 import firefox
 from program import EXAMPLE, EXAMPLE_SHEET, EXAMPLE_TABLE, TimedTest
-from test_page_calls import EXAMPLES, PAGE, RT, make_page
+from test_page_calls import EXAMPLES, JOB, PAGE, RT, make_page
 
 P7 = "Station P7: Accepted. Greatest residual 0.32 mgon, set 4, TOWER."
 S1 = "Station S1: Accepted. Greatest residual 0.005 mgon, set 1, A."
@@ -27,6 +27,8 @@ STEPS = [
     (("give", EXAMPLE_TABLE), "Station S1: Agrees. 2 targets within 0 mgon of the least-squares directions."),
     (("give", EXAMPLES[0]), "2 answers: 1 in order, 0 refused, 1 with something to do"),
     (("give", EXAMPLES[2]), "2 answers: 2 in order, 0 refused, 0 with something to do"),
+    (("press", "#remove-all"), "Ready for your files."),
+    (("give", JOB), "2 answers: 0 in order, 0 refused, 2 with something to do"),
 ]
 
 

@@ -1,0 +1,217 @@
+"""Makes docs/DEFINITIONS.md from the comments in specs/: `python3 tools/definitions.py`.
+
+The page has what the promise of an acceptance rests on, and then that of an agreement: the file of
+each promise and all that it cites, however far, in reading order, with the comment that it begins
+with and those of its records. The other definitions are read where they stand.
+"""
+
+import re
+from pathlib import Path
+from typing import Iterator, NamedTuple
+
+ROOT = Path(__file__).resolve().parents[1]
+PAGE = ROOT / "docs" / "DEFINITIONS.md"
+ACCEPTANCE = ("station_check", "Accepted")
+CONTRACT = [
+    ("byte_ends", "Came"),
+    ("station_check", "Answerable"),
+    ("station_check", "SheetInput"),
+    ("station_check", "Promise"),
+]
+AGREEMENT = ("station_compare", "Agreeing")
+
+USE = re.compile(r"^use Rattle\.(\w+)\.specs\.(\w+)(?:\.|$| as)", re.MULTILINE)
+DEFINITION = re.compile(r"^(?:abbrev|unfoldable) pub ([^\s:]+)|^pub (?:record|data) ([^\s:]+)")
+MODULE = re.compile(r"^pub mod (\w+)", re.MULTILINE)
+SOURCE = re.compile(r" ?\((?:profile|textbook|GSI manual)[^)]*\)")
+
+INTRODUCTION = """\
+# Definitions
+
+What the contracts speak of, in plain words. This page is made by `tools/definitions.py` from the comments of the definitions: what each file is about, and its records. A link leads to the definitions themselves, each of which has a comment. *GSI manual* means Leica's description of the format, *textbook* the usual least-squares station adjustment, *profile* that this project decides.
+
+A contract is as good as its definitions, so they are short and are not the program written again: a relation on a whole line, lines cut at all line ends at once, a sum over rows, 'there is no division into two parts'. Where one does go line by line, a law says the same in another way.
+"""
+
+HOW_NEAR = """\
+### How the program knows it
+
+The program finds the exact adjustment of the station by a solver that nobody has to trust: directions and orientations in whole numbers over one denominator, of any size, and full turns. Then it adds up the residuals. Where those of each target and of each set are exactly 0 and none is above 2,000 half units, this is the least-squares choice, over all directions, orientations and full turns, and every other that is least is the same but for one rotation and whole turns ([`laws`](../crates/exact_adjustment/src/laws.rt)). So a least choice is there, and W and the printed digits are functions of the station alone ([`laws`](../crates/least_directions/src/laws.rt)).
+"""
+
+EVERY_READER = """\
+## Every reader, files included
+
+A source may *tell* contracts which bytes it still gives, and whether it then fails. A slice does; a file of the system or a terminal tells nothing beforehand. What is promised is said of each alike, and of the very bytes that it gave:
+
+Every source has *histories*: by number, which bytes it may have given since it was made. `Adds` says that they have grown by some bytes, and the contract of `read` says that each read adds to all of them what it gave. That there are no other bytes in them is not said. So `HasGiven` says of a reader, before and after some reads, that these were the bytes: its histories have grown by them, and whatever it may give now, it might then have given these bytes and after them that. The contract of `check_bytes` names bytes of the field file and of the sheet that their readers have given so, and keeps the promise of these bytes and of whatever may be left in the readers after them. Where it accepts, both readers have ended, so nothing is left and the bytes are all; where it answers a failed read, that reader has broken off; and of `check_sources` no read failed at any other answer.
+
+`check_bytes` is one function for every source. It can't tell which histories a source keeps, nor whether it tells its bytes, so what is proved of it holds of a reader that keeps each byte as of a file, for which the standard library's contract says nothing of what was read. The field file's reader is taken in and dropped: `UntilDropped` says that there is a state of the reader after it was taken in of which the promise is kept; `check_sources` gives the reader back, and so says it of the very state. What that leaves open is out of memory in the place of a failed read.
+
+A source over a source can keep a history of its own: `Digesting` of [`byte_digests`](../crates/byte_digests/README.md) feeds what it gives to SHA-256, so that its first history is what a digest stands for.
+"""
+
+
+class Definition(NamedTuple):
+    name: str
+    comment: str
+    is_record: bool  # or a type of several cases
+
+
+class Spec(NamedTuple):
+    """A file of definitions."""
+
+    crate: str
+    module: str
+
+    @property
+    def path(self) -> Path:
+        return ROOT / "crates" / self.crate / "specs" / f"{self.module}.antt"
+
+    @property
+    def link(self) -> str:
+        return f"[`{self.module}`](../crates/{self.crate}/specs/{self.module}.antt)"
+
+    def text(self) -> str:
+        return self.path.read_text()
+
+    def lines(self) -> int:
+        return len(self.text().splitlines())
+
+    def head(self) -> str:
+        """What the file is about: the comment that it begins with."""
+        taken = []
+        for line in self.text().splitlines():
+            if not line.startswith("--"):
+                break
+            taken.append(line.removeprefix("--").strip())
+        return " ".join(taken)
+
+    def definitions(self) -> list[Definition]:
+        found: list[Definition] = []
+        comment: list[str] = []
+        for line in self.text().splitlines():
+            if line.startswith("--"):
+                comment.append(line.removeprefix("--").strip())
+            elif matched := DEFINITION.match(line):
+                name, record = matched.groups()
+                found.append(Definition(name or record, " ".join(comment), bool(record)))
+                comment = []
+            else:
+                comment = []
+        return found
+
+    def cited(self) -> set["Spec"]:
+        """The files of definitions that this one uses, those of this repository."""
+        return {Spec(*pair) for pair in USE.findall(self.text()) if Spec(*pair).path.is_file()}
+
+
+def crates() -> list[str]:
+    """The crates, the lowest first."""
+    lines = (ROOT / "crates.txt").read_text().splitlines()
+    names = [re.match(r"(\w+)[^:]*:", line) for line in lines if not line.startswith("#")]
+    return [name[1] for name in names if name and (ROOT / "crates" / name[1] / "specs").is_dir()]
+
+
+def specs_of(crate: str) -> list[Spec]:
+    """The files of a crate's definitions, in the order in which a reader needs them."""
+    lib = ROOT / "crates" / crate / "specs" / "Lib.antt"
+    return [Spec(crate, module) for module in MODULE.findall(lib.read_text())]
+
+
+def closure(first: Spec) -> list[Spec]:
+    """A file and all that it cites, however far, in reading order: what is cited comes before."""
+    order: list[Spec] = []
+
+    def take(spec: Spec) -> None:
+        if spec in order:
+            return
+        for cited in sorted(spec.cited(), key=place):
+            take(cited)
+        order.append(spec)
+
+    everything = [spec for crate in crates() for spec in specs_of(crate)]
+    place = {spec: number for number, spec in enumerate(everything)}.__getitem__
+    take(first)
+    return order
+
+
+def sentence(text: str) -> str:
+    """A comment as a sentence: it ends with a point, and begins with a capital where it does not
+    begin with a name of one letter."""
+    text = text if re.match(r"\w\b", text) else text[:1].upper() + text[1:]
+    return text if text.endswith((".", ":")) else f"{text}."
+
+
+def size_of(specs: list[Spec]) -> str:
+    return f"{len(specs)} files below, {sum(spec.lines() for spec in specs):,} lines with their comments"
+
+
+def belief(specs: list[Spec]) -> Iterator[str]:
+    yield "## What you have to believe\n"
+    yield (
+        f"An acceptance says what {Spec(*ACCEPTANCE).link} says: one page, in the order of the promise. "
+        f"It rests on the {size_of(specs)}, "
+        "and on no others; each rests on those before it. That the program keeps the promise is proved, "
+        "and needs no reading. So whoever believes these definitions, and what "
+        "[the first page](../README.md#what-is-trusted) says is trusted, may believe an acceptance.\n"
+    )
+    yield from in_words(specs)
+
+
+def belief_of_contract(specs: list[Spec]) -> Iterator[str]:
+    yield "### Of which bytes it is said\n"
+    yield (
+        f"The contract of `check_bytes`, by which a caller has that page, is {Spec(*CONTRACT[-1]).link}. "
+        "An acceptance rests on its fields `gsi_bytes`, `sheet_bytes`, `promise`, `gsi_reader` and "
+        f"`sheet_reader`, and so on what these {len(specs)} files say of an acceptance besides:\n"
+    )
+    for spec in specs:
+        yield f"- {spec.link}: {sentence(spec.head())}"
+    yield ""
+
+
+def belief_of_agreement(specs: list[Spec], known: list[Spec]) -> Iterator[str]:
+    shared = sum(1 for spec in specs if spec in known)
+    more = [spec for spec in specs if spec not in known]
+    yield "## What you have to believe of an agreement\n"
+    yield (
+        f"That a table of directions agrees says what {Spec(*AGREEMENT).link} says. "
+        f"It rests on {shared} of the files above and on the {size_of(more)}, and on no others.\n"
+    )
+    yield from in_words(more)
+    yield HOW_NEAR
+
+
+def in_words(specs: list[Spec]) -> Iterator[str]:
+    """What files of definitions are about, by crate, with their records in plain words."""
+    crate = None
+    for spec in specs:
+        if spec.crate != crate:
+            yield from [""] * (crate is not None)
+            crate = spec.crate
+            yield f"### Of `{crate}`\n"
+        yield f"- {spec.link}: {sentence(spec.head())}"
+        for name, comment, is_record in spec.definitions():
+            if is_record:
+                yield f"  - `{name}`: {sentence(comment)}"
+    yield ""
+
+
+OTHERS = """\
+## The other definitions
+
+What refusals, lists and texts are, and how the code keeps things: neither an acceptance nor an agreement rests on any of it. Each crate has its definitions in `specs/`; `specs/Lib.antt` lists the files in the order in which a reader needs them, the public ones first.
+"""
+
+
+def page() -> str:
+    accepted, agreed = closure(Spec(*ACCEPTANCE)), closure(Spec(*AGREEMENT))
+    contract = [Spec(*pair) for pair in CONTRACT]
+    known = [*accepted, *contract]
+    believed = [*belief(accepted), *belief_of_contract(contract), *belief_of_agreement(agreed, known)]
+    return "\n".join([INTRODUCTION, *believed, EVERY_READER, OTHERS])
+
+
+if __name__ == "__main__":
+    PAGE.write_text(page())

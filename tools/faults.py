@@ -1,0 +1,159 @@
+"""Makes the pages of faults from the program's explanations: `python3 tools/faults.py [PROGRAM]`.
+
+docs/FAULTS.md is made whole, and of the man page the part between two comments.
+"""
+
+import re
+import subprocess
+import sys
+import textwrap
+from pathlib import Path
+from typing import NamedTuple
+
+from parts import with_part
+
+ROOT = Path(__file__).resolve().parents[1]
+PROGRAM = ROOT / "build" / "station_check"
+GUIDE_PAGE = ROOT / "docs" / "FAULTS.md"
+MAN_PAGE = ROOT / "packaging" / "share" / "man" / "man1" / "station_check.1"
+
+# The width of a line in the man page.
+MAN_WIDTH = 80
+
+# What the line of a refusal says before a fault, and the heading of such faults.
+HEADINGS = [
+    ("block", "Of the field file"),
+    ("sheet", "Of the sheet"),
+    ("no station", "Of the station"),
+    ("means", "Of the station"),
+    ("kernel", "Of the comparison"),
+    ("table", "Of a table of directions"),
+    ("adjust", "Of a table of directions"),
+    ("compare", "Of a table of directions"),
+    ("", "Of the run"),
+]
+
+INTRODUCTION = """\
+# Faults
+
+A refusal is one line on standard error, and names the first fault: `refused: block 4: TwoC`. Each fault is explained here as `station_check explain FAULT` does; `station_check explain` lists all names. `docs/FORMATS.md` says exactly when each fault comes, and which comes first. This page is made by `tools/faults.py` from what the program prints.
+"""
+
+
+class Listed(NamedTuple):
+    name: str
+    meaning: str
+
+
+class Explanation(NamedTuple):
+    names: list[str]
+    meaning: str
+    when: str
+    example: str
+    remedy: str
+
+    def heading(self) -> str:
+        reason = self.example.removeprefix("refused: ")
+        return next(heading for start, heading in HEADINGS if reason.startswith(start))
+
+
+def printed(program: Path, *words: str) -> str:
+    return subprocess.run([program, "explain", *words], check=True, capture_output=True, text=True).stdout
+
+
+def listed(program: Path) -> list[Listed]:
+    """The names of all faults with their meanings, as the program lists them."""
+    lines = printed(program).splitlines()
+    return [Listed(*re.split(r" {2,}", line, maxsplit=1)) for line in lines]
+
+
+def parsed(text: str) -> Explanation:
+    """An explanation that the program printed."""
+    head, when, example, remedy = text.rstrip("\n").split("\n\n")
+    names, meaning = head.split(": ", 1)
+    return Explanation(names.split(", "), meaning, when, example.strip(), remedy.removeprefix("What to do: "))
+
+
+def explanation_of(program: Path, name: str) -> Explanation:
+    return parsed(printed(program, name))
+
+
+def explanations(program: Path) -> list[Explanation]:
+    """Each explanation once, in the order of the list."""
+    found: dict[str, Explanation] = {}
+    for name, _ in listed(program):
+        explanation = explanation_of(program, name)
+        found.setdefault(explanation.names[0], explanation)
+    return list(found.values())
+
+
+def sentence(text: str) -> str:
+    return f"{text[0].upper()}{text[1:]}."
+
+
+def one_line(text: str) -> str:
+    return text.replace("\n", " ")
+
+
+def guide_page(program: Path) -> str:
+    parts, heading = [INTRODUCTION], None
+    for fault in explanations(program):
+        if fault.heading() != heading:
+            heading = fault.heading()
+            parts.append(f"## {heading}\n")
+        names = ", ".join(f"`{name}`" for name in fault.names)
+        text = re.sub(r"'([^']*)'", r"`\1`", one_line(fault.when))
+        remedy = re.sub(r"'([^']*)'", r"`\1`", one_line(fault.remedy))
+        parts.append(f"### {names}\n\n{sentence(fault.meaning)}\n\n{text}\n")
+        parts.append(f"```\n{fault.example}\n```\n\nWhat to do: {remedy}\n")
+    return "\n".join(parts)
+
+
+def escaped(text: str) -> str:
+    """Text for a man page: each byte stands for itself."""
+    for plain, named in [("\\", "\\e"), ("-", "\\-"), ("'", "\\(aq"), ("^", "\\(ha"), ("`", "\\(ga"), ("~", "\\(ti")]:
+        text = text.replace(plain, named)
+    return re.sub(r"^\.", r"\\&.", text, flags=re.MULTILINE)
+
+
+def whole_words(text: str) -> list[str]:
+    """The lines of a text, none of them broken within a word."""
+    return textwrap.wrap(text, MAN_WIDTH, break_long_words=False, break_on_hyphens=False)
+
+
+def man_text(text: str) -> list[str]:
+    """The lines of a text in a man page, each sentence on a line of its own that may go on."""
+    sentences = re.split(r"(?<=[.:]) (?=[A-Z])", one_line(text))
+    wrapped = (whole_words(escaped(part)) for part in sentences)
+    return [line for lines in wrapped for line in lines]
+
+
+def man_part(program: Path) -> str:
+    lines, heading = [], None
+    for fault in explanations(program):
+        if fault.heading() != heading:
+            heading = fault.heading()
+            lines.append(f".SS {heading}")
+        names = ", ".join(f"\\fB{escaped(name)}\\fR" for name in fault.names)
+        lines += [".TP", names, *man_text(sentence(fault.meaning)), *man_text(fault.when)]
+        lines += [".IP", f"\\fB{escaped(fault.example)}\\fR"]
+        lines += [".IP", *man_text(f"What to do: {fault.remedy}")]
+    return "".join(f"{line}\n" for line in lines)
+
+
+def man_page(program: Path) -> str:
+    return with_part(MAN_PAGE.read_text(), '.\\"', "faults", "faults.py", man_part(program))
+
+
+def pages(program: Path) -> list[tuple[Path, str]]:
+    """Each page that has faults, with what it must hold."""
+    return [(GUIDE_PAGE, guide_page(program)), (MAN_PAGE, man_page(program))]
+
+
+def main() -> None:
+    for path, text in pages(Path(sys.argv[1]) if len(sys.argv) > 1 else PROGRAM):
+        path.write_text(text)
+
+
+if __name__ == "__main__":
+    main()
