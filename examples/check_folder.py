@@ -1,14 +1,19 @@
 #!/usr/bin/env python3
-"""Checks all sheets of a folder, as many at a time as the machine has processors.
+"""Checks all sheets and tables of a folder, as many at a time as the machine has processors.
 
     python3 check_folder.py FOLDER [OPTION..]
 
 The sheet NAME.csv, or NAME.STATION.csv where a field file has more stations, is checked against the
-field file NAME.gsi; where more names fit, the longest counts. Extensions may be in capitals too. A
-field file is done where `station_check list` names stations in it, and each of them has an accepted
-sheet. The answer to each sheet is printed, and kept in NAME.answer beside NAME.csv.
+field file NAME.gsi. A table of directions, NAME.directions.csv or NAME.STATION.directions.csv, is
+compared with it; a file that holds a table may leave out '.directions'. Where more names fit, the
+longest counts. Extensions may be in capitals too.
 
-Exit status: 0 where there are field files, each is done, and each sheet was accepted; 1 where not;
+A field file is done where `station_check list` names stations in it, and each of them has an
+accepted sheet or a table that agrees. The answer to each sheet and table is printed, and kept in
+NAME.answer beside NAME.csv. A table that belongs to no field file, or to one of its stations by no
+name, is said to be passed over, which is no mistake.
+
+Exit status: 0 where there are field files, each is done, and nothing was refused; 1 where not;
 2 where nothing could be checked: a mistake on the command line, no such folder, one that takes no
 answers, no station_check.
 
@@ -16,6 +21,7 @@ Python 3.10 or later, and station_check on the path, are all it needs.
 """
 
 import argparse
+import io
 import os
 import re
 import shutil
@@ -23,14 +29,19 @@ import subprocess
 import sys
 import tempfile
 from collections import Counter, defaultdict
+from collections.abc import Iterable, Iterator
+from enum import Enum
 from multiprocessing import Pool
 from pathlib import Path
 from typing import NamedTuple
 
-FIELD, SHEET, ANSWER = ".gsi", ".csv", ".answer"
+# The name by which this script was called, for what it says.
+SCRIPT = Path(sys.argv[0]).name
 
-# What came of a sheet.
-ACCEPTED, REFUSED, NOT_CHECKED = "accepted", "refused", "not checked"
+FIELD, CLAIM, ANSWER = ".gsi", ".csv", ".answer"
+
+# How the name of a table may end, before its extension.
+TABLE = ".directions"
 
 # What each run of station_check finds in its environment.
 ENVIRONMENT = dict(os.environb)
@@ -40,17 +51,33 @@ DONE, REFUSAL, MISTAKE = 0, 1, 2
 
 COUNTS = rb": \d+ sets, \d+ targets, \d+ directions"
 ACCEPTED_LINE = re.compile(rb"accepted (.*)" + COUNTS + rb", greatest residual \d+/\d+\n")
+AGREES_LINE = re.compile(rb"agrees (.*): \d+ targets, within \d+\n")
 STATION_LINE = re.compile(rb"^station (.*)" + COUNTS + rb"$", re.MULTILINE)
+
+# What tells a table from a sheet, in so many bytes of a file: a sheet has rows of five fields that
+# begin with their kind, a table has numbers at the ends of its rows.
+HEAD = 4096
+SHEET_ROW = re.compile(rb'^"?(?:sheet|target|set|obs)"?(?:,[^,\r\n]*){4}\s*$', re.MULTILINE)
+TABLE_ROW = re.compile(rb"^[^,;\t ].*[,;\t ]\"?[+-]?\d[\d.,'-]*\"?[,;\s]*$", re.MULTILINE)
 
 
 class CannotCheck(Exception):
     """Why nothing was checked."""
 
 
+class Result(Enum):
+    """What came of a sheet or a table."""
+
+    GOOD = "accepted"
+    REFUSED = "refused"
+    NOT_CHECKED = "not checked"
+    PASSED_OVER = "passed over"
+
+
 # ---------------------------------------------------------------- names
 
 
-def files_by_name(paths, extension):
+def files_by_name(paths: Iterable[str], extension: str) -> dict[str, list[str]]:
     """The files with an extension by their names, without it: more where capitals differ."""
     files = defaultdict(list)
     for path in sorted(paths):
@@ -60,24 +87,47 @@ def files_by_name(paths, extension):
     return files
 
 
-def field_of(sheet, fields):
-    """The longest name of a field file that is the sheet's name, or begins it before a point."""
-    while sheet not in fields:
-        sheet, point, _ = sheet.rpartition(".")
+def is_table(name: str, path: str) -> bool:
+    """Whether a file is a table of directions, by its name or by what it holds."""
+    if name.lower().endswith(TABLE):
+        return True
+    try:
+        with open(path, "rb") as file:
+            head = file.read(HEAD)
+    except OSError:
+        return False
+    return bool(TABLE_ROW.search(head)) and not SHEET_ROW.search(head)
+
+
+class Claim(NamedTuple):
+    """A sheet or a table: its name without extension, its files, and the field file of its name."""
+
+    name: str
+    paths: list[str]
+    is_table: bool
+    field: str | None
+
+    def station(self, stations: list[bytes]) -> bytes | None:
+        """The station of a table: the one that its name has after that of the field file, or else
+        the only one."""
+        field = self.field or ""
+        if after := without_end(self.name)[len(field) + 1 :]:
+            return os.fsencode(after)
+        return stations[0] if len(stations) == 1 else None
+
+
+def without_end(name: str) -> str:
+    """A name without what says that it is one of a table."""
+    return name[: -len(TABLE)] if name.lower().endswith(TABLE) else name
+
+
+def field_of(claim: str, fields: Iterable[str]) -> str | None:
+    """The longest name of a field file that is the claim's name, or begins it before a point."""
+    while claim not in fields:
+        claim, point, _ = claim.rpartition(".")
         if not point:
             return None
-    return sheet
-
-
-def why_not(sheet, sheets, fields):
-    """Why a sheet can't be checked, where its name doesn't tell which files belong together."""
-    field = field_of(sheet, fields)
-    if field is None:
-        return "no field file of this name; capitals count"
-    for files in sheets[sheet], fields[field]:
-        if len(files) > 1:
-            return f"one name for {' and '.join(files)}"
-    return None
+    return claim
 
 
 # ---------------------------------------------------------------- runs
@@ -87,10 +137,10 @@ class Run(NamedTuple):
     """A run of station_check: its arguments, and the file that takes all that it prints."""
 
     name: str
-    args: list
+    args: tuple[str | bytes, ...]
     output: str
 
-    def status(self):
+    def status(self) -> int:
         """Runs it, and answers its exit status."""
         flags = os.O_WRONLY | os.O_CREAT | os.O_TRUNC
         takes = (os.POSIX_SPAWN_OPEN, 1, self.output, flags, 0o666)
@@ -101,127 +151,200 @@ class Run(NamedTuple):
             raise CannotCheck(f"cannot write {self.output}: {why.strerror}") from None
         return os.waitstatus_to_exitcode(os.waitpid(run, 0)[1])
 
-    def printed(self):
+    def printed(self) -> bytes:
         return Path(self.output).read_bytes()
 
 
-def finished(runs, jobs):
+def finished(runs: list[Run], jobs: int) -> Iterator[tuple[Run, int]]:
     """Each run with its exit status; so many run at a time."""
     with Pool(jobs) as pool:
         yield from zip(runs, pool.imap(Run.status, runs, chunksize=8))
 
 
-def first_line(printed):
+def first_line(printed: bytes) -> str:
     return os.fsdecode(printed.partition(b"\n")[0]) or "no answer"
 
 
 # ---------------------------------------------------------------- the folder
 
 
-class Folder:
-    """The field files and sheets of the folder that is the current one."""
+class Options(NamedTuple):
+    """What was stated for the commands of station_check, and how many run at a time."""
 
-    def __init__(self):
+    limits: list[str]
+    check: list[str]
+    compare: list[str]
+    jobs: int
+
+
+class Folder:
+    """The field files, sheets and tables of the folder that is the current one."""
+
+    def __init__(self, program: str, options: Options):
+        self.program, self.options = program, options
         paths = [path for path in os.listdir() if not path.startswith(".")]
         for path in paths:
             if path.endswith(ANSWER):
                 os.remove(path)
         self.fields = files_by_name(paths, FIELD)
-        self.sheets = files_by_name(paths, SHEET)
-        self.results = {}  # of each sheet what came of it, and what is said
-        self.stations = defaultdict(set)  # of each field file those with an accepted sheet
+        self.claims: list[Claim] = []
+        for name, files in files_by_name(paths, CLAIM).items():
+            field = field_of(name, self.fields)
+            self.claims.append(Claim(name, files, is_table(name, files[0]), field))
+        # Of each field file its stations, and what is said where it has none.
+        self.stations: dict[str, list[bytes]] = {}
+        self.said: dict[str, str] = {}
+        # Of each sheet and table what came of it, and what is said of it.
+        self.results: dict[str, tuple[Result, str]] = {}
+        # Of each field file the stations with an accepted sheet or a table that agrees.
+        self.good: dict[str, set[bytes]] = defaultdict(set)
 
-    def check(self, program, options, jobs):
-        """Checks each sheet against its field file."""
-        runs = []
-        for sheet, files in self.sheets.items():
-            if said := why_not(sheet, self.sheets, self.fields):
-                self.results[sheet] = NOT_CHECKED, said
-                continue
-            field = self.fields[field_of(sheet, self.fields)]
-            arguments = [program, "check", *options, f"./{field[0]}", f"./{files[0]}"]
-            runs.append(Run(sheet, arguments, sheet + ANSWER))
-        for run, status in finished(runs, jobs):
-            printed = run.printed()
-            accepted = ACCEPTED_LINE.fullmatch(printed) if status == DONE else None
-            if accepted:
-                self.stations[field_of(run.name, self.fields)].add(accepted[1])
-            result = ACCEPTED if accepted else REFUSED if status == REFUSAL else NOT_CHECKED
-            self.results[run.name] = result, first_line(printed)
-
-    def left(self, program, limits, jobs):
-        """What is still to be done of each field file, by the stations that its list names."""
-        left = {}
+    def list_stations(self) -> None:
+        """Finds the stations of each field file."""
         with tempfile.TemporaryDirectory() as lists:
             runs = []
             for place, (field, files) in enumerate(self.fields.items()):
-                arguments = [program, "list", *limits, f"./{files[0]}"]
-                runs.append(Run(field, arguments, os.path.join(lists, str(place))))
-            for run, status in finished(runs, jobs):
+                words = (self.program, "list", *self.options.limits, f"./{files[0]}")
+                runs.append(Run(field, words, os.path.join(lists, str(place))))
+            for run, status in finished(runs, self.options.jobs):
                 printed = run.printed()
                 os.remove(run.output)
                 stations = STATION_LINE.findall(printed) if status == DONE else []
-                left[run.name] = [
-                    f"no accepted sheet of station {os.fsdecode(station)}"
-                    for station in stations
-                    if station not in self.stations[run.name]
-                ]
+                self.stations[run.name] = stations
                 if not stations:
-                    left[run.name] = ["no station" if status == DONE else first_line(printed)]
-        return left
+                    self.said[run.name] = "no station" if status == DONE else first_line(printed)
 
+    def why_not(self, claim: Claim) -> str | None:
+        """Why a sheet or a table can't be checked, where its name doesn't tell which files belong
+        together."""
+        if claim.field is None:
+            of = "a table of directions with " if claim.is_table else ""
+            return f"{of}no field file of this name; capitals count"
+        for files in claim.paths, self.fields[claim.field]:
+            if len(files) > 1:
+                return f"one name for {' and '.join(files)}"
+        if claim.is_table and claim.station(self.stations[claim.field]) is None:
+            if claim.field in self.said:
+                return self.said[claim.field]
+            return f"of which station? name it {claim.field}.STATION{TABLE}{CLAIM}"
+        return None
 
-def report(folder, left):
-    """Prints what came of each sheet and is left of each field file; whether all is well."""
-    for sheet in folder.sheets:
-        print(f"{sheet}: {folder.results[sheet][1]}")
-    for field in folder.fields:
-        for said in left[field]:
-            print(f"{field}: {said}")
-    done, files = sum(not said for said in left.values()), len(folder.fields)
-    counts = Counter(result for result, _ in folder.results.values())
-    each = ", ".join(f"{counts[result]} {result}" for result in (ACCEPTED, REFUSED, NOT_CHECKED))
-    print(f"{done} of {files} field files done; of the sheets {each}")
-    return 0 < done == files and counts[ACCEPTED] == len(folder.sheets)
+    def arguments(self, claim: Claim) -> tuple[str | bytes, ...]:
+        """The command that checks a sheet or compares a table."""
+        assert claim.field is not None
+        field, path = f"./{self.fields[claim.field][0]}", f"./{claim.paths[0]}"
+        if not claim.is_table:
+            return self.program, "check", *self.options.check, field, path
+        station = claim.station(self.stations[claim.field])
+        assert station is not None
+        return self.program, "compare", *self.options.compare, "--", field, station, path
+
+    def check(self) -> None:
+        """Checks each sheet against its field file, and compares each table with it."""
+        runs, claims = [], {claim.name: claim for claim in self.claims}
+        for claim in self.claims:
+            if said := self.why_not(claim):
+                passed_over = Result.PASSED_OVER if claim.is_table else Result.NOT_CHECKED
+                self.results[claim.name] = passed_over, said
+            else:
+                runs.append(Run(claim.name, self.arguments(claim), claim.name + ANSWER))
+        for run, status in finished(runs, self.options.jobs):
+            claim, printed = claims[run.name], run.printed()
+            line = AGREES_LINE if claim.is_table else ACCEPTED_LINE
+            good = line.fullmatch(printed) if status == DONE else None
+            if good and claim.field is not None:
+                self.good[claim.field].add(good[1])
+            result = Result.REFUSED if status == REFUSAL else Result.NOT_CHECKED
+            self.results[run.name] = Result.GOOD if good else result, first_line(printed)
+
+    def left(self, field: str) -> list[str]:
+        """What is still to be done of a field file."""
+        if field in self.said:
+            return [self.said[field]]
+        return [
+            f"no accepted sheet or agreeing table of station {os.fsdecode(station)}"
+            for station in self.stations[field]
+            if station not in self.good[field]
+        ]
+
+    def counts(self, tables: bool) -> Counter[Result]:
+        """What came of the sheets, or of the tables."""
+        return Counter(self.results[one.name][0] for one in self.claims if one.is_table == tables)
+
+    def report(self) -> bool:
+        """Prints what came of each sheet and table and is left of each field file; whether all is
+        well."""
+        for claim in self.claims:
+            print(f"{claim.name}: {self.results[claim.name][1]}")
+        left = {field: self.left(field) for field in self.fields}
+        for field, lines in left.items():
+            for said in lines:
+                print(f"{field}: {said}")
+        done, files = sum(not lines for lines in left.values()), len(self.fields)
+        sheets, tables = self.counts(False), self.counts(True)
+        each = [f"{sheets[result]} {result.value}" for result in list(Result)[:3]]
+        line = f"{done} of {files} field files done; of the sheets {', '.join(each)}"
+        if tables:
+            others = tables[Result.NOT_CHECKED] + tables[Result.PASSED_OVER]
+            line += f"; of the tables {tables[Result.GOOD]} agreed, {tables[Result.REFUSED]} refused, "
+            line += f"{others} not compared"
+        print(line)
+        bad = [counts[result] for counts in (sheets, tables) for result in list(Result)[1:3]]
+        return 0 < done == files and not any(bad)
 
 
 # ---------------------------------------------------------------- the command line
 
 
-def command_line():
+def command_line() -> argparse.ArgumentParser:
     parser = argparse.ArgumentParser(
         allow_abbrev=False,
         description="Checks all sheets of a folder, NAME.csv or NAME.STATION.csv, against their "
-        "field files, NAME.gsi. Each station that 'station_check list' names needs an accepted "
-        "sheet. The answer to each sheet is kept in NAME.answer.",
+        "field files, NAME.gsi, and compares tables of directions, NAME.directions.csv or "
+        "NAME.STATION.directions.csv, with them. Each station that 'station_check list' names needs "
+        "an accepted sheet or a table that agrees. The answer to each is kept in NAME.answer.",
         epilog="Exit status: 0 all is accepted, 1 not all, 2 nothing could be checked.",
     )
     parser.add_argument("folder", metavar="FOLDER")
-    for option in "--two-c", "--two-i", "--residual":
-        text = f"as of 'station_check check {option}'"
+    for option, command in [
+        ("--two-c", "check"),
+        ("--two-i", "check"),
+        ("--residual", "check"),
+        ("--within", "compare"),
+    ]:
+        text = f"as of 'station_check {command} {option}'"
         parser.add_argument(option, metavar="N", action="append", default=[], help=text)
     parser.add_argument("--jobs", metavar="N", type=int, help="so many at a time")
     return parser
 
 
-def stated(asked, *names):
+def stated(asked: argparse.Namespace, *names: str) -> list[str]:
     """The options of these names as they were stated."""
     return [f"--{name}={n}" for name in names for n in getattr(asked, name.replace("-", "_"))]
 
 
-def found_program(options):
+def options_of(asked: argparse.Namespace) -> Options:
+    limits = stated(asked, "two-c", "two-i")
+    check, compare = [*limits, *stated(asked, "residual")], [*limits, *stated(asked, "within")]
+    return Options(limits, check, compare, max(1, asked.jobs or os.cpu_count() or 1))
+
+
+def found_program(options: Options) -> str:
     """The path of station_check, which takes these options."""
     program = shutil.which("station_check")
     if program is None:
         raise CannotCheck("no station_check is on the path")
-    tried = [program, "check", *options, os.devnull, os.devnull]
-    done = subprocess.run(tried, capture_output=True, text=True)
-    if done.returncode != REFUSAL:  # an empty sheet is refused
-        raise CannotCheck(done.stderr.rstrip("\n"))
+    for words in [
+        ["check", *options.check, os.devnull, os.devnull],
+        ["compare", *options.compare, os.devnull, "S", os.devnull],
+    ]:
+        done = subprocess.run([program, *words], capture_output=True, text=True)
+        if done.returncode != REFUSAL:  # an empty sheet is refused, and an empty field file
+            raise CannotCheck(done.stderr.rstrip("\n"))
     return os.path.abspath(program)
 
 
-def enter(folder):
+def enter(folder: str) -> None:
     """Makes a folder the current one."""
     try:
         os.chdir(folder)
@@ -229,20 +352,20 @@ def enter(folder):
         raise CannotCheck(f"cannot open {folder}: {why.strerror}") from None
 
 
-def main():
+def main() -> int:
     asked = command_line().parse_args()
-    limits = stated(asked, "two-c", "two-i")
-    options = [*limits, *stated(asked, "residual")]
-    jobs = max(1, asked.jobs or os.cpu_count() or 1)
-    sys.stdout.reconfigure(errors="surrogateescape")
+    if isinstance(sys.stdout, io.TextIOWrapper):
+        sys.stdout.reconfigure(errors="surrogateescape")
     try:
+        options = options_of(asked)
         program = found_program(options)
         enter(asked.folder)
-        folder = Folder()
-        folder.check(program, options, jobs)
-        well = report(folder, folder.left(program, limits, jobs))
+        folder = Folder(program, options)
+        folder.list_stations()
+        folder.check()
+        well = folder.report()
     except (CannotCheck, OSError) as why:
-        print(f"check_folder.py: {why}", file=sys.stderr)
+        print(f"{SCRIPT}: {why}", file=sys.stderr)
         return MISTAKE
     return DONE if well else REFUSAL
 

@@ -6,10 +6,11 @@
 The field file stays as it is. It is taken line by line, so that a file that station_check refuses
 can be copied too. These are left out: blocks by their numbers; a set by its station and number;
 with --closing the closing sights, which repeat at the end of a half set, in the same face, the
-target that began it, or after sets that were read target by target its pair; with --without-codes
-the blocks of codes 10, 20 and 30. --rename gives stated blocks another name: to a measurement its
-word 11, to a code block its word 42. --plain writes plain ASCII letters for others, a blank for a
-tab, and drops a byte order mark and a final byte 1A.
+target that began it, or after sets that were read target by target its pair; with --broken-off, in a
+job without codes, a last set that was not ended; with --without-codes the blocks of codes 10, 20 and
+30. --rename gives stated blocks another name: to a measurement its word 11, to a code block its word
+42. --plain writes plain ASCII letters for others, a blank for a tab, and drops a byte order mark and
+a final byte 1A.
 
 COPY.gsi.log has each line that was left out or changed. The script prints a command by which
 anybody sees that nothing else was changed.
@@ -25,6 +26,7 @@ import re
 import shlex
 import sys
 import unicodedata
+from collections import Counter
 from itertools import groupby, pairwise
 from typing import NamedTuple
 
@@ -33,7 +35,7 @@ STATION, SET, END = "10", "20", "30"
 # The indices of words: a point, a direction, a zenith angle, a code, its first information, and
 # those of a line that sets up the instrument.
 POINT, DIRECTION, ZENITH, CODE, INFORMATION = 11, 21, 22, 41, 42
-SET_UP = {84, 85, 86, 87, 88}
+SET_UP = {84, 85, 86, 88}
 
 # A half circle and a full circle, in units of 0.00001 gon, and the byte at the fourth place of an
 # angle's information that says so.
@@ -50,6 +52,9 @@ WORD = re.compile(rb"(\d\d)([!-~]{4})[+-]")
 # Letters that are no plain letter with an accent, and what is written for them.
 LETTERS = str.maketrans("ßøØæÆłŁđĐ\t", "soOaAlLdD ")
 BYTE_ORDER_MARK, FILE_END = "\ufeff", re.compile("\x1a(?=[\r\n]*$)")
+
+# So many readings at most stand before the first set, as orientation sights.
+MOST_BEFORE = 3
 
 # A block, or those from one to another, or to the end.
 NUMBERS = re.compile(r"([1-9]\d*)(?:(-)([1-9]\d*)?)?")
@@ -185,23 +190,31 @@ def of_set(blocks, station, number):
     return found[0]
 
 
+def readings_of_stations(blocks):
+    """The readings between lines that set up."""
+    groups = [[]]
+    for block in blocks:
+        groups += [[]] * block.sets_up()
+        groups[-1] += [block] * block.is_reading()
+    return groups
+
+
 def readings_together(blocks):
     """The readings of each set; where no code opens one, those between lines that set up."""
-    if marked := [of_set for *_, of_set in list(sets_of(blocks))]:
-        groups = marked
-    else:
-        groups = [[]]
-        for block in blocks:
-            groups += [[]] * block.sets_up()
-            groups[-1].append(block)
-    return [[block for block in group if block.is_reading()] for group in groups]
+    marked = [of_set for *_, of_set in list(sets_of(blocks))]
+    of_sets = [[block for block in of_set if block.is_reading()] for of_set in marked]
+    return of_sets or readings_of_stations(blocks)
+
+
+def is_pair(first, second):
+    """Whether a target is read in both faces."""
+    return first.target() == second.target() and {first.face(), second.face()} == {1, 2}
 
 
 def are_pairs(readings):
     """Whether each target is read in both faces before the next."""
     pairs = list(zip(readings[::2], readings[1::2]))
-    one = lambda a, b: a.target() == b.target() and {a.face(), b.face()} == {1, 2}
-    return len(readings) % 2 == 0 and all(one(*pair) for pair in pairs)
+    return len(readings) % 2 == 0 and all(is_pair(*pair) for pair in pairs)
 
 
 def closing_pairs(readings):
@@ -245,6 +258,43 @@ def closing_sights(blocks):
     return closing
 
 
+def ends_of_sets(readings):
+    """The places at which each target was read as often in face I as in face II, and that which was
+    read first comes again."""
+    odd = Counter()  # of each target how often more it was read in face I
+    for place, reading in enumerate(readings):
+        comes_again = place > 0 and reading.target() == readings[0].target()
+        if comes_again and not any(odd.values()):
+            yield place
+        odd[reading.target()] += {1: 1, 2: -1}[reading.face()]
+
+
+def broken_set(readings):
+    """The readings of a last set that lacks a face of a target, or ends with another target than the
+    set before it; none where no set was broken off."""
+    for before in range(MOST_BEFORE + 1):
+        if ends := list(ends_of_sets(readings[before:])):
+            begin = before + ends[-1]
+            whole, last = readings[before:begin], readings[begin:]
+            targets = {reading.target() for reading in whole}
+            while last[-1].target() not in targets:  # detail points
+                last.pop()
+            faces = Counter((reading.target(), reading.face()) for reading in last)
+            is_even = all(faces[target, 1] == faces[target, 2] for target in targets)
+            return [] if is_even and last[-1].target() == whole[-1].target() else last
+    return []
+
+
+def broken_off(blocks):
+    """The readings of last sets that were broken off, in a job without codes."""
+    if any(block.code() == SET for block in blocks):
+        raise Refused("the file has codes: leave the set out by --set")
+    broken = [reading for group in readings_of_stations(blocks) for reading in broken_set(group)]
+    if not broken:
+        raise Refused("no last set was broken off, as far as the readings show it")
+    return broken
+
+
 def with_codes(blocks):
     """The blocks of the codes that open and end sets."""
     found = [block for block in blocks if block.code() in (STATION, SET, END)]
@@ -280,6 +330,10 @@ def left_out(blocks, asked):
     if asked.without_codes:
         out += with_codes(blocks)
         said.append("codes 10, 20 and 30")
+    if asked.broken_off:
+        places = {block.place for block in out}
+        out += broken_off([block for block in blocks if block.place not in places])
+        said.append("last sets that were broken off")
     return {block.place for block in out}, said
 
 
@@ -417,6 +471,8 @@ def command_line():
     said = "leave out a whole set that codes mark"
     option("--set", metavar=("STATION", "NUMBER"), nargs=2, action="append", help=said)
     option("--closing", action="store_true", help="leave out closing sights, with codes or without")
+    said = "leave out a last set that was broken off, in a job without codes"
+    option("--broken-off", action="store_true", help=said)
     said = "leave out the blocks of codes 10, 20 and 30, which may be your office's own"
     option("--without-codes", action="store_true", help=said)
     said = "give blocks, as 9 or 9,20, this name: of the target, station or set number"
@@ -459,18 +515,22 @@ def prepared(asked):
     return len(out), len(changed)
 
 
+def blocks_are(count):
+    return "1 block is" if count == 1 else f"{count} blocks are"
+
+
 def counted(out, changed):
     """What is printed of these numbers of blocks."""
-    said = [f"{out} blocks are left out"] * bool(out) + [f"{changed} are changed"] * bool(changed)
-    return ", ".join(said) if out else f"{changed} blocks are changed"
+    said = [f"{blocks_are(out)} left out"] * bool(out)
+    return ", ".join(said + [f"{blocks_are(changed)} changed"] * bool(changed))
 
 
 def main():
     parser = command_line()
     asked = parser.parse_args()
-    options = [asked.blocks, asked.set, asked.closing, asked.without_codes, asked.rename]
-    if not any([*options, asked.plain]):
-        every = "--blocks, --set, --closing, --without-codes, --rename or --plain"
+    of_lines = [asked.blocks, asked.set, asked.closing, asked.broken_off, asked.without_codes]
+    if not any([*of_lines, asked.rename, asked.plain]):
+        every = "--blocks, --set, --closing, --broken-off, --without-codes, --rename or --plain"
         parser.error(f"say what is left out or changed: {every}")
     try:
         done = prepared(asked)

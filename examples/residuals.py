@@ -20,6 +20,9 @@ from pathlib import Path
 from typing import NamedTuple
 from xml.sax.saxutils import escape
 
+# The name by which this script was called, for what it says.
+SCRIPT = Path(sys.argv[0]).name
+
 # A full circle in half units, and a half unit in mgon.
 TURN = 80_000_000
 MGON = Fraction(5, 1_000)
@@ -331,16 +334,21 @@ def picture(sheet, accepted):
 # ---------------------------------------------------------------- the command line
 
 
-def main():
+def command_line():
     parser = argparse.ArgumentParser(
         description="Draws the residuals of a sheet, in mgon, as an SVG picture on standard "
         "output. The line that 'station_check check' printed for the sheet is read from standard "
         "input.",
-        epilog="Example: station_check check FIELD.gsi SHEET.csv | python3 residuals.py SHEET.csv "
+        epilog="Example: station_check check FIELD.gsi SHEET.csv | %(prog)s SHEET.csv "
         "> PICTURE.svg. Exit status: 0 drawn, 1 not drawn (standard error says why), 2 a mistake "
         "on the command line.",
     )
     parser.add_argument("sheet", metavar="SHEET", type=Path, help="the accepted sheet")
+    return parser
+
+
+def main():
+    parser = command_line()
     asked = parser.parse_args()
     accepted = sys.stdin.read().rstrip("\r\n")
     try:
@@ -349,7 +357,7 @@ def main():
     except OSError as why:
         parser.error(f"cannot open {asked.sheet}: {why.strerror}")
     except CannotDraw as why:
-        sys.exit(f"residuals.py: {why}")
+        sys.exit(f"{SCRIPT}: {why}")
     sys.stdout.reconfigure(encoding="utf-8")
     print(picture(sheet, accepted), end="")
 

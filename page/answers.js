@@ -1,9 +1,9 @@
 // Which call is asked for which files, and what it answered: a card for each station, and for each file
 // that belongs to none. Nothing here decides a verdict.
-import { ask, digestOf, has } from './work.js';
+import { ask, digestOf } from './work.js';
 import { fieldOfSheet, stationOfSheet, stationOfTable, stemOf, textOf } from './files.js';
 import { commandOf } from './limits.js';
-import { differencesOf, each, isComplete, residualsOf, stationsOf } from './records.js';
+import { differencesOf, each, isComplete, recognizedIn, residualsOf, stationsOf } from './records.js';
 
 /**
  * @typedef {import('./files.js').Input} Input
@@ -18,9 +18,11 @@ import { differencesOf, each, isComplete, residualsOf, stationsOf } from './reco
  *   differences?: import('./records.js').Difference[] | null }} Answer
  * What is shown of a station, or of a file without one: `readings` counts those of a file without sets,
  * `waiting` has the files that can't be checked yet, `unplaced` the text that says why a file has no place,
- * `marked` what was told when codes were put into a copy.
+ * `marked` is the answer when codes were put into a copy, and `recognized` what it told of the card's
+ * station, and at the first card of a copy of the stations without sets too.
  * @typedef {{ title: string, mood: Mood, field?: Input, station?: Station, answers: Answer[],
- *   waiting: Input[], readings?: number, unplaced?: string, marked?: Answer, results?: Results }} Card
+ *   waiting: Input[], readings?: number, unplaced?: string, marked?: Answer,
+ *   recognized?: import('./records.js').Recognized[], results?: Results }} Card
  * The results of a station: its directions, its residuals with the line that they rest on.
  * @typedef {{ directions: Answer, residuals: Residuals | null, basis: Answer | null }} Results
  */
@@ -74,11 +76,14 @@ async function cardsWithoutSets(/** @type {Input} */ field, limits) {
   const { text } = await ask('readings', field.bytes), readings = Number(text);
   /** @type {Card} */
   const card = { title: field.name, field, mood: 'open', answers: [], waiting: [], readings };
-  if (readings === 0 || field.original || !has('mark')) return [card];
+  if (readings === 0 || field.original) return [card];
   const marked = await answerOfMark(field);
   if (marked.status !== ACCEPTED) return [{ ...card, marked }];
-  const cards = await cardsOfField(marked.other, limits);
-  return cards.map(one => ({ ...one, marked }));
+  const told = recognizedIn(marked.line), cards = await cardsOfField(marked.other, limits);
+  return cards.map((one, nth) => {
+    const isShown = ({ station, sets }) => sets === 0 ? nth === 0 : !one.station || station === one.title;
+    return { ...one, marked, recognized: told.filter(isShown) };
+  });
 }
 
 /** The answer of putting codes into a copy of a field file: the copy is its other file. */

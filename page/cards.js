@@ -1,12 +1,12 @@
 // A card of a station: the answer first, then the fault or the results.
-import { ACCEPTED, REFUSED, filesOf, meansOf } from './answers.js';
+import { ACCEPTED, OUT_OF_RANGE, REFUSED, filesOf, meansOf } from './answers.js';
 import { button, element, ofProgram, save } from './elements.js';
 import { stemOf, textOf } from './files.js';
-import { apartIn, headlineOf, headlineOfCard, meaningOf } from './headlines.js';
+import { apartIn, headlineOf, headlineOfCard, isWithoutName, meaningOf, recognizedText } from './headlines.js';
 import { APART, mgonOf } from './numbers.js';
 import { placeOf } from './place.js';
 import { protocolFile } from './protocol.js';
-import { decimalsIn, isComplete, recognizedIn } from './records.js';
+import { decimalsIn, isComplete } from './records.js';
 import { showResults } from './results.js';
 import { differencesFile, facesFile, residualsFile } from './tables.js';
 import { text } from './texts.js';
@@ -161,26 +161,27 @@ function showOpening(/** @type {Card} */ card, desk, isOpen, parent) {
 // ---------------------------------------------------------------- jobs without codes
 
 /** What was recognized in a job without codes, to be compared with the field book, and the copy to be saved. */
-function showMarked(/** @type {Card} */ { marked: { line, other, field, command }, station }, parent) {
+function showMarked(/** @type {Card} */ { marked, recognized }, desk, parent) {
+  const { line, other, field, command } = marked;
   const part = element('div', '', parent, { className: 'marked' });
   element('p', text('markedCopy', { name: field.name }), part, { className: 'label' });
-  for (const one of recognizedIn(line))
-    if (!station || one.station === station.listed.name) element('p', text('recognized', { ...one }), part);
+  for (const one of recognized) element('p', recognizedText(one), part);
   element('p', text('compareBook'), part);
-  button(text('saveMarked'), part, () => save(other.name, other.bytes, 'text/plain'));
+  const buttons = element('div', '', part, { className: 'buttons' });
+  button(text('saveMarked'), buttons, () => save(other.name, other.bytes, 'text/plain'));
+  if (field.station) askName(field, desk, buttons, 'button');
   const exact = element('details', '', part);
   element('summary', text('program'), exact);
   ofProgram('pre', `${command}\n${line}`, exact);
 }
 
-/** Asks for the name of the station, which no line of the job has. */
-function askName(/** @type {Card} */ { field }, desk, parent) {
-  element('p', text('needName'), parent);
+/** Asks for the name of the station, which no line of the job has, or for another one. */
+function askName(/** @type {import('./files.js').Input} */ field, desk, parent, className = 'button primary') {
   const form = element('form', '', parent, { className: 'buttons' });
   const label = element('label', `${text('stationName')} `, form);
   const name = /** @type {HTMLInputElement} */ (element('input', '', label, { type: 'text', maxLength: 16 }));
   name.value = field.station ?? '';
-  element('button', text('markSets'), form, { type: 'submit', className: 'button primary' });
+  element('button', text('markSets'), form, { type: 'submit', className });
   form.onsubmit = event => {
     event.preventDefault();
     desk.name(field, name.value.trim());
@@ -189,16 +190,17 @@ function askName(/** @type {Card} */ { field }, desk, parent) {
 
 /** Why the sets of a job without codes are not recognized, and what to do. */
 function showUnmarked(/** @type {Card} */ card, desk, parent) {
-  const { marked } = card;
+  const { marked, field } = card, isNameless = isWithoutName(marked);
   element('p', text('outside', { n: card.readings }), parent);
-  if (/: mark: NoSetUp/.test(marked.line)) askName(card, desk, parent);
+  if (marked.status === OUT_OF_RANGE) element('p', text('wrongName'), parent);
+  else if (isNameless) element('p', text('needName'), parent);
   else {
-    element('p', text('notRecognized'), parent);
     if (marked.explanation) ofProgram('p', meaningOf(marked), parent);
     const place = placeOf(marked.line, marked.field);
     if (place) showPlace(place, parent);
     if (marked.explanation) showExplanation(marked.explanation, parent);
   }
+  if (isNameless || field.station) askName(field, desk, parent);
   showCommand(marked, parent);
 }
 
@@ -206,14 +208,9 @@ function showUnmarked(/** @type {Card} */ card, desk, parent) {
 
 /** What is to be done of a field file without sets. */
 function showTodo(/** @type {Card} */ card, desk, parent) {
-  const { field, readings } = card;
+  const { readings } = card;
   if (readings === 0) return void element('p', text('noReadings'), parent);
-  if (card.marked) return showUnmarked(card, desk, parent);
-  element('p', text('outside', { n: readings }), parent);
-  element('p', text('howToMark'), parent);
-  const copy = `${stemOf(field)}_marked.gsi`;
-  ofProgram('code', `python3 mark_sets.py --station NAME ${field.name} ${copy}`, element('p', '', parent));
-  element('p', text('howToRecord'), parent, { className: 'quiet' });
+  if (card.marked) showUnmarked(card, desk, parent);
 }
 
 function showDigests(/** @type {Card} */ card, parent) {
@@ -240,7 +237,7 @@ export function showCard(card, desk, isOpen, parent) {
   part.setAttribute('aria-label', title);
   element('h2', title, head);
   if (card.station) element('span', card.field.name, head, { className: 'quiet name' });
-  if (card.marked?.other) showMarked(card, part);
+  if (card.marked?.other) showMarked(card, desk, part);
   for (const answer of card.answers) showAnswer(answer, desk, part);
   if (card.answers.length === 0)
     element('p', headlineOfCard(card), part, { className: 'headline' });

@@ -51,9 +51,29 @@ export const saidOf = (/** @type {Answer} */ answer, limits) =>
   answer.explanation && !apartIn(answer.line)
     ? `${headlineOf(answer, limits)} ${meaningOf(answer)}` : headlineOf(answer, limits);
 
+/** What a station of a list has, in words. */
+export const countsOf = ({ sets, targets, directions }) => ({
+  sets: text('setsCounted', { n: sets }),
+  targets: text('targetsCounted', { n: targets }),
+  directions: text('directionsCounted', { n: directions }),
+});
+
+/** What was recognized of a station, in words. */
+export function recognizedText(/** @type {import('./records.js').Recognized} */ one) {
+  const { station, sets, targets, before, after } = one;
+  if (sets === 0) return text('recognizedNone', { station, n: after });
+  const counts = countsOf({ sets, targets, directions: 0 });
+  return text('recognized', { station, ...counts, before: text('readingsCounted', { n: before }), after });
+}
+
+/** Whether codes could not be put in since nothing names the station. */
+export const isWithoutName = (/** @type {Answer} */ { line, field }) =>
+  !field.station && /: mark: NoSetUp$/.test(line);
+
 /** The headline of a card without answers. */
 export function headlineOfCard(/** @type {Card} */ card) {
   if (card.unplaced) return text(card.unplaced);
-  if (card.station) return text('readWell', { ...card.station.listed });
+  if (card.station) return text('readWell', countsOf(card.station.listed));
+  if (card.marked) return text(isWithoutName(card.marked) ? 'nothingNamed' : 'nothingRecognized');
   return text('nothingChecked');
 }

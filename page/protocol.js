@@ -2,7 +2,7 @@
 import { ACCEPTED, filesOf } from './answers.js';
 import { element, ofProgram } from './elements.js';
 import { stemOf } from './files.js';
-import { headlineOfCard, saidOf } from './headlines.js';
+import { countsOf, headlineOfCard, recognizedText, saidOf } from './headlines.js';
 import { limitsLine } from './limits.js';
 import { showResults } from './results.js';
 import { spoken, text } from './texts.js';
@@ -34,6 +34,13 @@ function showAnswers(/** @type {import('./answers.js').Card} */ card, limits, pa
   }
 }
 
+/** What was recognized where codes were put into a copy, and the command that makes it. */
+function showMarks(/** @type {import('./answers.js').Card} */ { marked, recognized, title }, parent) {
+  for (const one of recognized.filter(({ station }) => station === title))
+    element('div', recognizedText(one), parent);
+  ofProgram('code', marked.command, element('div', '', parent));
+}
+
 /**
  * The protocol of a card whose results are loaded.
  * @param {import('./answers.js').Card} card
@@ -47,7 +54,8 @@ export function showProtocol(card, limits, parent) {
   showFiles(card, row('files', facts));
   const now = { dateStyle: /** @type {const} */ ('long'), timeStyle: /** @type {const} */ ('short') };
   row('date', facts).textContent = new Date().toLocaleString(spoken(), now);
-  row('observed', facts).textContent = text('counts', { ...listed });
+  row('observed', facts).textContent = text('counts', countsOf(listed));
+  if (card.marked) showMarks(card, row('marks', facts));
   row('limits', facts).textContent = limitsLine(limits);
   showAnswers(card, limits, row('answer', facts));
   showResults(card, part);

@@ -46,17 +46,28 @@ export function recordsOf(text) {
  */
 export const each = values => [...new Set(values)];
 
+const STATION_WITH_SETS =
+  /^note: station (.*): (\d+) sets?, (\d+) targets?; (\d+) readings? before them and (\d+) after stay outside$/;
+const STATION_WITHOUT_SETS = /^note: station (.*): no sets; (\d+) readings? stays? outside$/;
+
 /**
- * What was told of the marks that were put in: of each station its sets, and what stays outside of them.
+ * What was told of a station where codes were put in: its sets, and how many readings stay outside before
+ * and after them; of one without sets no more than these, as if all came after.
  * @typedef {{ station: string, sets: number, targets: number, before: number, after: number }} Recognized
+ */
+
+/**
+ * What was told of each station, in the order of the notes.
  * @returns {Recognized[]}
  */
-export const recognizedIn = (/** @type {string} */ notes) => [...notes.matchAll(
-  /^note: station (.*): (\d+) sets?, (\d+) targets?; (\d+) readings? before them and (\d+) after stay outside$/gm)]
-  .map(([, station, ...numbers]) => {
-    const [sets, targets, before, after] = numbers.map(Number);
-    return { station, sets, targets, before, after };
-  });
+export const recognizedIn = (/** @type {string} */ notes) => notes.split('\n').flatMap(note => {
+  const [, one, after] = note.match(STATION_WITHOUT_SETS) ?? [];
+  if (one !== undefined) return { station: one, sets: 0, targets: 0, before: 0, after: Number(after) };
+  const [, station, ...numbers] = note.match(STATION_WITH_SETS) ?? [];
+  if (station === undefined) return [];
+  const [sets, targets, before, outside] = numbers.map(Number);
+  return { station, sets, targets, before, after: outside };
+});
 
 // ---------------------------------------------------------------- lists
 

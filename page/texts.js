@@ -178,9 +178,9 @@ export const TEXTS = {
     fr: 'Comparer à {within} mgon près',
   },
   readWell: {
-    en: 'Read without a fault: {sets} sets, {targets} targets, {directions} directions.',
-    de: 'Fehlerfrei gelesen: {sets} Sätze, {targets} Ziele, {directions} Richtungen.',
-    fr: 'Lu sans faute : {sets} séries, {targets} cibles, {directions} directions.',
+    en: 'Read without a fault: {sets}, {targets}, {directions}.',
+    de: 'Fehlerfrei gelesen: {sets}, {targets}, {directions}.',
+    fr: 'Lu sans faute : {sets}, {targets}, {directions}.',
   },
   nothingCompared: {
     en: 'No results of your program were given yet: add its table of directions or its sheet, and they are checked.',
@@ -191,6 +191,16 @@ export const TEXTS = {
     en: 'Nothing was checked: no code 20 opens a set in this file.',
     de: 'Nichts wurde geprüft: Kein Code 20 eröffnet in dieser Datei einen Satz.',
     fr: 'Rien n’a été vérifié : aucun code 20 n’ouvre une série dans ce fichier.',
+  },
+  nothingNamed: {
+    en: 'Nothing was checked yet: the station needs a name.',
+    de: 'Noch nichts wurde geprüft: Die Station braucht einen Namen.',
+    fr: 'Rien n’a encore été vérifié : il faut un nom à la station.',
+  },
+  nothingRecognized: {
+    en: 'Nothing was checked: the sets of this job are not recognized.',
+    de: 'Nichts wurde geprüft: Die Sätze dieses Jobs werden nicht erkannt.',
+    fr: 'Rien n’a été vérifié : les séries de ce job ne sont pas reconnues.',
   },
   outside: {
     en: '{n} reading with a direction stands outside of sets.|{n} readings with directions stand outside of sets.',
@@ -208,10 +218,16 @@ export const TEXTS = {
     fr: 'Séries reconnues dans {name} : la réponse porte sur une copie avec des codes',
   },
   recognized: {
-    en: 'Station {station}: {sets} sets, {targets} targets. {before} readings before the sets and {after} after them stay outside.',
-    de: 'Station {station}: {sets} Sätze, {targets} Ziele. {before} Ablesungen vor den Sätzen und {after} danach bleiben außerhalb.',
-    fr: 'Station {station} : {sets} séries, {targets} cibles. {before} lectures avant les séries et {after} après restent en dehors.',
+    en: 'Station {station}: {sets}, {targets}. {before} before the sets and {after} after them stay outside.',
+    de: 'Station {station}: {sets}, {targets}. {before} vor den Sätzen und {after} danach bleiben außerhalb.',
+    fr: 'Station {station} : {sets}, {targets}. {before} avant les séries et {after} après restent en dehors.',
   },
+  recognizedNone: {
+    en: 'Station {station}: no sets. Its {n} reading stays outside, and nothing of it was checked.|Station {station}: no sets. Its {n} readings stay outside, and nothing of them was checked.',
+    de: 'Station {station}: keine Sätze. Ihre {n} Ablesung bleibt außerhalb; nichts davon wurde geprüft.|Station {station}: keine Sätze. Ihre {n} Ablesungen bleiben außerhalb; nichts davon wurde geprüft.',
+    fr: 'Station {station} : aucune série. Sa {n} lecture reste en dehors, et rien n’en a été vérifié.|Station {station} : aucune série. Ses {n} lectures restent en dehors, et rien n’en a été vérifié.',
+  },
+  marks: { en: 'Codes put in', de: 'Eingesetzte Codes', fr: 'Codes insérés' },
   compareBook: {
     en: 'Compare these numbers with the field book, and keep the copy beside the field file.',
     de: 'Vergleichen Sie diese Zahlen mit dem Feldbuch, und bewahren Sie die Kopie neben der Felddatei auf.',
@@ -223,23 +239,13 @@ export const TEXTS = {
     de: 'Der Job wurde ohne Codes aufgezeichnet, und keine Zeile nennt die Station. Geben Sie ihren Namen an, dann werden die Sätze erkannt.',
     fr: 'Le job a été enregistré sans codes, et aucune ligne ne nomme la station. Indiquez son nom, et les séries seront reconnues.',
   },
+  wrongName: {
+    en: 'A station cannot have this name: it has 1 to 16 plain letters, digits and signs.',
+    de: 'So kann keine Station heißen: Der Name hat 1 bis 16 einfache Buchstaben, Ziffern und Zeichen.',
+    fr: 'Une station ne peut pas porter ce nom : il a de 1 à 16 lettres sans accent, chiffres et signes.',
+  },
   stationName: { en: 'Name of the station', de: 'Name der Station', fr: 'Nom de la station' },
   markSets: { en: 'Recognize the sets', de: 'Sätze erkennen', fr: 'Reconnaître les séries' },
-  notRecognized: {
-    en: 'The job was recorded without codes, and its sets are not recognized:',
-    de: 'Der Job wurde ohne Codes aufgezeichnet, und seine Sätze werden nicht erkannt:',
-    fr: 'Le job a été enregistré sans codes, et ses séries ne sont pas reconnues :',
-  },
-  howToMark: {
-    en: 'The job was recorded without codes, as an instrument’s own program for sets does it. Put them into a copy, on a computer with Python, and drop the copy here:',
-    de: 'Der Job wurde ohne Codes aufgezeichnet, wie das Satzmessprogramm des Instruments es tut. Setzen Sie sie auf einem Rechner mit Python in eine Kopie ein, und legen Sie die Kopie hier ab:',
-    fr: 'Le job a été enregistré sans codes, comme le fait le programme de séries de l’instrument. Mettez-les dans une copie, sur un ordinateur avec Python, et déposez la copie ici :',
-  },
-  howToRecord: {
-    en: 'In the next job record code 10 with the station, code 20 with each set and code 30 at the end: the guide says how.',
-    de: 'Zeichnen Sie im nächsten Job Code 10 mit der Station, Code 20 mit jedem Satz und Code 30 am Ende auf: Der Leitfaden sagt, wie.',
-    fr: 'Au prochain job, enregistrez le code 10 avec la station, le code 20 avec chaque série et le code 30 à la fin : le guide dit comment.',
-  },
   lineOfFile: {
     en: 'Line {line} of {name}, block {block}',
     de: 'Zeile {line} von {name}, Block {block}',
@@ -263,9 +269,6 @@ export const TEXTS = {
     fr: 'Observation {nth} de la station {station}',
   },
   setAndTarget: { en: 'set {set}, target {target}', de: 'Satz {set}, Ziel {target}', fr: 'série {set}, cible {target}' },
-  atWord: { en: 'word {nth}', de: 'Wort {nth}', fr: 'mot {nth}' },
-  atByte: { en: 'byte {nth}', de: 'Byte {nth}', fr: 'octet {nth}' },
-  here: { en: 'here', de: 'hier', fr: 'ici' },
   waiting: {
     en: 'Not checked until the field file has no fault: {names}.',
     de: 'Nicht geprüft, solange die Felddatei einen Fehler hat: {names}.',
@@ -374,10 +377,14 @@ export const TEXTS = {
   answer: { en: 'Answer', de: 'Antwort', fr: 'Réponse' },
   date: { en: 'Date of the check', de: 'Datum der Prüfung', fr: 'Date de la vérification' },
   counts: {
-    en: '{sets} sets, {targets} targets, {directions} directions',
-    de: '{sets} Sätze, {targets} Ziele, {directions} Richtungen',
-    fr: '{sets} séries, {targets} cibles, {directions} directions',
+    en: '{sets}, {targets}, {directions}',
+    de: '{sets}, {targets}, {directions}',
+    fr: '{sets}, {targets}, {directions}',
   },
+  setsCounted: { en: '{n} set|{n} sets', de: '{n} Satz|{n} Sätze', fr: '{n} série|{n} séries' },
+  targetsCounted: { en: '{n} target|{n} targets', de: '{n} Ziel|{n} Ziele', fr: '{n} cible|{n} cibles' },
+  directionsCounted: { en: '{n} direction|{n} directions', de: '{n} Richtung|{n} Richtungen', fr: '{n} direction|{n} directions' },
+  readingsCounted: { en: '{n} reading|{n} readings', de: '{n} Ablesung|{n} Ablesungen', fr: '{n} lecture|{n} lectures' },
   observed: { en: 'Observed', de: 'Beobachtet', fr: 'Observé' },
   sign: { en: 'Checked by: place, date, signature', de: 'Geprüft: Ort, Datum, Unterschrift', fr: 'Vérifié par : lieu, date, signature' },
   observer: { en: 'Observer, instrument', de: 'Beobachter, Instrument', fr: 'Observateur, instrument' },

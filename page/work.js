@@ -17,12 +17,6 @@ let worker = null;
 const waiting = new Map();
 let count = 0;
 
-/** The names of the calls that the module has. @type {string[]} */
-let exported = [];
-
-/** Whether the module has a call of this name. */
-export const has = (/** @type {string} */ name) => exported.includes(`station_page_${name}`);
-
 /** Hands a message to the worker; answers what comes back. */
 function sent(message) {
   return new Promise((resolve, reject) => {
@@ -44,7 +38,7 @@ export async function start() {
   worker.onerror = event => {
     for (const { reject } of waiting.values()) reject(new Error(event.message));
   };
-  exported = await sent({ module: Uint8Array.from(atob(part('module')), letter => letter.charCodeAt(0)) });
+  await sent({ module: Uint8Array.from(atob(part('module')), letter => letter.charCodeAt(0)) });
 }
 
 /** Ends what is under way; the next calls go to a new worker. */

@@ -13,14 +13,11 @@ async function readings(module, gsi) {
 
 const asked = { ...calls, readings };
 
-/** The names of what the module exports. */
-const exportsOf = module => WebAssembly.Module.exports(module).map(one => one.name);
-
 onmessage = async ({ data: { module, id, name, inputs } }) => {
   try {
     if (module) core = WebAssembly.compile(module);
-    if (!name) return postMessage({ id, answer: exportsOf(await core) });
-    postMessage({ id, answer: await asked[name](await core, ...inputs) });
+    const ready = await core;
+    postMessage({ id, answer: name && await asked[name](ready, ...inputs) });
   } catch (error) {
     postMessage({ id, error: String(error) });
   }

@@ -1,8 +1,0 @@
-"""A part of a page that a script makes, between two comments that name it."""
-
-
-def with_part(text, mark, name, script, part):
-    """A page with this part in it, in place of what stands there now; `mark` begins a comment."""
-    begin, end = f"{mark} The {name}, made by docs/{script}.\n", f"{mark} The end of the {name}.\n"
-    before, rest = text.split(begin)
-    return before + begin + part + end + rest.split(end)[1]
