@@ -1,5 +1,5 @@
 -- Marks on what has an angle, as they are kept in one list: first the sets, then the targets.
-use Rattle.std.proofs.Common.{◌≡◌, ◌≢◌, ℕ, zero, suc, ◌+◌, ◌<◌, ◌≤◌, Bool, true, false}
+use Rattle.std.proofs.Common.{◌≡◌, ℕ, zero, suc, ◌+◌, ◌<◌, Bool, true, false}
 use Rattle.std.proofs.Common.{◌-◌, List, length, get_or, set, replicate, ℤ, pos, arith, refl, sym, ◌∙◌, ap}
 use Rattle.std.proofs.Common.{subst, ◌==◌, ◌||◌, ◌&&◌}
 use Rattle.std.proofs.lemmas.Bool.Decides.{nat_tests}
@@ -12,7 +12,7 @@ use Rattle.adjust_kernel.specs.TurnedObservations.{TurnedObservation}
 use Rattle.adjust_kernel.specs.declared.marks.TheConstants.{MOST_NODES}
 use Rattle.adjust_kernel.specs.declared.obs.Obs.{Obs}
 use Rattle.exact_adjustment.specs.Carrying.{AreMarked, GoesAlong}
-use Rattle.exact_adjustment.specs.Nearest.{AgreeWhereCarried, AreReached, Carries, Reached, after}
+use Rattle.exact_adjustment.specs.Nearest.{AgreeWhereCarried, AreReached, Carries}
 use Rattle.exact_adjustment.specs.Nearest.{obs_of, place_of, reached}
 use Rattle.exact_adjustment.proofs.CarriedLaws.{has_obs, place_inside, turned_of}
 use Rattle.exact_adjustment.proofs.SideLaws.{get_or-turned}

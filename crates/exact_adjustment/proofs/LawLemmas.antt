@@ -9,7 +9,7 @@ use Rattle.exact_adjustment.specs.Faults.{IsAdjustFault, IsFar, IsOfStation}
 use Rattle.exact_adjustment.specs.LeastOf.{AreTied}
 use Rattle.exact_adjustment.specs.declared.fault.AdjustFault.{AdjustFault}
 use Rattle.exact_adjustment.specs.declared.fault.AdjustFault.TheVariants.{NotConnected, Residual}
-use Rattle.exact_adjustment.specs.declared.fault.AdjustFault.TheVariants.{NotFound, Memory}
+use Rattle.exact_adjustment.specs.declared.fault.AdjustFault.TheVariants.{NotFound}
 use Rattle.exact_adjustment.proofs.OneLaws.{one_greatest}
 
 -- The number of the greatest residual is one.
@@ -29,14 +29,11 @@ pub one_fault : (station : StationValue) (fault other : AdjustFault)
 one_fault station NotConnected NotConnected own also stands too = refl
 one_fault station NotConnected (Residual m) own also stands too = absurd (stands too.0)
 one_fault station NotConnected NotFound own also stands too = absurd also
-one_fault station NotConnected Memory own also stands too = absurd also
 one_fault station (Residual n) NotConnected own also stands too = absurd (too stands.0)
 one_fault station (Residual n) (Residual m) own also stands too =
     ap Residual (one_number station LARGEST_RESIDUAL_LIMIT n m stands.0 stands.2 too.2)
 one_fault station (Residual n) NotFound own also stands too = absurd also
-one_fault station (Residual n) Memory own also stands too = absurd also
 one_fault station NotFound other own also stands too = absurd own
-one_fault station Memory other own also stands too = absurd own
 
 -- A station that is adjusted within the limit has none.
 pub never_both : (station : StationValue) (a : AdjustmentValue) (fault : AdjustFault)
@@ -46,4 +43,3 @@ never_both station a NotConnected tied exact limited own stands = stands tied
 never_both station a (Residual n) tied exact limited own stands =
     stands.1 (choice_by a) a.turns exact.each exact.rules.positive exact.sums limited
 never_both station a NotFound tied exact limited own stands = own
-never_both station a Memory tied exact limited own stands = own

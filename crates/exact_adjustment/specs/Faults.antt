@@ -13,7 +13,9 @@ use Rattle.modular_solver.specs.Said.{WasSaid}
 use Rattle.modular_solver.specs.declared.found.Found.{Found}
 use Rattle.exact_adjustment.specs.declared.fault.AdjustFault.{AdjustFault}
 use Rattle.exact_adjustment.specs.declared.fault.AdjustFault.TheVariants.{NotConnected, Residual}
-use Rattle.exact_adjustment.specs.declared.fault.AdjustFault.TheVariants.{NotFound, Memory}
+use Rattle.exact_adjustment.specs.declared.fault.AdjustFault.TheVariants.{NotFound}
+use Rattle.exact_adjustment.specs.declared.fault.AdjustError.{AdjustError}
+use Rattle.exact_adjustment.specs.declared.fault.AdjustError.TheVariants.{Fault, Memory}
 
 -- No directions and orientations, over whatever denominator and with whatever full turns, have all
 -- sums of residuals 0 and no residual above the limit.
@@ -49,18 +51,21 @@ pub record IsNotFound (station : StationValue) : Type 0 where
   pub said : WasSaid (length station.sets) (length station.targets) station.obs found
   pub refused : IfSome found (λ numbers. ¬ IsAnswer station numbers)
 
--- When each fault is answered. Memory runs out only of a station that is held together.
+-- When each fault is answered.
 abbrev pub IsAdjustFault : StationValue → AdjustFault → Type 0
 IsAdjustFault station NotConnected = ¬ AreTied station
 IsAdjustFault station (Residual number) =
     AreTied station × NoneKeepsLimit station LARGEST_RESIDUAL_LIMIT
     × AtNth (IsFar station LARGEST_RESIDUAL_LIMIT) number
 IsAdjustFault station NotFound = IsNotFound station
-IsAdjustFault station Memory = AreTied station
 
--- The fault is the station's own: not that none was found, nor that memory ran out.
+-- Why no adjustment is answered. Memory runs out only of a station that is held together.
+abbrev pub IsAdjustError : StationValue → AdjustError → Type 0
+IsAdjustError station (Fault fault) = IsAdjustFault station fault
+IsAdjustError station Memory = AreTied station
+
+-- The fault is the station's own, and not that no adjustment was found.
 abbrev pub IsOfStation : AdjustFault → Type 0
 IsOfStation NotConnected = ⊤
 IsOfStation (Residual number) = ⊤
 IsOfStation NotFound = ⊥
-IsOfStation Memory = ⊥

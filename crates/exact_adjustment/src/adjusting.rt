@@ -1,14 +1,15 @@
 //! The exact adjustment of a station.
-ghost use Rattle.std.specs.Prelude.{◌≡◌, IfErr, IfOk, OnOk};
+ghost use Rattle.std.specs.Prelude.{◌≡◌, IfErr, IfOk, OnOk, length};
 ghost use Rattle.adjust_kernel.specs.declared.bounds.TheConstants.{LARGEST_RESIDUAL_LIMIT};
 ghost use Rattle.exact_adjustment.specs.Adjustments.{AdjustmentValue};
 ghost use Rattle.exact_adjustment.specs.Exact.{IsExact, KeepsLimit};
-ghost use Rattle.exact_adjustment.specs.Faults.{IsAdjustFault};
+ghost use Rattle.exact_adjustment.specs.Faults.{IsAdjustError, IsAdjustFault};
 ghost use Rattle.exact_adjustment.specs.LeastOf.{AreTied};
+ghost use Rattle.modular_solver.specs.Said.{WasSaid};
 
 use crate::adjustment::Adjustment;
 use crate::exact::is_exact;
-use crate::fault::AdjustFault;
+use crate::fault::{AdjustError, AdjustFault};
 use crate::nearest::are_nearest;
 use crate::residuals::greatest_above;
 use adjust_kernel::{LARGEST_RESIDUAL_LIMIT, ResidualLimit, Station, is_connected};
@@ -22,18 +23,19 @@ fn largest_limit() -> ResidualLimit
     ResidualLimit::new(LARGEST_RESIDUAL_LIMIT).unwrap()
 }
 
-/// The adjustment of a station that is held together, found by a solver that nothing rests on: what
-/// it found is tested.
-fn tested(alloc: Global, station: &Station) -> Result<Adjustment, AdjustFault>
-    requires { AreTied station.now }
+/// The adjustment of a station that is held together, as a solver found it that nothing rests on:
+/// what it found is tested.
+fn tested(station: &Station, found: Option<Found>) -> Result<Adjustment, AdjustFault>
+    requires tied { AreTied station.now }
+    requires said { WasSaid (length station.now.sets) (length station.now.targets) station.now.obs found }
     ensures exact { IfOk result (IsExact station.now) }
     ensures limited { IfOk result (λ a. KeepsLimit station.now a LARGEST_RESIDUAL_LIMIT) }
     ensures tied { OnOk result (AreTied station.now) }
     ensures fault { IfErr result (IsAdjustFault station.now) }
 {
-    let sets = station.sets().len();
-    let targets = station.targets().len();
-    let Some(found) = find(alloc, sets, targets, station.obs())? else {
+    // A station says of what it answers that it keeps the rules.
+    let _ = station.obs();
+    let Some(found) = found else {
         return Err(AdjustFault::NotFound);
     };
     let Found {
@@ -60,6 +62,20 @@ fn tested(alloc: Global, station: &Station) -> Result<Adjustment, AdjustFault>
     Err(AdjustFault::Residual(place as u32 + 1))
 }
 
+/// The adjustment of a station that is held together.
+fn adjust_tied(alloc: Global, station: &Station) -> Result<Adjustment, AdjustError>
+    requires { AreTied station.now }
+    ensures exact { IfOk result (IsExact station.now) }
+    ensures limited { IfOk result (λ a. KeepsLimit station.now a LARGEST_RESIDUAL_LIMIT) }
+    ensures tied { OnOk result (AreTied station.now) }
+    ensures fault { IfErr result (IsAdjustError station.now) }
+{
+    let sets = station.sets().len();
+    let targets = station.targets().len();
+    let found = find(alloc, sets, targets, station.obs())?;
+    Ok(tested(station, found)?)
+}
+
 /// The exact adjustment of a station, complete or not: the least-squares directions and
 /// orientations and the full turns, than which no others have a smaller sum of squared residuals
 /// (`laws::least`), over one denominator. Memory is linear in the observations.
@@ -68,16 +84,16 @@ fn tested(alloc: Global, station: &Station) -> Result<Adjustment, AdjustFault>
 ///
 /// `NotConnected` where the observations don't hold all sets and targets together; else `Residual`
 /// where no directions and orientations, with whatever full turns, have all sums of residuals 0 and
-/// no residual above 2,000 half units; `NotFound` where no adjustment was found; `Memory` where
+/// no residual above 2,000 half units; `NotFound` where no adjustment was found. `Memory` where
 /// memory ran out.
-pub fn adjust(alloc: Global, station: &Station) -> Result<Adjustment, AdjustFault>
+pub fn adjust(alloc: Global, station: &Station) -> Result<Adjustment, AdjustError>
     ensures exact { IfOk result (IsExact station.now) }
     ensures limited { IfOk result (λ a. KeepsLimit station.now a LARGEST_RESIDUAL_LIMIT) }
     ensures tied { OnOk result (AreTied station.now) }
-    ensures fault { IfErr result (IsAdjustFault station.now) }
+    ensures fault { IfErr result (IsAdjustError station.now) }
 {
     if !is_connected(station.sets().len(), station.targets().len(), station.obs()) {
-        return Err(AdjustFault::NotConnected);
+        return Err(AdjustError::Fault(AdjustFault::NotConnected));
     }
-    tested(alloc, station)
+    adjust_tied(alloc, station)
 }

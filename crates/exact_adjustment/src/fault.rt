@@ -1,6 +1,6 @@
 //! Why a station has no adjustment.
 ghost use Rattle.std.specs.Prelude.{◌≡◌};
-ghost use Rattle.exact_adjustment.specs.declared.fault.AdjustFault.TheVariants.{Memory};
+ghost use Rattle.exact_adjustment.specs.declared.fault.AdjustError.TheVariants.{Fault, Memory};
 
 use std::alloc::AllocError;
 use thiserror::Error;
@@ -21,15 +21,31 @@ pub enum AdjustFault {
     /// no station is known of which this is answered.
     #[error("no exact adjustment was found")]
     NotFound,
-    /// Memory ran out.
+}
+
+/// Why no adjustment is answered.
+#[derive(Clone, Copy, Debug, PartialEq, Eq, Drop, Error)]
+pub enum AdjustError {
+    /// The station has none.
+    #[error("{0}")]
+    Fault(AdjustFault),
+    /// Memory ran out: it says nothing of the station.
     #[error("out of memory")]
     Memory,
 }
 
-impl From<AllocError> for AdjustFault {
-    ghost from_gives = { λ _ fault. fault ≡ Memory };
+impl From<AdjustFault> for AdjustError {
+    ghost from_gives = { λ fault error. error ≡ Fault fault };
 
-    fn from(_: AllocError) -> AdjustFault {
-        AdjustFault::Memory
+    fn from(fault: AdjustFault) -> AdjustError {
+        AdjustError::Fault(fault)
+    }
+}
+
+impl From<AllocError> for AdjustError {
+    ghost from_gives = { λ _ error. error ≡ Memory };
+
+    fn from(_: AllocError) -> AdjustError {
+        AdjustError::Memory
     }
 }

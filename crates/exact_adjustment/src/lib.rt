@@ -1,7 +1,7 @@
 //! The exact least-squares adjustment of a station, complete or not.
 //!
 //! [`adjust`] answers an [`Adjustment`]: directions, orientations and full turns over one
-//! denominator, of any size, with all sums of residuals exactly 0; or an [`AdjustFault`]. It is the
+//! denominator, of any size, with all sums of residuals exactly 0; or an [`AdjustError`]. It is the
 //! least-squares adjustment, least over all full turns too, by [`laws::least`]. A solver that
 //! nothing rests on finds it, and [`is_exact`] tests it.
 #![tactic(auto)]
@@ -20,5 +20,5 @@ pub use adjusting::adjust;
 pub use adjustment::Adjustment;
 pub use bounds::LARGEST_FACTOR;
 pub use exact::is_exact;
-pub use fault::AdjustFault;
+pub use fault::{AdjustError, AdjustFault};
 pub use residuals::greatest_above;

@@ -3,13 +3,13 @@ ghost use Rattle.std.specs.Prelude.{◌≡◌, ◌≤◌, ◌<◌, ◌%◌, ℕ,
 ghost use Rattle.directions_apart.specs.Rounding.{IsRounded};
 ghost use Rattle.directions_apart.specs.declared.units.TheConstants.{CIRCLE};
 ghost use Rattle.exact_adjustment.specs.Adjustments.{choice_by};
-ghost use Rattle.exact_adjustment.specs.Faults.{IsAdjustFault};
+ghost use Rattle.exact_adjustment.specs.Faults.{IsAdjustError};
 ghost use Rattle.least_directions.specs.LeastDirections.{AreRounded};
 
 use crate::adjusted::adjusted;
 use adjust_kernel::Station;
 use directions_apart::{CIRCLE, rounded};
-use exact_adjustment::{AdjustFault, Adjustment};
+use exact_adjustment::{AdjustError, Adjustment};
 use std::alloc::{AllocError, Global};
 
 /// The directions of an adjustment's targets, rounded to whole steps.
@@ -40,19 +40,19 @@ fn rounded_to_steps(
 ///
 /// # Errors
 ///
-/// Those of `exact_adjustment::adjust`: `NotConnected`, `Residual`, `NotFound` and `Memory`.
+/// Those of `exact_adjustment::adjust`: its `AdjustFault`, and `Memory`.
 pub fn rounded_directions(
     alloc: Global,
     station: &Station,
     step: u32,
-) -> Result<Vec<u64>, AdjustFault>
+) -> Result<Vec<u64>, AdjustError>
     requires some { 1 ≤ step }
     requires circle { CIRCLE % step ≡ 0 }
     ensures rounded { IfOk result (λ directions. AreRounded station.now step directions.items) }
     ensures first { IfOk result (λ directions. slice_index_or directions.items 0 0 ≡ 0) }
     ensures whole { IfOk result (λ directions.
         All (λ direction. (direction < CIRCLE) × (direction % step ≡ 0)) directions.items) }
-    ensures fault { IfErr result (IsAdjustFault station.now) }
+    ensures fault { IfErr result (IsAdjustError station.now) }
 {
     let adjustment = adjusted(alloc, station)?;
     Ok(rounded_to_steps(alloc, &adjustment, step)?)

@@ -2,7 +2,7 @@
 
 use adjust_kernel::{Name, Obs, Station};
 use directions_apart::CIRCLE;
-use exact_adjustment::AdjustFault;
+use exact_adjustment::{AdjustError, AdjustFault};
 use least_directions::{apart_from_least, rounded_directions};
 use std::alloc::Global;
 use std::process::Abort;
@@ -46,7 +46,7 @@ fn apart(
     alloc: Global,
     station: &Station,
     stated: &[i64],
-) -> Result<u32, AdjustFault> {
+) -> Result<u32, AdjustError> {
     assert_eq!(rt; stated.len(), station.targets().len());
     apart_from_least(alloc, station, stated)
 }
@@ -95,7 +95,10 @@ fn what_holds_nothing_or_lies_far_off_is_refused(rt: HostRuntime) -> Result<(), 
         (tie, AdjustFault::Residual(1)),
     ];
     for (station, want) in &cases {
-        assert_eq!(rt; apart(&rt, rt.alloc(), station, &[0, 0]), Err(*want));
+        assert_eq!(rt;
+            apart(&rt, rt.alloc(), station, &[0, 0]),
+            Err((*want).into())
+        );
     }
     Ok(())
 }
@@ -128,7 +131,7 @@ fn the_largest_residual_is_kept_and_a_sixth_more_is_not(rt: HostRuntime) -> Resu
     let above = station_of(&rt, rt.alloc(), 3, b"ABC", &ring(1))?;
     assert_eq!(rt;
         apart(&rt, rt.alloc(), &above, &stated),
-        Err(AdjustFault::Residual(1))
+        Err(AdjustFault::Residual(1).into())
     );
     Ok(())
 }
@@ -177,7 +180,7 @@ fn rounded(
     alloc: Global,
     station: &Station,
     step: u32,
-) -> Result<Vec<u64>, AdjustFault> {
+) -> Result<Vec<u64>, AdjustError> {
     assert!(rt; step > 0);
     assert_eq!(rt; CIRCLE % u64::from(step), 0);
     rounded_directions(alloc, station, step)

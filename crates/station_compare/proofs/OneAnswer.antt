@@ -10,7 +10,6 @@ use Rattle.directions_apart.specs.Apart.{stated_by}
 use Rattle.exact_adjustment.proofs.LawLemmas as adjustment
 use Rattle.exact_adjustment.specs.Faults.{IsOfStation}
 use Rattle.exact_adjustment.specs.declared.fault.AdjustFault.{AdjustFault}
-use Rattle.exact_adjustment.specs.declared.fault.AdjustFault.TheVariants as adjust
 use Rattle.gsi_file.specs.FileAnswers.{FileAnswers}
 use Rattle.least_directions.proofs.LawLemmas.{one_distance}
 use Rattle.least_directions.specs.LeastDirections.{AreApart}
@@ -55,13 +54,6 @@ module _ (station : StationValue) (bytes : List ℕ) where
     abbrev Fits : Result Agreement CompareFault → Type 0
     Fits r = ByTable station within bytes r
 
-    unadjusted : (fault : AdjustFault) → IsOfStation fault → Fits (Err (Adjust fault))
-        → IsUnadjusted station bytes fault
-    unadjusted adjust.NotConnected own h = h
-    unadjusted (adjust.Residual n) own h = h
-    unadjusted adjust.NotFound own h = h
-    unadjusted adjust.Memory own h = absurd own
-
     same_agreement : (a b : Agreement) → IsAgreement station bytes within a
         → IsAgreement station bytes within b → a ≡ b
     same_agreement a b p q =
@@ -78,7 +70,7 @@ module _ (station : StationValue) (bytes : List ℕ) where
     by_agreement a (Err (Table fault)) set p h =
         absurd (never_both station.targets bytes p.compared.directions fault p.compared.states h)
     by_agreement a (Err (Adjust fault)) set p h =
-        absurd (not_unadjusted a.apart fault set p.compared (unadjusted fault set h))
+        absurd (not_unadjusted a.apart fault set p.compared h)
     by_agreement a (Err (Apart n)) set p h =
         let e = one_apart a.apart n p.compared h.1 in
         absurd (omega (arith, e, p.agrees, h.0))
@@ -94,8 +86,7 @@ module _ (station : StationValue) (bytes : List ℕ) where
     by_table_fault fault (Err (Table other)) set p h =
         ap (λ f. Err (Table f)) (one_fault station.targets bytes fault other p h)
     by_table_fault fault (Err (Adjust other)) set p h =
-        let u = unadjusted other set h in
-        absurd (never_both station.targets bytes u.directions fault u.states p)
+        absurd (never_both station.targets bytes h.directions fault h.states p)
     by_table_fault fault (Err (Apart n)) set p h =
         absurd (never_both station.targets bytes h.1.directions fault h.1.states p)
     by_table_fault fault (Err Write) set p h = absurd h
@@ -111,7 +102,7 @@ module _ (station : StationValue) (bytes : List ℕ) where
         absurd (never_both station.targets bytes p.directions other p.states h)
     by_adjustment fault (Err (Adjust other)) own set p h =
         ap (λ f. Err (Adjust f)) (adjustment.one_fault station fault other own set p.fault_stands
-        (unadjusted other set h).fault_stands)
+        h.fault_stands)
     by_adjustment fault (Err (Apart n)) own set p h =
         absurd (not_unadjusted n fault own h.1 p)
     by_adjustment fault (Err Write) own set p h = absurd h
@@ -127,7 +118,7 @@ module _ (station : StationValue) (bytes : List ℕ) where
     by_distance n (Err (Table other)) set p h =
         absurd (never_both station.targets bytes p.1.directions other p.1.states h)
     by_distance n (Err (Adjust other)) set p h =
-        absurd (not_unadjusted n other set p.1 (unadjusted other set h))
+        absurd (not_unadjusted n other set p.1 h)
     by_distance n (Err (Apart m)) set p h = ap (λ k. Err (Apart k)) (one_apart n m p.1 h.1)
     by_distance n (Err Write) set p h = absurd h
     by_distance n (Err Memory) set p h = absurd set
@@ -139,7 +130,7 @@ module _ (station : StationValue) (bytes : List ℕ) where
     one_by_table (Err TableRead) s set also p h = absurd p
     one_by_table (Err (Table fault)) s set also p h = by_table_fault fault s also p h
     one_by_table (Err (Adjust fault)) s set also p h =
-        by_adjustment fault s set also (unadjusted fault set p) h
+        by_adjustment fault s set also p h
     one_by_table (Err (Apart n)) s set also p h = by_distance n s also p h
     one_by_table (Err Write) s set also p h = absurd p
     one_by_table (Err Memory) s set also p h = absurd set

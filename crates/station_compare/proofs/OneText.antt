@@ -8,7 +8,6 @@ use Rattle.direction_table.specs.declared.table.TargetDirection.{TargetDirection
 use Rattle.exact_adjustment.proofs.LawLemmas as adjustment
 use Rattle.exact_adjustment.specs.Faults.{IsAdjustFault, IsOfStation}
 use Rattle.exact_adjustment.specs.declared.fault.AdjustFault.{AdjustFault}
-use Rattle.exact_adjustment.specs.declared.fault.AdjustFault.TheVariants as adjust
 use Rattle.gsi_file.specs.FileAnswers.{FileAnswers}
 use Rattle.least_directions.proofs.LawLemmas.{one_list}
 use Rattle.station_book.specs.Limits.{AreLimits, FaceLimits}
@@ -58,13 +57,6 @@ module _ (station : StationValue) (count : ℕ) (decimals : AreDecimals count) w
   Fits (Ok text) = IsDirectionsText station count text
   Fits (Err fault) = HasNoTable station fault
 
-  own_fault : (fault : AdjustFault) → IsOfStation fault → Fits (Err (Adjust fault))
-      → IsAdjustFault station fault
-  own_fault adjust.NotConnected own h = h
-  own_fault (adjust.Residual n) own h = h
-  own_fault adjust.NotFound own h = absurd own
-  own_fault adjust.Memory own h = absurd own
-
   text_and_fault : (text : List ℕ) (fault : AdjustFault) → IsOfStation fault
       → IsDirectionsText station count text → IsAdjustFault station fault → ⊥
   text_and_fault text fault own p h =
@@ -78,7 +70,7 @@ module _ (station : StationValue) (count : ℕ) (decimals : AreDecimals count) w
   by_text text (Err TableRead) set p h = absurd h
   by_text text (Err (Table fault)) set p h = absurd h
   by_text text (Err (Adjust fault)) set p h =
-      absurd (text_and_fault text fault set p (own_fault fault set h))
+      absurd (text_and_fault text fault set p h)
   by_text text (Err (Apart n)) set p h = absurd h
   by_text text (Err Write) set p h = absurd h
   by_text text (Err Memory) set p h = absurd set
@@ -91,7 +83,7 @@ module _ (station : StationValue) (count : ℕ) (decimals : AreDecimals count) w
   by_fault fault (Err (Table other)) own set p h = absurd h
   by_fault fault (Err (Adjust other)) own set p h =
       ap (λ f. Err (Adjust f))
-      (adjustment.one_fault station fault other own set p (own_fault other set h))
+      (adjustment.one_fault station fault other own set p h)
   by_fault fault (Err (Apart n)) own set p h = absurd h
   by_fault fault (Err Write) own set p h = absurd h
   by_fault fault (Err Memory) own set p h = absurd set
@@ -103,7 +95,7 @@ module _ (station : StationValue) (count : ℕ) (decimals : AreDecimals count) w
   one_of_station (Err TableRead) s set also p h = absurd p
   one_of_station (Err (Table fault)) s set also p h = absurd p
   one_of_station (Err (Adjust fault)) s set also p h =
-      by_fault fault s set also (own_fault fault set p) h
+      by_fault fault s set also p h
   one_of_station (Err (Apart n)) s set also p h = absurd p
   one_of_station (Err Write) s set also p h = absurd p
   one_of_station (Err Memory) s set also p h = absurd set

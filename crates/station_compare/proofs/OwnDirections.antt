@@ -86,7 +86,6 @@ module _ (count : ℕ) (text : List ℕ) (many : 6 ≤ count) where
         absurd (h.fault_stands.1 (choice_by a.adjustment) a.adjustment.turns a.exact.each
         a.exact.rules.positive a.exact.sums a.limited)
     unadjusted within adjust.NotFound h = tt
-    unadjusted within adjust.Memory h = absurd h
 
     by_table : (within : ℕ) (fault : CompareFault) → ByTable station within text (Err fault)
         → MayRefuse within fault

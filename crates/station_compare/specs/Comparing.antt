@@ -7,7 +7,6 @@ use Rattle.direction_table.specs.declared.fault.TableFault.TheVariants.{TooLong}
 use Rattle.directions_apart.specs.Apart.{stated_by}
 use Rattle.exact_adjustment.specs.Faults.{IsAdjustFault}
 use Rattle.exact_adjustment.specs.declared.fault.AdjustFault.{AdjustFault}
-use Rattle.exact_adjustment.specs.declared.fault.AdjustFault.TheVariants as adjust
 use Rattle.least_directions.specs.LeastDirections.{AreApart}
 use Rattle.station_compare.specs.declared.agreement.Agreement.{Agreement}
 use Rattle.station_compare.specs.declared.fault.CompareFault.{CompareFault}
@@ -43,7 +42,6 @@ abbrev pub ByTable :
     StationValue → ℕ → List ℕ → Result Agreement CompareFault → Type 0
 ByTable station within bytes (Ok a) = IsAgreement station bytes within a
 ByTable station within bytes (Err (Table fault)) = IsTableFault station.targets bytes fault
-ByTable station within bytes (Err (Adjust adjust.Memory)) = ⊥
 ByTable station within bytes (Err (Adjust fault)) = IsUnadjusted station bytes fault
 ByTable station within bytes (Err (Apart apart)) =
     (within < apart) × IsComparedWith station bytes apart

@@ -7,7 +7,6 @@ use Rattle.direction_table.specs.Texts.{IsWhole, step_of}
 use Rattle.direction_table.specs.declared.table.TargetDirection.{TargetDirection}
 use Rattle.gsi_file.specs.FileAnswers.{FileAnswers}
 use Rattle.exact_adjustment.specs.Faults.{IsAdjustFault}
-use Rattle.exact_adjustment.specs.declared.fault.AdjustFault.TheVariants as adjust
 use Rattle.least_directions.specs.LeastDirections.{AreRounded}
 use Rattle.station_book.specs.Limits.{FaceLimits}
 use Rattle.station_book.specs.Stations.{SurveyedStation}
@@ -47,7 +46,6 @@ pub record StatesDirections (limits : FaceLimits) (file : FileAnswers) (name : L
 
 -- Why a station has no table: what its adjustment has, or that there was no memory.
 abbrev pub HasNoTable : StationValue → CompareFault → Type 0
-HasNoTable station (Adjust adjust.Memory) = ⊥
 HasNoTable station (Adjust fault) = IsAdjustFault station fault
 HasNoTable station Memory = ⊤
 HasNoTable station fault = ⊥

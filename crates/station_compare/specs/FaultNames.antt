@@ -14,7 +14,6 @@ abbrev pub adjust_fault_name : AdjustFault → List ℕ
 adjust_fault_name adjust.NotConnected = codes "NotConnected"
 adjust_fault_name (adjust.Residual number) = codes "Residual"
 adjust_fault_name adjust.NotFound = codes "NotFound"
-adjust_fault_name adjust.Memory = codes "out of memory"
 
 -- The name of a fault: where a lower part has found it, the name that it has there.
 abbrev pub compare_fault_name : CompareFault → List ℕ

@@ -3,8 +3,8 @@ use Rattle.byte_ends.specs.declared.input.InputFault.{InputFault}
 use Rattle.byte_ends.specs.declared.input.InputFault.TheVariants as input
 use Rattle.direction_table.specs.declared.fault.TableFault.{TableFault}
 use Rattle.direction_table.specs.declared.fault.TableFault.TheVariants as table
-use Rattle.exact_adjustment.specs.declared.fault.AdjustFault.{AdjustFault}
-use Rattle.exact_adjustment.specs.declared.fault.AdjustFault.TheVariants as adjust
+use Rattle.exact_adjustment.specs.declared.fault.AdjustError.{AdjustError}
+use Rattle.exact_adjustment.specs.declared.fault.AdjustError.TheVariants as adjust
 use Rattle.station_check.specs.declared.fault.Fault.{Fault}
 use Rattle.station_check.specs.declared.fault.Fault.TheVariants as file
 use Rattle.station_compare.specs.declared.fault.CompareFault.{CompareFault}
@@ -28,6 +28,6 @@ of_table table.Memory = Memory
 of_table fault = Table fault
 
 -- why the station has no least-squares directions
-abbrev pub of_adjust : AdjustFault → CompareFault
+abbrev pub of_adjust : AdjustError → CompareFault
+of_adjust (adjust.Fault fault) = Adjust fault
 of_adjust adjust.Memory = Memory
-of_adjust fault = Adjust fault

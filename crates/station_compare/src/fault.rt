@@ -6,7 +6,7 @@ ghost use Rattle.station_compare.specs.declared.fault.CompareFault.TheVariants.{
 
 use byte_ends::{Failed, InputFault};
 use direction_table::TableFault;
-use exact_adjustment::AdjustFault;
+use exact_adjustment::{AdjustError, AdjustFault};
 use station_check::Fault;
 use std::alloc::AllocError;
 use thiserror::Error;
@@ -66,7 +66,6 @@ fn adjust_fault_name(fault: AdjustFault) -> &'static str
         AdjustFault::NotConnected => "NotConnected",
         AdjustFault::Residual(_) => "Residual",
         AdjustFault::NotFound => "NotFound",
-        AdjustFault::Memory => "out of memory",
     }
 }
 
@@ -120,13 +119,13 @@ impl From<AllocError> for CompareFault {
     }
 }
 
-impl From<AdjustFault> for CompareFault {
-    ghost from_gives = { λ fault given. given ≡ of_adjust fault };
+impl From<AdjustError> for CompareFault {
+    ghost from_gives = { λ error given. given ≡ of_adjust error };
 
-    fn from(fault: AdjustFault) -> CompareFault {
-        match fault {
-            AdjustFault::Memory => CompareFault::Memory,
-            fault => CompareFault::Adjust(fault),
+    fn from(error: AdjustError) -> CompareFault {
+        match error {
+            AdjustError::Fault(fault) => CompareFault::Adjust(fault),
+            AdjustError::Memory => CompareFault::Memory,
         }
     }
 }

@@ -8,8 +8,8 @@ returns-then-not-is_connected-clause-fault c =
     at c.if-not-is_connected.ensures.divided in
     divided_is_untied station divided
 
-pub tested-requires : goal.tested-requires
-tested-requires c =
+pub adjust_tied-requires : goal.adjust_tied-requires
+adjust_tied-requires c =
     let station = c.args.station.now in
     let connected = rw (c.sets.ensures.value, c.targets.ensures.value, c.obs.ensures.value)
     at c.if-not-is_connected.ensures.connected in

@@ -15,10 +15,10 @@ returns-clause-fault c =
     let greatest = rw c.largest_limit.ensures at c.in-Some-greatest_above.ensures.some in
     let nearest : HasNearestTurns station a.turns = subst (HasNearestTurns station)
     c.turns-turns.ensures.value c.if-not-are_nearest.ensures in (
-      c.requires,
+      c.requires.tied,
       (λ other turns each some sums limited.
           above_is_not_kept station a LARGEST_RESIDUAL_LIMIT place exact.each greatest
-          (keeps_limit_too station a c.obs.ensures.valid c.requires exact nearest other turns each some sums
+          (keeps_limit_too station a c.obs.ensures.valid c.requires.tied exact nearest other turns each some sums
           limited)),
       (
         place,
@@ -41,7 +41,7 @@ returns-then-not-are_nearest-clause-fault c =
     let exact = c.if-not-is_exact.ensures.0 refl in
     let greatest = rw c.largest_limit.ensures at c.in-Some-greatest_above.ensures.some in
     record {
-      tied = c.requires;
+      tied = c.requires.tied;
       found = Some c.in-Some.found;
       said = search rules;
       refused = λ answer. above_is_not_kept station a LARGEST_RESIDUAL_LIMIT place exact.each greatest
