@@ -20,6 +20,7 @@ use gsi_word::{
 };
 
 /// The name that a word holds.
+#[inline(always)]
 fn name_in(word: &Word<'_>) -> Name
     ensures { result ≡ name_of word.now.content }
 {

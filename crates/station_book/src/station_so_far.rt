@@ -110,6 +110,7 @@ impl StationSoFar {
     }
 
     /// Takes a reading of the last set.
+    #[inline(always)]
     pub(crate) fn take_reading(&mut self, limits: Limits, reading: Reading) -> Result<(), BookKind>
         requires { AreOnCircle reading.angles }
         ensures clean { OnOk result (first_of (state_faults limits self.old reading) ≡ None) }

@@ -185,6 +185,7 @@ impl StationsSoFar {
     }
 
     /// A reading in the last set of the last station.
+    #[inline(always)]
     pub(crate) fn take_reading(&mut self, limits: Limits, reading: Reading) -> Result<(), BookKind>
         requires some { 0 < length self.old }
         requires angle { AreOnCircle reading.angles }

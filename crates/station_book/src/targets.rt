@@ -89,6 +89,7 @@ impl Targets {
 
     /// The place of the target of this name, if it is one of those beside the target that was read
     /// last: targets are read in turn, and in face II mostly backwards.
+    #[inline(always)]
     #[tactic(auto, using(crate::proofs::lists::NamePlaces::placed))]
     fn place_beside(&self, name: &Name, face: Face) -> Option<usize>
         requires { AllPairs (λ a b. a ≢ b) self.now.names }

@@ -13,6 +13,7 @@ pub(crate) const EIGHT: usize = 8;
 
 /// The last of eight bytes, from this place on, and then zeros. The first byte is the lowest of a
 /// number, so a shift takes off those before the place.
+#[inline(always)]
 pub(crate) fn end_of_eight(bytes: &[u8], from: usize) -> [u8; LONGEST_NAME]
     requires eight { length bytes.now ≡ 8 }
     requires inside { from < 8 }
@@ -24,6 +25,7 @@ pub(crate) fn end_of_eight(bytes: &[u8], from: usize) -> [u8; LONGEST_NAME]
 }
 
 /// The same of sixteen bytes, as one number of 128 bits.
+#[inline(always)]
 pub(crate) fn end_of_sixteen(bytes: &[u8], from: usize) -> [u8; LONGEST_NAME]
     requires sixteen { length bytes.now ≡ 16 }
     requires inside { from < 16 }

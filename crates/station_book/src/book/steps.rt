@@ -41,6 +41,7 @@ impl Book {
     }
 
     /// Takes a block: what is kept after it, and its fault, are those of what was kept before.
+    #[inline(always)]
     pub(super) fn take_block(&mut self, block: &Block<'_>) -> Result<(), BookFault>
         requires { self.old.taken < MOST_BLOCKS }
         ensures clean { OnOk result (fault_of self.old (block_of block.now) ≡ None) }
@@ -212,6 +213,7 @@ impl Book {
     }
 
     /// A measurement.
+    #[inline(always)]
     fn take_measurement(&mut self, block: &Block<'_>) -> Result<(), BookKind>
         ensures clean { OnOk result
             ((if has_open_set self.old.stage
