@@ -17,7 +17,7 @@ use crate::earlier_station::EarlierStation;
 use crate::faces::Faces;
 use crate::fault::BookKind;
 use crate::limits::Limits;
-use crate::slot::{empty_slot, end_fault, push_pairs, slot_fault};
+use crate::slot::{end_fault, push_pairs, slot_fault};
 use crate::targets::Targets;
 use adjust_kernel::{MOST_SETS, Obs};
 use std::alloc::{AllocError, Global};
@@ -124,8 +124,7 @@ impl StationSoFar {
             face,
             angles,
         } = reading;
-        let first = empty_slot().with_reading(face, angles);
-        let Some(place) = self.targets.find_or_add(target, face, first)? else {
+        let Some(place) = self.targets.find_or_add(target, face, angles)? else {
             target.recall();
             return Ok(());
         };

@@ -4,9 +4,10 @@
 ghost use Rattle.std.specs.Prelude.{◌≡◌, ◌≢◌, ◌<◌, AllPairs, None, Some, slice_get, slice_set, length, replicate, IfErr, IfNone, IfOk, IfSome, OnErr, []};
 ghost use Rattle.adjust_kernel.specs.declared.bounds.TheConstants.{MOST_TARGETS};
 ghost use Rattle.station_book.specs.StationState.{is_named, place_of, new_target_fault};
-ghost use Rattle.station_book.specs.Slots.{slot_at, empty_slot};
+ghost use Rattle.station_book.specs.Slots.{slot_at, empty_slot, with_face_reading};
 ghost use Rattle.station_book.specs.Targets.{with_first};
 
+use crate::angles::Angles;
 use crate::face::Face;
 use crate::fault::BookKind;
 use crate::slot::{Slot, empty_slot};
@@ -148,13 +149,14 @@ impl Targets {
         &mut self,
         name: Name,
         face: Face,
-        first: Slot,
+        angles: Angles,
     ) -> Result<Option<usize>, BookKind>
         requires { AllPairs (λ a b. a ≢ b) self.old.names }
         ensures place { IfOk result (λ place. place ≡ place_of name self.old.names) }
         ensures inside { IfOk result (λ place. IfSome place (λ i. i < length self.old.names)) }
         ensures room { IfOk result (λ place. IfNone place (length self.old.names < MOST_TARGETS)) }
-        ensures targets { IfOk result (λ place. self.new ≡ with_first place name first self.old) }
+        ensures targets { IfOk result (λ place. self.new
+            ≡ with_first place name (with_face_reading face angles empty_slot) self.old) }
         ensures absent { OnErr result (place_of name self.old.names ≡ None) }
         ensures fault { IfErr result (λ kind. new_target_fault self.old.names ≡ Some kind) }
         ensures err { OnErr result (self.new ≡ self.old) }
@@ -162,6 +164,7 @@ impl Targets {
         if let Some(place) = self.place_beside(&name, face) {
             return Ok(Some(place));
         }
+        let first = empty_slot().with_reading(face, angles);
         self.search_or_add(name, first)
     }
 
