@@ -3,7 +3,7 @@
 //! A name is a value of fixed size: its bytes, followed by zeros. So it is copied, compared and
 //! hashed without memory, and contracts see it as the list of its bytes.
 
-ghost use Rattle.std.specs.Prelude.{◌≡◌, ◌<◌, ℕ, List, length, drop, ◌↔◌, IfSome, IfNone, IsTrue};
+ghost use Rattle.std.specs.Prelude.{◌≡◌, ◌<◌, ◌≤◌, ℕ, List, length, drop, take, ◌↔◌, IfSome, IfNone, IsTrue};
 ghost use Rattle.std.specs.Str.{bytes_eq};
 ghost use Rattle.adjust_kernel.specs.Names.{IsName, padded};
 
@@ -93,6 +93,18 @@ impl Name {
         ensures valid { IsName self.now }
     {
         &self.bytes[..self.len]
+    }
+
+    /// Its bytes, and zeros after them, as many as the longest name has; and how many are its own. So
+    /// they are copied without a look at how many that is.
+    #[inline(always)]
+    pub fn padded(&self) -> (&[u8; LONGEST_NAME], usize)
+        ensures bytes { result.0.now ≡ padded self.now }
+        ensures own { take result.1 result.0.now ≡ self.now }
+        ensures length { result.1 ≡ length self.now }
+        ensures short { result.1 ≤ LONGEST_NAME }
+    {
+        (&self.bytes, self.len)
     }
 
     /// What always holds of a name, for a proof that needs it where the name is only held. It does

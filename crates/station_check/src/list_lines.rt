@@ -9,7 +9,7 @@ ghost use Rattle.station_check.specs.ListTexts.{station_line, key_text, faces_te
 ghost use Rattle.station_check.specs.ListTexts.{observation_line};
 
 use crate::page::PAGE;
-use crate::put::{Room, put, put_bytes, put_number};
+use crate::put::{Room, put, put_number, put_start};
 use crate::verdict_line::{LONGEST_U32, LONGEST_U64};
 use adjust_kernel::{LONGEST_NAME, Name, Obs, Station};
 use station_book::Faces;
@@ -50,7 +50,8 @@ fn put_name(room: &mut Room, at: usize, name: &Name) -> usize
     ensures next { result ≤ at + LONGEST_NAME }
     ensures text { take result room.new ≡ take at room.old ++ name.now }
 {
-    put_bytes(room, at, name.bytes())
+    let (bytes, len) = name.padded();
+    put_start(room, at, bytes, len)
 }
 
 /// Puts how many sets, targets and directions a station has, and ends the line.
