@@ -47,7 +47,7 @@ TellsOfSquares station sheet limit (Err fault) = ⊤
 
 -- What the check of a sheet answers, under a residual limit where one is stated: the verdict and no
 -- other; an accepted sheet is of the station; and of least squares it tells what is said above.
-pub record IsAnswer (station : StationValue) (sheet : SheetValue) (limit : Option ℕ)
+pub record IsKernelAnswer (station : StationValue) (sheet : SheetValue) (limit : Option ℕ)
     (answer : Result Accepted KernelFault) : Type 0 where
   pub verdict : IsVerdict station sheet limit answer
   pub no_other_verdict : (other : Result Accepted KernelFault)

@@ -11,7 +11,7 @@ ghost use Rattle.adjust_kernel.specs.declared.kernel_fault.KernelFault.{KernelFa
 ghost use Rattle.adjust_kernel.specs.Greatest.{IsGreatest};
 ghost use Rattle.adjust_kernel.specs.Matching.{Matches};
 ghost use Rattle.adjust_kernel.specs.Pairs.{choice_stated_by};
-ghost use Rattle.adjust_kernel.specs.Promises.{IsAnswer};
+ghost use Rattle.adjust_kernel.specs.Promises.{IsKernelAnswer};
 ghost use Rattle.adjust_kernel.specs.Sheets.{IsSheet};
 ghost use Rattle.adjust_kernel.specs.Stations.{IsStation};
 ghost use Rattle.adjust_kernel.specs.Tallies.{all_added};
@@ -46,7 +46,7 @@ pub fn check(
     sheet: &Sheet,
     residual: Option<ResidualLimit>,
 ) -> Result<Accepted, KernelFault>
-    ensures { IsAnswer station.now sheet.now residual result }
+    ensures { IsKernelAnswer station.now sheet.now residual result }
 {
     check_with(Running::new(), station, sheet, residual)
 }
@@ -60,7 +60,7 @@ pub fn check_with<T: Tally>(
 ) -> Result<Accepted, KernelFault>
     requires nothing { T.StandsFor tally [] }
     requires room { T.room tally ≡ MOST_ROWS }
-    ensures { IsAnswer station.now sheet.now residual result }
+    ensures { IsKernelAnswer station.now sheet.now residual result }
 {
     verdict_of(tally, station, sheet, residual)
 }
@@ -96,7 +96,7 @@ fn check_sums<T: Tally>(tally: T, station: &Station, sheet: &Sheet) -> Result<i1
     ensures sets { OnOk result (SetsAddUp station.now sheet.now) }
     ensures greatest_residual { IfOk result
         (IsGreatest (choice_stated_by sheet.now) (observations station.now sheet.now)) }
-    ensures err { IfErr result (IsFault station.now sheet.now) }
+    ensures fault { IfErr result (IsFault station.now sheet.now) }
 {
     let (tally, greatest_residual) = add_residuals(tally, sheet, station.obs());
     if let Some(target) = first_uneven_target(&tally, station.targets().len() as u32) {
@@ -114,7 +114,7 @@ fn check_connection(station: &Station, sheet: &Sheet) -> Result<(), KernelFault>
     requires targets { TargetsAddUp station.now sheet.now }
     requires sets { SetsAddUp station.now sheet.now }
     ensures ok { OnOk result (HoldsTogether station.now sheet.now) }
-    ensures err { IfErr result (IsFault station.now sheet.now) }
+    ensures fault { IfErr result (IsFault station.now sheet.now) }
 {
     if is_connected(station.sets().len(), station.targets().len(), station.obs()) {
         return Ok(());
@@ -134,7 +134,7 @@ fn check_limit(
     requires connected { HoldsTogether station.now sheet.now }
     ensures ok { OnOk result (IfSome residual (KeepsLimit station.now sheet.now)) }
     ensures valid { OnOk result (IfSome residual (λ most. most ≤ LARGEST_RESIDUAL_LIMIT)) }
-    ensures err { IfErr result (λ fault. IsVerdict station.now sheet.now residual (Err fault)) }
+    ensures fault { IfErr result (λ fault. IsVerdict station.now sheet.now residual (Err fault)) }
 {
     if let Some(limit) = residual {
         if let Some(row) = first_above_limit(sheet, station.obs(), limit.half_units()) {

@@ -35,7 +35,7 @@ pub fn write_digest_line<W: Sink>(
     ensures failed { W.failed writer.new ≡ failed_after (W.failed writer.old) result }
     ensures ok { OnOk result (Appends (W.holds writer.old) (W.holds writer.new)
         (spec.digest_line digest.now name.now)) }
-    ensures err { OnErr result (AppendsSome (W.holds writer.old) (W.holds writer.new)
+    ensures cut_short { OnErr result (AppendsSome (W.holds writer.old) (W.holds writer.new)
         (spec.digest_line digest.now name.now)) }
 {
     write_mark(name, writer)?;
@@ -49,7 +49,7 @@ fn write_mark<W: Sink>(name: &[u8], writer: &mut W) -> Result<(), Failed>
     ensures failed { W.failed writer.new ≡ failed_after (W.failed writer.old) result }
     ensures ok { OnOk result (Appends (W.holds writer.old) (W.holds writer.new)
         (spec.mark_of name.now)) }
-    ensures err { OnErr result (AppendsSome (W.holds writer.old) (W.holds writer.new)
+    ensures cut_short { OnErr result (AppendsSome (W.holds writer.old) (W.holds writer.new)
         (spec.mark_of name.now)) }
 {
     let mark: &[u8] = if has_escapes(name) { &[BACKSLASH] } else { &[] };
@@ -61,7 +61,7 @@ fn write_digits<W: Sink>(digest: &[u8; 32], writer: &mut W) -> Result<(), Failed
     ensures failed { W.failed writer.new ≡ failed_after (W.failed writer.old) result }
     ensures ok { OnOk result (Appends (W.holds writer.old) (W.holds writer.new)
         (spec.digits_of digest.now)) }
-    ensures err { OnErr result (AppendsSome (W.holds writer.old) (W.holds writer.new)
+    ensures cut_short { OnErr result (AppendsSome (W.holds writer.old) (W.holds writer.new)
         (spec.digits_of digest.now)) }
 {
     let mut text = [BLANK; 66];
@@ -74,7 +74,7 @@ fn write_name<W: Sink>(name: &[u8], writer: &mut W) -> Result<(), Failed>
     ensures failed { W.failed writer.new ≡ failed_after (W.failed writer.old) result }
     ensures ok { OnOk result (Appends (W.holds writer.old) (W.holds writer.new)
         (flat_map spec.escaped name.now)) }
-    ensures err { OnErr result (AppendsSome (W.holds writer.old) (W.holds writer.new)
+    ensures cut_short { OnErr result (AppendsSome (W.holds writer.old) (W.holds writer.new)
         (flat_map spec.escaped name.now)) }
 {
     if !has_escapes(name) {
@@ -91,7 +91,7 @@ fn write_byte<W: Sink>(byte: u8, writer: &mut W) -> Result<(), Failed>
     ensures failed { W.failed writer.new ≡ failed_after (W.failed writer.old) result }
     ensures ok { OnOk result (Appends (W.holds writer.old) (W.holds writer.new)
         (spec.escaped byte)) }
-    ensures err { OnErr result (AppendsSome (W.holds writer.old) (W.holds writer.new)
+    ensures cut_short { OnErr result (AppendsSome (W.holds writer.old) (W.holds writer.new)
         (spec.escaped byte)) }
 {
     match byte {

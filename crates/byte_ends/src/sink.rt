@@ -37,7 +37,7 @@ pub trait Sink {
         ensures handed_on { OnOk result (handed_on self.new
             ≡ handed_on_after (handed_on self.old) (length bytes.now)) }
         ensures ok { OnOk result (Appends (holds self.old) (holds self.new) bytes.now) }
-        ensures err { OnErr result (AppendsSome (holds self.old) (holds self.new) bytes.now) }
+        ensures cut_short { OnErr result (AppendsSome (holds self.old) (holds self.new) bytes.now) }
     {
         let mut written = 0;
         'writing: while written < bytes.len() {

@@ -33,7 +33,7 @@ pub(crate) fn take_row(
         ≡ map (direction_in (before ++ (tidy targets.now (fields_of row.now) ∷ []))) targets.now) }
     ensures decimals { IfOk result
         (λ decimals. row_decimals (tidy targets.now (fields_of row.now)) ≡ counted decimals) }
-    ensures err { IfErr result (λ kind. (before : List (List (List ℕ)))
+    ensures fault { IfErr result (λ kind. (before : List (List (List ℕ)))
         → directions.old ≡ map (direction_in before) targets.now
         → faults.stating_fault targets.now before (tidy targets.now (fields_of row.now))
         ≡ Some kind) }

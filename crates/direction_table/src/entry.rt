@@ -47,7 +47,7 @@ fn direction_of(field: &[u8]) -> Result<Stated, RowKind>
     ensures decimals { IfOk result (λ stated. stated.decimals ≡ spec.count_of_decimals field.now) }
     ensures small { IfOk result (λ stated. IsWithin (pos CIRCLE) stated.direction) }
     ensures faultless { OnOk result (faults.direction_fault field.now ≡ None) }
-    ensures err { IfErr result (λ kind. faults.direction_fault field.now ≡ Some kind) }
+    ensures fault { IfErr result (λ kind. faults.direction_fault field.now ≡ Some kind) }
 {
     let gons = Gons::of(field).ok_or(RowKind::Number)?;
     let direction = gons.on_circle().ok_or(RowKind::Range)?;
@@ -88,7 +88,7 @@ pub(crate) fn entry_of(columns: &Columns<'_>, targets: &[Name]) -> Result<Entry,
     ensures decimals { IfOk result (λ entry. entry.stated.decimals
         ≡ spec.count_of_decimals (columns_view columns.now).direction) }
     ensures small { IfOk result (λ entry. IsWithin (pos CIRCLE) entry.stated.direction) }
-    ensures err { IfErr result
+    ensures fault { IfErr result
         (λ kind. faults.entry_fault targets.now (columns_view columns.now) ≡ Some kind) }
 {
     let name = name_of(columns.name).ok_or(RowKind::Name)?;

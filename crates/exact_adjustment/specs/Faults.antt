@@ -39,8 +39,8 @@ pub record IsFar (station : StationValue) (limit place : ℕ) : Type 0 where
   pub greatest : IsGreatestAbove station adjustment limit place
 
 -- These are an exact adjustment of the station, which keeps the largest residual limit.
-abbrev pub IsAnswer : StationValue → Found → Type 0
-IsAnswer station found =
+abbrev pub IsSolution : StationValue → Found → Type 0
+IsSolution station found =
     IsExact station (parts_of found) × KeepsLimit station (parts_of found) LARGEST_RESIDUAL_LIMIT
 
 -- None was found: the solver was asked for this station, and what it said is nothing, or no exact
@@ -49,7 +49,7 @@ pub record IsNotFound (station : StationValue) : Type 0 where
   pub tied : AreTied station
   pub found : Option Found
   pub said : WasSaid (length station.sets) (length station.targets) station.obs found
-  pub refused : IfSome found (λ numbers. ¬ IsAnswer station numbers)
+  pub refused : IfSome found (λ numbers. ¬ IsSolution station numbers)
 
 -- When each fault is answered.
 abbrev pub IsAdjustFault : StationValue → AdjustFault → Type 0

@@ -9,7 +9,7 @@ use Rattle.std.proofs.lemmas.List.{append-nil, take-append-le}
 use Rattle.std.proofs.lemmas.List.Elements.{All-nil, All-take}
 use Rattle.std.proofs.lemmas.Bool.{true≢false, false≢true}
 use Rattle.byte_ends.specs.Source.{Told, HasBrokenOff}
-use Rattle.gsi_word.specs.Words.{IsPrintable}
+use Rattle.gsi_word.specs.Words.{IsLineByte}
 use Rattle.gsi_file.specs.declared.file_fault.FileKind.TheVariants.{Read, FileTooLong, LineTooLong}
 use Rattle.gsi_file.specs.Parts.{is_line_end, is_line, HasNoEnd}
 use Rattle.gsi_file.specs.FileAnswers.{answers_within, line_before}
@@ -248,7 +248,7 @@ grown_length told told' h h' n g = omega (arith, ap length g.now, length-append 
 pub found_ended : (told0 told : Option Told) (room : ℕ) (h0 : List ℕ) (left line used : ℕ)
     (printable : Bool) (h : List ℕ) → line < length h → line < left → used ≤ length h → used ≤ left
     → is_line_end (slice_index h line) ≡ true → is_line (take line h) ≡ true
-    → (printable ≡ true → All IsPrintable (take line h))
+    → (printable ≡ true → All IsLineByte (take line h))
     → (used ≡ line + 1) ⊎ ((used ≡ line + 2) × (is_line_end (slice_index h (line + 1)) ≡ true))
     → Searching told0 told room h0 left line h →
     HasFound told0 told room h0 h (record {

@@ -2,7 +2,7 @@
 use Rattle.std.specs.Prelude.{◌≡◌, ℕ, ◌+◌, ◌/◌, ◌<◌, ◌≤◌, Bool, true, false, List, ◌++◌, All}
 use Rattle.std.specs.Prelude.{length, take, drop, Option, Some, None, Result, Ok, Err}
 use Rattle.byte_ends.specs.Source.{Told, WhereTold, HasBrokenOff, ended, broken_off}
-use Rattle.gsi_word.specs.Words.{IsPrintable}
+use Rattle.gsi_word.specs.Words.{IsLineByte}
 use Rattle.gsi_file.specs.declared.file_fault.FileKind.{FileKind}
 use Rattle.gsi_file.specs.declared.search.FoundLine.{FoundLine}
 use Rattle.gsi_file.specs.FileAnswers.{FileAnswers, answers_within, line_before}
@@ -43,7 +43,7 @@ pub record HasFound (old new : Option Told) (room : ℕ) (hand hand' : List ℕ)
   pub ended : f.last ≡ false → f.line < f.used
   pub takes : (f.room + 1) / 2 < (room + 1) / 2
   pub told : FindsLine old new room hand hand' f.line f.used f.room f.last
-  pub printable : f.printable ≡ true → All IsPrintable (take f.line hand')
+  pub printable : f.printable ≡ true → All IsLineByte (take f.line hand')
 
 -- The source has given all its bytes and fails, where it tells.
 abbrev pub BreaksOff : Option Told → Option Told → Type 0

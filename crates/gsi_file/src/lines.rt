@@ -5,7 +5,7 @@
 //! words are not counted again.
 
 ghost use Rattle.std.specs.Prelude.{◌≡◌, ◌≤◌, ◌+◌, ◌/◌, Bool, List, ℕ, All, true, IfOk, IfErr};
-ghost use Rattle.gsi_word.specs.Words.{IsPrintable};
+ghost use Rattle.gsi_word.specs.Words.{IsLineByte};
 ghost use Rattle.gsi_word.specs.Shapes.{IsShape};
 ghost use Rattle.gsi_file.specs.Failing.{failed_at, failed_by, failed_in};
 ghost use Rattle.gsi_file.specs.ToCome.{IsFileFault};
@@ -51,7 +51,7 @@ pub struct Lines<R> {
 /// are not known to be printable.
 #[inline(always)]
 fn check_line(line: &[u8], printable: bool) -> Result<Shape, FileKind>
-    requires { printable ≡ true → All IsPrintable line.now }
+    requires { printable ≡ true → All IsLineByte line.now }
     ensures shape { IfOk result (λ s. IsShape s line.now) }
     ensures fault { IfErr result (IsFileFault line.now) }
     ensures unread { IfErr result (λ kind. (old : Bool) → failed_at old kind ≡ old) }

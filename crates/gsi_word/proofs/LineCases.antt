@@ -6,7 +6,7 @@ use Rattle.std.specs.Prelude.{if◌then◌else◌}
 use Rattle.std.proofs.lemmas.Bool.{cases_Bool, eqb-true, eqb-false}
 use Rattle.std.proofs.lemmas.List.{length-drop}
 use Rattle.std.proofs.lemmas.List.Elements.{All-nil, All-cons, All-drop}
-use Rattle.gsi_word.specs.Words.{GsiWord, IsPrintable}
+use Rattle.gsi_word.specs.Words.{GsiWord, IsLineByte}
 use Rattle.gsi_word.specs.Blocks.{GsiBlock, width_of, word_bytes, AreWords, BeginsBlock, IsBlock}
 use Rattle.gsi_word.specs.Blocks.{is_starred}
 use Rattle.gsi_word.specs.LineFaults.{IsByteFault, IsWordFault, IsLineFault}
@@ -18,11 +18,11 @@ use Rattle.gsi_word.proofs.RunLaws.{Runs, run_are_words, run_has_fault}
 use Rattle.gsi_word.proofs.WordLaws.{long_of}
 
 -- All bytes may stand in a line, or there is a first that may not.
-bytes_or_fault : (line : List ℕ) → All IsPrintable line ⊎ ((at : ℕ) × IsByteFault line at)
-bytes_or_fault [] = inl (All-nil IsPrintable)
+bytes_or_fault : (line : List ℕ) → All IsLineByte line ⊎ ((at : ℕ) × IsByteFault line at)
+bytes_or_fault [] = inl (All-nil IsLineByte)
 bytes_or_fault (b ∷ line) = elim (cases_Bool (is_printable b)) [
   | inl good ↦ elim (bytes_or_fault line) [
-    | inl all ↦ inl (All-cons IsPrintable b line (printable b good) all)
+    | inl all ↦ inl (All-cons IsLineByte b line (printable b good) all)
     | inr later ↦ let f = later.1 in inr (
       later.0 + 1,
       record {
@@ -31,7 +31,7 @@ bytes_or_fault (b ∷ line) = elim (cases_Bool (is_printable b)) [
         rest = f.rest;
         text = ap (λ (r : List ℕ). b ∷ r) f.text;
         place = omega (arith, f.place);
-        before = All-cons IsPrintable b f.front (printable b good) f.before;
+        before = All-cons IsLineByte b f.front (printable b good) f.before;
         fault = f.fault;
       },
     )
@@ -44,7 +44,7 @@ bytes_or_fault (b ∷ line) = elim (cases_Bool (is_printable b)) [
       rest = line;
       text = refl;
       place = refl;
-      before = All-nil IsPrintable;
+      before = All-nil IsLineByte;
       fault = no_printable b bad;
     },
   )
@@ -86,7 +86,7 @@ blank_or_ink (b ∷ bytes) = elim (cases_Bool (eqb b 32)) [
   | inr ink ↦ inr (0, b, omega arith, refl, eqb-false _ _ ink)
 ]
 
-words_or_fault : (width : ℕ) (bytes : List ℕ) → All IsPrintable bytes
+words_or_fault : (width : ℕ) (bytes : List ℕ) → All IsLineByte bytes
     → ((words : List GsiWord) × AreWords width bytes words)
     ⊎ ((nth : ℕ) × IsWordFault width bytes nth)
 words_or_fault width bytes h = by r.count r.run
@@ -119,11 +119,11 @@ begins_or_not (w ∷ ws) = elim (cases_Bool (eqb w.index 11)) [
   ]
 ]
 
-printable_line : (line : List ℕ) → All IsPrintable line → All IsPrintable (word_bytes line)
+printable_line : (line : List ℕ) → All IsLineByte line → All IsLineByte (word_bytes line)
 printable_line line h = by (is_starred line)
   where
-    by : (starred : Bool) → All IsPrintable (if starred then drop 1 line else line)
-    by true = All-drop IsPrintable 1 line h
+    by : (starred : Bool) → All IsLineByte (if starred then drop 1 line else line)
+    by true = All-drop IsLineByte 1 line h
     by false = h
 
 -- Each line is a block or has a fault.

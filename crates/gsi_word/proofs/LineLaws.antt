@@ -9,7 +9,7 @@ use Rattle.std.proofs.lemmas.List.{drop-replicate, drop_more, get_or_default, ge
 use Rattle.std.proofs.lemmas.List.{get_or-take, length-append, length-take, take-append-drop}
 use Rattle.std.proofs.lemmas.List.Elements.{All-head, All-tail, All-append, All-cons}
 use Rattle.std.proofs.lemmas.List.Elements.{All-from_get_or, All-replicate}
-use Rattle.gsi_word.specs.Words.{GsiWord, IsPrintable, IsWord, spelled}
+use Rattle.gsi_word.specs.Words.{GsiWord, IsLineByte, IsWord, spelled}
 use Rattle.gsi_word.specs.Blocks.{GsiBlock, width_of, word_bytes, AreWords, IsBlock, BeginsBlock}
 use Rattle.gsi_word.specs.LineFaults.{EndsWord, BeginsWord, followed, IsByteFault, IsWordFault}
 use Rattle.gsi_word.specs.LineFaults.{IsLineFault}
@@ -19,7 +19,7 @@ use Rattle.gsi_word.proofs.WordLaws.{one_word, spelled_printable}
 
 -- A byte that may not stand in a line, after bytes that all may, is the fault of the line.
 pub byte_fault : (line : List ℕ) (place : ℕ) → place < length line
-    → ((k : ℕ) → k < place → IsPrintable (get_or line k 0)) → ¬ IsPrintable (get_or line place 0)
+    → ((k : ℕ) → k < place → IsLineByte (get_or line k 0)) → ¬ IsLineByte (get_or line place 0)
     → IsByteFault line (place + 1)
 byte_fault line place lt before wrong =
     record {
@@ -29,7 +29,7 @@ byte_fault line place lt before wrong =
       text = sym (take-append-drop place line)
           ∙ ap (λ (r : List ℕ). take place line ++ r) (drop_more line place 0 lt);
       place = omega (arith, length-take place line, lt);
-      before = All-from_get_or IsPrintable (take place line) 0 (λ k h. let below : k < place =
+      before = All-from_get_or IsLineByte (take place line) 0 (λ k h. let below : k < place =
           omega (arith, length-take place line, h) in
           rw (get_or-take place line k 0 below) (before k below));
       fault = wrong;
@@ -173,45 +173,45 @@ word_fault_excludes width bytes nth ws f h = fault_excludes width f.words f.rest
     h.each h.some_word f.fault f.goes_on (sym f.text ∙ h.text)
 
 words_printable : (width : ℕ) (ws : List GsiWord) (tail : List ℕ) → All (IsWord width) ws
-    → All IsPrintable tail → All IsPrintable (join_with_byte 32 (map spelled ws) ++ tail)
+    → All IsLineByte tail → All IsLineByte (join_with_byte 32 (map spelled ws) ++ tail)
 words_printable width [] tail h t = t
-words_printable width (w ∷ []) tail h t = All-append IsPrintable (spelled w) tail
+words_printable width (w ∷ []) tail h t = All-append IsLineByte (spelled w) tail
     (spelled_printable width w (All-head (IsWord width) w [] h)) t
 words_printable width (w ∷ v ∷ ws) tail h t =
-    subst (λ (r : List ℕ). All IsPrintable r) (sym (first_word w (v ∷ ws) tail))
-    (All-append IsPrintable (spelled w) _ (spelled_printable width w
+    subst (λ (r : List ℕ). All IsLineByte r) (sym (first_word w (v ∷ ws) tail))
+    (All-append IsLineByte (spelled w) _ (spelled_printable width w
     (All-head (IsWord width) w (v ∷ ws) h))
-    (All-cons IsPrintable 32 _ (omega arith, omega arith)
+    (All-cons IsLineByte 32 _ (omega arith, omega arith)
     (words_printable width (v ∷ ws) tail (All-tail (IsWord width) w (v ∷ ws) h) t)))
 
 are_words_printable : (width : ℕ) (bytes : List ℕ) (ws : List GsiWord) → AreWords width bytes ws
-    → All IsPrintable bytes
+    → All IsLineByte bytes
 are_words_printable width bytes ws h =
-    subst (λ (r : List ℕ). All IsPrintable r) (sym h.text)
+    subst (λ (r : List ℕ). All IsLineByte r) (sym h.text)
     (words_printable width ws (replicate h.blanks 32) h.each
-    (All-replicate IsPrintable h.blanks 32 (omega arith, omega arith)))
+    (All-replicate IsLineByte h.blanks 32 (omega arith, omega arith)))
 
 star_printable : (b : ℕ) (bs : List ℕ) (t : Bool) → starts_with nat_eq (b ∷ bs) (codes "*") ≡ t
-    → All IsPrintable (if t then bs else b ∷ bs) → All IsPrintable (b ∷ bs)
+    → All IsLineByte (if t then bs else b ∷ bs) → All IsLineByte (b ∷ bs)
 star_printable b bs true e h = let star : 42 ≡ b = eqb-true _ _ (and_parts _ _ e).0 in
-    All-cons IsPrintable b bs (omega arith, omega arith) h
+    All-cons IsLineByte b bs (omega arith, omega arith) h
 star_printable b bs false e h = h
 
 -- The `*` is printable, so that the line is where its words are.
-line_printable : (line : List ℕ) → All IsPrintable (word_bytes line) → All IsPrintable line
+line_printable : (line : List ℕ) → All IsLineByte (word_bytes line) → All IsLineByte line
 line_printable [] h = h
 line_printable (b ∷ bs) h = star_printable b bs (starts_with nat_eq (b ∷ bs) (codes "*")) refl h
 
 words_line_printable : (line : List ℕ) (ws : List GsiWord)
-    → AreWords (width_of line) (word_bytes line) ws → All IsPrintable line
+    → AreWords (width_of line) (word_bytes line) ws → All IsLineByte line
 words_line_printable line ws h = line_printable line
     (are_words_printable (width_of line) (word_bytes line) ws h)
 
-byte_fault_excludes : (line : List ℕ) (at : ℕ) → IsByteFault line at → All IsPrintable line → ⊥
+byte_fault_excludes : (line : List ℕ) (at : ℕ) → IsByteFault line at → All IsLineByte line → ⊥
 byte_fault_excludes line at f h =
-    f.fault (subst (λ (b : ℕ). IsPrintable b)
+    f.fault (subst (λ (b : ℕ). IsLineByte b)
     (get_or_at f.front f.byte f.rest 0 (length f.front) refl)
-    (subst (λ (r : List ℕ). All IsPrintable r) f.text h (length f.front) 0
+    (subst (λ (r : List ℕ). All IsLineByte r) f.text h (length f.front) 0
     (omega (arith, length-append f.front (f.byte ∷ f.rest)))))
 
 -- A block has no fault.
@@ -224,17 +224,17 @@ no_fault line block (Word nth) b f = word_fault_excludes (width_of line) (word_b
 no_fault line block FirstWord b f = f.fault (subst (λ (us : List GsiWord). BeginsBlock us)
     (same_words (width_of line) (word_bytes line) block.words f.words b.words f.are_words) b.first)
 
-same_front : (f g : List ℕ) (b c : ℕ) (r s : List ℕ) → All IsPrintable f → All IsPrintable g
-    → ¬ IsPrintable b → ¬ IsPrintable c → f ++ b ∷ r ≡ g ++ c ∷ s → length f ≡ length g
+same_front : (f g : List ℕ) (b c : ℕ) (r s : List ℕ) → All IsLineByte f → All IsLineByte g
+    → ¬ IsLineByte b → ¬ IsLineByte c → f ++ b ∷ r ≡ g ++ c ∷ s → length f ≡ length g
 same_front [] [] b c r s p q x y e = refl
 same_front [] (d ∷ g) b c r s p q x y e = absurd
-    (x (subst (λ (n : ℕ). IsPrintable n) (sym (ap (λ (l : List ℕ). get_or l 0 0) e))
-    (All-head IsPrintable d g q)))
+    (x (subst (λ (n : ℕ). IsLineByte n) (sym (ap (λ (l : List ℕ). get_or l 0 0) e))
+    (All-head IsLineByte d g q)))
 same_front (a ∷ f) [] b c r s p q x y e = absurd
-    (y (subst (λ (n : ℕ). IsPrintable n) (ap (λ (l : List ℕ). get_or l 0 0) e)
-    (All-head IsPrintable a f p)))
+    (y (subst (λ (n : ℕ). IsLineByte n) (ap (λ (l : List ℕ). get_or l 0 0) e)
+    (All-head IsLineByte a f p)))
 same_front (a ∷ f) (d ∷ g) b c r s p q x y e =
-    ap suc (same_front f g b c r s (All-tail IsPrintable a f p) (All-tail IsPrintable d g q) x y
+    ap suc (same_front f g b c r s (All-tail IsLineByte a f p) (All-tail IsLineByte d g q) x y
     (ap (λ (l : List ℕ). drop 1 l) e))
 
 same_byte : (line : List ℕ) (a b : ℕ) → IsByteFault line a → IsByteFault line b → a ≡ b

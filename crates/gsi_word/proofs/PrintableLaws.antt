@@ -8,54 +8,54 @@ use Rattle.std.proofs.lemmas.Bool.{false≢true, leb-true, le-leb, ltb-false, an
 use Rattle.std.proofs.lemmas.List.{take-append-drop}
 use Rattle.std.proofs.lemmas.List.Elements.{All-nil, All-cons, All-append, All-take, All-weaker}
 use Rattle.std.proofs.lemmas.List.Sums.{AllPass-from_list_all, list_all-from_AllPass}
-use Rattle.gsi_word.specs.Words.{IsPrintable}
+use Rattle.gsi_word.specs.Words.{IsLineByte}
 use Rattle.gsi_word.specs.Layout.{is_printable}
 
 -- A byte that passes the test may stand in a line.
-pub printable : (b : ℕ) → is_printable b ≡ true → IsPrintable b
+pub printable : (b : ℕ) → is_printable b ≡ true → IsLineByte b
 printable b h = let p = and_parts _ _ h in (leb-true _ _ p.0, leb-true _ _ p.1)
 
-true_test : (b : ℕ) → IsPrintable b → is_printable b ≡ true
+true_test : (b : ℕ) → IsLineByte b → is_printable b ≡ true
 true_test b h = and_from _ _ (le-leb _ _ h.0) (le-leb _ _ h.1)
 
 -- Bytes that all pass the test may all stand in a line.
 pub printable_from_test : (bytes : List ℕ) → list_all is_printable bytes ≡ true
-    → All IsPrintable bytes
-printable_from_test bytes h = All-weaker (λ b. is_printable b ≡ true) IsPrintable printable bytes
+    → All IsLineByte bytes
+printable_from_test bytes h = All-weaker (λ b. is_printable b ≡ true) IsLineByte printable bytes
     (AllPass-from_list_all is_printable bytes h)
 
 -- Bytes that may all stand in a line all pass the test.
-pub test_from_printable : (bytes : List ℕ) → All IsPrintable bytes
+pub test_from_printable : (bytes : List ℕ) → All IsLineByte bytes
     → list_all is_printable bytes ≡ true
 test_from_printable bytes h = list_all-from_AllPass is_printable bytes
-    (All-weaker IsPrintable (λ b. is_printable b ≡ true) true_test bytes h)
+    (All-weaker IsLineByte (λ b. is_printable b ≡ true) true_test bytes h)
 
 -- A byte that fails the test may not stand in a line.
-pub no_printable : (b : ℕ) → is_printable b ≡ false → ¬ IsPrintable b
+pub no_printable : (b : ℕ) → is_printable b ≡ false → ¬ IsLineByte b
 no_printable b e h = false≢true (sym e ∙ true_test b h)
 
 -- Where the first n bytes are printable, and those from a place among them or right after, all are.
-pub all_of_both : (bytes : List ℕ) (n from : ℕ) → from ≤ n → All IsPrintable (take n bytes)
-    → All IsPrintable (drop from bytes) → All IsPrintable bytes
+pub all_of_both : (bytes : List ℕ) (n from : ℕ) → from ≤ n → All IsLineByte (take n bytes)
+    → All IsLineByte (drop from bytes) → All IsLineByte bytes
 all_of_both bytes n from le front rest =
-    let before = subst (All IsPrintable) (take-take from n bytes le)
-    (All-take IsPrintable from (take n bytes) front) in
-    subst (All IsPrintable) (take-append-drop from bytes)
-    (All-append IsPrintable (take from bytes) (drop from bytes) before rest)
+    let before = subst (All IsLineByte) (take-take from n bytes le)
+    (All-take IsLineByte from (take n bytes) front) in
+    subst (All IsLineByte) (take-append-drop from bytes)
+    (All-append IsLineByte (take from bytes) (drop from bytes) before rest)
 
 -- Whether a byte may not stand in a line.
 abbrev pub is_stray : ℕ → Bool
 is_stray b = not (is_printable b)
 
-none_past : (bytes : List ℕ) → length bytes ≤ position_or_len is_stray bytes → All IsPrintable bytes
-none_past [] le = All-nil IsPrintable
+none_past : (bytes : List ℕ) → length bytes ≤ position_or_len is_stray bytes → All IsLineByte bytes
+none_past [] le = All-nil IsLineByte
 none_past (b ∷ bytes) le = by (is_printable b) refl le (none_past bytes)
   where
     by : (t : Bool) → is_printable b ≡ t → suc (length bytes)
         ≤ cond (not (not t)) (1 + position_or_len is_stray bytes) 0
-        → (length bytes ≤ position_or_len is_stray bytes → All IsPrintable bytes)
-        → All IsPrintable (b ∷ bytes)
-    by true e past later = All-cons IsPrintable b bytes (printable b e)
+        → (length bytes ≤ position_or_len is_stray bytes → All IsLineByte bytes)
+        → All IsLineByte (b ∷ bytes)
+    by true e past later = All-cons IsLineByte b bytes (printable b e)
         (later (omega (arith, past)))
     by false e past later = absurd (omega (arith, past))
 
@@ -70,5 +70,5 @@ not_within n m e = by (nat_lt n m) refl e
     by false past none = ltb-false _ _ past
 
 -- Without a first byte that may not stand in a line, all may.
-pub no_stray : (bytes : List ℕ) → position is_stray bytes ≡ None → All IsPrintable bytes
+pub no_stray : (bytes : List ℕ) → position is_stray bytes ≡ None → All IsLineByte bytes
 no_stray bytes e = none_past bytes (not_within (position_or_len is_stray bytes) (length bytes) e)

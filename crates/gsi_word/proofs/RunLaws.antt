@@ -7,7 +7,7 @@ use Rattle.std.specs.List.{flat_map, join_with_byte}
 use Rattle.std.proofs.lemmas.List.{length-drop, drop-drop, take-append-drop, nil_from_length}
 use Rattle.std.proofs.lemmas.List.Elements.{All-cons, All-nil, All-drop}
 use Rattle.std.proofs.Math.Nat.{mul-suc}
-use Rattle.gsi_word.specs.Words.{IsPrintable, IsWord, spelled}
+use Rattle.gsi_word.specs.Words.{IsLineByte, IsWord, spelled}
 use Rattle.gsi_word.specs.Blocks.{AreWords}
 use Rattle.gsi_word.specs.LineFaults.{EndsWord, followed, IsWordFault}
 use Rattle.gsi_word.specs.Layout.{word_of, begins_word, words_from, IsWordBytes}
@@ -85,7 +85,7 @@ last_blanks (b ∷ back) rest e is blank = record {
 }
 
 run_is_words : (width n : ℕ) (bytes rest : List ℕ) → Runs width (suc n) bytes rest
-    → All IsPrintable bytes → rest ≡ replicate (length rest) 32
+    → All IsLineByte bytes → rest ≡ replicate (length rest) 32
     → AreWords width bytes (words_from width (suc n) bytes)
 run_is_words width zero bytes rest run h blank =
     let f = front width bytes run.0 h in
@@ -102,7 +102,7 @@ run_is_words width (suc n) bytes rest run h blank =
     let f = front width bytes run.0 h in
     let w = word_of (take (7 + width) bytes) in
     let next = drop (8 + width) bytes in
-    let tail = run_is_words width n next rest run.1 (All-drop IsPrintable (8 + width) bytes h)
+    let tail = run_is_words width n next rest run.1 (All-drop IsLineByte (8 + width) bytes h)
     blank in
     let rest_text = join_with_byte 32 (map spelled (words_from width (suc n) next)) in
     record {
@@ -117,7 +117,7 @@ run_is_words width (suc n) bytes rest run h blank =
 
 -- A run of words with nothing but blanks after it is all of the bytes.
 pub run_are_words : (width n : ℕ) (bytes rest : List ℕ) → Runs width n bytes rest → 0 < n
-    → All IsPrintable bytes → rest ≡ replicate (length rest) 32
+    → All IsLineByte bytes → rest ≡ replicate (length rest) 32
     → AreWords width bytes (words_from width n bytes)
 run_are_words width zero bytes rest run some h blank = absurd (omega arith)
 run_are_words width (suc n) bytes rest run some h blank =
@@ -128,7 +128,7 @@ record Begun (width n : ℕ) (bytes rest : List ℕ) : Type 0 where
   pub each : All (IsWord width) (words_from width n bytes)
   pub text : bytes ≡ flat_map followed (words_from width n bytes) ++ rest
 
-run_begun : (width n : ℕ) (bytes rest : List ℕ) → Runs width n bytes rest → All IsPrintable bytes
+run_begun : (width n : ℕ) (bytes rest : List ℕ) → Runs width n bytes rest → All IsLineByte bytes
     → (n ≡ 0) ⊎ (0 < length rest) → Begun width n bytes rest
 run_begun width zero bytes rest is h some = record { each = All-nil (IsWord width); text = sym is }
 run_begun width (suc n) bytes rest run h (inl none) = absurd (omega arith)
@@ -137,7 +137,7 @@ run_begun width (suc n) bytes rest run h (inr some) =
     let w = word_of (take (7 + width) bytes) in
     let next = drop (8 + width) bytes in
     let words = words_from width n next in
-    let tail = run_begun width n next rest run.1 (All-drop IsPrintable (8 + width) bytes h)
+    let tail = run_begun width n next rest run.1 (All-drop IsLineByte (8 + width) bytes h)
     (inr some) in
     record {
       each = All-cons (IsWord width) w words f.word tail.each;
@@ -154,7 +154,7 @@ length_words_from width (suc n) bytes = ap suc (length_words_from width n (drop 
 
 -- Where no word begins after a run of words, the next word is a fault, if it isn't blanks alone.
 pub run_has_fault : (width n : ℕ) (bytes rest : List ℕ) → Runs width n bytes rest
-    → All IsPrintable bytes → begins_word width rest ≡ false → (n ≡ 0) ⊎ Any (λ b. b ≢ 32) rest
+    → All IsLineByte bytes → begins_word width rest ≡ false → (n ≡ 0) ⊎ Any (λ b. b ≢ 32) rest
     → IsWordFault width bytes (n + 1)
 run_has_fault width n bytes rest run h e some =
     let begun = run_begun width n bytes rest run h
@@ -181,7 +181,7 @@ drop_words width i bytes = drop-drop ((8 + width) * i) (8 + width) bytes
 
 -- Each word of a run has its bytes at its place.
 pub run_places : (width n : ℕ) (bytes rest : List ℕ) → Runs width n bytes rest
-    → All IsPrintable bytes → (i : ℕ) → i < n
+    → All IsLineByte bytes → (i : ℕ) → i < n
     → IsWordBytes width (take (7 + width) (drop ((8 + width) * i) bytes))
 run_places width zero bytes rest run h i lt = absurd (omega arith)
 run_places width (suc n) bytes rest run h zero lt =
@@ -191,7 +191,7 @@ run_places width (suc n) bytes rest run h zero lt =
 run_places width (suc n) bytes rest run h (suc i) lt =
     subst (λ (r : List ℕ). IsWordBytes width (take (7 + width) r)) (drop_words width i bytes)
     (run_places width n (drop (8 + width) bytes) rest run.1
-    (All-drop IsPrintable (8 + width) bytes h) i (omega arith))
+    (All-drop IsLineByte (8 + width) bytes h) i (omega arith))
 
 -- The words of a run have room in the bytes; the blank after the last may be missing.
 pub run_room : (width n : ℕ) (bytes rest : List ℕ) → Runs width n bytes rest

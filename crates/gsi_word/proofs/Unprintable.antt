@@ -9,7 +9,7 @@ use Rattle.std.proofs.lemmas.List.{length-map}
 use Rattle.std.proofs.lemmas.Simd.{length-chunk, map-map, mask_l-mod, first_set_mask_l}
 use Rattle.std.proofs.lemmas.Simd.{run_in_chunk_le, run_in_chunk_fails, run_in_chunk_stops}
 use lib.Lanes.{chunk, mask_l, top}
-use Rattle.gsi_word.specs.Words.{IsPrintable}
+use Rattle.gsi_word.specs.Words.{IsLineByte}
 
 -- The lane of a byte: its highest bit is set where one of two tests holds.
 abbrev lane : Bool → Bool → ℕ
@@ -29,13 +29,13 @@ either false false e = absurd (false≢true e)
 
 -- A byte whose lane is not set is printable.
 pub printable_where_unset : (b : ℕ) → top 7 (lane (nat_lt b 32) (nat_lt 126 b)) ≡ false
-    → IsPrintable b
+    → IsLineByte b
 printable_where_unset b e = let both = neither (nat_lt b 32) (nat_lt 126 b) e in
     (ltb-false _ _ both.0, ltb-false _ _ both.1)
 
 -- A byte whose lane is set is not printable.
 pub unprintable_where_set : (b : ℕ) → top 7 (lane (nat_lt b 32) (nat_lt 126 b)) ≡ true
-    → ¬ IsPrintable b
+    → ¬ IsLineByte b
 unprintable_where_set b e p = elim (either (nat_lt b 32) (nat_lt 126 b) e) [
   | inl below ↦ let lt = ltb-true _ _ below in omega (arith, lt, p.0)
   | inr above ↦ let lt = ltb-true _ _ above in omega (arith, lt, p.1)
@@ -63,13 +63,13 @@ module _ (bytes : List ℕ) (at : ℕ) (room : at + 16 ≤ length bytes) (run : 
   run_is_short = run_in_chunk_le (λ b. top 7 (f b)) bytes at 16 run 0 room counted
 
   -- The bytes of the lanes before the first that is set are printable.
-  pub run_is_printable : ((b : ℕ) → top 7 (f b) ≡ false → IsPrintable b) → (k : ℕ) → at ≤ k
-      → k < at + run → IsPrintable (get_or bytes k 0)
+  pub run_is_printable : ((b : ℕ) → top 7 (f b) ≡ false → IsLineByte b) → (k : ℕ) → at ≤ k
+      → k < at + run → IsLineByte (get_or bytes k 0)
   run_is_printable unset k from to = unset (get_or bytes k 0)
       (run_in_chunk_fails (λ b. top 7 (f b)) bytes at 16 run 0 room counted k from to)
 
   -- Where a lane is set, the byte of the first of them is not printable.
-  pub run_ends_at_an_unprintable : ((b : ℕ) → top 7 (f b) ≡ true → ¬ IsPrintable b) → run < 16
-      → ¬ IsPrintable (get_or bytes (at + run) 0)
+  pub run_ends_at_an_unprintable : ((b : ℕ) → top 7 (f b) ≡ true → ¬ IsLineByte b) → run < 16
+      → ¬ IsLineByte (get_or bytes (at + run) 0)
   run_ends_at_an_unprintable set short = set (get_or bytes (at + run) 0)
       (run_in_chunk_stops (λ b. top 7 (f b)) bytes at 16 run 0 room counted short)

@@ -12,7 +12,7 @@ use Rattle.std.proofs.lemmas.List.{take_at, drop_at}
 use Rattle.std.proofs.lemmas.List.Elements.{All-from_recursion, All-take, All-drop, All-cons}
 use Rattle.std.proofs.lemmas.List.Elements.{All-append, All-weaker}
 use Rattle.std.proofs.lemmas.List.Folds.{list_any_none, list_any_at}
-use Rattle.gsi_word.specs.Words.{GsiWord, IsPrintable, IsGraphic, IsWord, sign_byte, spelled}
+use Rattle.gsi_word.specs.Words.{GsiWord, IsLineByte, IsGraphic, IsWord, sign_byte, spelled}
 use Rattle.gsi_word.specs.LineFaults.{EndsWord, BeginsWord}
 use Rattle.gsi_word.specs.Layout.{word_of, begins_word, HasIndex, IsWordBytes}
 
@@ -125,7 +125,7 @@ pub record Front (width : ℕ) (bytes : List ℕ) : Type 0 where
 ink : (b : ℕ) → IsGraphic b → b ≢ 32
 ink b h e = absurd (omega arith)
 
-graphic : (b : ℕ) → IsPrintable b → b ≢ 32 → IsGraphic b
+graphic : (b : ℕ) → IsLineByte b → b ≢ 32 → IsGraphic b
 graphic b h ne = (omega arith, h.1)
 
 ends_of : (rest : List ℕ) → (length rest ≡ 0) ⊎ (get_or rest 0 0 ≡ 32) → EndsWord rest
@@ -139,7 +139,7 @@ record HeadedWord (width a b i j k m s : ℕ) (content : List ℕ) : Type 0 wher
   pub text : headed a b i j k m s content ≡ spelled (word_of (headed a b i j k m s content))
 
 headed_word : (width a b i j k m s : ℕ) (rest : List ℕ) → Cells width a b i j k m s rest
-    → All IsPrintable (headed a b i j k m s rest) → HeadedWord width a b i j k m s (take width rest)
+    → All IsLineByte (headed a b i j k m s rest) → HeadedWord width a b i j k m s (take width rest)
 headed_word width a b i j k m s rest c h =
     let n : ℕ = 10 * (a - 48) + (b - 48) in
     let first : 48 + n / 10 ≡ a = omega (arith, c.tens, c.ones) in
@@ -160,14 +160,14 @@ headed_word width a b i j k m s rest c h =
           ),
         );
         content_length = omega (arith, length-take width rest, c.long);
-        content = All-take IsPrintable width rest
-            (All-drop IsPrintable 7 (headed a b i j k m s rest) h);
+        content = All-take IsLineByte width rest
+            (All-drop IsLineByte 7 (headed a b i j k m s rest) h);
       };
       text = rw (first, second, sign) refl;
     }
 
 front_of : (width a b i j k m s : ℕ) (rest : List ℕ) → Cells width a b i j k m s rest
-    → All IsPrintable (headed a b i j k m s rest) → Front width (headed a b i j k m s rest)
+    → All IsLineByte (headed a b i j k m s rest) → Front width (headed a b i j k m s rest)
 front_of width a b i j k m s rest c h =
     let w = headed_word width a b i j k m s rest c h in
     let head = sym (take_head width a b i j k m s rest) in
@@ -189,7 +189,7 @@ pub long_of : (width : ℕ) (bytes : List ℕ) → begins_word width bytes ≡ t
 unfolding begins_word
 long_of width bytes e = leb-true _ _ (and_parts _ _ e).0
 
-front_long : (width : ℕ) (bytes : List ℕ) → begins_word width bytes ≡ true → All IsPrintable bytes
+front_long : (width : ℕ) (bytes : List ℕ) → begins_word width bytes ≡ true → All IsLineByte bytes
     → 7 ≤ length bytes → Front width bytes
 front_long width (a ∷ b ∷ i ∷ j ∷ k ∷ m ∷ s ∷ rest) e h long =
     front_of width a b i j k m s rest (cells_of width a b i j k m s rest e) h
@@ -202,7 +202,7 @@ front_long width (a ∷ b ∷ i ∷ j ∷ k ∷ []) e h long = absurd (omega ari
 front_long width (a ∷ b ∷ i ∷ j ∷ k ∷ m ∷ []) e h long = absurd (omega arith)
 
 -- Printable bytes that pass the test begin with a word.
-pub front : (width : ℕ) (bytes : List ℕ) → begins_word width bytes ≡ true → All IsPrintable bytes
+pub front : (width : ℕ) (bytes : List ℕ) → begins_word width bytes ≡ true → All IsLineByte bytes
     → Front width bytes
 front width bytes e h = front_long width bytes e h (omega (arith, long_of width bytes e))
 
@@ -226,7 +226,7 @@ has_index width (a ∷ b ∷ i ∷ j ∷ k ∷ m ∷ []) e long = absurd (omega 
 
 -- Printable bytes that pass the test begin with all bytes of a word.
 pub word_bytes_of : (width : ℕ) (bytes : List ℕ) → begins_word width bytes ≡ true
-    → All IsPrintable bytes → IsWordBytes width (take (7 + width) bytes)
+    → All IsLineByte bytes → IsWordBytes width (take (7 + width) bytes)
 word_bytes_of width bytes e h =
     let long = long_of width bytes e in
     record {
@@ -356,25 +356,25 @@ no_word width bytes e b = false≢true (sym e ∙ ap (λ (r : List ℕ). begins_
     ∙ test_of_word width b.word b.rest b.is_word b.ends)
 
 -- The bytes of a word are printable.
-pub spelled_printable : (width : ℕ) (w : GsiWord) → IsWord width w → All IsPrintable (spelled w)
+pub spelled_printable : (width : ℕ) (w : GsiWord) → IsWord width w → All IsLineByte (spelled w)
 spelled_printable width w h =
-    let content : All IsPrintable (sign_byte w.negative ∷ w.content) =
-    All-cons IsPrintable (sign_byte w.negative) w.content (sign_printable w.negative)
+    let content : All IsLineByte (sign_byte w.negative ∷ w.content) =
+    All-cons IsLineByte (sign_byte w.negative) w.content (sign_printable w.negative)
     h.content in
-    let info : All IsPrintable w.info = All-weaker IsGraphic IsPrintable
+    let info : All IsLineByte w.info = All-weaker IsGraphic IsLineByte
     (λ b g. graphic_printable b g) w.info h.info in
-    let first : IsPrintable (48 + w.index / 10) =
+    let first : IsLineByte (48 + w.index / 10) =
     (omega (arith, h.index), omega (arith, h.index)) in
-    let second : IsPrintable (48 + w.index % 10) =
+    let second : IsLineByte (48 + w.index % 10) =
     (omega (arith, h.index), omega (arith, h.index)) in
-    All-cons IsPrintable (48 + w.index / 10) ((48 + w.index % 10)
+    All-cons IsLineByte (48 + w.index / 10) ((48 + w.index % 10)
     ∷ (w.info ++ sign_byte w.negative ∷ w.content)) first
-    (All-cons IsPrintable (48 + w.index % 10) (w.info ++ sign_byte w.negative ∷ w.content)
-    second (All-append IsPrintable w.info (sign_byte w.negative ∷ w.content) info content))
+    (All-cons IsLineByte (48 + w.index % 10) (w.info ++ sign_byte w.negative ∷ w.content)
+    second (All-append IsLineByte w.info (sign_byte w.negative ∷ w.content) info content))
   where
-    sign_printable : (b : Bool) → IsPrintable (sign_byte b)
+    sign_printable : (b : Bool) → IsLineByte (sign_byte b)
     sign_printable true = (omega arith, omega arith)
     sign_printable false = (omega arith, omega arith)
 
-    graphic_printable : (b : ℕ) → IsGraphic b → IsPrintable b
+    graphic_printable : (b : ℕ) → IsGraphic b → IsLineByte b
     graphic_printable b g = (omega arith, g.1)

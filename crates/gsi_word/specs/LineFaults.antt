@@ -4,7 +4,7 @@ use Rattle.std.specs.Prelude.{◌≡◌, ◌≢◌, ℕ, ◌+◌, List, [], ◌�
 use Rattle.std.specs.List.{flat_map}
 use Rattle.gsi_word.specs.declared.line_fault.LineFault.{LineFault}
 use Rattle.gsi_word.specs.declared.line_fault.LineFault.TheVariants.{Byte, Word, FirstWord}
-use Rattle.gsi_word.specs.Words.{GsiWord, IsPrintable, IsWord, spelled}
+use Rattle.gsi_word.specs.Words.{GsiWord, IsLineByte, IsWord, spelled}
 use Rattle.gsi_word.specs.Blocks.{width_of, word_bytes, AreWords, BeginsBlock}
 
 -- The byte at this place, from 1, is the first that may not stand in a line.
@@ -14,8 +14,8 @@ pub record IsByteFault (line : List ℕ) (at : ℕ) : Type 0 where
   pub rest : List ℕ
   pub text : line ≡ front ++ byte ∷ rest
   pub place : at ≡ length front + 1
-  pub before : All IsPrintable front
-  pub fault : ¬ IsPrintable byte
+  pub before : All IsLineByte front
+  pub fault : ¬ IsLineByte byte
 
 -- A word ends where the bytes end, or before a blank.
 abbrev pub EndsWord : List ℕ → Type 0
@@ -55,5 +55,5 @@ pub record IsFirstWordFault (line : List ℕ) : Type 0 where
 abbrev pub IsLineFault : List ℕ → LineFault → Type 0
 IsLineFault line (Byte at) = IsByteFault line at
 IsLineFault line (Word nth) =
-    All IsPrintable line × IsWordFault (width_of line) (word_bytes line) nth
+    All IsLineByte line × IsWordFault (width_of line) (word_bytes line) nth
 IsLineFault line FirstWord = IsFirstWordFault line

@@ -10,8 +10,8 @@ pub record GsiWord : Type 0 where
   pub content : List ℕ
 
 -- A byte that may stand in a line: a blank or a visible character of ASCII.
-abbrev pub IsPrintable : ℕ → Type 0
-IsPrintable b = (32 ≤ b) × (b ≤ 126)
+abbrev pub IsLineByte : ℕ → Type 0
+IsLineByte b = (32 ≤ b) × (b ≤ 126)
 
 -- A byte that may stand in the information of a word: a visible character of ASCII.
 abbrev pub IsGraphic : ℕ → Type 0
@@ -24,7 +24,7 @@ pub record IsWord (width : ℕ) (w : GsiWord) : Type 0 where
   pub info_length : length w.info ≡ 4
   pub info : All IsGraphic w.info
   pub content_length : length w.content ≡ width
-  pub content : All IsPrintable w.content
+  pub content : All IsLineByte w.content
 
 -- `-` or `+`.
 abbrev pub sign_byte : Bool → ℕ

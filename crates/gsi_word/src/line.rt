@@ -6,7 +6,7 @@
 
 ghost use Rattle.std.specs.Prelude.{◌≡◌, ◌≢◌, ◌↔◌, ◌⊎◌, ◌≤◌, ◌+◌, length, drop, replicate, All, Any, IsTrue, IfOk, IfErr};
 ghost use Rattle.std.specs.Bool.{OnTrue, OnFalse};
-ghost use Rattle.gsi_word.specs.Words.{IsPrintable};
+ghost use Rattle.gsi_word.specs.Words.{IsLineByte};
 ghost use Rattle.gsi_word.specs.Blocks.{is_starred, width_of, word_bytes, AreWords, IsBlock};
 ghost use Rattle.gsi_word.specs.LineFaults.{IsWordFault, IsLineFault};
 ghost use Rattle.gsi_word.specs.Layout.{begins_word, is_width, words_from, KeepsWords};
@@ -52,7 +52,7 @@ fn read_shape(line: &[u8]) -> Result<Shape, LineFault>
 /// The line comes without its end, as for [`read_block`].
 #[inline(always)]
 pub fn read_words(line: &[u8]) -> Result<Shape, LineFault>
-    requires { All IsPrintable line.now }
+    requires { All IsLineByte line.now }
     ensures shape { IfOk result (λ s. IsShape s line.now) }
     ensures fault { IfErr result (IsLineFault line.now) }
 {
@@ -103,7 +103,7 @@ fn word_bytes(line: &[u8]) -> &[u8]
 /// How many words the bytes are, or the place of the first, from 1, that is none.
 #[inline(always)]
 fn count_words(bytes: &[u8], width: u8) -> Result<usize, usize>
-    requires printable { All IsPrintable bytes.now }
+    requires printable { All IsLineByte bytes.now }
     requires known { IsTrue (is_width width) }
     ensures words { IfOk result (λ n. AreWords width bytes.now (words_from width n bytes.now)) }
     ensures kept { IfOk result (KeepsWords width bytes.now) }

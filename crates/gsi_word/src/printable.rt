@@ -6,7 +6,7 @@
 //! fails is searched for its first bad byte.
 
 ghost use Rattle.std.specs.Prelude.{◌≡◌, ◌↔◌, ◌≤◌, ◌<◌, ◌+◌, ℕ, length, not, position, slice_index, All, IsTrue, IfErr, OnOk};
-ghost use Rattle.gsi_word.specs.Words.{IsPrintable};
+ghost use Rattle.gsi_word.specs.Words.{IsLineByte};
 ghost use Rattle.gsi_word.specs.LineFaults.{IsByteFault};
 ghost use Rattle.gsi_word.specs.Layout.{is_printable};
 
@@ -25,7 +25,7 @@ fn is_printable(byte: u8) -> bool
 
 /// Whether all bytes may stand in a line.
 fn are_printable(bytes: &[u8]) -> bool
-    ensures { IsTrue result ↔ All IsPrintable bytes.now }
+    ensures { IsTrue result ↔ All IsLineByte bytes.now }
 {
     if bytes.len() < LANES {
         return has_no_unprintable(bytes);
@@ -36,7 +36,7 @@ fn are_printable(bytes: &[u8]) -> bool
 
 /// The same, in one pass.
 fn has_no_unprintable(bytes: &[u8]) -> bool
-    ensures { IsTrue result ↔ All IsPrintable bytes.now }
+    ensures { IsTrue result ↔ All IsLineByte bytes.now }
 {
     let mut unprintable = false;
     for byte in bytes {
@@ -47,7 +47,7 @@ fn has_no_unprintable(bytes: &[u8]) -> bool
 
 /// Whether all bytes may stand in a line, or the place of the first, from 1, that may not.
 pub fn check_printable(line: &[u8]) -> Result<(), usize>
-    ensures printable { OnOk result (All IsPrintable line.now) }
+    ensures printable { OnOk result (All IsLineByte line.now) }
     ensures fault { IfErr result (IsByteFault line.now) }
 {
     if are_printable(line) {
@@ -73,8 +73,8 @@ pub fn printable_run(bytes: &[u8], at: usize) -> usize
     requires { at + LANES ≤ length bytes.now }
     ensures within { result ≤ LANES }
     ensures printable { (k : ℕ) → at ≤ k → k < at + result
-        → IsPrintable (slice_index bytes.now k) }
-    ensures unprintable { result < LANES → ¬ IsPrintable (slice_index bytes.now (at + result)) }
+        → IsLineByte (slice_index bytes.now k) }
+    ensures unprintable { result < LANES → ¬ IsLineByte (slice_index bytes.now (at + result)) }
 {
     let load = u8x16::from_slice(&bytes[at..]);
     let unprintable = load.simd_lt(u8x16::splat(b' ')) | load.simd_gt(u8x16::splat(b'~'));

@@ -43,7 +43,7 @@ impl<'a> Model for Word<'a> {
 
 impl<'a> Word<'a> {
     ghost use Rattle.std.specs.Prelude.{◌≡◌, ◌<◌, ◌≤◌, ◌+◌, ◌/◌, ◌%◌, length, drop, All, IfOk, ◌⊎◌};
-    ghost use Rattle.gsi_word.specs.Words.{IsGraphic, IsPrintable};
+    ghost use Rattle.gsi_word.specs.Words.{IsGraphic, IsLineByte};
     ghost use Rattle.gsi_word.specs.Names.{name_of};
     ghost use Rattle.gsi_word.specs.Angles.{angle_of};
 
@@ -94,7 +94,7 @@ impl<'a> Word<'a> {
     pub fn content(&self) -> &'a [u8]
         ensures value { result.now ≡ self.now.content }
         ensures width { (length result.now ≡ 8) ⊎ (length result.now ≡ 16) }
-        ensures printable { All IsPrintable result.now }
+        ensures printable { All IsLineByte result.now }
     {
         &self.bytes[CONTENT..]
     }
@@ -106,7 +106,7 @@ impl<'a> Word<'a> {
         ensures value { result.now ≡ name_of self.now.content }
         ensures some_byte { 0 < length result.now }
         ensures short { length result.now ≤ 16 }
-        ensures printable { All IsPrintable result.now }
+        ensures printable { All IsLineByte result.now }
     {
         &self.content()[self.zeros()..]
     }

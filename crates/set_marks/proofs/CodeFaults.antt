@@ -14,7 +14,7 @@ use Rattle.station_book.specs.declared.fault.BookKind.TheVariants as kinds
 use Rattle.station_book.specs.declared.role.Role.{Role}
 use Rattle.station_book.specs.declared.role.Role.TheVariants as roles
 use Rattle.station_book.specs.Limits.{FaceLimits}
-use Rattle.station_book.specs.Blocks.{role_of, is_station, is_set_code, is_close, is_measurement, opens_station, opens_set, closes_set, is_opening, has_direction, has_two, lacks, named, number, found, name_found, angle_fault}
+use Rattle.station_book.specs.Blocks.{role_of, is_station, is_set_code, is_close, is_measurement, opens_station, opens_set, closes_set, is_opening, has_direction, has_two, lacks, named, number, found_in_block, name_found, angle_fault}
 use Rattle.station_book.specs.Places.{History, is_open, is_empty, station}
 use Rattle.station_book.specs.Faults.{when, first_of, end_faults, station_faults, set_faults, reading_faults, faults_as, fault_after, fault_at_end, open_readings, has_one_face, had_sets, has_set_number, is_face_taken}
 use Rattle.station_book.proofs.places.Steps.{set_role, measurement_role}
@@ -65,7 +65,7 @@ named_once founds.Twice name e = cc
 
 has_name : (b : GsiBlock) (name : List ℕ) → named b ≡ Some name → lacks 42 b ≡ false
 unfolding named lacks
-has_name b name e = named_once (found 42 b) name e
+has_name b name e = named_once (found_in_block 42 b) name e
 
 station_role : (b : GsiBlock) → opens_station b ≡ true → role_of b ≡ roles.Station
 station_role b e = by (role_of b) e where

@@ -5,7 +5,7 @@ use Rattle.std.specs.List.{flat_map}
 use Rattle.std.proofs.Math.Seq.{take-suc}
 use Rattle.std.proofs.lemmas.List.{length-drop, length-append, length-replicate, drop-drop, take-append-drop, append-nil, get_or-drop}
 use Rattle.std.proofs.lemmas.List.Elements.{All-head, All-tail, All-cons, All-nil, All-append, All-replicate}
-use Rattle.gsi_word.specs.Words.{GsiWord, IsWord, IsPrintable}
+use Rattle.gsi_word.specs.Words.{GsiWord, IsWord, IsLineByte}
 use Rattle.gsi_word.specs.Blocks.{IsBlock, BeginsBlock}
 use Rattle.gsi_file.specs.Parts.{is_line_end}
 use Rattle.station_book.specs.Blocks.{is_opening, role_of}
@@ -17,7 +17,7 @@ use Rattle.set_marks.specs.Copies.{woven, AreOrdered, IsCodeLine, EndsLine, Cut,
 
 -- A word that is put in is a word.
 is_word : (width index : ℕ) (name : List ℕ) → index < 100 → length name ≤ width
-    → All IsPrintable name → IsWord width (word_of width index name)
+    → All IsLineByte name → IsWord width (word_of width index name)
 is_word width index name small short printable = record {
   index = small;
   info_length = refl;
@@ -25,24 +25,24 @@ is_word width index name small short printable = record {
   content_length = length-append (replicate (width - length name) 48) name
       ∙ ap (λ (n : ℕ). n + length name) (length-replicate (width - length name) 48)
       ∙ omega arith;
-  content = All-append IsPrintable (replicate (width - length name) 48) name
-      (All-replicate IsPrintable (width - length name) 48 (omega arith, omega arith)) printable;
+  content = All-append IsLineByte (replicate (width - length name) 48) name
+      (All-replicate IsLineByte (width - length name) 48 (omega arith, omega arith)) printable;
 }
 
 short_code : (wide : Bool) → 2 ≤ width_of wide
 short_code true = omega arith
 short_code false = omega arith
 
-printable_digits : (n : ℕ) → n < 100 → All IsPrintable (digits n)
-printable_digits n lt = All-cons IsPrintable (48 + n / 10) ((48 + n % 10) ∷ []) (omega arith, omega arith)
-    (All-cons IsPrintable (48 + n % 10) [] (omega arith, omega arith) (All-nil IsPrintable))
+printable_digits : (n : ℕ) → n < 100 → All IsLineByte (digits n)
+printable_digits n lt = All-cons IsLineByte (48 + n / 10) ((48 + n % 10) ∷ []) (omega arith, omega arith)
+    (All-cons IsLineByte (48 + n % 10) [] (omega arith, omega arith) (All-nil IsLineByte))
 
 -- The word of a code.
 code_word : (wide : Bool) (tens : ℕ) → 48 ≤ tens → tens ≤ 57
     → IsWord (width_of wide) (word_of (width_of wide) 41 (tens ∷ 48 ∷ []))
 code_word wide tens low high = is_word (width_of wide) 41 (tens ∷ 48 ∷ []) (omega arith) (short_code wide)
-    (All-cons IsPrintable tens (48 ∷ []) (omega arith, omega arith)
-    (All-cons IsPrintable 48 [] (omega arith, omega arith) (All-nil IsPrintable)))
+    (All-cons IsLineByte tens (48 ∷ []) (omega arith, omega arith)
+    (All-cons IsLineByte 48 [] (omega arith, omega arith) (All-nil IsLineByte)))
 
 two_words : (width : ℕ) (a b : GsiWord) → IsWord width a → IsWord width b
     → All (IsWord width) (a ∷ b ∷ [])

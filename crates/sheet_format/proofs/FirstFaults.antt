@@ -12,7 +12,7 @@ use Rattle.adjust_kernel.specs.declared.row.Orientation.{Orientation}
 use Rattle.adjust_kernel.specs.Sheets.{IsDirection, IsOrientation, IsSheet, SheetValue}
 use Rattle.sheet_format.specs.Drafts.{DraftValue, IsOfDraft, HasParts, blank, header_rows}
 use Rattle.sheet_format.specs.Drafts.{last_of_draft, last_of_header, rows_of_draft, said_by_draft}
-use Rattle.sheet_format.specs.Drafts.{sheet_of, version_of_header, with_row}
+use Rattle.sheet_format.specs.Drafts.{sheet_of_draft, version_of_header, with_row}
 use Rattle.sheet_format.specs.Faults.{Before, IsFirstFaultOfRows, NoFaultBefore, fault_at}
 use Rattle.sheet_format.specs.Faults.{fault_between}
 use Rattle.sheet_format.specs.Faults.{last_row_type, row_fault, said_by}
@@ -140,7 +140,7 @@ finished-sheet d ok some = by d.header refl
         let sets = ok.rows_follow some in
         let targets = ok.sets_follow sets in
         let v = version_of_header d.header in (
-          sheet_of h d,
+          sheet_of_draft h d,
           refl,
           record {
             name = header.0;
@@ -217,11 +217,11 @@ read-whole bytes d s short read parts whole = by d.header refl parts
         let orientations : All (IsOrientationOf h.version) d.orientations =
         subst (λ (o : Option Header). All (IsOrientationOf (version_of_header o))
         d.orientations) e read.draft.orientations in
-        let rows : records_of bytes ≡ rows_of h.version (sheet_of h d) =
+        let rows : records_of bytes ≡ rows_of h.version (sheet_of_draft h d) =
         read.rows ∙ append-nil (rows_of_draft d)
         ∙ ap (λ (o : Option Header). header_rows o
         ++ body_rows d.directions d.orientations d.rows) e in
-        let of_version : IsOfVersion h.version (sheet_of h d) = record {
+        let of_version : IsOfVersion h.version (sheet_of_draft h d) = record {
           denominator = header.2;
           directions = λ k x below. (directions k x below).1;
           orientations = λ k x below. (orientations k x below).1;

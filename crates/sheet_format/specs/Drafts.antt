@@ -69,8 +69,8 @@ abbrev pub rows_of_draft : DraftValue → List (List (List ℕ))
 rows_of_draft d = header_rows d.header ++ body_rows d.directions d.orientations d.rows
 
 -- the sheet of a header and the parts of a draft
-abbrev pub sheet_of : Header → DraftValue → SheetValue
-sheet_of h d = record {
+abbrev pub sheet_of_draft : Header → DraftValue → SheetValue
+sheet_of_draft h d = record {
   name = h.name;
   denominator = h.denominator;
   directions = d.directions;
@@ -81,7 +81,7 @@ sheet_of h d = record {
 -- the sheet is that of this header and the parts of the draft: no sheet, where there is no header
 abbrev pub HasParts : Option Header → DraftValue → SheetValue → Type 0
 HasParts None d s = ⊥
-HasParts (Some h) d s = s ≡ sheet_of h d
+HasParts (Some h) d s = s ≡ sheet_of_draft h d
 
 -- the sheet has the parts of the draft
 abbrev pub IsOfDraft : DraftValue → SheetValue → Type 0

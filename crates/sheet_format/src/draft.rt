@@ -150,7 +150,7 @@ impl Draft {
         ensures faultless { OnOk result
             (faults.row_fault (spec.said_by_draft self.old) (fields_of row.now) ≡ None) }
         ensures taken { OnOk result (self.new ≡ spec.with_row self.old (fields_of row.now)) }
-        ensures err { IfErr result
+        ensures fault { IfErr result
             (λ e. spec.ExplainsRow e
             (faults.row_fault (spec.said_by_draft self.old) (fields_of row.now))) }
     {
@@ -177,7 +177,7 @@ impl Draft {
             (columns_view columns.now) ≡ None) }
         ensures taken { OnOk result
             (self.new ≡ spec.with_columns row_type.Sheet self.old (columns_view columns.now)) }
-        ensures err { IfErr result
+        ensures fault { IfErr result
             (λ e. spec.ExplainsRow e
             (faults.columns_fault (spec.said_by_draft self.old) row_type.Sheet
             (columns_view columns.now))) }
@@ -192,7 +192,7 @@ impl Draft {
             (columns_view columns.now) ≡ None) }
         ensures taken { OnOk result
             (self.new ≡ spec.with_columns row_type.Target self.old (columns_view columns.now)) }
-        ensures err { IfErr result
+        ensures fault { IfErr result
             (λ e. spec.ExplainsRow e
             (faults.columns_fault (spec.said_by_draft self.old) row_type.Target
             (columns_view columns.now))) }
@@ -211,7 +211,7 @@ impl Draft {
             (columns_view columns.now) ≡ None) }
         ensures taken { OnOk result
             (self.new ≡ spec.with_columns row_type.Set self.old (columns_view columns.now)) }
-        ensures err { IfErr result
+        ensures fault { IfErr result
             (λ e. spec.ExplainsRow e
             (faults.columns_fault (spec.said_by_draft self.old) row_type.Set
             (columns_view columns.now))) }
@@ -230,7 +230,7 @@ impl Draft {
             (columns_view columns.now) ≡ None) }
         ensures taken { OnOk result
             (self.new ≡ spec.with_columns row_type.Obs self.old (columns_view columns.now)) }
-        ensures err { IfErr result
+        ensures fault { IfErr result
             (λ e. spec.ExplainsRow e
             (faults.columns_fault (spec.said_by_draft self.old) row_type.Obs
             (columns_view columns.now))) }

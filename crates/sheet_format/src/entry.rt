@@ -91,7 +91,7 @@ pub(crate) fn header_of(columns: &Columns<'_>) -> Result<Header, RowKind>
     ensures faultless { OnOk result (faults.sheet_row_fault (columns_view columns.now) ≡ None) }
     ensures value { IfOk result (λ header. header ≡ spec.header_of (columns_view columns.now)) }
     ensures valid { IfOk result spec.IsHeader }
-    ensures err { IfErr result
+    ensures fault { IfErr result
         (λ kind. faults.sheet_row_fault (columns_view columns.now) ≡ Some kind) }
 {
     let version = Version::parse(columns.number).ok_or(RowKind::Version)?;
@@ -117,7 +117,7 @@ pub(crate) fn direction_of(columns: &Columns<'_>, version: Version) -> Result<Di
     ensures value { IfOk result
         (λ direction. direction ≡ spec.direction_of (columns_view columns.now)) }
     ensures valid { IfOk result IsDirection }
-    ensures err { IfErr result
+    ensures fault { IfErr result
         (λ kind. faults.target_fault version (columns_view columns.now) ≡ Some kind) }
 {
     if !columns.number.is_empty() || !columns.turn.is_empty() {
@@ -138,7 +138,7 @@ pub(crate) fn orientation_of(
     ensures value { IfOk result
         (λ orientation. orientation ≡ spec.orientation_of (columns_view columns.now)) }
     ensures valid { IfOk result IsOrientation }
-    ensures err { IfErr result
+    ensures fault { IfErr result
         (λ kind. faults.set_fault version (columns_view columns.now) ≡ Some kind) }
 {
     if !columns.name.is_empty() || !columns.turn.is_empty() {
@@ -156,7 +156,7 @@ pub(crate) fn obs_row_of(columns: &Columns<'_>) -> Result<Row, RowKind>
     ensures faultless { OnOk result (faults.obs_fault (columns_view columns.now) ≡ None) }
     ensures value { IfOk result (λ row. row ≡ spec.obs_row_of (columns_view columns.now)) }
     ensures valid { IfOk result IsRow }
-    ensures err { IfErr result (λ kind. faults.obs_fault (columns_view columns.now) ≡ Some kind) }
+    ensures fault { IfErr result (λ kind. faults.obs_fault (columns_view columns.now) ≡ Some kind) }
 {
     let target = name_of(columns.name).ok_or(RowKind::Name)?;
     let number = Numeral::parse(columns.number).ok_or(RowKind::Number)?;

@@ -21,7 +21,7 @@ use std::io::Write;
 pub(crate) fn sheet_text(alloc: Global, sheet: &Sheet) -> Result<Vec<u8>, WriteFault>
     ensures text { IfOk result (λ text. text.items ≡ spec.sheet_text sheet.now) }
     ensures valid { IsSheet sheet.now }
-    ensures err { IfErr result (λ fault. fault ≡ Memory) }
+    ensures fault { IfErr result (λ fault. fault ≡ Memory) }
 {
     let mut writer = WriterBuilder::new().from_writer(Vec::new(alloc));
     push_sheet(&mut writer, sheet)?;

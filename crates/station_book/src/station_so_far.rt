@@ -99,7 +99,7 @@ impl StationSoFar {
         requires new { list_any (λ m. m == number) self.old.sets ≡ false }
         requires number { IsSetNumber number }
         ensures ok { OnOk result (self.new ≡ with_set number self.old) }
-        ensures err { OnErr result (self.new ≡ self.old) }
+        ensures unchanged { OnErr result (self.new ≡ self.old) }
     {
         self.sets.reserve(1)?;
         let last = self.sets.len() as u32 - 1;
@@ -117,7 +117,7 @@ impl StationSoFar {
         ensures ok { OnOk result (self.new ≡ with_reading reading self.old) }
         ensures fault { IfErr result
             (λ kind. first_of (state_faults limits self.old reading) ≡ Some kind) }
-        ensures err { OnErr result (self.new ≡ self.old) }
+        ensures unchanged { OnErr result (self.new ≡ self.old) }
     {
         let Reading {
             target,

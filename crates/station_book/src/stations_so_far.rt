@@ -114,7 +114,7 @@ impl StationsSoFar {
         requires new { is_known name self.old ≡ false }
         requires number { IsSetNumber number }
         ensures ok { OnOk result (self.new ≡ with_station name number self.old) }
-        ensures err { OnErr result (self.new ≡ self.old) }
+        ensures unchanged { OnErr result (self.new ≡ self.old) }
     {
         match &mut self.last {
             None => {
@@ -139,7 +139,7 @@ impl StationsSoFar {
         requires new { list_any (λ m. m == number) (last_of self.old).sets ≡ false }
         requires number { IsSetNumber number }
         ensures ok { OnOk result (self.new ≡ change_last (with_set number) self.old) }
-        ensures err { OnErr result (self.new ≡ self.old) }
+        ensures unchanged { OnErr result (self.new ≡ self.old) }
     {
         match &mut self.last {
             Some((_, station)) => station.add_set(number),
@@ -154,7 +154,7 @@ impl StationsSoFar {
         ensures clean { OnOk result (first_of (first_set_faults name self.old) ≡ None) }
         ensures ok { OnOk result (self.new ≡ with_station name number self.old) }
         ensures fault { IfErr result (ExplainsRefusal (first_of (first_set_faults name self.old))) }
-        ensures err { OnErr result (self.new ≡ self.old) }
+        ensures unchanged { OnErr result (self.new ≡ self.old) }
     {
         if self.knows(name) {
             return Err(Refusal::Kind(BookKind::StationTwice));
@@ -175,7 +175,7 @@ impl StationsSoFar {
         ensures ok { OnOk result (self.new ≡ change_last (with_set number) self.old) }
         ensures fault { IfErr result
             (ExplainsRefusal (first_of (more_set_faults (last_of self.old) number))) }
-        ensures err { OnErr result (self.new ≡ self.old) }
+        ensures unchanged { OnErr result (self.new ≡ self.old) }
     {
         if let Some(kind) = self.last().set_fault(number) {
             return Err(Refusal::Kind(kind));
@@ -194,7 +194,7 @@ impl StationsSoFar {
         ensures ok { OnOk result (self.new ≡ change_last (with_reading reading) self.old) }
         ensures fault { IfErr result
             (λ kind. first_of (state_faults limits (last_of self.old) reading) ≡ Some kind) }
-        ensures err { OnErr result (self.new ≡ self.old) }
+        ensures unchanged { OnErr result (self.new ≡ self.old) }
     {
         match &mut self.last {
             Some((_, station)) => station.take_reading(limits, reading),

@@ -122,7 +122,7 @@ impl Targets {
         ensures targets { IfOk result (λ place. self.new ≡ with_first place name first self.old) }
         ensures absent { OnErr result (place_of name self.old.names ≡ None) }
         ensures fault { IfErr result (λ kind. new_target_fault self.old.names ≡ Some kind) }
-        ensures err { OnErr result (self.new ≡ self.old) }
+        ensures unchanged { OnErr result (self.new ≡ self.old) }
     {
         let count = self.slots.len();
         if count >= MOST_TARGETS {
@@ -159,7 +159,7 @@ impl Targets {
             ≡ with_first place name (with_face_reading face angles empty_slot) self.old) }
         ensures absent { OnErr result (place_of name self.old.names ≡ None) }
         ensures fault { IfErr result (λ kind. new_target_fault self.old.names ≡ Some kind) }
-        ensures err { OnErr result (self.new ≡ self.old) }
+        ensures unchanged { OnErr result (self.new ≡ self.old) }
     {
         if let Some(place) = self.place_beside(&name, face) {
             return Ok(Some(place));

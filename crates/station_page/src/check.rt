@@ -62,7 +62,7 @@ struct BeyondLimits;
 fn residual_limit(is_stated: bool, residual: u32) -> Result<Option<ResidualLimit>, BeyondLimits>
     ensures ok { IfOk result (λ limit. limit ≡ residual_limit is_stated residual) }
     ensures valid { IfOk result (λ _. IsResidualLimit is_stated residual) }
-    ensures err { IfErr result (λ _. IsResidualLimit is_stated residual → ⊥) }
+    ensures invalid { IfErr result (λ _. IsResidualLimit is_stated residual → ⊥) }
 {
     if !is_stated {
         return Ok(None);

@@ -96,7 +96,7 @@ struct NoName;
 fn stated_name(name: &[u8]) -> Result<Option<Name>, NoName>
     ensures ok { IfOk result (λ station. station ≡ stated_name name.now) }
     ensures valid { IfOk result (λ _. MayBeStated name.now) }
-    ensures err { IfErr result (λ _. MayBeStated name.now → ⊥) }
+    ensures invalid { IfErr result (λ _. MayBeStated name.now → ⊥) }
 {
     if name.is_empty() {
         return Ok(None);

@@ -21,7 +21,7 @@ pub(crate) fn write_recorded<W: Sink>(
     ensures ok { OnOk result (Appends (W.holds out.old) (W.holds out.new)
         (recorded_text line.now gsi.now gsi_name.now other.now other_name.now)) }
     ensures handed_on { OnOk result (W.handed_on out.new ≡ true) }
-    ensures err { OnErr result (AppendsSome (W.holds out.old) (W.holds out.new)
+    ensures cut_short { OnErr result (AppendsSome (W.holds out.old) (W.holds out.new)
         (recorded_text line.now gsi.now gsi_name.now other.now other_name.now)) }
 {
     out.write_all(line)?;

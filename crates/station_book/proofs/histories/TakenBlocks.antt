@@ -15,7 +15,7 @@ use Rattle.station_book.specs.declared.stage.Stage.TheVariants.{Outside, Station
 use Rattle.station_book.specs.Faults.{station_faults, when, first_of, open_sets, fault_after, name_at}
 use Rattle.station_book.specs.State.{then_fault}
 use Rattle.gsi_word.specs.FoundWords.{is_absent, is_twice}
-use Rattle.station_book.specs.Blocks.{role_of, is_station, is_set_code, is_close, is_measurement, opens_station, opens_set, is_opening, has_direction, named, number, angles, is_of_face, other_face, found, name_found, has_two, lacks}
+use Rattle.station_book.specs.Blocks.{role_of, is_station, is_set_code, is_close, is_measurement, opens_station, opens_set, is_opening, has_direction, named, number, angles, is_of_face, other_face, found_in_block, name_found, has_two, lacks}
 use Rattle.station_book.specs.StationState.{with_set, with_reading}
 use Rattle.station_book.specs.StationStates.{StationStates, change_last}
 use Rattle.station_book.specs.State as states
@@ -89,7 +89,7 @@ name_found_in f e = absurd cc
 name_of_station : (b : GsiBlock) → first_of (station_faults b) ≡ None
     → (name : List ℕ) × (named b ≡ Some name)
 unfolding has_two lacks named
-name_of_station b e = name_found_in (found 42 b) e
+name_of_station b e = name_found_in (found_in_block 42 b) e
 
 -- a further set of the last station
 further_taken : (so_far : StationStates) (b : GsiBlock) (past : History) (n : ℕ)

@@ -12,7 +12,7 @@ use Rattle.std.specs.Prelude.{slice_index}
 use Rattle.station_book.specs.declared.face.Face.TheVariants as faces
 use Rattle.station_book.specs.Limits.{FaceLimits}
 use Rattle.station_book.specs.TwoFaces.{Angles, AreOnCircle}
-use Rattle.station_book.specs.Blocks.{found, angle_found, angle_or_zero, angles, target, is_of_face}
+use Rattle.station_book.specs.Blocks.{found_in_block, angle_found, angle_or_zero, angles, target, is_of_face}
 use Rattle.station_book.specs.StateOfHistory.{in_set}
 use Rattle.station_book.specs.Places.{History, Place, places, before, station, opening, is_same, is_reading, reading_in, station_readings}
 use Rattle.station_book.specs.Faults.{face, has_no_two_c, has_no_two_i, open_readings, angles_at, IsWithoutFault}
@@ -48,7 +48,7 @@ found_below Twice = omega arith
 -- what a block reads is on the circle
 pub angles_on_circle : (b : GsiBlock) → AreOnCircle (angles b)
 unfolding angles
-angles_on_circle b = record { hz = found_below (found 21 b); zenith = found_below (found 22 b) }
+angles_on_circle b = record { hz = found_below (found_in_block 21 b); zenith = found_below (found_in_block 22 b) }
 
 -- What is read at a place is on the circle.
 pub place_on_circle : (r : Place) → AreOnCircle (angles_at r)

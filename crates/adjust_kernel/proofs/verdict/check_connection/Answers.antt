@@ -4,8 +4,8 @@ use Rattle.adjust_kernel.specs.Verdict.{observations}
 use Rattle.adjust_kernel.proofs.VerdictLaws.{connection_fault}
 use Rattle.adjust_kernel.proofs.verdict.check_connection.Goals as goal
 
-pub returns-clause-err : goal.returns-clause-err
-returns-clause-err c =
+pub returns-clause-fault : goal.returns-clause-fault
+returns-clause-fault c =
     let station = c.args.station.now in
     let sheet = c.args.sheet.now in
     let divided : IsDivided (length station.sets) (length station.targets)

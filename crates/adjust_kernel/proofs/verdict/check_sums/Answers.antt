@@ -3,8 +3,8 @@ use Rattle.adjust_kernel.specs.Verdict.{observations}
 use Rattle.adjust_kernel.proofs.VerdictLaws.{target_sum_fault, set_sum_fault}
 use Rattle.adjust_kernel.proofs.verdict.check_sums.Goals as goal
 
-pub returns-in-Some-clause-err : goal.returns-in-Some-clause-err
-returns-in-Some-clause-err g c =
+pub returns-in-Some-clause-fault : goal.returns-in-Some-clause-fault
+returns-in-Some-clause-fault g c =
     let station = c.args.station.now in
     let sheet = c.args.sheet.now in
     let added = rw c.obs.ensures.value at c.add_residuals-tally.ensures.sums in
@@ -13,8 +13,8 @@ returns-in-Some-clause-err g c =
     target_sum_fault station sheet c.in-Some.target c.requires.matches
     (rw (← c.targets.ensures.value) first)
 
-pub returns-in-Some-first_uneven_set-clause-err : goal.returns-in-Some-first_uneven_set-clause-err
-returns-in-Some-first_uneven_set-clause-err g c =
+pub returns-in-Some-first_uneven_set-clause-fault : goal.returns-in-Some-first_uneven_set-clause-fault
+returns-in-Some-first_uneven_set-clause-fault g c =
     let station = c.args.station.now in
     let sheet = c.args.sheet.now in
     let added = rw c.obs.ensures.value at c.add_residuals-tally.ensures.sums in

@@ -4,31 +4,31 @@ use Rattle.byte_digests.specs.DigestLines.{escaped, mark_of, digits_of}
 use Rattle.byte_digests.proofs.Written.{in_any_case, so_ok, so_err, some_of_longer, then_some}
 use Rattle.byte_digests.proofs.digest_line.write_digest_line.Goals as goal
 
-pub returns-in_err-write_mark-clause-err : goal.returns-in_err-write_mark-clause-err
-returns-in_err-write_mark-clause-err g c =
+pub returns-in_err-write_mark-clause-cut_short : goal.returns-in_err-write_mark-clause-cut_short
+returns-in_err-write_mark-clause-cut_short g c =
     in_any_case c.from_residual.result
-    (some_of_longer _ _ (mark_of c.args.name.now) _ c.in_err-write_mark.ensures.err)
+    (some_of_longer _ _ (mark_of c.args.name.now) _ c.in_err-write_mark.ensures.cut_short)
 
-pub returns-in_err-write_digits-clause-err : goal.returns-in_err-write_digits-clause-err
-returns-in_err-write_digits-clause-err g c =
+pub returns-in_err-write_digits-clause-cut_short : goal.returns-in_err-write_digits-clause-cut_short
+returns-in_err-write_digits-clause-cut_short g c =
     in_any_case c.from_residual-in_err-write_digits.result
     (then_some _ _ _ (mark_of c.args.name.now) _ c.in_ok-write_mark.ensures.ok
-    (some_of_longer _ _ (digits_of c.args.digest.now) _ c.in_err-write_digits.ensures.err))
+    (some_of_longer _ _ (digits_of c.args.digest.now) _ c.in_err-write_digits.ensures.cut_short))
 
-pub returns-in_err-write_name-clause-err : goal.returns-in_err-write_name-clause-err
-returns-in_err-write_name-clause-err g c =
+pub returns-in_err-write_name-clause-cut_short : goal.returns-in_err-write_name-clause-cut_short
+returns-in_err-write_name-clause-cut_short g c =
     in_any_case c.from_residual-in_err-write_name.result
     (then_some _ _ _ (mark_of c.args.name.now) _ c.in_ok-write_mark.ensures.ok
     (then_some _ _ _ (digits_of c.args.digest.now) _ c.in_ok-write_digits.ensures.ok
-    (some_of_longer _ _ (flat_map escaped c.args.name.now) _ c.in_err-write_name.ensures.err)))
+    (some_of_longer _ _ (flat_map escaped c.args.name.now) _ c.in_err-write_name.ensures.cut_short)))
 
-pub returns-clause-err : goal.returns-clause-err
-returns-clause-err g c =
+pub returns-clause-cut_short : goal.returns-clause-cut_short
+returns-clause-cut_short g c =
     so_err c.write_all.result
     (λ last. then_some _ _ _ (mark_of c.args.name.now) _ c.in_ok-write_mark.ensures.ok
     (then_some _ _ _ (digits_of c.args.digest.now) _ c.in_ok-write_digits.ensures.ok
     (then_some _ _ _ (flat_map escaped c.args.name.now) _ c.in_ok-write_name.ensures.ok last)))
-    c.write_all.ensures.err
+    c.write_all.ensures.cut_short
 
 pub returns-clause-ok : goal.returns-clause-ok
 returns-clause-ok g c =

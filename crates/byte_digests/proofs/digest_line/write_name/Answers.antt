@@ -17,14 +17,14 @@ returns-then-not-has_escapes-clause-ok g c =
     (g.W.Sink.holds c.args.writer.now) (g.W.Sink.holds c.write_all.new.self) text))
     (sym same) c.write_all.ensures.ok
 
-pub returns-then-not-has_escapes-clause-err : goal.returns-then-not-has_escapes-clause-err
-returns-then-not-has_escapes-clause-err g c =
+pub returns-then-not-has_escapes-clause-cut_short : goal.returns-then-not-has_escapes-clause-cut_short
+returns-then-not-has_escapes-clause-cut_short g c =
     let plain : list_any is_escaped c.args.name.now ≡ false = search rules in
     let same : flat_map escaped c.args.name.now ≡ c.args.name.now =
     plain_name c.args.name.now plain in
     subst (λ (text : List ℕ). OnErr c.write_all.result (AppendsSome
     (g.W.Sink.holds c.args.writer.now) (g.W.Sink.holds c.write_all.new.self) text))
-    (sym same) c.write_all.ensures.err
+    (sym same) c.write_all.ensures.cut_short
 
 pub name-init : goal.name-init
 name-init g c = record { text = partly_none _ _; failed = refl }
@@ -40,11 +40,11 @@ name-preserved g c =
       failed = c.in_ok-write_byte.ensures.failed ∙ c.name.invariant.failed;
     }
 
-pub returns-in_err-write_byte-clause-err : goal.returns-in_err-write_byte-clause-err
-returns-in_err-write_byte-clause-err g c =
+pub returns-in_err-write_byte-clause-cut_short : goal.returns-in_err-write_byte-clause-cut_short
+returns-in_err-write_byte-clause-cut_short g c =
     let name = c.args.name.now in
     let i = c.name.byte-index in
     let inside : i < length name = search rules in
     in_any_case c.from_residual.result
     (partly_some _ _ (escaped (slice_index name i)) _ _ _ _ c.name.invariant.text
-    c.in_err-write_byte.ensures.err (next_byte name i inside))
+    c.in_err-write_byte.ensures.cut_short (next_byte name i inside))

@@ -12,8 +12,8 @@ use Rattle.direction_table.proofs.RowsTaken.{faultless, kept}
 use Rattle.direction_table.proofs.RowsTaken.{lifted, none-there, some-there, taken, twice}
 use Rattle.direction_table.proofs.draft.take_row.Goals as goal
 
-pub returns-in_err-columns-clause-err : goal.returns-in_err-columns-clause-err
-returns-in_err-columns-clause-err c =
+pub returns-in_err-columns-clause-fault : goal.returns-in_err-columns-clause-fault
+returns-in_err-columns-clause-fault c =
     let none = sym c.of.ensures
     ∙ ap (λ (o : Option Columns). option_map columns_view o) c.in_err-columns.ensures.ok_part in
     let fields = rw c.in_err-columns.ensures.ok_part at c.in_err-columns.ensures.value in
@@ -21,19 +21,19 @@ returns-in_err-columns-clause-err c =
     (λ k h before same. columns-refused c.args.targets.now before
     (tidy c.args.targets.now (fields_of c.args.row.now)) none ∙ (cc))
 
-pub returns-in_err-entry-clause-err : goal.returns-in_err-entry-clause-err
-returns-in_err-entry-clause-err c =
+pub returns-in_err-entry-clause-fault : goal.returns-in_err-entry-clause-fault
+returns-in_err-entry-clause-fault c =
     let columns : columns_of (tidy c.args.targets.now (fields_of c.args.row.now))
     ≡ Some (columns_view c.in_ok-columns.columns) = sym c.of.ensures
     ∙ ap (λ (o : Option Columns). option_map columns_view o) c.in_ok-columns.ensures.ok_part in
     lifted c.from_residual-in_err-entry.result _ _ c.from_residual-in_err-entry.ensures.1
     (λ k h before same. entry-refused c.args.targets.now before
     (tidy c.args.targets.now (fields_of c.args.row.now))
-    (columns_view c.in_ok-columns.columns) k columns (c.in_err-entry.ensures.err
+    (columns_view c.in_ok-columns.columns) k columns (c.in_err-entry.ensures.fault
     ∙ ap (λ x. Some x) (sym h)))
 
-pub returns-then-is_some-clause-err : goal.returns-then-is_some-clause-err
-returns-then-is_some-clause-err c before same =
+pub returns-then-is_some-clause-fault : goal.returns-then-is_some-clause-fault
+returns-then-is_some-clause-fault c before same =
     let columns = sym c.of.ensures
     ∙ ap (λ (o : Option Columns). option_map columns_view o) c.in_ok-columns.ensures.ok_part in
     let t : Taken c.args.targets.now

@@ -206,7 +206,7 @@ returns-in-Err-clause-fault c =
       refl,
       read-fault targets all c.rows.directions.items c.rows.decimals c.rows.number row rest
           c.in-Err.kind here stating
-          (λ before same. c.in-Err.ensures.err before (was ∙ same)),
+          (λ before same. c.in-Err.ensures.fault before (was ∙ same)),
     )
 
 pub rows-smaller-then-begins_with_titles : goal.rows-smaller-then-begins_with_titles

@@ -68,7 +68,7 @@ returns-in-Err-Fault-clause-fault c =
     let rest = records_from default_config m c.read_byte_record.new.self.state z in
     let here = subst (HasRead (records_of c.args.bytes.now) c.rows.draft) {y = row ∷ rest} more
     read in
-    let refused = rw c.in-Err-Fault.is at c.take_row.ensures.err in
+    let refused = rw c.in-Err-Fault.is at c.take_row.ensures.fault in
     let found = read-fault (records_of c.args.bytes.now) c.rows.draft row rest c.in-Err-Fault.kind
     here (rw c.in-Err-Fault.field-0-is at refused) in
     rw (c.taken-number.ensures, c.in-Err-Fault.kind-is) (inl (c.requires, _, refl, found))

@@ -23,10 +23,10 @@ stations-preserved g c =
           (sym c.at.ensures ∙ ap option_copied w.in_default.is))
     ]
 
-pub returns-in_err-print_surveyed-clause-err : goal.returns-in_err-print_surveyed-clause-err
-returns-in_err-print_surveyed-clause-err g c =
+pub returns-in_err-print_surveyed-clause-cut_short : goal.returns-in_err-print_surveyed-clause-cut_short
+returns-in_err-print_surveyed-clause-cut_short g c =
     let stations = c.args.stations.now in
     let here = next_one surveyed_text stations c.stations.place c.in-Some.surveyed.now
     (sym c.at.ensures ∙ ap option_copied c.in-Some.is) in
     in_any_case c.from_residual.result (partway_then_some _ _ _ _ _ _ _ _ _
-    c.stations.invariant.text c.in_err-print_surveyed.ensures.err here)
+    c.stations.invariant.text c.in_err-print_surveyed.ensures.cut_short here)

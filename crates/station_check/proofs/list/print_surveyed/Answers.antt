@@ -7,16 +7,16 @@ use Rattle.station_check.proofs.Partway.{in_any_case, partway_none, partway_more
 use Rattle.station_check.proofs.Partway.{partway_all}
 use Rattle.station_check.proofs.list.print_surveyed.Goals as goal
 
-pub returns-in_err-make_room-clause-err : goal.returns-in_err-make_room-clause-err
-returns-in_err-make_room-clause-err g c =
+pub returns-in_err-make_room-clause-cut_short : goal.returns-in_err-make_room-clause-cut_short
+returns-in_err-make_room-clause-cut_short g c =
     in_any_case c.from_residual.result
     (partway_some _ _ _ _ _ _ _
-    (partway_none (surveyed_text c.args.surveyed.now) _ _) c.in_err-make_room.ensures.err)
+    (partway_none (surveyed_text c.args.surveyed.now) _ _) c.in_err-make_room.ensures.cut_short)
 
-pub returns-in_err-make_room-2-clause-err : goal.returns-in_err-make_room-2-clause-err
-returns-in_err-make_room-2-clause-err g c =
+pub returns-in_err-make_room-2-clause-cut_short : goal.returns-in_err-make_room-2-clause-cut_short
+returns-in_err-make_room-2-clause-cut_short g c =
     in_any_case c.from_residual-in_err-make_room-2.result
-    (partway_some _ _ _ _ _ _ _ c.observations.invariant.text c.in_err-make_room-2.ensures.err)
+    (partway_some _ _ _ _ _ _ _ c.observations.invariant.text c.in_err-make_room-2.ensures.cut_short)
 
 pub observations-preserved : goal.observations-preserved
 observations-preserved g c =

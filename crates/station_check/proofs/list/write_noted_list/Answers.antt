@@ -76,7 +76,7 @@ returns-in_err-write_stations g c =
                   };
                   text_is = refl;
                 },
-                c.in_err-write_stations.ensures.err,
+                c.in_err-write_stations.ensures.cut_short,
               ));
           left = read.left;
         };

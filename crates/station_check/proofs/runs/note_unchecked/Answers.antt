@@ -14,4 +14,4 @@ returns-then-unchecked-ne0-clause-note g c =
     told_of_some c.args.unchecked err c.if-unchecked-ne0.true
     (subst (λ (line : List ℕ). WritesOrFails line err) text
     (written_or_failed c.as_slice.result.now err c.write_all.result c.write_all.ensures.failed
-    c.write_all.ensures.ok c.write_all.ensures.err))
+    c.write_all.ensures.ok c.write_all.ensures.cut_short))

@@ -12,4 +12,4 @@ returns-clause-line g c =
     c.write_all.new.self in
     subst (λ (line : List ℕ). WritesOrFails line err) text
     (written_or_failed c.as_slice.result.now err c.write_all.result c.write_all.ensures.failed
-    c.write_all.ensures.ok c.write_all.ensures.err)
+    c.write_all.ensures.ok c.write_all.ensures.cut_short)

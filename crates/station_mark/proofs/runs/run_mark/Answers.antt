@@ -83,7 +83,7 @@ returns g c = (
       printed = (
         refl,
         record {
-          got = rw c.deref-2.ensures.value at c.in-Err-write_whole.ensures.err;
+          got = rw c.deref-2.ensures.value at c.in-Err-write_whole.ensures.cut_short;
           call_failed = c.in-Err-write_whole.ensures.failed;
         },
       );

@@ -7,4 +7,4 @@ returns-clause-notes g c =
     let err = writer_change g.E.Sink.failed g.E.Sink.holds g.E.Sink.handed_on c.args.err.now
     c.write_all.new.self in
     written_or_failed c.args.notes.now err c.write_all.result c.write_all.ensures.failed
-    c.write_all.ensures.ok c.write_all.ensures.err
+    c.write_all.ensures.ok c.write_all.ensures.cut_short

@@ -8,25 +8,25 @@ use Rattle.station_record.proofs.Alike.{always_ok}
 use Rattle.station_record.specs.Recorded.{recorded_text}
 use Rattle.station_record.proofs.lines.write_recorded.Goals as goal
 
-pub returns-in_err-write_all-clause-err : goal.returns-in_err-write_all-clause-err
-returns-in_err-write_all-clause-err g c =
+pub returns-in_err-write_all-clause-cut_short : goal.returns-in_err-write_all-clause-cut_short
+returns-in_err-write_all-clause-cut_short g c =
     in_any_case c.from_residual.result
-    (some_of_longer _ _ c.args.line.now _ c.in_err-write_all.ensures.err)
+    (some_of_longer _ _ c.args.line.now _ c.in_err-write_all.ensures.cut_short)
 
-pub returns-in_err-write_digest_line-clause-err : goal.returns-in_err-write_digest_line-clause-err
-returns-in_err-write_digest_line-clause-err g c =
+pub returns-in_err-write_digest_line-clause-cut_short : goal.returns-in_err-write_digest_line-clause-cut_short
+returns-in_err-write_digest_line-clause-cut_short g c =
     in_any_case c.from_residual-in_err-write_digest_line.result
     (then_some _ _ _ c.args.line.now _ c.in_ok-write_all.ensures.ok
     (some_of_longer _ _ (digest_line c.args.gsi.now c.args.gsi_name.now) _
-    c.in_err-write_digest_line.ensures.err))
+    c.in_err-write_digest_line.ensures.cut_short))
 
-pub returns-in_err-write_digest_line-2-clause-err :
-    goal.returns-in_err-write_digest_line-2-clause-err
-returns-in_err-write_digest_line-2-clause-err g c =
+pub returns-in_err-write_digest_line-2-clause-cut_short :
+    goal.returns-in_err-write_digest_line-2-clause-cut_short
+returns-in_err-write_digest_line-2-clause-cut_short g c =
     in_any_case c.from_residual-in_err-write_digest_line-2.result
     (then_some _ _ _ c.args.line.now _ c.in_ok-write_all.ensures.ok
     (then_some _ _ _ (digest_line c.args.gsi.now c.args.gsi_name.now) _
-    c.in_ok-write_digest_line.ensures.ok c.in_err-write_digest_line-2.ensures.err))
+    c.in_ok-write_digest_line.ensures.ok c.in_err-write_digest_line-2.ensures.cut_short))
 
 pub returns-clause-ok : goal.returns-clause-ok
 returns-clause-ok g c =
@@ -38,8 +38,8 @@ returns-clause-ok g c =
     (Appends-trans _ _ _ (digest_line c.args.gsi.now c.args.gsi_name.now) _
     c.in_ok-write_digest_line.ensures.ok c.in_ok-write_digest_line-2.ensures.ok)))
 
-pub returns-clause-err : goal.returns-clause-err
-returns-clause-err g c =
+pub returns-clause-cut_short : goal.returns-clause-cut_short
+returns-clause-cut_short g c =
     in_any_case c.flush.result
     (some_of_all _ _ _ _
     (Appends-trans _ _ _ c.args.line.now _ c.in_ok-write_all.ensures.ok
