@@ -1,11 +1,11 @@
 #!/usr/bin/env python3
-"""Draws the residuals of an accepted sheet on one page: an SVG picture, in mgon.
+"""Draws the residuals of a station on one page: an SVG picture, in mgon.
 
-    station_check check FIELD.gsi SHEET.csv | python3 residuals.py SHEET.csv > PICTURE.svg
+    station_check residuals FIELD.gsi STATION | python3 residuals.py STATION > PICTURE.svg
 
-Each set has a column and each target a row. The line of the acceptance stands in the picture, and
-is compared with the sheet first, so that a refused sheet has no picture. The standard deviation is
-computed here alone: station_check says nothing of it.
+Each set has a column and each target a row. The residuals are those that station_check prints, and
+nothing is drawn where it prints none. The standard deviation is computed here alone, of residuals
+with 3 decimals: station_check says nothing of it.
 
 Python 3.10 or later is all it needs.
 """
@@ -23,13 +23,9 @@ from xml.sax.saxutils import escape
 # The name by which this script was called, for what it says.
 SCRIPT = Path(sys.argv[0]).name
 
-# A full circle in half units, and a half unit in mgon.
-TURN = 80_000_000
-MGON = Fraction(5, 1_000)
-
-ACCEPTED = re.compile(
-    r"accepted (.*): (\d+) sets, (\d+) targets, (\d+) directions, greatest residual (\d+)/(\d+)"
-)
+# What station_check prints: its row of titles, and a residual in mgon.
+TITLES = ["set", "target", "direction", "adjusted", "residual"]
+IN_MGON = re.compile(r"-?[0-9]+\.[0-9]{3}")
 
 # The page, in millimetres: A4, or less of it where less is needed.
 PAGE, TALLEST, MARGIN = 210, 297, 12
@@ -54,13 +50,13 @@ class CannotDraw(Exception):
     """Why there is no picture."""
 
 
-class Sheet(NamedTuple):
-    """A sheet: its residuals in mgon, by set and target."""
+class Station(NamedTuple):
+    """A station: its residuals in mgon, by set and target."""
 
+    name: str
     targets: list
     sets: list
     residuals: dict
-    summary: tuple  # what the line of its acceptance must say
 
     def greatest(self):
         """The greatest size of a residual."""
@@ -82,38 +78,24 @@ class Sheet(NamedTuple):
         return math.sqrt(squares / self.degrees_of_freedom())
 
 
-# ---------------------------------------------------------------- the sheet
+# ---------------------------------------------------------------- the residuals
 
 
-def read_sheet(path):
-    """The residuals of the sheet at a path."""
-    with open(path, encoding="utf-8-sig", errors="replace", newline="") as file:
-        rows = [row for row in csv.reader(file) if row]
-    try:
-        _, _, name, denominator, _ = rows[0]
-        directions = {row[2]: int(row[3]) for row in rows if row[0] == "target"}
-        orientations = {int(row[1]): int(row[3]) for row in rows if row[0] == "set"}
-        scaled, denominator = {}, int(denominator)
-        for _, number, target, p, turns in (row for row in rows if row[0] == "obs"):
-            value = denominator * (int(p) + TURN * int(turns))
-            place = int(number), target
-            scaled[place] = directions[target] - orientations[place[0]] - value
-        greatest = max(map(abs, scaled.values()))
-    except (IndexError, KeyError, ValueError):
-        raise CannotDraw(f"{path} is no sheet that was accepted") from None
-    counts = len(orientations), len(directions), len(scaled)
-    residuals = {place: v * MGON / denominator for place, v in scaled.items()}
-    summary = name, *counts, greatest, denominator
-    return Sheet(list(directions), list(orientations), residuals, summary)
+def is_observation(row):
+    """Whether a row may be that of an observation."""
+    return len(row) == len(TITLES) and IN_MGON.fullmatch(row[-1])
 
 
-def compare(line, sheet):
-    """Stops unless the line is the acceptance of this sheet."""
-    found = ACCEPTED.fullmatch(line)
-    if not found:
-        raise CannotDraw("standard input has no line of an acceptance: nothing is drawn")
-    if (found[1], *map(int, found.groups()[1:])) != sheet.summary:
-        raise CannotDraw(f"this is the line of another sheet: {line}")
+def read_station(name, lines):
+    """The station of this name, of which these lines are what station_check printed."""
+    titles, *rows = [row for row in csv.reader(lines) if row] or [[]]
+    if not rows:
+        raise CannotDraw("standard input has no residuals: nothing is drawn")
+    residuals = {tuple(row[:2]): Fraction(row[-1]) for row in rows if is_observation(row)}
+    if titles != TITLES or len(residuals) < len(rows):
+        raise CannotDraw("standard input is not what 'station_check residuals' prints")
+    sets, targets = (list(dict.fromkeys(part)) for part in zip(*residuals))
+    return Station(name, targets, sets, residuals)
 
 
 # ---------------------------------------------------------------- the picture
@@ -164,17 +146,17 @@ def round_above(value):
 class Page:
     """Where things stand on the page, in millimetres."""
 
-    def __init__(self, sheet):
-        self.row = min(HIGHEST_ROW, (TALLEST - HEAD - AXIS - FOOT) / len(sheet.targets))
+    def __init__(self, station):
+        self.row = min(HIGHEST_ROW, (TALLEST - HEAD - AXIS - FOOT) / len(station.targets))
         self.size = min(LARGEST_TEXT, 0.85 * self.row)
-        longest = max(len("target"), *map(len, sheet.targets))
+        longest = max(len("target"), *map(len, station.targets))
         self.left = MARGIN + longest * LETTER * self.size + 3
-        self.column = min(WIDEST_COLUMN, (PAGE - MARGIN - self.left) / len(sheet.sets))
-        self.right = self.left + self.column * len(sheet.sets)
+        self.column = min(WIDEST_COLUMN, (PAGE - MARGIN - self.left) / len(station.sets))
+        self.right = self.left + self.column * len(station.sets)
         self.top = HEAD + AXIS
-        self.bottom = self.top + self.row * len(sheet.targets)
+        self.bottom = self.top + self.row * len(station.targets)
         self.height = self.bottom + FOOT
-        self.greatest = sheet.greatest()
+        self.greatest = station.greatest()
         self.scale = round_above(self.greatest)
         self.place_numbers()
 
@@ -190,8 +172,8 @@ class Page:
         self.zero = gap + self.reach
 
     def number(self, value):
-        """The text of a residual: hundredths of a mgon, and thousandths where all are small."""
-        return signed(f"{float(value):+.{2 if self.scale >= Fraction(1, 10) else 3}f}")
+        """The text of a residual, with the decimals that station_check prints."""
+        return signed(f"{float(value):+.3f}")
 
     def middle(self, column):
         """Where the residual 0 stands in a column."""
@@ -206,21 +188,22 @@ class Page:
         return self.top + (row + 0.5) * self.row + 0.36 * size
 
 
-def heading(page, sheet, accepted):
-    size = min(2.9, (PAGE - 2 * MARGIN) / (LETTER * len(accepted)))
+def heading(page, station):
     span = f"\N{MINUS SIGN}{plain(page.scale)} to +{plain(page.scale)} mgon"
-    yield text(MARGIN, 14, 5.5, f"Station {sheet.summary[0]}", more=BOLD)
+    counts = f"{len(station.sets)} sets, {len(station.targets)} targets"
+    counts += f", {len(station.residuals)} directions"
+    yield text(MARGIN, 14, 5.5, f"Station {station.name}", more=BOLD)
     yield text(MARGIN, 20.5, 3.4, f"Residuals by target and set; each column spans {span}")
-    yield text(MARGIN, 26.5, size, accepted, more=ONE_WIDTH)
+    yield text(MARGIN, 26.5, 2.9, f"station_check residuals: {counts}", more=ONE_WIDTH)
 
 
-def axes(page, sheet):
+def axes(page, station):
     """The numbers of the sets; lines at zero and, in wide columns, at the ends of the scale."""
     narrow = page.column < NARROW
     size = min(LARGEST_TEXT, page.column * 0.6)
-    marked = {of_set for of_set, _ in sheet.greatest_places()}
+    marked = {of_set for of_set, _ in station.greatest_places()}
     yield text(MARGIN, page.top - 5, LARGEST_TEXT, "set" if narrow else "target")
-    for column, number in enumerate(sheet.sets):
+    for column, number in enumerate(station.sets):
         middle = page.middle(column)
         name = str(number) if narrow else f"set {number}"
         size = min(size, page.column / (len(name) * LETTER))
@@ -240,9 +223,9 @@ def stripe(row):
     return WHITE if row % 2 else STRIPE
 
 
-def stripes(page, sheet):
-    marked = {target for _, target in sheet.greatest_places()}
-    for row, target in enumerate(sheet.targets):
+def stripes(page, station):
+    marked = {target for _, target in station.greatest_places()}
+    for row, target in enumerate(station.targets):
         top = page.top + row * page.row
         yield box(MARGIN - 2, top, page.right - MARGIN + 2, page.row, stripe(row))
         more = ONE_WIDTH + (MARKED if target in marked else "")
@@ -267,10 +250,10 @@ def bar(page, column, row, value):
         yield text(middle, top + page.row - 0.6, SMALL_TEXT, number, "middle")
 
 
-def bars(page, sheet):
-    for row, target in enumerate(sheet.targets):
-        for column, number in enumerate(sheet.sets):
-            value = sheet.residuals.get((number, target))
+def bars(page, station):
+    for row, target in enumerate(station.targets):
+        for column, number in enumerate(station.sets):
+            value = station.residuals.get((number, target))
             if value is not None:
                 yield from bar(page, column, row, value)
             else:
@@ -278,23 +261,23 @@ def bars(page, sheet):
                 yield text(*place, page.size, NOT_SEEN, "middle", f' fill="{MISSING}"')
 
 
-def notes(page, sheet):
+def notes(page, station):
     """What is said below the rows."""
-    said = [greatest_note(page, sheet)]
-    if len(sheet.residuals) < len(sheet.sets) * len(sheet.targets):
+    said = [greatest_note(page, station)]
+    if len(station.residuals) < len(station.sets) * len(station.targets):
         said.append(f"{NOT_SEEN} means that the target was not observed in that set.")
     said.append(
-        "A residual is the adjusted direction, less the orientation, less the reading. "
-        "Those of a row add up to 0, and those of a column."
+        "A residual is the adjusted direction less the two-face direction. "
+        "Rows and columns add up to 0, but for rounding."
     )
-    said.append(deviation_note(sheet))
+    said.append(deviation_note(station))
     for number, note in enumerate(said):
         yield text(MARGIN, page.bottom + 7 + 4.5 * number, NOTE, note)
 
 
-def greatest_note(page, sheet):
+def greatest_note(page, station):
     """Where the greatest residual is."""
-    places = sheet.greatest_places()
+    places = station.greatest_places()
     if not places:
         return "All residuals are 0."
     of_set, target = places[0]
@@ -303,29 +286,29 @@ def greatest_note(page, sheet):
     return f"The greatest residual, {size}, is red: set {of_set}, target {target}{others}."
 
 
-def deviation_note(sheet):
-    """The standard deviation of a two-face direction, which no acceptance speaks of."""
-    freedom = sheet.degrees_of_freedom()
+def deviation_note(station):
+    """The standard deviation of a two-face direction, which station_check doesn't print."""
+    freedom = station.degrees_of_freedom()
     degrees = f"{freedom} degrees of freedom" if freedom != 1 else "1 degree of freedom"
     if freedom == 0:
         return f"{degrees}: the residuals say nothing of the accuracy."
-    deviation = f"standard deviation of a two-face direction {sheet.standard_deviation():.3f} mgon"
-    return f"Not checked by station_check: {deviation}, {degrees}."
+    deviation = f"{station.standard_deviation():.3f} mgon, {degrees}"
+    return f"Not of station_check: standard deviation of a two-face direction {deviation}."
 
 
-def picture(sheet, accepted):
-    page = Page(sheet)
+def picture(station):
+    page = Page(station)
     parts = [
         f'<svg xmlns="http://www.w3.org/2000/svg" width="{PAGE}mm" height="{page.height:.2f}mm" '
         f'viewBox="0 0 {PAGE} {page.height:.2f}" font-family="Helvetica, Arial, sans-serif" '
         f'fill="{INK}" xml:space="preserve">',
-        f"<title>{escape(accepted)}</title>",
+        f"<title>Residuals of station {escape(station.name)}</title>",
         box(0, 0, PAGE, page.height, WHITE),
-        *heading(page, sheet, accepted),
-        *stripes(page, sheet),
-        *axes(page, sheet),
-        *bars(page, sheet),
-        *notes(page, sheet),
+        *heading(page, station),
+        *stripes(page, station),
+        *axes(page, station),
+        *bars(page, station),
+        *notes(page, station),
         "</svg>",
     ]
     return "".join(f"{part}\n" for part in parts)
@@ -336,30 +319,25 @@ def picture(sheet, accepted):
 
 def command_line():
     parser = argparse.ArgumentParser(
-        description="Draws the residuals of a sheet, in mgon, as an SVG picture on standard "
-        "output. The line that 'station_check check' printed for the sheet is read from standard "
-        "input.",
-        epilog="Example: station_check check FIELD.gsi SHEET.csv | %(prog)s SHEET.csv "
+        description="Draws the residuals of a station, in mgon, as an SVG picture on standard "
+        "output. What 'station_check residuals' printed is read from standard input.",
+        epilog="Example: station_check residuals FIELD.gsi STATION | %(prog)s STATION "
         "> PICTURE.svg. Exit status: 0 drawn, 1 not drawn (standard error says why), 2 a mistake "
         "on the command line.",
     )
-    parser.add_argument("sheet", metavar="SHEET", type=Path, help="the accepted sheet")
+    parser.add_argument("station", metavar="STATION", help="the station's name, for the heading")
     return parser
 
 
 def main():
-    parser = command_line()
-    asked = parser.parse_args()
-    accepted = sys.stdin.read().rstrip("\r\n")
+    asked = command_line().parse_args()
+    sys.stdin.reconfigure(encoding="utf-8", errors="replace", newline="")
     try:
-        sheet = read_sheet(asked.sheet)
-        compare(accepted, sheet)
-    except OSError as why:
-        parser.error(f"cannot open {asked.sheet}: {why.strerror}")
-    except CannotDraw as why:
+        station = read_station(asked.station, sys.stdin)
+    except (CannotDraw, csv.Error) as why:
         sys.exit(f"{SCRIPT}: {why}")
     sys.stdout.reconfigure(encoding="utf-8")
-    print(picture(sheet, accepted), end="")
+    print(picture(station), end="")
 
 
 if __name__ == "__main__":

@@ -1,7 +1,7 @@
 """Makes docs/DEFINITIONS.md from the comments in specs/: `python3 tools/definitions.py`.
 
-The page has what the promise of an acceptance rests on, and then that of an agreement: the file of
-each promise and all that it cites, however far, in reading order, with the comment that it begins
+The page has what the promise of an acceptance rests on, then that of an agreement, and then that of
+residuals: the file of each promise and all that it cites, however far, in reading order, with the comment that it begins
 with and those of its records. The other definitions are read where they stand.
 """
 
@@ -19,6 +19,7 @@ CONTRACT = [
     ("station_check", "Promise"),
 ]
 AGREEMENT = ("station_compare", "Agreeing")
+RESIDUALS = ("station_residuals", "Stating")
 
 USE = re.compile(r"^use Rattle\.(\w+)\.specs\.(\w+)(?:\.|$| as)", re.MULTILINE)
 DEFINITION = re.compile(r"^(?:abbrev|unfoldable) pub ([^\s:]+)|^pub (?:record|data) ([^\s:]+)")
@@ -183,6 +184,17 @@ def belief_of_agreement(specs: list[Spec], known: list[Spec]) -> Iterator[str]:
     yield HOW_NEAR
 
 
+def belief_of_residuals(specs: list[Spec], known: list[Spec]) -> Iterator[str]:
+    shared = sum(1 for spec in specs if spec in known)
+    more = [spec for spec in specs if spec not in known]
+    yield "## What you have to believe of residuals\n"
+    yield (
+        f"What `residuals` prints says what {Spec(*RESIDUALS).link} says. "
+        f"It rests on {shared} of the files above and on the {size_of(more)}, and on no others.\n"
+    )
+    yield from in_words(more)
+
+
 def in_words(specs: list[Spec]) -> Iterator[str]:
     """What files of definitions are about, by crate, with their records in plain words."""
     crate = None
@@ -201,7 +213,7 @@ def in_words(specs: list[Spec]) -> Iterator[str]:
 OTHERS = """\
 ## The other definitions
 
-What refusals, lists and texts are, and how the code keeps things: neither an acceptance nor an agreement rests on any of it. Each crate has its definitions in `specs/`; `specs/Lib.antt` lists the files in the order in which a reader needs them, the public ones first.
+What refusals, lists and texts are, and how the code keeps things: no acceptance, agreement or residual rests on any of it. Each crate has its definitions in `specs/`; `specs/Lib.antt` lists the files in the order in which a reader needs them, the public ones first.
 """
 
 
@@ -209,7 +221,9 @@ def page() -> str:
     accepted, agreed = closure(Spec(*ACCEPTANCE)), closure(Spec(*AGREEMENT))
     contract = [Spec(*pair) for pair in CONTRACT]
     known = [*accepted, *contract]
+    stated = closure(Spec(*RESIDUALS))
     believed = [*belief(accepted), *belief_of_contract(contract), *belief_of_agreement(agreed, known)]
+    believed += belief_of_residuals(stated, [*known, *agreed])
     return "\n".join([INTRODUCTION, *believed, EVERY_READER, OTHERS])
 
 

@@ -23,7 +23,7 @@ TOOLS = {
     "adjust": "adjust a station by least squares, and write its sheet",
     "check_folder": "check all sheets of a folder against their field files",
     "prepare": "leave out or rename blocks in a copy of a field file",
-    "residuals": "draw the residuals of an accepted sheet",
+    "residuals": "draw the residuals of a station",
 }
 
 RELEASE = re.compile(r"^## ([0-9.]+), ([0-9-]+)\b", re.MULTILINE)

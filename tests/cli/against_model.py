@@ -41,6 +41,8 @@ class Case(NamedTuple):
             return model.means(self.gsi, name, self.limits)
         if self.command == "directions":
             return model.directions(self.gsi, name, self.limits, self.decimals)
+        if self.command == "residuals":
+            return model.residuals(self.gsi, name, self.limits)
         if self.command == "compare":
             return model.compared(self.gsi, name, self.sheet, self.limits, self.within)
         return model.check(self.gsi, self.sheet, self.limits, self.residual)
@@ -59,6 +61,7 @@ class Case(NamedTuple):
             "directions": [
                 *["directions", *options, f"--decimals={self.decimals}", "--", gsi, self.station]
             ],
+            "residuals": ["residuals", *options, "--", gsi, self.station],
             "compare": [
                 *["compare", *options, f"--within={self.within}", "--", gsi, self.station, sheet]
             ],

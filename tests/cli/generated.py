@@ -524,6 +524,7 @@ def cases_of(place):
     of_station = {"station": asked, "limits": limits}
     decimals = random.randint(1, 8)
     yield Case(f"{place}: directions", "directions", field, decimals=decimals, **of_station)
+    yield Case(f"{place}: residuals", "residuals", field, **of_station)
     for nth in range(2):
         compared = random.choice(stations)
         within = random.choice([10, 10, 10, 0, 1, 100, 1_000_000])

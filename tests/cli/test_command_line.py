@@ -21,7 +21,7 @@ from program import (
     answer_of,
     answer_to,
 )
-from worked import ACCEPTED, AGREES, LIST, SHEET, STATION, TABLE, refused
+from worked import ACCEPTED, AGREES, LIST, RESIDUALS, SHEET, STATION, TABLE, refused
 
 sys.path.insert(0, str(ROOT / "tools"))
 import manuals  # noqa: E402
@@ -32,6 +32,7 @@ COMMANDS = {
     "compare": ["compare", "{gsi}", "S1", str(EXAMPLE_TABLE)],
     "means": ["means", "{gsi}", "S1"],
     "directions": ["directions", "{gsi}", "S1"],
+    "residuals": ["residuals", "{gsi}", "S1"],
     "list": ["list", "{gsi}"],
     "words": ["words", "{gsi}"],
 }
@@ -41,12 +42,13 @@ OF_EXAMPLE = {
     "compare": AGREES,
     "means": SHEET,
     "directions": TABLE,
+    "residuals": RESIDUALS,
     "list": LIST,
     "words": model.words(STATION)[1],
 }
 
 # The commands that have limits of 2c and 2i.
-LIMITED = ["check", "compare", "means", "directions", "list"]
+LIMITED = ["check", "compare", "means", "directions", "residuals", "list"]
 
 NO_MEMORY = (1, b"", b"refused: out of memory\n")
 
@@ -152,6 +154,7 @@ class CommandLineTest(ProgramTest):
             ("compare", (1, b"", refused("no station"))),
             ("means", (1, b"", refused("no station"))),
             ("directions", (1, b"", refused("no station"))),
+            ("residuals", (1, b"", refused("no station"))),
             ("list", (0, b"", b"")),
             ("words", (0, b"", b"")),
         ]:
@@ -185,6 +188,7 @@ class CommandLineTest(ProgramTest):
             (["means", "a"], missing + b"  <STATION>\n"),
             (["check", "a"], missing + b"  <SHEET>\n"),
             (["directions", "a"], missing + b"  <STATION>\n"),
+            (["residuals", "a"], missing + b"  <STATION>\n"),
             (["compare", "a"], missing + b"  <STATION>\n  <TABLE>\n"),
             (["compare", "a", "b"], missing + b"  <TABLE>\n"),
             (["nonsense"], b"error: unrecognized subcommand 'nonsense'\n"),
@@ -192,6 +196,7 @@ class CommandLineTest(ProgramTest):
             (["words", "a", "b"], b"error: unexpected argument 'b' found\n"),
             (["check", "a", "b", "c"], b"error: unexpected argument 'c' found\n"),
             (["directions", "a", "b", "c"], b"error: unexpected argument 'c' found\n"),
+            (["residuals", "a", "b", "c"], b"error: unexpected argument 'c' found\n"),
             (["compare", "a", "b", "c", "d"], b"error: unexpected argument 'd' found\n"),
             (["words", "--two-c", "1", "a"], b"error: unexpected argument '--two-c' found\n"),
             (["list", "--residual", "1", "a"], b"error: unexpected argument '--residual' found\n"),
@@ -202,6 +207,7 @@ class CommandLineTest(ProgramTest):
                     ["compare", "--residual"],
                     ["compare", "--decimals"],
                     ["directions", "--within"],
+                    ["residuals", "--decimals"],
                     ["check", "--within"],
                 ]
             ),
@@ -243,6 +249,7 @@ class CommandLineTest(ProgramTest):
             [b"means", EXAMPLE, b"S\xff"],
             [b"compare", EXAMPLE, b"S1", b"\xff.csv"],
             [b"directions", EXAMPLE, b"S\xff"],
+            [b"residuals", EXAMPLE, b"S\xff"],
             [b"list", EXAMPLE, b"--two-c", b"\xff"],
             [b"\xff"],
         ]:
@@ -264,6 +271,7 @@ class CommandLineTest(ProgramTest):
             (["list", "--help"], [b"0.01 mgon", b"--two-i <N>", b"[default: 2000]"]),
             (["compare", "--help"], [b"--within <N>", b"0.001 mgon", b"[default: 10]", b"<TABLE>"]),
             (["directions", "--help"], [b"--decimals <K>", b"[default: 6]", b"<STATION>"]),
+            (["residuals", "--help"], [b"<STATION>", b"--two-c <N>", b"in mgon with 3"]),
             *(([command, "--help"], FACE_DIFFERENCES) for command in LIMITED),
             (["words", "--help"], [b"GSI-8, GSI-16 or both"]),
             (["help", "words"], [b"GSI-8, GSI-16 or both"]),

@@ -71,6 +71,8 @@ def model_answer(case):
         return model.means(files[0], station, limits, fails[0])
     if asked.command == "directions":
         return model.directions(files[0], station, limits, asked.decimals, fails[0])
+    if asked.command == "residuals":
+        return model.residuals(files[0], station, limits, fails[0])
     return model.compared(files[0], station, files[1], limits, asked.within, fails)
 
 

@@ -75,7 +75,8 @@ class CutsTest(AgainstModel):
                 self.assertEqual(expected, answer_of(["check", field, sheet]))
 
     def test_every_first_part_of_the_example(self):
-        for command, step in [("words", 3), ("list", 3), ("means", 3), ("check", 3), ("directions", 5)]:
+        steps = [("words", 3), ("list", 3), ("means", 3), ("check", 3), ("directions", 5)]
+        for command, step in [*steps, ("residuals", 5)]:
             self.compare(sample(cuts(command, b"", FIELD, sheet=SHEET), step))
 
     def test_every_first_part_of_a_job(self):
@@ -99,7 +100,7 @@ class CutsTest(AgainstModel):
 
     def test_every_byte_of_the_example_replaced(self):
         steps = [("list", 5), ("check", 23), ("words", 29), ("means", 31), ("directions", 37)]
-        for command, step in steps:
+        for command, step in [*steps, ("residuals", 41)]:
             fields = sample(replaced(FIELD), step)
             self.compare(Case(f"{command}, {name}", command, *pair) for name, *pair in fields)
 

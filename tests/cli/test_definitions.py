@@ -13,7 +13,7 @@ import definitions
 
 def promised():
     """The files that the promises rest on."""
-    firsts = [definitions.ACCEPTANCE, definitions.AGREEMENT]
+    firsts = [definitions.ACCEPTANCE, definitions.AGREEMENT, definitions.RESIDUALS]
     closures = [definitions.closure(definitions.Spec(*first)) for first in firsts]
     return dict.fromkeys(spec for closure in closures for spec in closure)
 

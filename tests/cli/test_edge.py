@@ -12,7 +12,7 @@ from pathlib import Path
 from typing import NamedTuple
 
 from program import EXAMPLE, EXAMPLE_SHEET, ROOT, SWEEP, ProgramTest, answer_of, side_by_side
-from worked import ACCEPTED, AGREES, LIST, SHEET, STATION, TABLE, edited, refused
+from worked import ACCEPTED, AGREES, LIST, RESIDUALS, SHEET, STATION, TABLE, edited, refused
 
 # How many command lines of each command are run beside those that change one option, where not all
 # are.
@@ -60,6 +60,7 @@ COMMANDS = {
     "check": ([str(EXAMPLE), str(EXAMPLE_SHEET)], [*LIMITS, RESIDUAL], ACCEPTED),
     "compare": ([str(EXAMPLE), "S1", "{table}"], [*LIMITS, WITHIN], WITHIN_15),
     "directions": ([str(EXAMPLE), "S1"], [*LIMITS, DECIMALS], TABLE),
+    "residuals": ([str(EXAMPLE), "S1"], LIMITS, RESIDUALS),
     "means": ([str(EXAMPLE), "S1"], LIMITS, SHEET),
     "list": ([str(EXAMPLE)], LIMITS, LIST),
 }

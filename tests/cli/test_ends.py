@@ -40,6 +40,7 @@ class EndsTest(ProgramTest):
             ["means", self.field, "S1"],
             ["check", self.field, self.sheet],
             ["directions", self.field, "S1"],
+            ["residuals", self.field, "S1"],
             ["compare", self.field, "S1", self.table],
             ["mark", "--station=S1", self.file("job.gsi", JOB)],
         ]
@@ -77,7 +78,8 @@ class StreamsTest(EndsTest):
         read = [["words", folder], ["list", folder], ["means", folder, "S1"]]
         read += [["mark", folder]]
         of_two = [["check", self.field, folder], ["compare", self.field, "S1", folder]]
-        for args in [*read, *of_two, ["directions", self.field, "S2"]]:
+        named = [[command, self.field, "S2"] for command in ["directions", "residuals"]]
+        for args in [*read, *of_two, *named]:
             for err in ["2> /dev/full", "2>&-"]:
                 with self.subTest(args[0], err=err):
                     self.assertEqual((1, b"", b""), answer_in_shell(f'"$@" {err}', *args))
@@ -113,6 +115,7 @@ class FilesTest(EndsTest):
             (["check", self.field, folder], "sheet: Read"),
             (["check", folder, folder], "block 1: Read"),
             (["directions", folder, "S1"], "block 1: Read"),
+            (["residuals", folder, "S1"], "block 1: Read"),
             (["compare", folder, "S1", self.table], "block 1: Read"),
             (["compare", self.field, "S1", folder], "table: Read"),
             (["compare", self.field, "S2", folder], "no station"),
@@ -156,6 +159,7 @@ class FilesTest(EndsTest):
             (["check", self.field, "/dev/zero"], refused("sheet: TooLong")),
             (["check", "/dev/zero", "/dev/zero"], refused("block 1: LineTooLong")),
             (["directions", "/dev/null", "S1"], refused("no station")),
+            (["residuals", "/dev/null", "S1"], refused("no station")),
             (["compare", "/dev/null", "S1", "/dev/zero"], refused("no station")),
             (["compare", self.field, "S1", "/dev/null"], refused("table: Missing 1")),
             (["compare", self.field, "S1", "/dev/zero"], refused("table: TooLong")),
@@ -238,7 +242,8 @@ class SignalsTest(EndsTest):
     def test_a_fault_is_refused_while_more_may_come(self):
         """What comes after the first fault is not waited for."""
         refused = b"refused: block 1: SetOutside\n"
-        for args in [["list"], ["means", "S1"], ["directions", "S1"], ["check", self.sheet]]:
+        named = [[command, "S1"] for command in ["means", "directions", "residuals"]]
+        for args in [["list"], *named, ["check", self.sheet]]:
             with self.subTest(args):
                 run = self.started(args[0], "/dev/stdin", *args[1:])
                 run.stdin.write(b"410001+00000020 42....+00000001\r\n")

@@ -23,6 +23,7 @@ COMMANDS = {
     "means": ["means", "{field}", "S1"],
     "check": ["check", "{field}", "{sheet}"],
     "directions": ["directions", "{field}", "S1"],
+    "residuals": ["residuals", "{field}", "S1"],
     "compare": ["compare", "{field}", "S1", "{table}"],
 }
 
@@ -36,6 +37,7 @@ WHOLE = {
     "means": model.means(FIELD, b"S1"),
     "check": model.check(FIELD, SHEET),
     "directions": model.directions(FIELD, b"S1"),
+    "residuals": model.residuals(FIELD, b"S1"),
     "compare": model.compared(FIELD, b"S1", TABLE),
     "mark": model.marked(JOB, b"S1"),
 }
@@ -54,6 +56,7 @@ def expected_of_field(command, room, field=FIELD, fails=True):
         "means": lambda: model.means(given, b"S1", fails=fails),
         "check": lambda: model.check(given, SHEET, fails=(fails, False)),
         "directions": lambda: model.directions(given, b"S1", fails=fails),
+        "residuals": lambda: model.residuals(given, b"S1", fails=fails),
         "compare": lambda: model.compared(given, b"S1", TABLE, fails=(fails, False)),
     }[command]()
 

@@ -106,7 +106,7 @@ class InstallTest(ProgramTest):
         path = f"{self.folder / 'bin'}{os.pathsep}{os.environ['PATH']}"
         for script in [
             "station_check list station_p7.gsi | station_check_adjust | cmp - station_p7.csv",
-            "station_check check station_p7.gsi station_p7.csv | station_check_residuals station_p7.csv",
+            "station_check residuals station_p7.gsi P7 | station_check_residuals P7",
             "station_check_prepare station_p7.gsi copy.txt --set P7 3 --why 'a test'",
             "station_check_folder .",
         ]:
@@ -120,7 +120,7 @@ class InstallTest(ProgramTest):
         for name, words in [
             ("station_check_adjust", ["/dev/null"]),
             ("station_check_folder", [self.folder / "missing"]),
-            ("station_check_residuals", ["/dev/null"]),
+            ("station_check_residuals", ["S1"]),
         ]:
             with self.subTest(name):
                 status, _, said = answer_to([self.folder / "bin" / name, *words], stdin=subprocess.DEVNULL)

@@ -76,6 +76,9 @@ RUNS = [
     "directions {field} S1",
     "directions --decimals 1 {field} S2",
     "directions {face_twice} S1",
+    "residuals {field} S1",
+    "residuals {field} S2",
+    "residuals {face_twice} S1",
     "compare {field} S1 {table}",
     "compare {field} S1 {apart}",
     "compare --within=0 {field} S1 {quoted_table}",
@@ -110,6 +113,7 @@ LARGE_RUNS = [
     "means {large} S1",
     "check {large} {large_sheet}",
     "directions {large} S1",
+    "residuals {large} S1",
     "compare {large} S1 {large_table}",
     "mark --station S1 {large_job}",
 ]

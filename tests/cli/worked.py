@@ -37,6 +37,14 @@ ACCEPTED = b"accepted S1: 2 sets, 2 targets, 4 directions, greatest residual 4/4
 
 AGREES = b"agrees S1: 2 targets, within 0\n"
 
+RESIDUALS = b"""\
+set,target,direction,adjusted,residual
+1,A,0.000030,0.000025,-0.005
+1,B,50.000050,50.000055,0.005
+2,A,100.000020,100.000025,0.005
+2,B,150.000060,150.000055,-0.005
+"""
+
 # The zenith angles of a reading in face I and in face II where nothing else is said.
 ZENITHS = (10_000_000, 30_000_000)
 

@@ -32,6 +32,7 @@ use Rattle.station_program.specs.declared.host.NoWords.TheVariants as no_words
 use Rattle.station_program.specs.declared.run.TheConstants.{NOT_TEXT}
 use Rattle.station_record.specs.Recorded.{IsRecordedCheck, IsRecordedCompare}
 use Rattle.station_record.specs.declared.named.NamedReader.{NamedReader}
+use Rattle.station_residuals.specs.Runs.{IsResidualsRun}
 
 -- A request whose files are open was answered with this exit status: by a run of its own kind, over
 -- its own files, or over standard input where it names none, with its limits, its residual limit,
@@ -54,6 +55,9 @@ IsRun files inputs input faults out err (request.Means gsi station limits) statu
 IsRun files inputs input faults out err (request.Directions gsi station limits decimals) status =
     IsTakenIn files gsi.reader (λ gsi. Run {A = ⊤} compare_refusal_line
     (IsDirectionsRun limits gsi station.now decimals) status out err)
+IsRun files inputs input faults out err (request.Residuals gsi station limits) status =
+    IsTakenIn files gsi.reader (λ gsi. Run {A = ⊤} compare_refusal_line
+    (IsResidualsRun limits gsi station.now) status out err)
 IsRun {F} files inputs input faults out err
     (request.Compare gsi station table limits within digests.Omitted) status =
     (table' : F) × IsTakenIn files gsi.reader (λ gsi. Run {A = ⊤} compare_refusal_line
@@ -94,6 +98,10 @@ IsOpened files known (request.Directions gsi station limits decimals)
     (request.Directions field_file station' limits' decimals') =
     IsUnread files known gsi.now field_file
     × (station'.now ≡ station.now) × (limits' ≡ limits) × (decimals' ≡ decimals)
+IsOpened files known (request.Residuals gsi station limits)
+    (request.Residuals field_file station' limits') =
+    IsUnread files known gsi.now field_file
+    × (station'.now ≡ station.now) × (limits' ≡ limits)
 IsOpened files known (request.Compare gsi station table limits within digests)
     (request.Compare field_file station' stated limits' within' digests') =
     IsUnread files known gsi.now field_file
@@ -115,6 +123,7 @@ abbrev pub NamesFile : Asked → List ℕ → Type 0
 NamesFile (request.Check gsi sheet limits residual digests) path = (path ≡ gsi.now) ⊎ (path ≡ sheet.now)
 NamesFile (request.Means gsi station limits) path = path ≡ gsi.now
 NamesFile (request.Directions gsi station limits decimals) path = path ≡ gsi.now
+NamesFile (request.Residuals gsi station limits) path = path ≡ gsi.now
 NamesFile (request.Compare gsi station table limits within digests) path =
     (path ≡ gsi.now) ⊎ (path ≡ table.now)
 NamesFile (request.Mark gsi station) path = path ≡ gsi.now

@@ -100,6 +100,11 @@ abbrev pub directions_words : Shape
 directions_words = command (codes "directions")
     (field_file_rule ∷ station_rule ∷ two_c_rule ∷ two_i_rule ∷ decimals_rule ∷ [])
 
+-- `residuals GSI STATION`
+abbrev pub residuals_words : Shape
+residuals_words =
+    command (codes "residuals") (field_file_rule ∷ station_rule ∷ two_c_rule ∷ two_i_rule ∷ [])
+
 -- `check GSI SHEET`
 abbrev pub check_words : Shape
 check_words = command (codes "check")
@@ -135,6 +140,6 @@ the_program = record {
     has_version = true;
     propagate_version = true;
   };
-  subs = compare_words ∷ directions_words ∷ check_words ∷ means_words ∷ mark_words ∷ list_words
-      ∷ words_words ∷ explain_words ∷ [];
+  subs = compare_words ∷ directions_words ∷ residuals_words ∷ check_words ∷ means_words ∷ mark_words
+      ∷ list_words ∷ words_words ∷ explain_words ∷ [];
 }

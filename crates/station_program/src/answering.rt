@@ -14,6 +14,7 @@ use station_compare::{run_compare, run_directions};
 use station_explain::{Explanation, run_explain};
 use station_mark::run_mark;
 use station_record::{NamedReader, run_check_recorded, run_compare_recorded};
+use station_residuals::run_residuals;
 use std::alloc::Global;
 
 /// The exit status of a request. All its files are opened before any is read, the field file first.
@@ -86,6 +87,15 @@ fn open_files<'a, H: Host>(
             station,
             limits,
             decimals,
+        },
+        Request::Residuals {
+            gsi,
+            station,
+            limits,
+        } => Request::Residuals {
+            gsi: open(host, gsi)?,
+            station,
+            limits,
         },
         Request::Compare {
             gsi,
@@ -195,6 +205,11 @@ fn run_request<F: Source, I: Source, W: Sink, E: Sink>(
             out,
             err,
         ),
+        Request::Residuals {
+            gsi,
+            station,
+            limits,
+        } => run_residuals(alloc, gsi.reader, station.as_bytes(), limits, out, err),
         Request::Compare {
             gsi,
             station,

@@ -12,6 +12,7 @@ ghost use Rattle.station_program.specs.Commands.{field_file_rule, station_rule, 
 ghost use Rattle.station_program.specs.Commands.{limit_rule, two_c_rule, two_i_rule, residual_rule};
 ghost use Rattle.station_program.specs.Commands.{within_rule, decimals_rule, fault_rule};
 ghost use Rattle.station_program.specs.Commands.{digests_rule, mark_words, stated_name_rule};
+ghost use Rattle.station_program.specs.Commands.{residuals_words};
 ghost use Rattle.station_program.specs.CommandLine.{StatesLimits, StatesNumber, StatesResidual};
 ghost use Rattle.station_program.specs.CommandLine.{StatesNoLimits, StatesNoNumber};
 ghost use Rattle.station_program.specs.CommandLine.{StatesNoResidual, StatesDigests};
@@ -106,6 +107,13 @@ pub enum Request<'a, F> {
         decimals: Decimals,
     },
 
+    /// Prints the residuals of a station of a field file, observation by observation.
+    Residuals {
+        gsi: F,
+        station: &'a str,
+        limits: Limits,
+    },
+
     /// Compares a table with a station of a field file: they agree within so many units of
     /// 0.000001 gon.
     Compare {
@@ -182,6 +190,7 @@ fn program<'a>(alloc: Global) -> Result<Command<'a>, Error>
         .after_help(help::STATUSES)
         .subcommand(compare_command(alloc)?)?
         .subcommand(directions_command(alloc)?)?
+        .subcommand(residuals_command(alloc)?)?
         .subcommand(check_command(alloc)?)?
         .subcommand(means_command(alloc)?)?
         .subcommand(mark_command(alloc)?)?
@@ -218,6 +227,19 @@ fn directions_command<'a>(alloc: Global) -> Result<Command<'a>, Error>
         .arg(station_name(alloc))?;
     let command = with_limits(alloc, command)?;
     Ok(command.arg(decimals(alloc))?)
+}
+
+fn residuals_command<'a>(alloc: Global) -> Result<Command<'a>, Error>
+    ensures words { IfOk result (λ command. app_of command ≡ alone residuals_words) }
+    ensures memory { IfErr result (λ error. kind_of error ≡ ErrorKind.OutOfMemory) }
+{
+    let command = Command::new(alloc, "residuals")
+        .about("Prints the adjusted directions and the residuals of a station, row by row")
+        .long_about(help::RESIDUALS_LONG_ABOUT)
+        .after_help(help::RESIDUALS_EXAMPLE)
+        .arg(field_file(alloc))?
+        .arg(station_name(alloc))?;
+    with_limits(alloc, command)
 }
 
 fn check_command<'a>(alloc: Global) -> Result<Command<'a>, Error>
@@ -450,6 +472,11 @@ fn request_of<'a>(matches: &ArgMatches<'a>) -> Option<Request<'a, &'a str>>
             limits: limits_of(found)?,
             within: within_of(found)?,
             digests: digests_of(found),
+        }),
+        Some(("residuals", found)) => Some(Request::Residuals {
+            gsi: found.get_str(GSI)?,
+            station: station_of(found)?,
+            limits: limits_of(found)?,
         }),
         Some(_) => None,
         None => Some(Request::WordsOfInput),

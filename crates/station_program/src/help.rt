@@ -28,6 +28,7 @@ Exit status:
 Examples:
   station_check compare field.gsi S1 table.csv
   station_check directions field.gsi S1 > table.csv
+  station_check residuals field.gsi S1 > residuals.csv
   station_check check field.gsi sheet.csv
   station_check means field.gsi S1 > sheet.csv
   station_check mark job.gsi > marked.gsi
@@ -86,6 +87,32 @@ Example:
 
   A,0.000000
   B,50.000030";
+
+pub const RESIDUALS_LONG_ABOUT: &str = "\
+Prints a row for each two-face direction of a station, complete sets or not: the set, the target,
+the two-face direction, the adjusted direction, and the residual, which is the adjusted direction
+less the two-face one. They are those of the least-squares directions, orientations and full turns.
+A residual above 10 mgon is a fault.
+
+The first row has the titles. Directions are in gon with 6 decimals, residuals in mgon with 3, each
+rounded from the exact fraction; the middle of two goes up. The direction and the residual of a row
+add up to its adjusted direction, to the last digit.
+
+STATION is compared byte by byte with the names in the field file, of which the zeros on the left
+are no part. A name that begins with '-' follows after '--'.";
+
+pub const RESIDUALS_EXAMPLE: &str = "\
+Exit status:
+  0  all rows were written
+  1  refused: the first fault is named on standard error, and nothing was written, unless a write
+     failed
+  2  a mistake on the command line, or GSI cannot be opened
+
+Example:
+  station_check residuals field.gsi S1 > residuals.csv
+
+  set,target,direction,adjusted,residual
+  1,A,0.000030,0.000025,-0.005";
 
 pub const CHECK_LONG_ABOUT: &str = "\
 Checks a sheet against the station of its name in a field file.

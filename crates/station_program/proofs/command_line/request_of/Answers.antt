@@ -83,6 +83,17 @@ returns-in_ok-stated_name_of-in-Some-mark-default-clause-asked c = record {
   of_station = search rules;
 }
 
+pub returns-in_ok-limits_of-in-Some-residuals-default-clause-asked :
+    goal.returns-in_ok-limits_of-in-Some-residuals-default-clause-asked
+returns-in_ok-limits_of-in-Some-residuals-default-clause-asked c = record {
+  found = found_of c.in-Some-residuals-default.found.now;
+  met = meets c.args.matches.now (codes "residuals")
+      (found_of c.in-Some-residuals-default.found.now) (search rules) (search rules);
+  field_file = search rules;
+  of_station = search rules;
+  of_limits = search rules;
+}
+
 pub returns-in-None-clause-asked : goal.returns-in-None-clause-asked
 returns-in-None-clause-asked c = meets_none c.args.matches.now (search rules)
 
@@ -248,6 +259,30 @@ returns-in_err-stated_name_of-in-Some-mark-default-clause-none c =
     (search rules)
     (inr (inr (inr (inr (inr (inr (inl (refl, inr (search rules)))))))))
 
+pub returns-in_err-get_str-in-Some-residuals-default-clause-none :
+    goal.returns-in_err-get_str-in-Some-residuals-default-clause-none
+returns-in_err-get_str-in-Some-residuals-default-clause-none c =
+    lacks_need c.from_residual-in_err-get_str-in-Some-residuals-default.result c.args.matches.now
+    (codes "residuals") (found_of c.in-Some-residuals-default.found.now) (search rules)
+    (search rules)
+    (inr (inr (inr (inr (inr (inr (inr (inl (refl, inl (search rules))))))))))
+
+pub returns-in_err-station_of-in-Some-residuals-default-clause-none :
+    goal.returns-in_err-station_of-in-Some-residuals-default-clause-none
+returns-in_err-station_of-in-Some-residuals-default-clause-none c =
+    lacks_need c.from_residual-in_err-station_of-in-Some-residuals-default.result
+    c.args.matches.now (codes "residuals") (found_of c.in-Some-residuals-default.found.now)
+    (search rules) (search rules)
+    (inr (inr (inr (inr (inr (inr (inr (inl (refl, inr (inl (search rules)))))))))))
+
+pub returns-in_err-limits_of-in-Some-residuals-default-clause-none :
+    goal.returns-in_err-limits_of-in-Some-residuals-default-clause-none
+returns-in_err-limits_of-in-Some-residuals-default-clause-none c =
+    lacks_need c.from_residual-in_err-limits_of-in-Some-residuals-default.result
+    c.args.matches.now (codes "residuals") (found_of c.in-Some-residuals-default.found.now)
+    (search rules) (search rules)
+    (inr (inr (inr (inr (inr (inr (inr (inl (refl, inr (inr (search rules)))))))))))
+
 pub returns-in-Some-clause-none : goal.returns-in-Some-clause-none
 returns-in-Some-clause-none c =
     let met = meets c.args.matches.now c.in-Some.field-0.0.now (found_of c.in-Some.field-0.1.now)
@@ -258,6 +293,7 @@ returns-in-Some-clause-none c =
       lacks = inr (inr
           (inr (inr (inr
           (inr
+          (inr
           (inr (
             search rules,
             search rules,
@@ -266,5 +302,6 @@ returns-in-Some-clause-none c =
             search rules,
             search rules,
             search rules,
-          )))))));
+            search rules,
+          ))))))));
     }

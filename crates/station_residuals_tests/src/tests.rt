@@ -1,0 +1,272 @@
+//! Stations worked in exact fractions: their observations, adjusted, and the text of these.
+
+use adjust_kernel::{Name, Obs, Station};
+use byte_ends::{Held, Script};
+use exact_adjustment::{AdjustError, AdjustFault};
+use station_book::Limits;
+use station_check::Fault;
+use station_compare::CompareFault;
+use station_residuals::{
+    adjusted_observations, residuals_text, run_residuals, text_of, write_residuals,
+};
+use std::alloc::Global;
+use std::process::Abort;
+use std::test::Fail;
+
+/// An observation: the places of its set and its target, and its two-face direction in half units.
+type Observed = (u32, u32, u32);
+
+/// What is printed of S1.
+const RESIDUALS: &[u8] = b"set,target,direction,adjusted,residual\n\
+1,A,0.000030,0.000025,-0.005\n\
+1,B,50.000050,50.000055,0.005\n\
+2,A,100.000020,100.000025,0.005\n\
+2,B,150.000060,150.000055,-0.005\n";
+
+/// Two sets of targets A and B, each in both faces: B is 50.00003 gon from A.
+const S1: &[u8] = b"410001+00000010 42....+000000S1\n\
+410002+00000020 42....+00000001\n\
+110003+0000000A 21.102+00000000 22.102+10000000\n\
+110004+0000000B 21.102+05000000 22.102+10000000\n\
+110005+0000000B 21.102+25000010 22.102+30000000\n\
+110006+0000000A 21.102+20000006 22.102+29999998\n\
+410007+00000020 42....+00000002\n\
+110008+0000000A 21.102+10000000 22.102+10000000\n\
+110009+0000000B 21.102+15000004 22.102+10000000\n\
+110010+0000000B 21.102+35000008 22.102+30000000\n\
+110011+0000000A 21.102+30000004 22.102+30000000\n\
+410012+00000030\n";
+
+/// Two sets that have no target in common.
+const PARTS: &[u8] = b"410001+00000010 42....+000000S2\n\
+410002+00000020 42....+00000001\n\
+110003+0000000A 21.102+00000000 22.102+10000000\n\
+110004+0000000A 21.102+20000000 22.102+30000000\n\
+410005+00000020 42....+00000002\n\
+110006+0000000B 21.102+10000000 22.102+10000000\n\
+110007+0000000B 21.102+30000000 22.102+30000000\n\
+410008+00000030\n";
+
+/// Two sets, whose two-face directions of B are half a circle apart.
+const TIE: &[u8] = b"410001+00000010 42....+000000S3\n\
+410002+00000020 42....+00000001\n\
+110003+0000000A 21.102+00000000 22.102+10000000\n\
+110004+0000000B 21.102+00000000 22.102+10000000\n\
+110005+0000000B 21.102+20000000 22.102+30000000\n\
+110006+0000000A 21.102+20000000 22.102+30000000\n\
+410007+00000020 42....+00000002\n\
+110008+0000000A 21.102+00000000 22.102+10000000\n\
+110009+0000000B 21.102+20000000 22.102+10000000\n\
+110010+0000000B 21.102+00000000 22.102+30000000\n\
+110011+0000000A 21.102+20000000 22.102+30000000\n\
+410012+00000030\n";
+
+fn limits(rt: &impl Abort) -> Limits {
+    Limits::new(100, 100).expect(rt, "limits")
+}
+
+/// A station of targets A, B and so on, and of this many sets, with these observations.
+fn station_of(
+    rt: &impl Abort,
+    alloc: Global,
+    sets: u16,
+    letters: &[u8],
+    observed: &[Observed],
+) -> Result<Station, Fail> {
+    let name = |letter: u8| Name::new(&[letter]).expect(rt, "a name");
+    let mut names = Vec::new(alloc);
+    for letter in letters {
+        names.push(name(*letter))?;
+    }
+    let mut numbers = Vec::new(alloc);
+    for number in 1..=sets {
+        numbers.push(number)?;
+    }
+    let mut obs = Vec::new(alloc);
+    for (set, target, value) in observed {
+        obs.push(Obs {
+            set: *set,
+            target: *target,
+            value: *value,
+        })?;
+    }
+    let station = Station::new(name(b'S'), names, numbers, obs);
+    Ok(station.expect(rt, "a station"))
+}
+
+/// The text of a station's residuals.
+fn text(alloc: Global, station: &Station) -> Result<Vec<u8>, Fail> {
+    let rows = adjusted_observations(alloc, station).map_err(|_| "no adjustment")?;
+    Ok(text_of(alloc, &rows)?)
+}
+
+/// Two targets in two sets, whose angles differ by 2 half units: each residual is half of one, which
+/// is 2.5 units.
+const HALVES: [Observed; 4] = [
+    (0, 0, 6),
+    (0, 1, 10_000_010),
+    (1, 0, 20_000_004),
+    (1, 1, 30_000_010),
+];
+
+/// A is read before 0 and adjusted at it, and the other way round.
+const ACROSS_0: [Observed; 4] = [
+    (0, 0, 0),
+    (0, 1, 10_000_000),
+    (1, 0, 79_999_999),
+    (1, 1, 10_000_003),
+];
+
+/// The last reading is 30 mgon off: two residuals are 10 mgon, no more than there may be.
+const LARGEST: [Observed; 6] = [
+    (0, 0, 0),
+    (0, 1, 0),
+    (1, 0, 0),
+    (1, 1, 0),
+    (2, 0, 0),
+    (2, 1, 6_000),
+];
+
+/// The second set is without A and the third without B: residuals are fifteenths of half units.
+const GAPS: [Observed; 7] = [
+    (0, 0, 0),
+    (0, 1, 10_000_000),
+    (0, 2, 30_000_007),
+    (1, 1, 50_000_010),
+    (1, 2, 70_000_000),
+    (2, 0, 20_000_002),
+    (2, 2, 50_000_020),
+];
+
+#[test]
+fn observations_are_adjusted_and_rounded_once(rt: HostRuntime) -> Result<(), Fail> {
+    let cases: [(u16, &[u8], &[Observed], &[u8]); 5] = [
+        (
+            2,
+            b"AB",
+            &HALVES,
+            b"set,target,direction,adjusted,residual\n\
+            1,A,0.000030,0.000028,-0.002\n\
+            1,B,50.000050,50.000053,0.003\n\
+            2,A,100.000020,100.000023,0.003\n\
+            2,B,150.000050,150.000048,-0.002\n",
+        ),
+        (
+            2,
+            b"AB",
+            &ACROSS_0,
+            b"set,target,direction,adjusted,residual\n\
+            1,A,0.000000,399.999995,-0.005\n\
+            1,B,50.000000,50.000005,0.005\n\
+            2,A,399.999995,0.000000,0.005\n\
+            2,B,50.000015,50.000010,-0.005\n",
+        ),
+        (
+            3,
+            b"AB",
+            &LARGEST,
+            b"set,target,direction,adjusted,residual\n\
+            1,A,0.000000,399.995000,-5.000\n\
+            1,B,0.000000,0.005000,5.000\n\
+            2,A,0.000000,399.995000,-5.000\n\
+            2,B,0.000000,0.005000,5.000\n\
+            3,A,0.000000,0.010000,10.000\n\
+            3,B,0.030000,0.020000,-10.000\n",
+        ),
+        (
+            3,
+            b"ABC",
+            &GAPS,
+            b"set,target,direction,adjusted,residual\n\
+            1,A,0.000000,399.999980,-0.020\n\
+            1,B,50.000000,50.000026,0.026\n\
+            1,C,150.000035,150.000029,-0.006\n\
+            2,B,250.000050,250.000024,-0.026\n\
+            2,C,350.000000,350.000026,0.026\n\
+            3,A,100.000010,100.000030,0.020\n\
+            3,C,250.000100,250.000080,-0.020\n",
+        ),
+        (
+            2,
+            b",",
+            &[(0, 0, 7), (1, 0, 79_999_999)],
+            b"set,target,direction,adjusted,residual\n\
+            1,\",\",0.000035,0.000035,0.000\n\
+            2,\",\",399.999995,399.999995,0.000\n",
+        ),
+    ];
+    for (sets, letters, observed, want) in cases {
+        let station = station_of(&rt, rt.alloc(), sets, letters, observed)?;
+        assert_eq!(rt; text(rt.alloc(), &station)?.as_slice(), want);
+    }
+    Ok(())
+}
+
+#[test]
+fn a_residual_above_10_mgon_is_refused(rt: HostRuntime) -> Result<(), Fail> {
+    let mut above = LARGEST;
+    above[5].2 += 1;
+    let station = station_of(&rt, rt.alloc(), 3, b"AB", &above)?;
+    let answer = adjusted_observations(rt.alloc(), &station);
+    assert!(rt; matches!(answer, Err(AdjustError::Fault(AdjustFault::Residual(5)))));
+    Ok(())
+}
+
+#[test]
+fn a_field_file_has_residuals_or_its_first_fault(rt: HostRuntime) -> Result<(), Fail> {
+    let cases: [(&[u8], &[u8], Result<&[u8], CompareFault>); 4] = [
+        (S1, b"S1", Ok(RESIDUALS)),
+        (S1, b"S2", Err(CompareFault::File(Fault::NoStation))),
+        (
+            PARTS,
+            b"S2",
+            Err(CompareFault::Adjust(AdjustFault::NotConnected)),
+        ),
+        (
+            TIE,
+            b"S3",
+            Err(CompareFault::Adjust(AdjustFault::Residual(1))),
+        ),
+    ];
+    for (gsi, name, want) in cases {
+        let gsi = Script::new(gsi, usize::MAX, false);
+        match (residuals_text(rt.alloc(), gsi, name, limits(&rt)), want) {
+            (Ok(text), Ok(want)) => assert_eq!(rt; text.as_slice(), want),
+            (Err(fault), Err(want)) => assert_eq!(rt; fault, want),
+            _ => assert!(rt; false),
+        }
+    }
+    Ok(())
+}
+
+#[test]
+fn a_run_prints_its_text_and_answers_its_status(rt: HostRuntime) -> Result<(), Fail> {
+    let cases: [(&[u8], bool, u8, &[u8], &[u8]); 3] = [
+        (b"S1", false, 0, RESIDUALS, b""),
+        (b"S2", false, 1, b"", b"refused: no station\n"),
+        (b"S1", true, 1, b"", b"refused: block 13: Read\n"),
+    ];
+    for (name, fails, status, printed, refused) in cases {
+        let gsi = Script::new(S1, 7, fails);
+        let mut out = Held::new(rt.alloc(), 400, 400, false).map_err(|_| "no memory")?;
+        let mut err = Held::new(rt.alloc(), 100, 100, false).map_err(|_| "no memory")?;
+        let answer = run_residuals(rt.alloc(), gsi, name, limits(&rt), &mut out, &mut err);
+        assert_eq!(rt; answer, status);
+        assert_eq!(rt; out.bytes(), printed);
+        assert_eq!(rt; err.bytes(), refused);
+    }
+    Ok(())
+}
+
+#[test]
+fn a_writer_without_room_or_whose_flush_fails_is_told(rt: HostRuntime) -> Result<(), Fail> {
+    for (room, flush_fails) in [(0, false), (50, false), (400, true)] {
+        let gsi = Script::new(S1, usize::MAX, false);
+        let mut out = Held::new(rt.alloc(), room, 7, flush_fails).map_err(|_| "no memory")?;
+        let answer = write_residuals(rt.alloc(), gsi, b"S1", limits(&rt), &mut out);
+        assert_eq!(rt; answer, Err(CompareFault::Write));
+        let written = room.min(RESIDUALS.len());
+        assert_eq!(rt; out.bytes(), &RESIDUALS[..written]);
+    }
+    Ok(())
+}
