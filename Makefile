@@ -84,8 +84,8 @@ run: $(PROGRAM)
 # Makes the page that checks in a browser, one file, of the proved calls.
 page: $(PAGE)
 
-$(PAGE): $(PROVED)/station_compare $(PROVED)/station_mark $(PROVED)/station_explain $(SOURCES) \
-  $(wildcard page/*.py page/*.js page/*.css) page/heap.c page/station_check.html
+$(PAGE): $(PROVED)/station_compare $(PROVED)/station_mark $(PROVED)/station_explain $(PROVED)/byte_digests \
+  $(SOURCES) $(wildcard page/*.py page/*.js page/*.css) page/heap.c page/station_check.html
 	@$(NEED_TOOLCHAIN)
 	@RT='$(RT)' $(PYTHON) page/build.py $@
 

@@ -94,7 +94,7 @@ async function answerOfMark(/** @type {Input} */ field) {
   const command = `${commandOf('mark', [], {}, [field.name], named)} > ${copy}`;
   const answer = await answered({ status, text: beside }, { asked: 'mark', command, field });
   if (status !== ACCEPTED) return answer;
-  const digest = await digestOf(bytes);
+  const digest = await digestOf({ name: copy, bytes });
   return { ...answer, other: { name: copy, bytes, kind: /** @type {const} */ ('field'), digest, original: field } };
 }
 
@@ -152,12 +152,14 @@ export async function makeCards(inputs, limits, cards, told) {
   for (const field of fields) {
     tell(field);
     cards.push(...await cardsOfField(field, limits));
+    field.digest ||= await digestOf(field);
   }
   const stations = cards.flatMap(card => card.station ?? []);
   const read = each(cards.map(card => card.field));
   for (const file of others) {
     tell(file);
     await placeFile(file, cards, read, stations, limits);
+    file.digest ||= await digestOf(file);
   }
 }
 

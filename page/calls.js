@@ -65,5 +65,6 @@ export const calls = {
   compare: (core, gsi, table, name, twoC, twoI, within) =>
     callOf(core, 'station_page_compare', [gsi, table, name], [twoC, twoI, within]),
   mark: (core, gsi, name) => callOf(core, 'station_page_mark', [gsi, name], [], 2),
+  digest: (core, file, name) => callOf(core, 'station_page_digest', [file, name], []),
   explain: (core, line) => callOf(core, 'station_page_explain', [line], []),
 };

@@ -5,7 +5,8 @@ import { each, recordsOf } from './records.js';
  * What a file is: a field file, a sheet or a table; or why it is none of them.
  * @typedef {'field' | 'sheet' | 'table' | 'spreadsheet' | 'empty' | 'unread' | 'other'} Kind
  * A file that was handed in: `choice` is the place that the user chose for it, `station` the name that the
- * user gave to a field file without one, and `original` the field file that a marked copy is of.
+ * user gave to a field file without one, and `original` the field file that a marked copy is of. The digest
+ * is there once the file was judged.
  * @typedef {{ name: string, bytes: Uint8Array, kind: Kind, digest: string, choice?: string,
  *   station?: string, original?: Input }} Input
  * A station of a field file.

@@ -7,7 +7,7 @@ import { headlineOfCard, saidOf } from './headlines.js';
 import { limitsLine, limitsNow, LIMITS, showLimit, wrongLimit } from './limits.js';
 import { showProtocol } from './protocol.js';
 import { LANGUAGES, languageOf, speak, spoken, text } from './texts.js';
-import { Stopped, digestOf, start, stop } from './work.js';
+import { Stopped, start, stop } from './work.js';
 
 /**
  * @typedef {import('./files.js').Input} Input
@@ -219,7 +219,7 @@ onbeforeprint = () => {
 async function inputOf(file) {
   try {
     const bytes = new Uint8Array(await file.arrayBuffer());
-    return { name: file.name, bytes, kind: kindOf(file.name, bytes), digest: await digestOf(bytes) };
+    return { name: file.name, bytes, kind: kindOf(file.name, bytes), digest: '' };
   } catch {
     return { name: file.name, bytes: new Uint8Array(), kind: 'unread', digest: '' };
   }

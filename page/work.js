@@ -62,9 +62,11 @@ export async function ask(name, ...inputs) {
   return { status, bytes, text, beside: beside.trimEnd() };
 }
 
-/** The SHA-256 of a file, by the browser; nothing where it has none. */
-export async function digestOf(/** @type {Uint8Array} */ bytes) {
-  if (!globalThis.crypto?.subtle) return '';
-  const digest = new Uint8Array(await crypto.subtle.digest('SHA-256', bytes));
-  return Array.from(digest, byte => byte.toString(16).padStart(2, '0')).join('');
+/**
+ * The SHA-256 of a file: the digits of its line.
+ * @param {{ name: string, bytes: Uint8Array }} file
+ */
+export async function digestOf({ name, bytes }) {
+  const { text } = await ask('digest', bytes, name);
+  return text.match(/[0-9a-f]{64}/)[0];
 }

@@ -2,8 +2,9 @@
 //
 // The worker's script and the module are taken out of the page as it is. Beside the program's commands, `residuals GSI
 // SHEET` gives those of an accepted sheet as fractions of a half unit, `explain-bytes FILE` explains the
-// bytes of a file, and `time COMMAND WORD..` gives the milliseconds that the fastest of some runs takes.
-// With `--room=N` each text has room for so many bytes, and a call is not made again with more.
+// bytes of a file, `digest FILE NAME` gives the line of its digest with this name, and `time COMMAND
+// WORD..` gives the milliseconds that the fastest of some runs takes. With `--room=N` each text has room
+// for so many bytes, and a call is not made again with more.
 import fs from 'node:fs';
 import vm from 'node:vm';
 
@@ -49,6 +50,7 @@ const answers = {
   compare: (gsi, name, table) =>
     calls.compare(core, bytesOf(gsi), bytesOf(table), nameOf(name), ...faces, options['--within']),
   mark: gsi => calls.mark(core, bytesOf(gsi), nameOf(station)),
+  digest: (file, name) => calls.digest(core, bytesOf(file), nameOf(name)),
   explain: (line = '') => calls.explain(core, nameOf(line)),
   'explain-bytes': file => calls.explain(core, bytesOf(file)),
   residuals: async (gsi, sheet) => {

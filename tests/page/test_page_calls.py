@@ -1,6 +1,7 @@
 """The calls of the page give the program's answers: its module and script, taken out of it, in node."""
 
 import fcntl
+import hashlib
 import os
 import random
 import shutil
@@ -47,6 +48,12 @@ NO_TEXTS = [
     ("\U0010ffff".encode(), "no such fault"),
     (b"\0", "no such fault"),
 ]
+
+# Lengths of files beside the ends of SHA-256's blocks of 64 bytes, of which 9 end a file.
+LENGTHS = [0, 1, 54, 55, 56, 63, 64, 65, 118, 119, 120, 128, 1_000_003]
+
+# Names of files: plain ones, one of no ASCII, and ones with bytes that sha256sum escapes.
+NAMES = ["p7.gsi", "two  blanks", "Zw\u00f6lf.csv", "\\", "a\\b", "line\nfeed", "\r", "\\\n\r\n"]
 
 # How long the page's build may take, where it proves the crate: in seconds.
 TIME_OF_BUILD = 1_200
@@ -177,6 +184,7 @@ class PageCallsTest(TimedTest):
             ["compare", gsi, "P7", table],
             ["explain", "TwoC"],
             ["mark", job],
+            ["digest", gsi, "two\\lines\n"],
             # The same of a refusal; of words it stands beside the words, of which there are none here.
             ["check", gsi, table],
             ["list", sheet],
@@ -197,6 +205,18 @@ class PageCallsTest(TimedTest):
                 with self.subTest(words, room=room):
                     answer = answer_to([*self.command(), f"--room={room}", *words])
                     self.assertEqual(expected, answer)
+
+    def test_a_digest_is_the_line_of_sha256sum(self):
+        with tempfile.TemporaryDirectory() as folder:
+            for nth, length in enumerate(LENGTHS):
+                name, data = NAMES[nth % len(NAMES)], random.Random(length).randbytes(length)
+                path = Path(folder) / name
+                path.write_bytes(data)
+                with self.subTest(name, length=length):
+                    shown = subprocess.run(["sha256sum", "--", name], cwd=folder, check=True, capture_output=True)
+                    self.assertIn(hashlib.sha256(data).hexdigest().encode(), shown.stdout)
+                    answer = answer_to([*self.command(), "digest", path, name])
+                    self.assertEqual((0, shown.stdout, b""), answer)
 
     def test_the_residuals_are_those_that_are_drawn_beside_the_program(self):
         checks = [case for case in run.cases() if case.args[:1] == ["check"] and len(case.args) == 3]
@@ -240,10 +260,13 @@ class PageCallsTest(TimedTest):
         commands = [["check", *EXAMPLES[:2]], ["explain", "TwoC"]]
         usual = [answer_to([*self.command(), *words]) for words in commands]
         refusal = (1, b"", b"refused: out of memory\n")
+        # A digest takes no memory.
+        digest, line = ["digest", str(JOB), "job"], f"{hashlib.sha256(JOB.read_bytes()).hexdigest()}  job\n"
         for count in range(REFUSED):
             limit = f"-DREFUSED_AFTER={count}"
             build.linked(kit, build.ROOM / "page.o", wasm, build.ROOM, limit)
             page.write_text(build.page(wasm.read_bytes()))
+            self.assertEqual((0, line.encode(), b""), answer_to([*self.command(page), *digest]))
             for words, whole in zip(commands, usual):
                 with self.subTest(count, words=words):
                     answer = answer_to([*self.command(page), *words])

@@ -1,5 +1,5 @@
 -- What a digesting source gave.
-use Rattle.std.proofs.Common.{◌≡◌, ℕ, zero, suc, List, [], ◌++◌, take, Option, Result, Ok, Err, Bool}
+use Rattle.std.proofs.Common.{ℕ, zero, suc, List, [], ◌++◌, Option, Bool}
 use Rattle.byte_digests.specs.Digesting.{reader_of, hasher_of, histories}
 use Rattle.byte_digests.specs.declared.digesting.Digesting.{Digesting}
 use Rattle.byte_ends.specs.Source.{Told, Adds, HasGiven, reader_change}

@@ -5,6 +5,7 @@ use Rattle.std.specs.Io.KnownBytes.{Appends}
 use Rattle.std.proofs.KnownBytes.{Appends-nil, Appends-trans}
 use Rattle.std.proofs.lemmas.List.{append-nil, take-append-drop, take_at}
 use Rattle.std.specs.Prelude.{◌||◌, ◌==◌, ◌+◌, ◌<◌, slice_index, Result, Ok, Err, OnOk, OnErr}
+use Rattle.std.specs.Prelude.{Some, None, IfNone}
 use Rattle.std.specs.List.{list_any}
 use Rattle.byte_digests.specs.DigestLines.{escaped, is_escaped}
 use Rattle.byte_ends.specs.Sink.{AppendsSome}
@@ -41,6 +42,15 @@ then_some old now new first text p h =
 pub in_any_case : {T E P : Type 0} (r : Result T E) → P → OnErr r P
 in_any_case (Ok x) p = tt
 in_any_case (Err e) p = p
+
+-- The same where none was answered, and what follows from what is so there.
+pub whatever_none : {A P : Type 0} (r : Option A) → P → IfNone r P
+whatever_none None p = p
+whatever_none (Some x) p = tt
+
+pub so_none : {A P Q : Type 0} (r : Option A) → (P → Q) → IfNone r P → IfNone r Q
+so_none None next p = next p
+so_none (Some x) next p = tt
 
 -- What follows from what is so with Ok, or where a failure was.
 pub so_ok : {T E P Q : Type 0} (r : Result T E) → (P → Q) → OnOk r P → OnOk r Q

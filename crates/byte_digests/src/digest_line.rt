@@ -1,6 +1,6 @@
 //! The line of a file's digest, as `sha256sum` prints it.
 
-ghost use Rattle.std.specs.Prelude.{◌≡◌, OnOk, OnErr};
+ghost use Rattle.std.specs.Prelude.{◌≡◌, ◌∷◌, [], OnOk, OnErr, IfSome, IfNone};
 ghost use Rattle.std.specs.Io.KnownBytes.{Appends};
 ghost use Rattle.std.specs.List.{list_any, flat_map};
 ghost use Rattle.byte_digests.specs.DigestLines as spec;
@@ -14,8 +14,11 @@ const BACKSLASH: u8 = b'\\';
 /// The byte that stands twice between the digits and the name.
 const BLANK: u8 = b' ';
 
+/// Bytes of the digits, 64, and of the two blanks.
+pub(crate) const BEFORE_NAME: usize = 66;
+
 /// The byte that ends the line.
-const LINE_FEED: u8 = b'\n';
+pub(crate) const LINE_FEED: u8 = b'\n';
 
 /// A byte that is escaped in a name.
 const CARRIAGE_RETURN: u8 = b'\r';
@@ -52,8 +55,14 @@ fn write_mark<W: Sink>(name: &[u8], writer: &mut W) -> Result<(), Failed>
     ensures cut_short { OnErr result (AppendsSome (W.holds writer.old) (W.holds writer.new)
         (spec.mark_of name.now)) }
 {
-    let mark: &[u8] = if has_escapes(name) { &[BACKSLASH] } else { &[] };
-    writer.write_all(mark)
+    writer.write_all(mark_of(name))
+}
+
+/// What the line of a name begins with.
+pub(crate) fn mark_of(name: &[u8]) -> &'static [u8]
+    ensures { result.now ≡ spec.mark_of name.now }
+{
+    if has_escapes(name) { &[BACKSLASH] } else { &[] }
 }
 
 /// Writes the digits of a digest, and two blanks.
@@ -64,9 +73,16 @@ fn write_digits<W: Sink>(digest: &[u8; 32], writer: &mut W) -> Result<(), Failed
     ensures cut_short { OnErr result (AppendsSome (W.holds writer.old) (W.holds writer.new)
         (spec.digits_of digest.now)) }
 {
-    let mut text = [BLANK; 66];
+    writer.write_all(&digits_of(digest))
+}
+
+/// The digits of a digest, and two blanks.
+pub(crate) fn digits_of(digest: &[u8; 32]) -> [u8; BEFORE_NAME]
+    ensures { result ≡ spec.digits_of digest.now }
+{
+    let mut text = [BLANK; BEFORE_NAME];
     hex::encode_to_slice(digest, &mut text[..64]).unwrap();
-    writer.write_all(&text)
+    text
 }
 
 /// Writes a name, with the bytes escaped that have to be.
@@ -94,11 +110,22 @@ fn write_byte<W: Sink>(byte: u8, writer: &mut W) -> Result<(), Failed>
     ensures cut_short { OnErr result (AppendsSome (W.holds writer.old) (W.holds writer.new)
         (spec.escaped byte)) }
 {
+    match escape_of(byte) {
+        Some(escape) => writer.write_all(escape),
+        None => writer.write_all(&[byte]),
+    }
+}
+
+/// What stands in the line for a byte that is escaped; none where the byte stands for itself.
+pub(crate) fn escape_of(byte: u8) -> Option<&'static [u8]>
+    ensures escaped { IfSome result (λ escape. escape.now ≡ spec.escaped byte) }
+    ensures plain { IfNone result (spec.escaped byte ≡ byte ∷ []) }
+{
     match byte {
-        BACKSLASH => writer.write_all(&[BACKSLASH, BACKSLASH]),
-        LINE_FEED => writer.write_all(&[BACKSLASH, LETTER_N]),
-        CARRIAGE_RETURN => writer.write_all(&[BACKSLASH, LETTER_R]),
-        _ => writer.write_all(&[byte]),
+        BACKSLASH => Some(&[BACKSLASH, BACKSLASH]),
+        LINE_FEED => Some(&[BACKSLASH, LETTER_N]),
+        CARRIAGE_RETURN => Some(&[BACKSLASH, LETTER_R]),
+        _ => None,
     }
 }
 

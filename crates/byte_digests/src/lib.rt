@@ -7,6 +7,8 @@
 
 mod digest_line;
 mod digesting;
+mod put_line;
 
 pub use digest_line::write_digest_line;
 pub use digesting::Digesting;
+pub use put_line::{MOST_BESIDE_NAME, put_digest_line};

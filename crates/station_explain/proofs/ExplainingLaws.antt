@@ -5,7 +5,7 @@ use Rattle.std.proofs.Common.{◌≡◌, ◌-◌, ◌^◌, ◌≤◌, length, ar
 use lib.Utf8.{encode}
 use Rattle.std.proofs.Padding.{take_chars_all}
 use Rattle.std.specs.Fmt.{char_count, format_spec, padded, styled_text}
-use Rattle.station_explain.specs.declared.explanations.Explanation.{Explanation}
+use Rattle.station_explain.specs.Table.{Explanation}
 use Rattle.station_explain.specs.Explaining.{filled, meaning_text, list_text, Explains}
 
 -- There is always a text that explains.

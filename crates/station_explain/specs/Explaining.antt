@@ -9,7 +9,7 @@ use Rattle.byte_ends.specs.Sink.{AppendsSome, WriterChange}
 use Rattle.station_check.specs.declared.fault.Fault.{Fault}
 use Rattle.station_check.specs.declared.fault.Fault.TheVariants.{Write, Memory}
 use Rattle.station_check.specs.Answerable.{FailsAtWrite, IsUnwritten, HandsOn}
-use Rattle.station_explain.specs.declared.explanations.Explanation.{Explanation}
+use Rattle.station_explain.specs.Table.{Explanation}
 
 -- What a fault means: its names, what it is, when it comes, a line that names it, and what to do.
 abbrev pub meaning_text : Explanation → List ℕ

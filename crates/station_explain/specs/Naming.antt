@@ -4,7 +4,7 @@ use Rattle.std.specs.Prelude.{All, Any, Contains}
 use Rattle.std.specs.Borrow.{Bor}
 use Rattle.std.specs.Char.{is_ascii_digit}
 use Rattle.std.specs.Str.{str_eq_ignore_ascii_case}
-use Rattle.station_explain.specs.declared.explanations.Explanation.{Explanation}
+use Rattle.station_explain.specs.Table.{Explanation}
 
 -- The text has no such part.
 abbrev pub Lacks : List ℕ → List ℕ → Type 0
@@ -45,14 +45,21 @@ HasName name e = Any (λ n. n.now ≡ name) e.names.now
 abbrev pub HasNameInAnyCase : List ℕ → Explanation → Type 0
 HasNameInAnyCase name e = Any (λ n. IsTrue (str_eq_ignore_ascii_case n.now name)) e.names.now
 
+-- The fault has no such name, written just so.
+abbrev pub LacksName : List ℕ → Explanation → Type 0
+LacksName name e = All (λ n. n.now ≢ name) e.names.now
+
+-- The fault has no such name, capitals and small letters alike.
+abbrev pub LacksNameInAnyCase : List ℕ → Explanation → Type 0
+LacksNameInAnyCase name e = All (λ n. IsFalse (str_eq_ignore_ascii_case n.now name)) e.names.now
+
 -- No fault of the table has this name, written just so.
 abbrev pub IsNoName : List (Bor (List Explanation)) → List ℕ → Type 0
-IsNoName table name = All (λ g. All (λ e. All (λ n. n.now ≢ name) e.names.now) g.now) table
+IsNoName table name = All (λ g. All (LacksName name) g.now) table
 
 -- No fault of the table has this name, capitals and small letters alike.
 abbrev pub IsNoNameInAnyCase : List (Bor (List Explanation)) → List ℕ → Type 0
-IsNoNameInAnyCase table name = All (λ g. All
-    (λ e. All (λ n. IsFalse (str_eq_ignore_ascii_case n.now name)) e.names.now) g.now) table
+IsNoNameInAnyCase table name = All (λ g. All (LacksNameInAnyCase name) g.now) table
 
 -- The fault that a name means: one of the table that has it, written just so; where none has, one
 -- that has it with capitals and small letters alike.

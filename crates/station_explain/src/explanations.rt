@@ -1,78 +1,97 @@
 //! What each fault means that the line of a refusal can name: when it comes, a line that names it,
 //! and what to do. The man page and `docs/FAULTS.md` are made from these texts.
 
-ghost use Rattle.std.specs.Prelude.{◌≡◌, ◌≢◌, ◌↔◌, IfSome, IfNone, IsTrue, IsFalse};
-ghost use Rattle.std.specs.Prelude.{All, Any, Contains};
-ghost use Rattle.std.specs.Str.{str_eq_ignore_ascii_case};
-ghost use Rattle.station_explain.specs.Naming.{IsMeant, IsNoNameInAnyCase};
+ghost use Rattle.std.specs.Prelude.{IfSome, IfNone, IsTrue, IsFalse, All, Any, Contains};
+ghost use Rattle.station_explain.specs.Naming.{HasName, HasNameInAnyCase, LacksName};
+ghost use Rattle.station_explain.specs.Naming.{LacksNameInAnyCase, IsNoName, IsNoNameInAnyCase};
+ghost use Rattle.station_explain.specs.Naming.{IsMeant};
+ghost use Rattle.station_explain.specs.Table.{IsTheTable};
 
 /// What is said of a fault.
+///
+/// The kind of the texts is a parameter, so that clauses can name a table of explanations: they can
+/// name no constant whose struct has references for its fields.
 #[derive(Clone, Copy, Debug)]
-pub struct Explanation {
+pub struct Said<Names, Text> {
     /// Its names, as the line of a refusal has them, without what they carry.
-    pub names: &'static [&'static str],
+    pub names: Names,
 
     /// What it is, in a few words.
-    pub meaning: &'static str,
+    pub meaning: Text,
 
     /// When it comes.
-    pub when: &'static str,
+    pub when: Text,
 
     /// The line of a refusal that names it.
-    pub example: &'static str,
+    pub example: Text,
 
     /// What a user does about it.
-    pub remedy: &'static str,
+    pub remedy: Text,
 }
+
+/// What the program says of a fault.
+pub type Explanation = Said<&'static [&'static str], &'static str>;
 
 impl Explanation {
     /// Whether this is a name of the fault.
     fn has_name(&self, name: &str) -> bool
-        ensures { IsTrue result ↔ Any (λ n. n.now ≡ name.now) self.now.names.now }
+        ensures named { IsTrue result → HasName name.now self.now }
+        ensures missing { IsFalse result → LacksName name.now self.now }
     {
         self.names.iter().any(|&n| n == name)
     }
 
     /// Whether this is a name of the fault, be it in capitals or small letters.
     fn has_name_in_any_case(&self, name: &str) -> bool
-        ensures { IsTrue result
-            ↔ Any (λ n. IsTrue (str_eq_ignore_ascii_case n.now name.now)) self.now.names.now }
+        ensures named { IsTrue result → HasNameInAnyCase name.now self.now }
+        ensures missing { IsFalse result → LacksNameInAnyCase name.now self.now }
     {
         self.names.iter().any(|&n| n.eq_ignore_ascii_case(name))
     }
 }
 
 /// The explanation of this name among some; none where it is no name of any.
+// Loops here and below: no proof reaches a closure over a type with so many lifetimes.
 fn explanation_of<'a>(entries: &'a [Explanation], name: &str) -> Option<&'a Explanation>
     ensures found { IfSome result (λ e. Contains entries.now e.now) }
-    ensures named { IfSome result (λ e. Any (λ n. n.now ≡ name.now) e.now.names.now) }
-    ensures missing { IfNone result
-        (All (λ e. All (λ n. n.now ≢ name.now) e.names.now) entries.now) }
+    ensures named { IfSome result (λ e. HasName name.now e.now) }
+    ensures missing { IfNone result (All (LacksName name.now) entries.now) }
 {
-    entries.iter().find(|e| e.has_name(name))
+    'entries: for entry in entries {
+        if entry.has_name(name) {
+            return Some(entry);
+        }
+    }
+    None
 }
 
 /// The explanation of this name among groups of explanations; none where it is no name of any.
 fn explanation_named<'a>(groups: &[&'a [Explanation]], name: &str) -> Option<&'a Explanation>
     ensures found { IfSome result (λ e. Any (λ g. Contains g.now e.now) groups.now) }
-    ensures named { IfSome result (λ e. Any (λ n. n.now ≡ name.now) e.now.names.now) }
-    ensures missing { IfNone result
-        (All (λ g. All (λ e. All (λ n. n.now ≢ name.now) e.names.now) g.now) groups.now) }
+    ensures named { IfSome result (λ e. HasName name.now e.now) }
+    ensures missing { IfNone result (IsNoName groups.now name.now) }
 {
-    groups.iter().find_map(|&group| explanation_of(group, name))
+    'groups: for &group in groups {
+        if let Some(entry) = explanation_of(group, name) {
+            return Some(entry);
+        }
+    }
+    None
 }
 
 /// The explanation of this name in capitals or small letters among some; none where it is no name
 /// of any.
 fn explanation_in_any_case<'a>(entries: &'a [Explanation], name: &str) -> Option<&'a Explanation>
     ensures found { IfSome result (λ e. Contains entries.now e.now) }
-    ensures named { IfSome result
-        (λ e. Any (λ n. IsTrue (str_eq_ignore_ascii_case n.now name.now)) e.now.names.now) }
-    ensures missing { IfNone result
-        (All (λ e. All (λ n. IsFalse (str_eq_ignore_ascii_case n.now name.now)) e.names.now)
-        entries.now) }
+    ensures named { IfSome result (λ e. HasNameInAnyCase name.now e.now) }
+    ensures missing { IfNone result (All (LacksNameInAnyCase name.now) entries.now) }
 {
-    entries.iter().find(|e| e.has_name_in_any_case(name))
+    'entries: for entry in entries {
+        if entry.has_name_in_any_case(name) {
+            return Some(entry);
+        }
+    }
+    None
 }
 
 /// The explanation of this name in capitals or small letters among groups of explanations; none
@@ -82,16 +101,15 @@ fn explanation_named_in_any_case<'a>(
     name: &str,
 ) -> Option<&'a Explanation>
     ensures found { IfSome result (λ e. Any (λ g. Contains g.now e.now) groups.now) }
-    ensures named { IfSome result
-        (λ e. Any (λ n. IsTrue (str_eq_ignore_ascii_case n.now name.now)) e.now.names.now) }
-    ensures missing { IfNone result
-        (All (λ g. All
-        (λ e. All (λ n. IsFalse (str_eq_ignore_ascii_case n.now name.now)) e.names.now) g.now)
-        groups.now) }
+    ensures named { IfSome result (λ e. HasNameInAnyCase name.now e.now) }
+    ensures missing { IfNone result (IsNoNameInAnyCase groups.now name.now) }
 {
-    groups
-        .iter()
-        .find_map(|&group| explanation_in_any_case(group, name))
+    'groups: for &group in groups {
+        if let Some(entry) = explanation_in_any_case(group, name) {
+            return Some(entry);
+        }
+    }
+    None
 }
 
 /// The explanation that a name means among groups of explanations: that of the fault which has it
@@ -108,915 +126,894 @@ pub fn explanation_meant<'a>(groups: &[&'a [Explanation]], name: &str) -> Option
 
 /// The explanations of all faults that the line of a refusal can name, in groups, about in the
 /// order in which they are looked for.
-pub fn all_explanations() -> [&'static [Explanation]; 13] {
-    [
-        file_faults(),
-        station_faults(),
-        number_faults(),
-        angle_faults(),
-        face_faults(),
-        block_mark_faults(),
-        set_mark_faults(),
-        row_faults(),
-        value_faults(),
-        match_faults(),
-        adjustment_faults(),
-        table_faults(),
-        end_faults(),
-    ]
+pub fn all_explanations() -> [&'static [Explanation]; 13]
+    ensures { IsTheTable result }
+{
+    EXPLANATIONS
 }
 
+/// The table that `all_explanations` hands out.
+const EXPLANATIONS: [&[Explanation]; 13] = [
+    FILE_FAULTS,
+    STATION_FAULTS,
+    NUMBER_FAULTS,
+    ANGLE_FAULTS,
+    FACE_FAULTS,
+    BLOCK_MARK_FAULTS,
+    SET_MARK_FAULTS,
+    ROW_FAULTS,
+    VALUE_FAULTS,
+    MATCH_FAULTS,
+    ADJUSTMENT_FAULTS,
+    TABLE_FAULTS,
+    END_FAULTS,
+];
+
 /// Faults of a field file: its bytes, lines and words.
-fn file_faults() -> &'static [Explanation] {
-    &[
-        Explanation {
-            names: &["Read"],
-            meaning: "the field file, the sheet or the table could not be read to its end",
-            when: "\
+const FILE_FAULTS: &[Explanation] = &[
+    Said {
+        names: &["Read"],
+        meaning: "the field file, the sheet or the table could not be read to its end",
+        when: "\
 A read of the field file failed, and the block is the first line that had not ended then; or, as
 'sheet: Read' or 'table: Read', a read of the sheet or the table failed. A read that failed is not
 tried again. A folder can be opened and not read, so its name leads here. So does an input that
 would block: a pipe or a terminal that another program has set not to wait, where its bytes are not
 there yet (EAGAIN).",
-            example: "refused: block 1: Read",
-            remedy: "\
+        example: "refused: block 1: Read",
+        remedy: "\
 See that the path names a file and not a folder. Copy the file: where the copy fails
 too, its medium is at fault. Read an input that would block by its path, as
 'station_check words /dev/stdin': opened anew, it is waited for.",
-        },
-        Explanation {
-            names: &["FileTooLong"],
-            meaning: "the field file has more than 16777216 bytes",
-            when: "\
+    },
+    Said {
+        names: &["FileTooLong"],
+        meaning: "the field file has more than 16777216 bytes",
+        when: "\
 The field file has a byte 16777217. It stands in this line, begins it or ends it.",
-            example: "refused: block 1048577: FileTooLong",
-            remedy: "\
+        example: "refused: block 1048577: FileTooLong",
+        remedy: "\
 Divide a copy before a block that opens a station, with code 10. A file of field work is
 seldom so long: see that the path names one.",
-        },
-        Explanation {
-            names: &["LineTooLong"],
-            meaning: "a line has more than 1024 bytes",
-            when: "\
+    },
+    Said {
+        names: &["LineTooLong"],
+        meaning: "a line has more than 1024 bytes",
+        when: "\
 The line has more than 1024 bytes, its blanks counted. A byte 13 (CR) or 10 (LF) ends a line.",
-            example: "refused: block 1: LineTooLong",
-            remedy: "\
+        example: "refused: block 1: LineTooLong",
+        remedy: "\
 See that the path names a field file: an archive or a picture mostly has such lines.
 Blanks at the end of a line may be left out of a copy.",
-        },
-        Explanation {
-            names: &["Byte"],
-            meaning: "a byte of a line is no printable ASCII character",
-            when: "\
+    },
+    Said {
+        names: &["Byte"],
+        meaning: "a byte of a line is no printable ASCII character",
+        when: "\
 The byte at this place of the line, from 1, is outside 20 to 7E (hex). Tabs are such bytes, letters
 with accents, the byte 1A that old programs write at the end of a file, the byte order mark, EF BB
 BF, that some editors write at its beginning, and the bytes 00 of a file in UTF-16.",
-            example: "refused: block 1: Byte 16",
-            remedy: "\
+        example: "refused: block 1: Byte 16",
+        remedy: "\
 Transfer the file again, with no conversion of characters. Where the byte is still
 there, check a copy: with a blank in place of a tab, a plain letter in place of one with an accent,
 without a byte order mark or a final 1A, and in ASCII where the file was in UTF-16.",
-        },
-        Explanation {
-            names: &["Word"],
-            meaning: "a word of a line is no GSI word",
-            when: "\
+    },
+    Said {
+        names: &["Word"],
+        meaning: "a word of a line is no GSI word",
+        when: "\
 The word of this number in its line, from 1, is too short, lacks the two digits of its index or its
 sign, has a blank in its four bytes of information, or is not followed by one blank or the end of
 the line. A line without any word has 'Word 1', so has a line of titles or remarks, and so has a
 sheet in the place of the field file.",
-            example: "refused: block 6: Word 3",
-            remedy: "\
+        example: "refused: block 6: Word 3",
+        remedy: "\
 Look at that word. A cut word in the last line means that the transfer broke off:
 transfer the file again. Two blanks between words are one too many. The words of a line have 16
 bytes of content where it begins with '*', and else 8. For a line of titles, check a copy without
 it; for a sheet, name GSI first and SHEET second.",
-        },
-        Explanation {
-            names: &["FirstWord"],
-            meaning: "a line begins with neither word 11 nor word 41",
-            when: "\
+    },
+    Said {
+        names: &["FirstWord"],
+        meaning: "a line begins with neither word 11 nor word 41",
+        when: "\
 The first word of a line has the index 11 in a measurement, for the point number, or 41 in a code.
 The first word of this line has another index.",
-            example: "refused: block 1: FirstWord",
-            remedy: "\
+        example: "refused: block 1: FirstWord",
+        remedy: "\
 Have the instrument record the point number, or the code, as the first word. A line that
 is neither a measurement nor a code is no part of a field file: check a copy without it.",
-        },
-    ]
-}
+    },
+];
 
 /// Faults of the blocks that open a station or a set, or end one.
-fn station_faults() -> &'static [Explanation] {
-    &[
-        Explanation {
-            names: &["EmptySet"],
-            meaning: "a set ends that has no reading",
-            when: "\
+const STATION_FAULTS: &[Explanation] = &[
+    Said {
+        names: &["EmptySet"],
+        meaning: "a set ends that has no reading",
+        when: "\
 At this block a set ends, by code 10, 20 or 30 or by the end of the file, in which no block has a
 point number and a direction, word 21. The end of the file has the number after the last block.",
-            example: "refused: block 3: EmptySet",
-            remedy: "\
+        example: "refused: block 3: EmptySet",
+        remedy: "\
 Check a copy without the code 20 of a set that was not observed. Where its readings
 stand before the code, move the code before them in the copy.",
-        },
-        Explanation {
-            names: &["OneFace"],
-            meaning: "a set ends that has a target in one face only",
-            when: "\
+    },
+    Said {
+        names: &["OneFace"],
+        meaning: "a set ends that has a target in one face only",
+        when: "\
 At this block a set ends, by code 10, 20 or 30 or by the end of the file, in which a target was read
 in one face and not in the other. The end of the file has the number after the last block.",
-            example: "refused: block 4: OneFace",
-            remedy: "\
+        example: "refused: block 4: OneFace",
+        remedy: "\
 Look in 'station_check words GSI' for the target that stands once in the set. A name
 that is spelled in two ways is two targets: of the examples, prepare.py gives a block another name
 in a copy. Where a face is missing, or the set was broken off, check a copy without the other
 reading or without the set: prepare.py has --blocks and --set for that. Detail points in one face
 come after a block of code 30.",
-        },
-        Explanation {
-            names: &["WordTwice"],
-            meaning: "a block has two words of one index",
-            when: "\
+    },
+    Said {
+        names: &["WordTwice"],
+        meaning: "a block has two words of one index",
+        when: "\
 The block has two or more words of this index, of which one counts: 42 has the name of a station or
 the number of a set, 21 the direction of a reading, 22 its zenith angle.",
-            example: "refused: block 1: WordTwice 42",
-            remedy: "\
+        example: "refused: block 1: WordTwice 42",
+        remedy: "\
 See which of the words is right, and check a copy without the others.",
-        },
-        Explanation {
-            names: &["StationName"],
-            meaning: "a station is opened without a name",
-            when: "\
+    },
+    Said {
+        names: &["StationName"],
+        meaning: "a station is opened without a name",
+        when: "\
 A block of code 10 opens a station, whose name is in word 42. This one has no word 42.",
-            example: "refused: block 1: StationName",
-            remedy: "\
+        example: "refused: block 1: StationName",
+        remedy: "\
 Check a copy that has the name of the station as word 42 of that block.",
-        },
-        Explanation {
-            names: &["SetOutside"],
-            meaning: "a set is opened before any station",
-            when: "\
+    },
+    Said {
+        names: &["SetOutside"],
+        meaning: "a set is opened before any station",
+        when: "\
 A block of code 20 opens a set of the station that is open, and no block before it has code 10.",
-            example: "refused: block 1: SetOutside",
-            remedy: "\
+        example: "refused: block 1: SetOutside",
+        remedy: "\
 Codes 10 and 20 may be those of your office, for something else. Then leave them out of
 a copy, with 'prepare.py --without-codes' of the examples, and put in the codes of stations and sets
 with 'station_check mark'. Else check a copy that has a block of code 10, with the name of the
 station in word 42, before the set.",
-        },
-        Explanation {
-            names: &["SetNumber"],
-            meaning: "a set is opened without a number from 1 to 9999",
-            when: "\
+    },
+    Said {
+        names: &["SetNumber"],
+        meaning: "a set is opened without a number from 1 to 9999",
+        when: "\
 A block of code 20 has the number of its set in word 42. This one has no word 42, or one that is not
 digits alone, or a number that is not 1 to 9999. Blanks are no digits.",
-            example: "refused: block 2: SetNumber",
-            remedy: "\
+        example: "refused: block 2: SetNumber",
+        remedy: "\
 Check a copy that has the number of the set as word 42 of that block.",
-        },
-    ]
-}
+    },
+];
 
 /// Faults of what stands twice or too often, and of a missing angle.
-fn number_faults() -> &'static [Explanation] {
-    &[
-        Explanation {
-            names: &["StationTwice"],
-            meaning: "a set is opened on a station that had sets before",
-            when: "\
+const NUMBER_FAULTS: &[Explanation] = &[
+    Said {
+        names: &["StationTwice"],
+        meaning: "a set is opened on a station that had sets before",
+        when: "\
 The station that is open has the name of an earlier one with sets, which another code 10 opened. A
 file has one occupation of a station. As 'mark: StationTwice', a set-up line has the name of an
 earlier one after which sets were read.",
-            example: "refused: block 14: StationTwice",
-            remedy: "\
+        example: "refused: block 14: StationTwice",
+        remedy: "\
 Where the instrument was not moved, check a copy without the second code 10, or set-up
 line, and the sets go on. Else give the second occupation a name of its own in a copy, with
 'prepare.py --rename BLOCK NAME' of the examples: BLOCK is that of its code 10 or its set-up line,
 before the one that is named.",
-        },
-        Explanation {
-            names: &["SetTwice"],
-            meaning: "a station has two sets of one number",
-            when: "\
+    },
+    Said {
+        names: &["SetTwice"],
+        meaning: "a station has two sets of one number",
+        when: "\
 The block opens a set with a number that a set of this station has.",
-            example: "refused: block 13: SetTwice",
-            remedy: "\
+        example: "refused: block 13: SetTwice",
+        remedy: "\
 In a copy, give one of the two sets another number, in word 42 of its code 20.",
-        },
-        Explanation {
-            names: &["TooManyStations"],
-            meaning: "the field file has more than 1000 stations with sets",
-            when: "\
+    },
+    Said {
+        names: &["TooManyStations"],
+        meaning: "the field file has more than 1000 stations with sets",
+        when: "\
 The block opens the first set of a station, and 1000 other stations have sets. As 'mark:
 TooManyStations' it is the first reading of such a station.",
-            example: "refused: block 4002: TooManyStations",
-            remedy: "\
+        example: "refused: block 4002: TooManyStations",
+        remedy: "\
 Divide a copy before a block that opens a station, with code 10, or before a set-up
 line.",
-        },
-        Explanation {
-            names: &["TooManySets"],
-            meaning: "a station has more than 40 sets",
-            when: "\
+    },
+    Said {
+        names: &["TooManySets"],
+        meaning: "a station has more than 40 sets",
+        when: "\
 The block opens a set of a station that has 40. As 'mark: TooManySets' it is the first reading of
 such a set.",
-            example: "refused: block 122: TooManySets",
-            remedy: "\
+        example: "refused: block 122: TooManySets",
+        remedy: "\
 Copy some of the sets into a file of their own, to be adjusted by themselves.",
-        },
-        Explanation {
-            names: &["NoZenith"],
-            meaning: "a reading has no zenith angle",
-            when: "\
+    },
+    Said {
+        names: &["NoZenith"],
+        meaning: "a reading has no zenith angle",
+        when: "\
 A block with a point number and a direction, word 21, stands in a set and has no word 22. Its zenith
 angle says which face it was read in.",
-            example: "refused: block 6: NoZenith",
-            remedy: "\
+        example: "refused: block 6: NoZenith",
+        remedy: "\
 Have the instrument record Hz and V. A sight that is no part of the set stands before
 its code 20, or after its code 30; one between them is left out of a copy.",
-        },
-    ]
-}
+    },
+];
 
 /// Faults of a direction or a zenith angle.
-fn angle_faults() -> &'static [Explanation] {
-    &[
-        Explanation {
-            names: &["Hz Unit", "Zenith Unit"],
-            meaning: "an angle is not in gon with five decimals",
-            when: "\
+const ANGLE_FAULTS: &[Explanation] = &[
+    Said {
+        names: &["Hz Unit", "Zenith Unit"],
+        meaning: "an angle is not in gon with five decimals",
+        when: "\
 Place 6 of word 21 (Hz) or word 22 (Zenith) of a reading is not '2', which stands for gon with five
 decimals.",
-            example: "refused: block 3: Hz Unit",
-            remedy: "\
+        example: "refused: block 3: Hz Unit",
+        remedy: "\
 Set the instrument to gon. Angles in degrees or mil are not read.",
-        },
-        Explanation {
-            names: &["Hz InputMode", "Zenith InputMode"],
-            meaning: "an angle has an input mode that is not accepted",
-            when: "\
+    },
+    Said {
+        names: &["Hz InputMode", "Zenith InputMode"],
+        meaning: "an angle has an input mode that is not accepted",
+        when: "\
 Place 5 of word 21 (Hz) or word 22 (Zenith) of a reading, which says how the value came in, is none
 of '.', '0', '2' and '3'.",
-            example: "refused: block 3: Hz InputMode",
-            remedy: "\
+        example: "refused: block 3: Hz InputMode",
+        remedy: "\
 See where this value comes from. A set has values that the instrument measured; one that
 was typed or computed is no reading.",
-        },
-        Explanation {
-            names: &["Hz Sign", "Zenith Sign"],
-            meaning: "an angle has a minus",
-            when: "\
+    },
+    Said {
+        names: &["Hz Sign", "Zenith Sign"],
+        meaning: "an angle has a minus",
+        when: "\
 The sign of word 21 (Hz) or word 22 (Zenith) of a reading is not '+'.",
-            example: "refused: block 3: Hz Sign",
-            remedy: "\
+        example: "refused: block 3: Hz Sign",
+        remedy: "\
 See how the word was made: directions and zenith angles are never below 0. A zenith
 angle with a minus is mostly an elevation: set the instrument to zenith angles.",
-        },
-        Explanation {
-            names: &["Hz Digits", "Zenith Digits"],
-            meaning: "an angle is not digits alone",
-            when: "\
+    },
+    Said {
+        names: &["Hz Digits", "Zenith Digits"],
+        meaning: "an angle is not digits alone",
+        when: "\
 A byte of the content of word 21 (Hz) or word 22 (Zenith) of a reading is no digit.",
-            example: "refused: block 3: Hz Digits",
-            remedy: "\
+        example: "refused: block 3: Hz Digits",
+        remedy: "\
 Look at the word for a blank, a point or a letter. An angle is written in units of
 0.00001 gon, with zeros before it.",
-        },
-        Explanation {
-            names: &["Hz Range", "Zenith Range"],
-            meaning: "an angle is a full circle or more",
-            when: "\
+    },
+    Said {
+        names: &["Hz Range", "Zenith Range"],
+        meaning: "an angle is a full circle or more",
+        when: "\
 Word 21 (Hz) or word 22 (Zenith) of a reading is 40000000 units of 0.00001 gon or more: 400 gon.",
-            example: "refused: block 3: Hz Range",
-            remedy: "\
+        example: "refused: block 3: Hz Range",
+        remedy: "\
 See how the word was made: 400 gon is written as 0.",
-        },
-    ]
-}
+    },
+];
 
 /// Faults of the readings of a target in both faces.
-fn face_faults() -> &'static [Explanation] {
-    &[
-        Explanation {
-            names: &["FaceUnclear"],
-            meaning: "a zenith angle of 0 or 200 gon has no face",
-            when: "\
+const FACE_FAULTS: &[Explanation] = &[
+    Said {
+        names: &["FaceUnclear"],
+        meaning: "a zenith angle of 0 or 200 gon has no face",
+        when: "\
 The zenith angle of a reading is 0 or 20000000 units of 0.00001 gon. Between them is face I, above
 20000000 face II.",
-            example: "refused: block 3: FaceUnclear",
-            remedy: "\
+        example: "refused: block 3: FaceUnclear",
+        remedy: "\
 A sight straight up or down gives no direction: check a copy without both readings of
 its pair. An elevation of 0 has this fault too: set the instrument to zenith angles.",
-        },
-        Explanation {
-            names: &["FaceTwice"],
-            meaning: "a set has two readings of a target in one face",
-            when: "\
+    },
+    Said {
+        names: &["FaceTwice"],
+        meaning: "a set has two readings of a target in one face",
+        when: "\
 The set has a reading of this target in this face. A closing sight at the end of a half set comes
 out so, a pointing that was repeated, and an elevation in place of a zenith angle, since both faces
 of it read as one.",
-            example: "refused: block 4: FaceTwice",
-            remedy: "\
+        example: "refused: block 4: FaceTwice",
+        remedy: "\
 Check a copy without the reading that does not count: for a repeated pointing the field
 book says which. Of the examples, prepare.py leaves out closing sights, or blocks by their numbers,
 and writes a log. An orientation sight before the code 20 of the first set is passed over, and so
 are closing sights and detail points after a code 30. Where each target has this fault, set the
 instrument to zenith angles.",
-        },
-        Explanation {
-            names: &["TooManyTargets"],
-            meaning: "a station has more than 100 targets",
-            when: "\
+    },
+    Said {
+        names: &["TooManyTargets"],
+        meaning: "a station has more than 100 targets",
+        when: "\
 The reading is of a target that its station has not had, and the station has 100. As 'mark:
 TooManyTargets', more than 200 readings would be one set.",
-            example: "refused: block 103: TooManyTargets",
-            remedy: "\
+        example: "refused: block 103: TooManyTargets",
+        remedy: "\
 Copy some of the sets into a file of their own, to be adjusted by themselves. To 'mark',
 leave detail points that stand before the sets out of a copy, with 'prepare.py --blocks' of the
 examples.",
-        },
-        Explanation {
-            names: &["TwoC"],
-            meaning: "the face difference 2c of a pair is above its limit",
-            when: "\
+    },
+    Said {
+        names: &["TwoC"],
+        meaning: "the face difference 2c of a pair is above its limit",
+        when: "\
 With this reading its target has both faces in the set, and their directions differ from 200 gon by
 more than the limit: 2000 units of 0.00001 gon, or what --two-c says.",
-            example: "refused: block 4: TwoC",
-            remedy: "\
+        example: "refused: block 4: TwoC",
+        remedy: "\
 See the value by 'station_check list --two-c 1000000 GSI'. One that stands out comes of
 a wrong target or a wrong name in one face: where the field book says so, check a copy without it.
 Where all are alike, the instrument has that collimation error, and a wider limit may be stated.",
-        },
-        Explanation {
-            names: &["TwoI"],
-            meaning: "the face difference 2i of a pair is above its limit",
-            when: "\
+    },
+    Said {
+        names: &["TwoI"],
+        meaning: "the face difference 2i of a pair is above its limit",
+        when: "\
 With this reading its target has both faces in the set, and the sum of their zenith angles differs
 from 400 gon by more than the limit: 2000 units of 0.00001 gon, or what --two-i says.",
-            example: "refused: block 4: TwoI",
-            remedy: "\
+        example: "refused: block 4: TwoI",
+        remedy: "\
 See the value by 'station_check list --two-i 1000000 GSI'. One that stands out comes of
 a wrong target or height in one face: where the field book says so, check a copy without it. Where
 all are alike, the instrument has that index error, and a wider limit may be stated.",
-        },
-    ]
-}
+    },
+];
 
 /// Faults of the blocks and stations of a file into which codes are to be put.
-fn block_mark_faults() -> &'static [Explanation] {
-    &[
-        Explanation {
-            names: &["HasCodes"],
-            meaning: "codes are to be put in, and the file has code 10, 20 or 30",
-            when: "\
+const BLOCK_MARK_FAULTS: &[Explanation] = &[
+    Said {
+        names: &["HasCodes"],
+        meaning: "codes are to be put in, and the file has code 10, 20 or 30",
+        when: "\
 The block has code 10, 20 or 30. They open stations and sets, or end sets, so 'mark' puts none of
 them into a file that has one.",
-            example: "refused: block 3: mark: HasCodes",
-            remedy: "\
+        example: "refused: block 3: mark: HasCodes",
+        remedy: "\
 See what they mean. If they are those of this program, the file needs no 'mark': run
 'station_check list GSI'. If they are those of your office, for something else, leave them out of a
 copy with 'prepare.py --without-codes' of the examples, and mark that. Codes that begin stations
 stay in: without them two occupations can pass for one.",
-        },
-        Explanation {
-            names: &["HasSetUp"],
-            meaning: "--station names the station, and a line of the file does too",
-            when: "\
+    },
+    Said {
+        names: &["HasSetUp"],
+        meaning: "--station names the station, and a line of the file does too",
+        when: "\
 The block is a set-up line: a point number without a direction, with the coordinates of a station or
 the height of the instrument, in words 84, 85, 86 or 88. A station begins there and has that name,
 so --station cannot name one.",
-            example: "refused: block 1: mark: HasSetUp",
-            remedy: "\
+        example: "refused: block 1: mark: HasSetUp",
+        remedy: "\
 Leave --station out. If the name in the line is wrong, give the block another one in a
 copy, with 'prepare.py --rename BLOCK NAME' of the examples.",
-        },
-        Explanation {
-            names: &["NoSetUp"],
-            meaning: "nothing names the station of a reading",
-            when: "\
+    },
+    Said {
+        names: &["NoSetUp"],
+        meaning: "nothing names the station of a reading",
+        when: "\
 The block is a reading. No set-up line stands before it, and --station does not name its station. A
 set-up line is a point number without a direction, with a word 84, 85, 86 or 88.",
-            example: "refused: block 1: mark: NoSetUp",
-            remedy: "\
+        example: "refused: block 1: mark: NoSetUp",
+        remedy: "\
 If the file is of one station, name it: 'station_check mark --station NAME GSI'. If
 set-up lines come later, leave the readings before the first out of a copy. A file of several
 stations without set-up lines is to be divided first: 'mark' cannot see where another begins.",
-        },
-        Explanation {
-            names: &["NameTooLong"],
-            meaning: "the name of the station is too long for a line of GSI-8",
-            when: "\
+    },
+    Said {
+        names: &["NameTooLong"],
+        meaning: "the name of the station is too long for a line of GSI-8",
+        when: "\
 The code lines get the width of the lines beside them. The name has more than 8 characters, and the
 first reading in a set stands in a line of GSI-8.",
-            example: "refused: block 1: mark: NameTooLong",
-            remedy: "\
+        example: "refused: block 1: mark: NameTooLong",
+        remedy: "\
 State a shorter name with --station; or rename the set-up line in a copy.",
-        },
-        Explanation {
-            names: &["NoSets"],
-            meaning: "no station of the file has sets",
-            when: "\
+    },
+    Said {
+        names: &["NoSets"],
+        meaning: "no station of the file has sets",
+        when: "\
 All readings of each station are in one face, or the file has no readings. The number is that after
 the last block.",
-            example: "refused: block 4: mark: NoSets",
-            remedy: "\
+        example: "refused: block 4: mark: NoSets",
+        remedy: "\
 See 'station_check words GSI'. A detail survey, a traverse in one face or a levelling
 file has no two-face directions. Face II has zenith angles above 200 gon: where none is, the
 instrument recorded elevations, or means of both faces.",
-        },
-    ]
-}
+    },
+];
 
 /// Faults of readings that are to be sets.
-fn set_mark_faults() -> &'static [Explanation] {
-    &[
-        Explanation {
-            names: &["ReadTwice"],
-            meaning: "a target is read again in one face before the next set begins",
-            when: "\
+const SET_MARK_FAULTS: &[Explanation] = &[
+    Said {
+        names: &["ReadTwice"],
+        meaning: "a target is read again in one face before the next set begins",
+        when: "\
 Sets begin at the 1st, 3rd, 5th .. reading of the first target, or of that after up to three
 readings outside. This reading repeats a target of its set in the same face: a repeated pointing, a
 closing sight, a name with other letters in face II, small ones too, detail points before the sets,
 or another station whose set-up line is missing.",
-            example: "refused: block 7: mark: ReadTwice",
-            remedy: "\
+        example: "refused: block 7: mark: ReadTwice",
+        remedy: "\
 Leave out of a copy what belongs to no set, and mark that. Of the examples, prepare.py
 does, with a log: --closing for closing sights, --blocks for a pointing that the field book calls
 bad, or for detail points and orientation sights before the first set. Where a target has two
 names, --rename BLOCK NAME gives blocks the right one.",
-        },
-        Explanation {
-            names: &["FaceMissing"],
-            meaning: "a target is read in one face only before the next set begins",
-            when: "\
+    },
+    Said {
+        names: &["FaceMissing"],
+        meaning: "a target is read in one face only before the next set begins",
+        when: "\
 Sets begin at the 1st, 3rd, 5th .. reading of the first target, or of that after up to three
 readings outside. In the set of this reading its target has none in the other face: a reading is
 missing, a name is spelled in two ways, the set was broken off, or the sets begin elsewhere.",
-            example: "refused: block 10: mark: FaceMissing",
-            remedy: "\
+        example: "refused: block 10: mark: FaceMissing",
+        remedy: "\
 Compare the set with the field book by 'station_check words GSI'. Of the examples,
 prepare.py makes a copy: --broken-off leaves out a last set that was broken off, --blocks a lone
 reading, and --rename BLOCK NAME corrects a misspelled name. Mark that copy.",
-        },
-        Explanation {
-            names: &["OneTarget"],
-            meaning: "a set would have one target",
-            when: "\
+    },
+    Said {
+        names: &["OneTarget"],
+        meaning: "a set would have one target",
+        when: "\
 The first target is read in both faces and then comes again, as an orientation in both faces before
 the sets does, or a closing pair. Nothing shows where that set ends.",
-            example: "refused: block 4: mark: OneTarget",
-            remedy: "\
+        example: "refused: block 4: mark: OneTarget",
+        remedy: "\
 Leave the pair that belongs to no set out of a copy, with 'prepare.py --blocks' of the
 examples, or closing pairs with --closing, and mark that.",
-        },
-        Explanation {
-            names: &["Order"],
-            meaning: "a set is read in another order than the first one, or in none",
-            when: "\
+    },
+    Said {
+        names: &["Order"],
+        meaning: "a set is read in another order than the first one, or in none",
+        when: "\
 A set is read by faces, all targets in one face and then in the other, or target by target, both
 faces of each before the next; and all sets of a station are read in the same of these two ways. The
 set of this reading is not.",
-            example: "refused: block 7: mark: Order",
-            remedy: "\
+        example: "refused: block 7: mark: Order",
+        remedy: "\
 See in the field book where the sets begin. Where a reading was added later, leave both
 readings of that target in this set out of a copy. Where the sets are right as they are, put the
 codes into a copy by hand; FORMATS.md has the lines.",
-        },
-        Explanation {
-            names: &["EndsElsewhere"],
-            meaning: "a set ends with another target than the first set",
-            when: "\
+    },
+    Said {
+        names: &["EndsElsewhere"],
+        meaning: "a set ends with another target than the first set",
+        when: "\
 All sets of a station end with one target: otherwise readings of one set could pass for those of the
 next. The set of this reading ends with another. It was broken off, its last target could not be
 seen, or the sets begin elsewhere.",
-            example: "refused: block 16: mark: EndsElsewhere",
-            remedy: "\
+        example: "refused: block 16: mark: EndsElsewhere",
+        remedy: "\
 Leave a last set that was broken off out of a copy, with 'prepare.py --broken-off' of
 the examples, and mark that. Where only the last target is missing, put the codes into a copy by
 hand, or leave that target out of all sets.",
-        },
-        Explanation {
-            names: &["OneSet"],
-            meaning: "one set after other readings could begin elsewhere",
-            when: "\
+    },
+    Said {
+        names: &["OneSet"],
+        meaning: "one set after other readings could begin elsewhere",
+        when: "\
 Some readings would stand outside before the sets, and only one set would follow, which begins at
 this reading. A second one shows that sets begin there; nothing else does.",
-            example: "refused: block 4: mark: OneSet",
-            remedy: "\
+        example: "refused: block 4: mark: OneSet",
+        remedy: "\
 Leave the orientation or check sights before the set out of a copy, with 'prepare.py
 --blocks' of the examples, and mark that.",
-        },
-        Explanation {
-            names: &["FirstFace"],
-            meaning: "the first set begins in face II",
-            when: "\
+    },
+    Said {
+        names: &["FirstFace"],
+        meaning: "the first set begins in face II",
+        when: "\
 The readings fit as sets only if the first set begins with this reading, in face II. Sets mostly
 begin in face I, so these may begin elsewhere: a reading is missing or too many before it or further
 on, as where the last set was broken off.",
-            example: "refused: block 1: mark: FirstFace",
-            remedy: "\
+        example: "refused: block 1: mark: FirstFace",
+        remedy: "\
 See in the field book where the sets begin. Of the examples, prepare.py leaves out of a
 copy what belongs to no set: a last set that was broken off with --broken-off, the lone reading of a
 target with --blocks. Mark that copy. If the sets were begun in face II, put the codes into a copy
 by hand; FORMATS.md has the lines.",
-        },
-        Explanation {
-            names: &["MayBeShifted"],
-            meaning: "readings before the first set may belong to the sets",
-            when: "\
+    },
+    Said {
+        names: &["MayBeShifted"],
+        meaning: "readings before the first set may belong to the sets",
+        when: "\
 The readings fit as sets only if the first set begins with this reading, after up to three others.
 One of these is in face II without its reading in face I, or is of the target that ends the sets:
 then each set may be shifted by some readings, as where a check sight comes at the end.",
-            example: "refused: block 3: mark: MayBeShifted",
-            remedy: "\
+        example: "refused: block 3: mark: MayBeShifted",
+        remedy: "\
 See in the field book where the sets begin. If the readings before this one are an
 orientation or a check sight, leave them out of a copy with 'prepare.py --blocks' of the examples;
 else what is too many at the end: a check sight with --blocks, a last set that was broken off with
 --broken-off. Mark that copy.",
-        },
-        Explanation {
-            names: &["OneSetByTargets"],
-            meaning: "a single set is read target by target",
-            when: "\
+    },
+    Said {
+        names: &["OneSetByTargets"],
+        meaning: "a single set is read target by target",
+        when: "\
 The readings of the station would be one set, in which both faces of each target follow each other.
 Nothing shows that all its pairs are of one set-up: an orientation before a set, or two short
 occupations, are read just so.",
-            example: "refused: block 1: mark: OneSetByTargets",
-            remedy: "\
+        example: "refused: block 1: mark: OneSetByTargets",
+        remedy: "\
 See in the field book what it is. If it is one set, put the codes into a copy by hand;
 FORMATS.md has the lines. If the instrument was set up twice, divide a copy there, and put the codes
 into each part. A second set of these targets, or a set that is read by faces, is marked.",
-        },
-        Explanation {
-            names: &["OtherTargets"],
-            meaning: "a set has other targets than the first set of its station",
-            when: "\
+    },
+    Said {
+        names: &["OtherTargets"],
+        meaning: "a set has other targets than the first set of its station",
+        when: "\
 The set begins with this reading, and no more than half of its targets are targets of the first set:
 the instrument was set up again and no line says so, or the first set lacks many targets.",
-            example: "refused: block 5: mark: OtherTargets",
-            remedy: "\
+        example: "refused: block 5: mark: OtherTargets",
+        remedy: "\
 If the instrument was set up again there, mark two copies, each with its own --station
 NAME: with 'prepare.py --blocks' of the examples leave out all from this block on in one, and all
 before it in the other. If it is one station, put the codes into a copy by hand; FORMATS.md has the
 lines.",
-        },
-    ]
-}
+    },
+];
 
 /// Faults of the bytes and the first rows of a sheet.
-fn row_faults() -> &'static [Explanation] {
-    &[
-        Explanation {
-            names: &["TooLong"],
-            meaning: "the sheet or the table has more than 1048576 bytes",
-            when: "\
+const ROW_FAULTS: &[Explanation] = &[
+    Said {
+        names: &["TooLong"],
+        meaning: "the sheet or the table has more than 1048576 bytes",
+        when: "\
 The sheet, or as 'table: TooLong' the table, has more than 1048576 bytes, all its bytes counted.",
-            example: "refused: sheet: TooLong",
-            remedy: "\
+        example: "refused: sheet: TooLong",
+        remedy: "\
 See that the path names a sheet or a table: none that a station needs is so long.",
-        },
-        Explanation {
-            names: &["Fields"],
-            meaning: "this row has the wrong number of columns",
-            when: "\
+    },
+    Said {
+        names: &["Fields"],
+        meaning: "this row has the wrong number of columns",
+        when: "\
 A row of a sheet has five columns, separated by four commas, where columns may be empty; a row of a
 table has two, the name and the direction. A column that begins with a quote goes on to the next
 quote, over commas and ends of lines.",
-            example: "refused: sheet row 3: Fields",
-            remedy: "\
+        example: "refused: sheet row 3: Fields",
+        remedy: "\
 Look at the commas and quotes of that row. A table program may have written semicolons
 in place of commas, or a comma in place of the point of a number. A name with a comma stands in
 quotes. Where row 1 has this fault, see that SHEET or TABLE names the right file. Of a table with
 more columns, keep the two of the name and the direction.",
-        },
-        Explanation {
-            names: &["Kind"],
-            meaning: "the first column of a row is no kind that may stand there",
-            when: "\
+    },
+    Said {
+        names: &["Kind"],
+        meaning: "the first column of a row is no kind that may stand there",
+        when: "\
 The first column of a row is its kind. The first row is of kind 'sheet'; then come those of kind
 'target', then 'set', then 'obs', with at least one of each.",
-            example: "refused: sheet row 5: Kind",
-            remedy: "\
+        example: "refused: sheet row 5: Kind",
+        remedy: "\
 Put the rows into this order. A line of titles is no row, and stands in no sheet.
 Where row 1 looks right, the sheet may be in UTF-16: save it as plain text, in ASCII or UTF-8.",
-        },
-        Explanation {
-            names: &["Version"],
-            meaning: "the version of the sheet is neither 1 nor 2",
-            when: "\
+    },
+    Said {
+        names: &["Version"],
+        meaning: "the version of the sheet is neither 1 nor 2",
+        when: "\
 The second column of the first row is neither '1' nor '2'.",
-            example: "refused: sheet row 1: Version",
-            remedy: "\
+        example: "refused: sheet row 1: Version",
+        remedy: "\
 Write 1 there, or 2 for a sheet whose numbers need the wider ranges of version 2.",
-        },
-        Explanation {
-            names: &["NotEmpty"],
-            meaning: "a column that must be empty is not",
-            when: "\
+    },
+    Said {
+        names: &["NotEmpty"],
+        meaning: "a column that must be empty is not",
+        when: "\
 Some columns are empty: the last of the sheet row, the second and the last of a target row, and the
 third and the last of a set row.",
-            example: "refused: sheet row 1: NotEmpty",
-            remedy: "\
+        example: "refused: sheet row 1: NotEmpty",
+        remedy: "\
 Delete what stands in that column, and keep its commas.",
-        },
-        Explanation {
-            names: &["Name"],
-            meaning: "a name in the sheet or the table is empty, too long or not printable",
-            when: "\
+    },
+    Said {
+        names: &["Name"],
+        meaning: "a name in the sheet or the table is empty, too long or not printable",
+        when: "\
 The name of the station or of a target, in the third column of a sheet or the first of a table, has
 not 1 to 16 bytes from 20 to 7E (hex).",
-            example: "refused: sheet row 3: Name",
-            remedy: "\
+        example: "refused: sheet row 3: Name",
+        remedy: "\
 Write the name as 'station_check list GSI' prints it.",
-        },
-    ]
-}
+    },
+];
 
 /// Faults of the values and the number of a sheet's rows.
-fn value_faults() -> &'static [Explanation] {
-    &[
-        Explanation {
-            names: &["Number"],
-            meaning: "a number of the sheet or the table is not written as it should be",
-            when: "\
+const VALUE_FAULTS: &[Explanation] = &[
+    Said {
+        names: &["Number"],
+        meaning: "a number of the sheet or the table is not written as it should be",
+        when: "\
 A number of a sheet is written as '0', or as a digit 1 to 9 with further digits, after a '-' where
 it is below 0: with no point, blank, plus or zero before it. A direction of a table is written as 1
 to 3 digits, and a point with 1 to 9 decimals where it has any, after a '-' where it is below 0:
 with no blank, plus or exponent.",
-            example: "refused: sheet row 3: Number",
-            remedy: "\
+        example: "refused: sheet row 3: Number",
+        remedy: "\
 Write the number so. Directions and orientations of a sheet are whole numbers too: they
 are in half units of 0.005 mgon, times the denominator of the sheet. Those of a table are in gon. A
 row of titles has this fault in a table: leave it out.",
-        },
-        Explanation {
-            names: &["Range"],
-            meaning: "a number of the sheet or the table is out of its range",
-            when: "\
+    },
+    Said {
+        names: &["Range"],
+        meaning: "a number of the sheet or the table is out of its range",
+        when: "\
 The denominator is 1 to 10^9, directions and orientations are -10^18 to 10^18, or in version 2 up to
 10^12 and 10^21. The number of a set is 1 to 9999, a two-face direction 0 to 79999999, and full
 turns are -9 to 9. A direction of a table is below 400 gon, and above -400.",
-            example: "refused: sheet row 3: Range",
-            remedy: "\
+        example: "refused: sheet row 3: Range",
+        remedy: "\
 See what made the number so large. A two-face direction is in half units of 0.005 mgon.
 A sheet with larger numbers than those of version 1 is of version 2. A direction of a table is in
 gon: 400 gon is written as 0.",
-        },
-        Explanation {
-            names: &["TooMany"],
-            meaning: "the sheet has too many rows of a kind",
-            when: "\
+    },
+    Said {
+        names: &["TooMany"],
+        meaning: "the sheet has too many rows of a kind",
+        when: "\
 A sheet has at most 100 target rows, 40 set rows and 4000 obs rows.",
-            example: "refused: sheet row 102: TooMany",
-            remedy: "\
+        example: "refused: sheet row 102: TooMany",
+        remedy: "\
 See that the sheet is of one station. No station of a field file has more.",
-        },
-        Explanation {
-            names: &["Unfinished"],
-            meaning: "the sheet ends before its obs rows",
-            when: "\
+    },
+    Said {
+        names: &["Unfinished"],
+        meaning: "the sheet ends before its obs rows",
+        when: "\
 The last row of the sheet is no obs row, or it has no row. The number is that after the last row.",
-            example: "refused: sheet row 1: Unfinished",
-            remedy: "\
+        example: "refused: sheet row 1: Unfinished",
+        remedy: "\
 See whether the sheet was written and copied whole.",
-        },
-    ]
-}
+    },
+];
 
 /// Faults of a sheet that does not fit its station.
-fn match_faults() -> &'static [Explanation] {
-    &[
-        Explanation {
-            names: &["no station"],
-            meaning: "the field file has no station of this name",
-            when: "\
+const MATCH_FAULTS: &[Explanation] = &[
+    Said {
+        names: &["no station"],
+        meaning: "the field file has no station of this name",
+        when: "\
 No station of the field file that has sets has the name in the sheet or, for 'compare', 'directions'
 and 'means', the name STATION. Names are compared byte by byte. A job that was recorded without
 blocks of the codes 10 and 20, as most jobs are, has no station and an empty list.",
-            example: "refused: no station",
-            remedy: "\
+        example: "refused: no station",
+        remedy: "\
 'station_check list GSI' lists the names. Blanks and small letters count; zeros at the
 left of a name in the field file do not. If the list is empty, put the codes into a copy with
 'station_check mark GSI' or 'station_check mark --station NAME GSI'.",
-        },
-        Explanation {
-            names: &["Incomplete"],
-            meaning: "there are no means of a station with a target missing in a set",
-            when: "\
+    },
+    Said {
+        names: &["Incomplete"],
+        meaning: "there are no means of a station with a target missing in a set",
+        when: "\
 A target of the station was not observed in each of its sets. Then the adjustment is no mean, and
 'means' has none to print.",
-            example: "refused: means: Incomplete",
-            remedy: "\
+        example: "refused: means: Incomplete",
+        remedy: "\
 Print its directions by 'station_check directions', or compare those of another program
 by 'station_check compare'. For a sheet, have another program adjust the station, as adjust.py of
 the examples, and check its sheet with 'station_check check'.",
-        },
-        Explanation {
-            names: &["TargetRow"],
-            meaning: "the targets of the sheet are not those of the station",
-            when: "\
+    },
+    Said {
+        names: &["TargetRow"],
+        meaning: "the targets of the sheet are not those of the station",
+        when: "\
 The target of this number, from 1, is another one in the sheet than in the station, or one of them
 has none. The targets of a station stand in the order of their first reading.",
-            example: "refused: kernel: TargetRow 1",
-            remedy: "\
+        example: "refused: kernel: TargetRow 1",
+        remedy: "\
 Compare the target rows with 'station_check list GSI': names, order and number.",
-        },
-        Explanation {
-            names: &["SetRow"],
-            meaning: "the sets of the sheet are not those of the station",
-            when: "\
+    },
+    Said {
+        names: &["SetRow"],
+        meaning: "the sets of the sheet are not those of the station",
+        when: "\
 The set of this place, from 1, has another number in the sheet than in the station, or one of them
 has none. The sets of a station stand in the order in which they were opened.",
-            example: "refused: kernel: SetRow 1",
-            remedy: "\
+        example: "refused: kernel: SetRow 1",
+        remedy: "\
 Compare the set rows with 'station_check list GSI': numbers and order.",
-        },
-        Explanation {
-            names: &["ObsRow"],
-            meaning: "the observations of the sheet are not those of the station",
-            when: "\
+    },
+    Said {
+        names: &["ObsRow"],
+        meaning: "the observations of the sheet are not those of the station",
+        when: "\
 The observation of this place, from 1, has another set, target or two-face direction in the sheet
 than in the station, or one of them has none. Observations stand by sets, and those of one set as
 the targets stand.",
-            example: "refused: kernel: ObsRow 4",
-            remedy: "\
+        example: "refused: kernel: ObsRow 4",
+        remedy: "\
 Compare the obs rows with 'station_check list GSI': set, target and p. Where p differs,
 the sheet was not made from this field file. A sheet may leave out no observation.",
-        },
-        Explanation {
-            names: &["Datum"],
-            meaning: "the direction of the first target is not 0",
-            when: "\
+    },
+    Said {
+        names: &["Datum"],
+        meaning: "the direction of the first target is not 0",
+        when: "\
 Directions are stated from the first target of the station, so its own is 0.",
-            example: "refused: kernel: Datum",
-            remedy: "\
+        example: "refused: kernel: Datum",
+        remedy: "\
 Take the direction of the first target from all directions and all orientations. No
 residual changes by that.",
-        },
-    ]
-}
+    },
+];
 
 /// Faults of a sheet's directions and orientations.
-fn adjustment_faults() -> &'static [Explanation] {
-    &[
-        Explanation {
-            names: &["TargetSum"],
-            meaning: "the residuals of a target do not add up to 0",
-            when: "\
+const ADJUSTMENT_FAULTS: &[Explanation] = &[
+    Said {
+        names: &["TargetSum"],
+        meaning: "the residuals of a target do not add up to 0",
+        when: "\
 The residuals of the target of this number, from 1, do not add up to 0. So other directions and
 orientations have a smaller sum of squares: the sheet is no least-squares adjustment.",
-            example: "refused: kernel: TargetSum 2",
-            remedy: "\
+        example: "refused: kernel: TargetSum 2",
+        remedy: "\
 Ask for a sheet with exact numbers. One that was rounded has this fault: directions and
 orientations are stated times a denominator, so that none need be rounded. Of the examples,
 adjust.py writes such sheets. Where a program rounds, compare its directions by 'station_check
 compare'.",
-        },
-        Explanation {
-            names: &["SetSum"],
-            meaning: "the residuals of a set do not add up to 0",
-            when: "\
+    },
+    Said {
+        names: &["SetSum"],
+        meaning: "the residuals of a set do not add up to 0",
+        when: "\
 The residuals of the set of this place, from 1, do not add up to 0. So other directions and
 orientations have a smaller sum of squares: the sheet is no least-squares adjustment.",
-            example: "refused: kernel: SetSum 1",
-            remedy: "\
+        example: "refused: kernel: SetSum 1",
+        remedy: "\
 Ask for a sheet with exact numbers. One that was rounded has this fault: directions and
 orientations are stated times a denominator, so that none need be rounded. Of the examples,
 adjust.py writes such sheets. Where a program rounds, compare its directions by 'station_check
 compare'.",
-        },
-        Explanation {
-            names: &["NotConnected"],
-            meaning: "nothing ties some sets and targets to the others",
-            when: "\
+    },
+    Said {
+        names: &["NotConnected"],
+        meaning: "nothing ties some sets and targets to the others",
+        when: "\
 The sets and targets fall into two parts, with no observation of a target of one part in a set of
 the other. Then one part can be turned against the other, and the adjustment has no single answer.",
-            example: "refused: kernel: NotConnected",
-            remedy: "\
+        example: "refused: kernel: NotConnected",
+        remedy: "\
 Observe a target of one part in a set of the other, or adjust each part as a station of
 its own.",
-        },
-        Explanation {
-            names: &["Residual"],
-            meaning: "a residual is above its limit",
-            when: "\
+    },
+    Said {
+        names: &["Residual"],
+        meaning: "a residual is above its limit",
+        when: "\
 As 'kernel: Residual', the residual of the obs row of this number, from 1, is above N half units of
 0.005 mgon, where '--residual N' was stated. As 'adjust: Residual', some least-squares residual is
 above 2000 half units in the adjustment of 'compare' or 'directions', and that of the observation of
 this number, from 1, is the greatest. The observations of a station are counted in the order in
 which 'station_check list GSI' has them.",
-            example: "refused: kernel: Residual 1",
-            remedy: "\
+        example: "refused: kernel: Residual 1",
+        remedy: "\
 Look at that observation: one that stands out comes of a wrong target or a wrong name in
 both faces, or of an instrument that was moved. In a sheet, look at the full turns of its row too: a
 wrong turn is 400 gon. For 'check' a wider limit may be stated, up to 2000.",
-        },
-    ]
-}
+    },
+];
 
 /// Faults of a table of directions, and of its comparison.
-fn table_faults() -> &'static [Explanation] {
-    &[
-        Explanation {
-            names: &["Unknown"],
-            meaning: "a row of the table names no target of the station",
-            when: "\
+const TABLE_FAULTS: &[Explanation] = &[
+    Said {
+        names: &["Unknown"],
+        meaning: "a row of the table names no target of the station",
+        when: "\
 The station has no target of the name in the first column of this row. Names are compared byte by
 byte.",
-            example: "refused: table row 2: Unknown",
-            remedy: "\
+        example: "refused: table row 2: Unknown",
+        remedy: "\
 See the names by 'station_check list GSI'. Blanks and small letters count; zeros at the
 left of a name in the field file do not. Leave out the row of a point that was not observed from
 this station.",
-        },
-        Explanation {
-            names: &["Twice"],
-            meaning: "two rows of the table have one name",
-            when: "\
+    },
+    Said {
+        names: &["Twice"],
+        meaning: "two rows of the table have one name",
+        when: "\
 A row before this one names the same target. A table has one direction for each target, that of the
 whole adjustment, and not one for each set.",
-            example: "refused: table row 2: Twice",
-            remedy: "\
+        example: "refused: table row 2: Twice",
+        remedy: "\
 Leave out one of the two rows. Where they differ, see which of them is the adjusted
 direction.",
-        },
-        Explanation {
-            names: &["Missing"],
-            meaning: "a target of the station has no row in the table",
-            when: "\
+    },
+    Said {
+        names: &["Missing"],
+        meaning: "a target of the station has no row in the table",
+        when: "\
 No row of the table names the target of this number, from 1, in the order in which the field file
 first observes the targets of the station.",
-            example: "refused: table: Missing 1",
-            remedy: "\
+        example: "refused: table: Missing 1",
+        remedy: "\
 Add the row of that target. 'station_check directions GSI STATION' prints all of them
 in their order. To compare fewer targets, check a copy of the field file without the others.",
-        },
-        Explanation {
-            names: &["NotFound"],
-            meaning: "no exact adjustment was found",
-            when: "\
+    },
+    Said {
+        names: &["NotFound"],
+        meaning: "no exact adjustment was found",
+        when: "\
 'compare' and 'directions' look for the exact adjustment of the station, and test it. Here none was
 found, though the observations hold all sets and targets together. No station is known of which this
 is so.",
-            example: "refused: adjust: NotFound",
-            remedy: "\
+        example: "refused: adjust: NotFound",
+        remedy: "\
 Have another program adjust the station, as adjust.py of the examples, and check its
 sheet with 'station_check check'.",
-        },
-        Explanation {
-            names: &["Apart"],
-            meaning: "the table is further from the adjustment than --within states",
-            when: "\
+    },
+    Said {
+        names: &["Apart"],
+        meaning: "the table is further from the adjustment than --within states",
+        when: "\
 After the best rotation some direction of the table is further from the least-squares one than N
 units of 0.000001 gon: 10, or what '--within N' states. The number in the line is how far, rounded
 up: the least N with which the table agrees.",
-            example: "refused: compare: Apart 15",
-            remedy: "\
+        example: "refused: compare: Apart 15",
+        remedy: "\
 Compare the table with that of 'station_check directions'. Where all rows differ by no
 more than the rounding, state the number of the line by --within: 5 decimals of a gon are rounded by
 up to 5 units, 4 decimals by up to 50. Where one row stands out, see what the program did: plain
 means of incomplete sets, weights and observations that it left out give other directions.",
-        },
-    ]
-}
+    },
+];
 
 /// Faults of the files of the command line, of what takes the answer, and of memory.
-fn end_faults() -> &'static [Explanation] {
-    &[
-        Explanation {
-            names: &["cannot open"],
-            meaning: "a file that the command line names could not be opened",
-            when: "\
+const END_FAULTS: &[Explanation] = &[
+    Said {
+        names: &["cannot open"],
+        meaning: "a file that the command line names could not be opened",
+        when: "\
 No file has this path, or a folder of it is missing, or is no folder; or its permissions, or those
 of a folder above it, refuse it to you; or the path is longer than the system takes; or the system
 has no more open files to give. The path is shown with a '?' for each character that is no visible
 one. Nothing was read, and the exit status is 2.",
-            example: "cannot open field.gsi",
-            remedy: "\
+        example: "cannot open field.gsi",
+        remedy: "\
 See by 'ls -l' that the file is there and that you may read it: capitals and small
 letters differ, and a path without '/' before it is looked for in the folder that you are in. '-' is
 a path like any other: name /dev/stdin for standard input.",
-        },
-        Explanation {
-            names: &["write failed"],
-            meaning: "what was to be printed could not be written whole",
-            when: "\
+    },
+    Said {
+        names: &["write failed"],
+        meaning: "what was to be printed could not be written whole",
+        when: "\
 A write to standard output failed: its disk is full, it is closed, or the program that read it has
 left. Some of the first bytes may have been written.",
-            example: "refused: write failed",
-            remedy: "\
+        example: "refused: write failed",
+        remedy: "\
 See that the output has room and is read to its end, and run it again. What was written
 is not whole: delete it.",
-        },
-        Explanation {
-            names: &["out of memory"],
-            meaning: "there was no memory",
-            when: "\
+    },
+    Said {
+        names: &["out of memory"],
+        meaning: "there was no memory",
+        when: "\
 The system refused memory. Nothing was printed, and nothing is said of the files.",
-            example: "refused: out of memory",
-            remedy: "\
+        example: "refused: out of memory",
+        remedy: "\
 Run it again with more memory.",
-        },
-    ]
-}
+    },
+];

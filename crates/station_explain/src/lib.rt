@@ -15,5 +15,5 @@ mod explanations;
 mod naming;
 
 pub use explain::{explaining_text, list_of_near_names, run_explain};
-pub use explanations::{Explanation, all_explanations, explanation_meant};
+pub use explanations::{Explanation, Said, all_explanations, explanation_meant};
 pub use naming::fault_named_in;

@@ -21,7 +21,7 @@ use Rattle.station_compare.specs.Answers.{Compares}
 use Rattle.station_compare.specs.Directions.{TellsDirections}
 use Rattle.station_compare.specs.declared.agreement.Agreement.{Agreement}
 use Rattle.station_compare.specs.declared.fault.CompareFault.{CompareFault}
-use Rattle.station_explain.specs.declared.explanations.Explanation.{Explanation}
+use Rattle.station_explain.specs.Table.{Explanation}
 use Rattle.station_page.specs.Explained.{AnswersLine, explanation_or_refusal}
 use Rattle.station_page.specs.HandedOut.{HandsOut, verdict_line, text_or_refusal, refusal_text}
 use Rattle.station_page.specs.HandedOut.{comparison_line, table_or_refusal, copy_text}

@@ -6,7 +6,7 @@ use Rattle.station_check.specs.VerdictLines.{refusal_line}
 use Rattle.station_check.specs.declared.fault.Fault.TheVariants as check
 use Rattle.station_explain.specs.Explaining.{Explains}
 use Rattle.station_explain.specs.Naming.{Names, IsMeant, IsNoNameInAnyCase}
-use Rattle.station_explain.specs.declared.explanations.Explanation.{Explanation}
+use Rattle.station_explain.specs.Table.{Explanation}
 use Rattle.station_page.specs.declared.explain.Unexplained.{Unexplained}
 use Rattle.station_page.specs.declared.explain.Unexplained.TheVariants.{NotUtf8, NoName, Memory}
 

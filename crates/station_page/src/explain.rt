@@ -2,7 +2,7 @@
 
 ghost use Rattle.std.specs.Prelude.{◌≤◌, length, take, List, string_bytes, option_map, MatchResult};
 ghost use Rattle.std.specs.Borrow.{Bor};
-ghost use Rattle.station_explain.specs.declared.explanations.Explanation.{Explanation};
+ghost use Rattle.station_explain.specs.Table.{Explanation, IsTheTable};
 ghost use Rattle.station_page.specs.Answers.{IsExplanationOf};
 ghost use Rattle.station_page.specs.Explained.{IsAskedFor, IsExplained, IsUnexplained};
 
@@ -39,8 +39,8 @@ pub extern "C" fn station_page_explain(
     out: &mut [u8],
     written: &mut usize,
 ) -> u8
-    ensures explain { (table : List (Bor (List Explanation))) × IsExplanationOf table line.now
-        (length out.old) result (take written.new out.new) }
+    ensures explain { (table : List (Bor (List Explanation))) × IsTheTable table
+        × IsExplanationOf table line.now (length out.old) result (take written.new out.new) }
     ensures fits { written.new ≤ length out.old }
 {
     hand_out_explanation(alloc, &all_explanations(), line, out, written)

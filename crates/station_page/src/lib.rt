@@ -9,6 +9,7 @@
 //! | `station_page_directions` | hands out the table of a station's least-squares directions |
 //! | `station_page_compare` | compares a table of directions, and hands out the line of the answer |
 //! | `station_page_mark` | hands out a copy of a field file with codes put in, and what was recognized |
+//! | `station_page_digest` | hands out the line of a file's SHA-256 digest |
 //! | `station_page_explain` | hands out what the fault means that a text names |
 //!
 //! Each is given whole files as slices, and numbers in the place of options. It hands out its text
@@ -21,6 +22,7 @@
 
 mod check;
 mod compare;
+mod digest;
 mod directions;
 mod explain;
 mod hand_out;

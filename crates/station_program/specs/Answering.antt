@@ -16,7 +16,7 @@ use Rattle.station_check.specs.declared.fault.Fault.TheVariants.{Memory}
 use Rattle.station_compare.specs.FaultTexts.{refusal_line as compare_refusal_line}
 use Rattle.station_compare.specs.Runs.{IsCompareRun, IsDirectionsRun}
 use Rattle.station_explain.specs.Explaining.{IsExplainRun}
-use Rattle.station_explain.specs.declared.explanations.Explanation.{Explanation}
+use Rattle.station_explain.specs.Table.{Explanation}
 use Rattle.station_mark.specs.FaultTexts.{refusal_line as mark_refusal_line}
 use Rattle.station_mark.specs.Notes.{notes_of}
 use Rattle.station_mark.specs.Runs.{IsMarkRun}

@@ -6,7 +6,8 @@ use Rattle.adjust_kernel.specs.Verdict.{observations}
 use Rattle.adjust_kernel.proofs.VerdictLaws.{residual_fault}
 use Rattle.adjust_kernel.proofs.verdict.check_limit.Goals as goal
 
-pub returns-in-Some-first_above_limit-clause-fault : goal.returns-in-Some-first_above_limit-clause-fault
+pub returns-in-Some-first_above_limit-clause-fault :
+    goal.returns-in-Some-first_above_limit-clause-fault
 returns-in-Some-first_above_limit-clause-fault c =
     let station = c.args.station.now in
     let sheet = c.args.sheet.now in

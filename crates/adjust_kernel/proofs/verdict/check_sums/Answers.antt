@@ -13,7 +13,8 @@ returns-in-Some-clause-fault g c =
     target_sum_fault station sheet c.in-Some.target c.requires.matches
     (rw (← c.targets.ensures.value) first)
 
-pub returns-in-Some-first_uneven_set-clause-fault : goal.returns-in-Some-first_uneven_set-clause-fault
+pub returns-in-Some-first_uneven_set-clause-fault :
+    goal.returns-in-Some-first_uneven_set-clause-fault
 returns-in-Some-first_uneven_set-clause-fault g c =
     let station = c.args.station.now in
     let sheet = c.args.sheet.now in

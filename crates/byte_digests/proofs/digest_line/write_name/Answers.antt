@@ -17,7 +17,8 @@ returns-then-not-has_escapes-clause-ok g c =
     (g.W.Sink.holds c.args.writer.now) (g.W.Sink.holds c.write_all.new.self) text))
     (sym same) c.write_all.ensures.ok
 
-pub returns-then-not-has_escapes-clause-cut_short : goal.returns-then-not-has_escapes-clause-cut_short
+pub returns-then-not-has_escapes-clause-cut_short :
+    goal.returns-then-not-has_escapes-clause-cut_short
 returns-then-not-has_escapes-clause-cut_short g c =
     let plain : list_any is_escaped c.args.name.now ≡ false = search rules in
     let same : flat_map escaped c.args.name.now ≡ c.args.name.now =

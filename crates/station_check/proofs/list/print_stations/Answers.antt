@@ -23,7 +23,8 @@ stations-preserved g c =
           (sym c.at.ensures ∙ ap option_copied w.in_default.is))
     ]
 
-pub returns-in_err-print_surveyed-clause-cut_short : goal.returns-in_err-print_surveyed-clause-cut_short
+pub returns-in_err-print_surveyed-clause-cut_short :
+    goal.returns-in_err-print_surveyed-clause-cut_short
 returns-in_err-print_surveyed-clause-cut_short g c =
     let stations = c.args.stations.now in
     let here = next_one surveyed_text stations c.stations.place c.in-Some.surveyed.now

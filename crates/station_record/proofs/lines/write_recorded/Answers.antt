@@ -13,7 +13,8 @@ returns-in_err-write_all-clause-cut_short g c =
     in_any_case c.from_residual.result
     (some_of_longer _ _ c.args.line.now _ c.in_err-write_all.ensures.cut_short)
 
-pub returns-in_err-write_digest_line-clause-cut_short : goal.returns-in_err-write_digest_line-clause-cut_short
+pub returns-in_err-write_digest_line-clause-cut_short :
+    goal.returns-in_err-write_digest_line-clause-cut_short
 returns-in_err-write_digest_line-clause-cut_short g c =
     in_any_case c.from_residual-in_err-write_digest_line.result
     (then_some _ _ _ c.args.line.now _ c.in_ok-write_all.ensures.ok
