@@ -5,7 +5,6 @@ use Rattle.direction_table.specs.Texts.{direction_text}
 use Rattle.directions_apart.specs.declared.units.TheConstants.{HALF_UNIT}
 use Rattle.sheet_format.specs.Texts.{rows_text}
 use Rattle.station_residuals.specs.declared.adjusted.AdjustedObs.{AdjustedObs}
-use Rattle.station_residuals.specs.declared.text.TheConstants.{DECIMALS}
 
 -- a number of thousandths: the whole, a point, and three decimals
 abbrev pub thousandths_text : ℕ → List ℕ
@@ -27,11 +26,11 @@ titles =
     codes "set" ∷ codes "target" ∷ codes "direction" ∷ codes "adjusted" ∷ codes "residual" ∷ []
 
 -- The row of an observation: the number of its set, the name of its target, its two-face direction
--- and its adjusted direction in gon, and its residual in mgon.
+-- and its adjusted direction in gon, with six decimals, and its residual in mgon.
 abbrev pub row_of : AdjustedObs → List (List ℕ)
 row_of o =
-    decimal o.set ∷ o.target ∷ direction_text DECIMALS (HALF_UNIT * o.value)
-    ∷ direction_text DECIMALS o.adjusted ∷ residual_text o.residual ∷ []
+    decimal o.set ∷ o.target ∷ direction_text 6 (HALF_UNIT * o.value)
+    ∷ direction_text 6 o.adjusted ∷ residual_text o.residual ∷ []
 
 -- The text: the titles, and the rows of the observations, in their order.
 abbrev pub residuals_text : List AdjustedObs → List ℕ

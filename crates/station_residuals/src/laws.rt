@@ -8,7 +8,6 @@ ghost use Rattle.station_compare.specs.declared.fault.CompareFault.{CompareFault
 ghost use Rattle.station_residuals.specs.Answers.{TellsResiduals};
 ghost use Rattle.station_residuals.specs.Residuals.{AreAdjusted};
 ghost use Rattle.station_residuals.specs.declared.adjusted.AdjustedObs.{AdjustedObs};
-ghost use Rattle.station_residuals.specs.declared.text.TheConstants.{DECIMALS};
 
 /// A station's adjusted observations are one list. What came of a reader has one answer of
 /// `residuals`: the fault that stands first is one, and so is each printed digit. Two answers alone
@@ -21,9 +20,4 @@ pub fn one_answer()
         (r s : Result (List ℕ) CompareFault) → AreLimits limits
         → IsSettled r → IsSettled s
         → TellsResiduals limits file name r → TellsResiduals limits file name s → r ≡ s }
-{}
-
-/// Decimals of the gon of directions, in digits.
-pub fn decimals()
-    ensures { DECIMALS ≡ 6 }
 {}
