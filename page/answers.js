@@ -139,7 +139,7 @@ const cardOfFile = (/** @type {Input} */ file) =>
  * Makes the cards of all files, one after the other, so that those that are made stay where it is stopped;
  * `told` hears before each file how far it is.
  * @param {Input[]} inputs
- * @param {Record<string, number>} limits
+ * @param {Record<string, number | null>} limits
  * @param {Card[]} cards where they are put
  * @param {(done: number, all: number, name: string) => void} told
  */

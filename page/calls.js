@@ -50,7 +50,7 @@ async function callOf(core, name, inputs, numbers, texts = 1) {
   }
 }
 
-// A residual limit: whether one is stated, and which.
+// A limit that need not be stated: whether one is, and which.
 const stated = limit => [Number(limit !== null), limit ?? 0];
 
 export const calls = {
@@ -63,7 +63,7 @@ export const calls = {
   directions: (core, gsi, name, twoC, twoI, decimals) =>
     callOf(core, 'station_page_directions', [gsi, name], [twoC, twoI, decimals]),
   compare: (core, gsi, table, name, twoC, twoI, within) =>
-    callOf(core, 'station_page_compare', [gsi, table, name], [twoC, twoI, within]),
+    callOf(core, 'station_page_compare', [gsi, table, name], [twoC, twoI, ...stated(within)]),
   mark: (core, gsi, name) => callOf(core, 'station_page_mark', [gsi, name], [], 2),
   digest: (core, file, name) => callOf(core, 'station_page_digest', [file, name], []),
   explain: (core, line) => callOf(core, 'station_page_explain', [line], []),

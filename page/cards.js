@@ -1,12 +1,11 @@
 // A card of a station: the answer first, then the fault or the results.
 import { ACCEPTED, OUT_OF_RANGE, REFUSED, filesOf, meansOf } from './answers.js';
 import { button, element, ofProgram, save } from './elements.js';
-import { stemOf, textOf } from './files.js';
+import { stemOf } from './files.js';
 import { apartIn, headlineOf, headlineOfCard, isWithoutName, meaningOf, recognizedText } from './headlines.js';
-import { APART, mgonOf } from './numbers.js';
 import { placeOf } from './place.js';
 import { protocolFile } from './protocol.js';
-import { decimalsIn, isComplete } from './records.js';
+import { isComplete } from './records.js';
 import { showResults } from './results.js';
 import { differencesFile, facesFile, residualsFile } from './tables.js';
 import { text } from './texts.js';
@@ -14,10 +13,10 @@ import { text } from './texts.js';
 /**
  * @typedef {import('./answers.js').Card} Card
  * @typedef {import('./answers.js').Answer} Answer
- * What a card asks of the page: the limits, to load its results, to print it, to state another limit, to
- * name the station of a field file.
- * @typedef {{ limits: Record<string, number>, load: (card: Card) => Promise<void>,
- *   print: (card: Card) => void, state: (name: string, units: number) => void,
+ * What a card asks of the page: the limits, to load its results, to print it, to name the station of a
+ * field file.
+ * @typedef {{ limits: Record<string, number | null>, load: (card: Card) => Promise<void>,
+ *   print: (card: Card) => void,
  *   name: (field: import('./files.js').Input, station: string) => void }} Desk
  */
 
@@ -67,18 +66,6 @@ function showExplanation(/** @type {string} */ explanation, parent) {
   }
 }
 
-/** With fewer decimals no table is worth a comparison. */
-const FEWEST_DECIMALS = 3;
-
-/** Where rounding to the table's decimals can explain how far it is apart: a wider limit, by a button. */
-function offerWider(/** @type {Answer} */ { line, other }, desk, parent) {
-  const decimals = decimalsIn(textOf(other.bytes));
-  const most = Math.ceil(10 ** (6 - decimals) / 2), wider = most + 1;
-  if (decimals < FEWEST_DECIMALS || apartIn(line) > wider || desk.limits.within >= wider) return;
-  element('p', text('rounding', { decimals, most: mgonOf(most, APART) }), parent);
-  button(text('compareWithin', { within: mgonOf(wider, APART) }), parent, () => desk.state('within', wider));
-}
-
 // ---------------------------------------------------------------- an answer
 
 function showCommand(/** @type {Answer} */ { line, command, status }, parent) {
@@ -101,7 +88,6 @@ function showAnswer(/** @type {Answer} */ answer, desk, parent) {
     headline.append(' ');
     ofProgram('span', meaningOf(answer), headline);
   }
-  if (apartIn(line)) offerWider(answer, desk, part);
   const place = status === REFUSED ? placeOf(line, field, other, station) : null;
   if (place) showPlace(place, part);
   if (explanation) showExplanation(explanation, part);

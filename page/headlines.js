@@ -39,6 +39,7 @@ export function headlineOf(/** @type {Answer} */ answer, limits) {
   if (status === TOO_LITTLE_ROOM) return text('noRoom');
   if (status === ACCEPTED) return asked === 'compare' ? agreesHeadline(line) : acceptedHeadline(answer);
   const apart = apartIn(line);
+  if (apart && limits.within === null) return text('refusedApartByDecimals', { apart: mgonOf(apart, APART) });
   if (apart) {
     const mgon = { apart: mgonOf(apart, APART), within: mgonOf(limits.within, APART) };
     return text('refusedApart', mgon);

@@ -4,8 +4,8 @@ import { text } from './texts.js';
 
 /**
  * A limit: the option of the program, its name in the texts, how many units make one of what the field
- * shows, the usual number and the ends of its range, all in units.
- * @typedef {{ id: string, label: string, per: number, usual: number, least: number, most: number }} Limit
+ * shows, the usual number and the ends of its range, all in units. Where no number is usual, none is stated.
+ * @typedef {{ id: string, label: string, per: number, usual: number | null, least: number, most: number }} Limit
  */
 
 /** @type {Record<string, Limit>} */
@@ -13,28 +13,29 @@ export const LIMITS = {
   twoC: { id: 'two-c', label: 'limitTwoC', per: FACE, usual: 2000, least: 0, most: 1_000_000 },
   twoI: { id: 'two-i', label: 'limitTwoI', per: FACE, usual: 2000, least: 0, most: 1_000_000 },
   residual: { id: 'residual', label: 'limitResidual', per: HALF, usual: 2000, least: 0, most: 2000 },
-  within: { id: 'within', label: 'limitWithin', per: APART, usual: 10, least: 0, most: 1_000_000 },
+  within: { id: 'within', label: 'limitWithin', per: APART, usual: null, least: 0, most: 1_000_000 },
   decimals: { id: 'decimals', label: 'limitDecimals', per: 1, usual: 6, least: 1, most: 8 },
 };
 
 const NAMES = Object.keys(LIMITS);
 const field = name => /** @type {HTMLInputElement} */ (document.getElementById(LIMITS[name].id));
 
-/** The number of a field in units: the usual one where it is empty, none where it is wrong. */
+/** The number of a field in units: the usual one, or null for none, where it is empty; undefined where it is wrong. */
 function numberOf(/** @type {string} */ name) {
   const { per, usual, least, most } = LIMITS[name], value = field(name).value;
-  const units = value.trim() === '' ? usual : unitsIn(value, per);
-  return units !== null && units >= least && units <= most ? units : null;
+  if (value.trim() === '') return usual;
+  const units = unitsIn(value, per);
+  return units !== null && units >= least && units <= most ? units : undefined;
 }
 
-/** The limits in force, in units. A number is null where its field is wrong. */
+/** The limits in force, in units: null where none is stated, undefined where a field is wrong. */
 export const limitsNow = () => Object.fromEntries(NAMES.map(name => [name, numberOf(name)]));
 
 /** What is wrong of the limits, in words; nothing where all are right. Each field says so too. */
 export function wrongLimit() {
   let said = '';
   for (const name of NAMES) {
-    const isWrong = numberOf(name) === null, { label, least, most, per } = LIMITS[name];
+    const isWrong = numberOf(name) === undefined, { label, least, most, per } = LIMITS[name];
     field(name).setAttribute('aria-invalid', String(isWrong));
     const ends = { least: mgonOf(least, per), most: mgonOf(most, per), step: mgonOf(1, per) };
     if (isWrong) said ||= text('limitWrong', { label: text(label), ...ends });
@@ -42,15 +43,17 @@ export function wrongLimit() {
   return said;
 }
 
-/** Puts the usual numbers into the fields, or shows one that was chosen by a button. */
-export function showLimit(/** @type {string} */ name, units = LIMITS[name].usual) {
-  field(name).value = mgonOf(units, LIMITS[name].per);
+/** Puts the usual number into a field, or nothing where none is usual. */
+export function showLimit(/** @type {string} */ name) {
+  const { usual, per } = LIMITS[name];
+  field(name).value = usual === null ? '' : mgonOf(usual, per);
 }
 
 /** The limits in force, in one line. */
 export function limitsLine(limits) {
   const mgon = name => mgonOf(limits[name] ?? 0, LIMITS[name].per);
-  return text('inForce', Object.fromEntries(NAMES.map(name => [name, mgon(name)])));
+  return text(limits.within === null ? 'inForceByDecimals' : 'inForce',
+    Object.fromEntries(NAMES.map(name => [name, mgon(name)])));
 }
 
 /**
@@ -58,7 +61,7 @@ export function limitsLine(limits) {
  * the usual ones.
  * @param {string} command
  * @param {string[]} names
- * @param {Record<string, number>} limits
+ * @param {Record<string, number | null>} limits
  * @param {string[]} operands
  * @param {string[]} [more] further options
  */

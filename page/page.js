@@ -194,10 +194,6 @@ const desk = {
     field.station = station;
     checkAll();
   },
-  state(/** @type {string} */ name, /** @type {number} */ units) {
-    showLimit(name, units);
-    checkAll();
-  },
 };
 
 /** The one card that is printed; else all whose results were opened. @type {Card | null} */

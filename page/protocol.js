@@ -44,7 +44,7 @@ function showMarks(/** @type {import('./answers.js').Card} */ { marked, recogniz
 /**
  * The protocol of a card whose results are loaded.
  * @param {import('./answers.js').Card} card
- * @param {Record<string, number>} limits
+ * @param {Record<string, number | null>} limits
  * @param {Element} parent
  */
 export function showProtocol(card, limits, parent) {

@@ -220,9 +220,3 @@ export function differencesOf(table, least) {
 
 /** A difference in mgon, with three decimals. */
 export const differenceText = (/** @type {Difference} */ { twice }) => decimal(twice, 2n * MGON, 3);
-
-/** The least number of decimals that a direction of a table has, in its second column. */
-export function decimalsIn(/** @type {string} */ table) {
-  const numbers = recordsOf(table).map(({ fields }) => fields[1] ?? '').filter(text => /^-?\d/.test(text));
-  return Math.min(...numbers.map(text => (text.split('.')[1] ?? '').length));
-}

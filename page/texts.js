@@ -68,6 +68,11 @@ export const TEXTS = {
     de: '2c {twoC}, 2i {twoI}, Verbesserungen {residual}, Tabellen auf {within} mgon',
     fr: '2c {twoC}, 2i {twoI}, résidus {residual}, tables à {within} mgon près',
   },
+  inForceByDecimals: {
+    en: '2c {twoC}, 2i {twoI}, residuals {residual}, tables within 0.01 mgon or as they are rounded',
+    de: '2c {twoC}, 2i {twoI}, Verbesserungen {residual}, Tabellen auf 0.01 mgon oder wie sie gerundet sind',
+    fr: '2c {twoC}, 2i {twoI}, résidus {residual}, tables à 0.01 mgon près ou selon leur arrondi',
+  },
   residualStated: {
     en: 'The page itself states 10 mgon for residuals where you state none.',
     de: 'Für Verbesserungen setzt die Seite selbst 10 mgon, wenn Sie nichts angeben.',
@@ -167,15 +172,10 @@ export const TEXTS = {
     de: 'Zurückgewiesen. Die Richtungen weichen {apart} mgon ab; die Grenze ist {within} mgon.',
     fr: 'Refusé. Les directions s’écartent de {apart} mgon ; la limite est {within} mgon.',
   },
-  rounding: {
-    en: 'This table has {decimals} decimals: rounding alone can put it up to {most} mgon apart.',
-    de: 'Diese Tabelle hat {decimals} Nachkommastellen: Rundung allein kann bis zu {most} mgon ausmachen.',
-    fr: 'Cette table a {decimals} décimales : l’arrondi seul peut expliquer jusqu’à {most} mgon.',
-  },
-  compareWithin: {
-    en: 'Compare within {within} mgon',
-    de: 'Auf {within} mgon vergleichen',
-    fr: 'Comparer à {within} mgon près',
+  refusedApartByDecimals: {
+    en: 'Refused. The directions are {apart} mgon apart, more than 0.01 mgon and than they are rounded.',
+    de: 'Zurückgewiesen. Die Richtungen weichen {apart} mgon ab, mehr als 0.01 mgon und als sie gerundet sind.',
+    fr: 'Refusé. Les directions s’écartent de {apart} mgon, plus que 0.01 mgon et que leur arrondi.',
   },
   readWell: {
     en: 'Read without a fault: {sets}, {targets}, {directions}.',

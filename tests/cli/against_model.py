@@ -26,7 +26,7 @@ class Case(NamedTuple):
     limits: model.Limits = model.Limits()
     residual: Optional[int] = None
     decimals: int = model.USUAL_DECIMALS
-    within: int = model.USUAL_WITHIN
+    within: Optional[int] = None
 
     def expected(self) -> Answer:
         """What the model answers."""
@@ -52,6 +52,8 @@ class Case(NamedTuple):
         options = [f"--two-c={self.limits.two_c}", f"--two-i={self.limits.two_i}"]
         if self.residual is not None:
             options.append(f"--residual={self.residual}")
+        if self.within is not None:
+            options.append(f"--within={self.within}")
         if self.command == "mark":
             return ["mark", *([] if self.station is None else [f"--station={self.station}"]), gsi]
         return {
@@ -62,9 +64,7 @@ class Case(NamedTuple):
                 *["directions", *options, f"--decimals={self.decimals}", "--", gsi, self.station]
             ],
             "residuals": ["residuals", *options, "--", gsi, self.station],
-            "compare": [
-                *["compare", *options, f"--within={self.within}", "--", gsi, self.station, sheet]
-            ],
+            "compare": ["compare", *options, "--", gsi, self.station, sheet],
             "check": ["check", *options, gsi, sheet],
         }[self.command]
 

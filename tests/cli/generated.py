@@ -527,7 +527,7 @@ def cases_of(place):
     yield Case(f"{place}: residuals", "residuals", field, **of_station)
     for nth in range(2):
         compared = random.choice(stations)
-        within = random.choice([10, 10, 10, 0, 1, 100, 1_000_000])
+        within = random.choice([None, None, None, 10, 0, 1, 100, 1_000_000])
         of_table = {"station": compared.name.decode(), "limits": limits, "within": within}
         table = changed_table(random, compared)
         yield Case(f"{place}: table {nth}", "compare", field, table, **of_table)

@@ -269,7 +269,7 @@ class CommandLineTest(ProgramTest):
             (["means", "--help"], [b"<STATION>", b"--two-c <N>", b"[default: 2000]"]),
             (["means", "--help"], [b"where no residual\nlimit is stated"]),
             (["list", "--help"], [b"0.01 mgon", b"--two-i <N>", b"[default: 2000]"]),
-            (["compare", "--help"], [b"--within <N>", b"0.001 mgon", b"[default: 10]", b"<TABLE>"]),
+            (["compare", "--help"], [b"--within <N>", b"0.001 mgon", b"stated it is 10;", b"<TABLE>"]),
             (["directions", "--help"], [b"--decimals <K>", b"[default: 6]", b"<STATION>"]),
             (["residuals", "--help"], [b"<STATION>", b"--two-c <N>", b"in mgon with 3"]),
             *(([command, "--help"], FACE_DIFFERENCES) for command in LIMITED),

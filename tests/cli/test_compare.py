@@ -9,6 +9,7 @@ from generated import SEED, station_to_adjust, table_of_station
 from program import (
     EXAMPLE,
     EXAMPLE_TABLE,
+    ROOT,
     SWEEP,
     ProgramTest,
     Run,
@@ -22,8 +23,8 @@ from worked import AGREES, STATION, TABLE, edited, field_file, refused, widened
 STATIONS = 400 if SWEEP else 30
 
 
-def agrees(within, targets=2):
-    return b"agrees S1: %d targets, within %d\n" % (targets, within)
+def agrees(within, targets=2, station=b"S1"):
+    return b"agrees %s: %d targets, within %d\n" % (station, targets, within)
 
 
 def apart(by):
@@ -34,6 +35,8 @@ def of_b(direction):
     """A table in which B has this direction."""
     return b"A,0\nB," + direction + b"\n"
 
+
+P7 = (ROOT / "examples" / "station_p7.gsi").read_bytes()
 
 ROTATED = b"A,100.0001\nB,150.0001\n"
 
@@ -47,7 +50,7 @@ TABLES = [
     ("just below a circle", b"A,399.99999\nB,50.00002\n", "0", AGREES),
     ("just below a circle beside 0", b"A,399.99999\nB,50.00003\n", "5", agrees(5)),
     ("and within less", b"A,399.99999\nB,50.00003\n", "4", apart(5)),
-    ("half the spread is 15", ROTATED, None, apart(15)),
+    ("half the spread is 15", ROTATED, "10", apart(15)),
     ("and within 14", ROTATED, "14", apart(15)),
     ("and within 15", ROTATED, "15", agrees(15)),
     ("and within 16", ROTATED, "16", agrees(15)),
@@ -85,6 +88,73 @@ TABLES = [
     ("a full circle back", b"A,-400\nB,50.00003\n", "0", AGREES),
     ("more decimals than Python reads", of_b(b"50.00003" + b"0" * 5_000), "0", AGREES),
     ("as many bytes as may be", TABLE + b"\n" * (model.LONGEST_TABLE - len(TABLE)), None, AGREES),
+]
+
+# Each is a table, and the line of its verdict where no limit is stated: it is 10 with five decimals
+# or more, and half a unit of the last decimal and 1 with fewer.
+USUAL = [
+    ("five decimals", of_b(b"50.00001"), agrees(10)),
+    ("and more", of_b(b"50.000009"), apart(11)),
+    ("five decimals of each", b"A,100.00010\nB,150.00010\n", apart(15)),
+    ("four decimals", ROTATED, agrees(15)),
+    ("four decimals in one row", b"A,0.0000\nB,50.000132\n", agrees(51)),
+    ("and a unit more", b"A,0.0000\nB,50.000133\n", apart(52)),
+    ("four decimals in the other row", b"A,0.00000\nB,50.0001\n", agrees(35)),
+    ("three decimals", b"A,0.000\nB,50.001032\n", agrees(501)),
+    ("and a unit more", b"A,0.000\nB,50.001033\n", apart(502)),
+    ("two decimals", b"A,0.00\nB,50.010032\n", agrees(5_001)),
+    ("and a unit more", b"A,0.00\nB,50.010033\n", apart(5_002)),
+    ("one decimal", b"A,0.0\nB,50.100032\n", agrees(50_001)),
+    ("and a unit more", b"A,0.0\nB,50.100033\n", apart(50_002)),
+    ("three decimals beside four", b"A,0.0000\nB,50.001\n", agrees(485)),
+    ("whole gon", b"A,0\nB,50\n", apart(15)),
+    ("whole gon with a point", b"A,0.\nB,50.\n", apart(15)),
+    ("a whole gon beside four decimals", of_b(b"50.0001"), agrees(35)),
+    ("and further", of_b(b"49.9999"), apart(65)),
+    ("zeros are decimals", of_b(b"50.0000"), agrees(15)),
+    ("as many zeros as may be", of_b(b"50." + b"0" * 5_000), apart(15)),
+    ("a decimal comma", b"A;0,0000\nB;50,0000\n", agrees(15)),
+    ("a sign, blanks and titles", b"Name, 1.0 gon\n A, +0.0000\n B, -350.0000\n", agrees(15)),
+]
+
+# Tables of P7 as programs print them, and how far each is apart from the exact directions, of which its
+# sheet has the fractions; no limit is stated.
+PRINTED = [
+    (
+        "numpy's savetxt, with a header",
+        b"# target,direction\nTOWER,0.000000\nP3,64.521338\nMAST,139.404538\n"
+        b"P8,212.757195\nCHURCH,278.860592\nP12,345.209189\n",
+        1,
+    ),
+    (
+        "Octave's printf, in columns, of angles just below a full circle",
+        b"TOWER       400.0000\nP3           64.5213\nMAST        139.4045\n"
+        b"P8          212.7572\nCHURCH      278.8606\nP12         345.2092\n",
+        25,
+    ),
+    (
+        "LibreOffice in German, converted with no option",
+        b'Ziel,Richtung\nTOWER,"0,00000"\nP3,"64,52134"\nMAST,"139,40454"\n'
+        b'P8,"212,75720"\nCHURCH,"278,86059"\nP12,"345,20919"\n',
+        4,
+    ),
+    (
+        "LibreOffice in German, saved with semicolons",
+        b"Ziel;Richtung (gon);\nTOWER;0,0000;\nP3;64,5213;\nMAST;139,4045;\n"
+        b"P8;212,7572;\nCHURCH;278,8606;\nP12;345,2092;\n",
+        25,
+    ),
+    (
+        "LibreOffice in English, saved with tabs",
+        b"Target\tDirection\r\nTOWER\t0.00000\r\nP3\t64.52134\r\nMAST\t139.40454\r\n"
+        b"P8\t212.75720\r\nCHURCH\t278.86059\r\nP12\t345.20919\r\n",
+        4,
+    ),
+    (
+        "awk's print, which shows six digits",
+        b"TOWER 0\nP3 64.5213\nMAST 139.405\nP8 212.757\nCHURCH 278.861\nP12 345.209\n",
+        329,
+    ),
 ]
 
 # Each is a table with a fault, and the fault.
@@ -171,7 +241,16 @@ class CompareTest(ProgramTest):
         for name, table, within, line in TABLES:
             options = [] if within is None else ["--within", within]
             self.check([judged(name, STATION, table, line, *options)])
+        self.check([judged(name, STATION, table, line) for name, table, line in USUAL])
         self.check([judged(name, STATION, table, refused(why)) for name, table, why in FAULTS])
+
+    def test_tables_are_read_as_programs_print_them(self):
+        for name, table, within in PRINTED:
+            line = agrees(within, 6, b"P7")
+            self.check([judged(name, P7, table, line, station="P7")])
+            self.check([judged(name, P7, table, line, "--within", str(within), station="P7")])
+            why = refused(f"compare: Apart {within}")
+            self.check([judged(name, P7, table, why, "--within", str(within - 1), station="P7")])
 
     def test_the_field_file_is_judged_before_the_table_and_both_before_they_are_compared(self):
         for name, file, station, table, line in FILES:
@@ -216,7 +295,7 @@ class ComparedTest(AgainstModel):
             station = model.survey_of(file, model.Limits())[0]
             self.compare(
                 Case(f"{place}", "compare", file, table_of_station(random, station), within=within)
-                for within in [10, random.choice([0, 1, 5, 6, 50, 51, 1_000_000])]
+                for within in [None, random.choice([0, 1, 5, 6, 10, 50, 51, 1_000_000])]
             )
 
     def test_differences_on_all_sides_of_the_circle(self):

@@ -31,7 +31,7 @@ def command_line():
     parser.add_argument("--two-i", type=int, default=model.USUAL_LIMIT)
     parser.add_argument("--residual", type=int)
     parser.add_argument("--decimals", type=int, default=model.USUAL_DECIMALS)
-    parser.add_argument("--within", type=int, default=model.USUAL_WITHIN)
+    parser.add_argument("--within", type=int)
     parser.add_argument("--station", type=str.encode)
     parser.add_argument("command", nargs="?")
     parser.add_argument("operands", nargs="*")

@@ -9,7 +9,7 @@ import fs from 'node:fs';
 import vm from 'node:vm';
 
 const DEFAULTS = {
-  '--two-c': 2000, '--two-i': 2000, '--residual': null, '--within': 10, '--decimals': 6, '--room': null,
+  '--two-c': 2000, '--two-i': 2000, '--residual': null, '--within': null, '--decimals': 6, '--room': null,
 };
 const RUNS = 5;
 

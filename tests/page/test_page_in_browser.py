@@ -385,17 +385,17 @@ class PageInBrowserTest(TimedTest):
                 self.assertFalse([text for text in paragraphs if "\n" in text or text.startswith("refused:")])
             page.empty()
 
-    def test_a_table_of_four_decimals_is_offered_its_limit(self):
+    def test_the_decimals_of_a_table_tell_its_limit_where_none_is_stated(self):
         page = self.page(P7_FIELD, self.file("four.csv", FOUR_DECIMALS))
-        refused = "Refused. The directions are 0.025 mgon apart; the limit is 0.01 mgon."
-        self.assertEqual([["bad", "Station P7", refused]], self.cards(page))
-        self.assertIn("This table has 4 decimals: rounding alone can put it up to 0.05 mgon apart.", page.text(".card"))
-        with page.answered():
-            page.press("Compare within 0.051 mgon")
         agrees = "Agrees. 6 targets within 0.025 mgon of the least-squares directions."
         self.assertEqual([["good", "Station P7", agrees]], self.cards(page))
-        self.assertEqual("station_check compare --within 51 station_p7.gsi P7 four.csv", page.text(".exact code"))
-        self.assertIn("tables within 0.051 mgon", page.text("#in-force"))
+        self.assertEqual("station_check compare station_p7.gsi P7 four.csv", page.text(".exact code"))
+        self.assertIn("tables within 0.01 mgon or as they are rounded", page.text("#in-force"))
+        page.fill("within", "0.01")
+        refused = "Refused. The directions are 0.025 mgon apart; the limit is 0.01 mgon."
+        self.assertEqual([["bad", "Station P7", refused]], self.cards(page))
+        self.assertEqual("station_check compare --within 10 station_p7.gsi P7 four.csv", page.text(".exact code"))
+        self.assertIn("tables within 0.01 mgon", page.text("#in-force"))
 
     def test_the_differences_of_a_table_are_shown_by_target(self):
         other = P7_TABLE.read_text().replace("CHURCH,278.86059", "CHURCH,278.86065")
@@ -482,7 +482,8 @@ class PageInBrowserTest(TimedTest):
 
     def test_limits_are_stated_in_mgon_and_those_in_force_are_shown(self):
         page = self.page(FIELD, SHEET)
-        self.assertEqual("2c 20, 2i 20, residuals 10, tables within 0.01 mgon", page.text("#in-force"))
+        in_force = "2c 20, 2i 20, residuals 10, tables within 0.01 mgon or as they are rounded"
+        self.assertEqual(in_force, page.text("#in-force"))
         page.fill("residual", "0")
         self.assertEqual("refused: kernel: Residual 1", page.text(".exact samp"))
         page.fill("residual", "0,005")

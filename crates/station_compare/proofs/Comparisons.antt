@@ -1,5 +1,5 @@
 -- From the parts of a comparison to what it answers.
-use Rattle.std.proofs.Common.{◌≡◌, ℕ, ℤ, List, Result, Ok, Err, refl, sym, subst, inl, inr, Some}
+use Rattle.std.proofs.Common.{◌≡◌, ℕ, ℤ, List, Result, Ok, Err, refl, sym, subst, inl, inr, Option, Some}
 use Rattle.std.specs.Prelude.{MatchResult}
 use Rattle.adjust_kernel.specs.Stations.{StationValue}
 use Rattle.byte_ends.specs.Input.{Input, Ended, BrokeOff, RanPast, input_within}
@@ -31,7 +31,7 @@ use Rattle.station_compare.specs.declared.fault.CompareFault.TheVariants.{Adjust
 use Rattle.station_compare.specs.declared.fault.CompareFault.TheVariants.{Memory}
 
 -- A table that agrees was read to its end.
-ended_by : (station : StationValue) (within : ℕ) (a : Agreement) (input : Input)
+ended_by : (station : StationValue) (within : Option ℕ) (a : Agreement) (input : Input)
     → ByInput station within input (Ok a)
     → (bytes : List ℕ) × (input ≡ Ended bytes) × IsAgreement station bytes within a
 ended_by station within a (Ended bytes) h = (bytes, refl, h)
@@ -40,8 +40,9 @@ ended_by station within a (BrokeOff bytes) (inr h) = cc
 ended_by station within a RanPast (inl h) = cc
 ended_by station within a RanPast (inr h) = cc
 
-agrees_of : (limits : FaceLimits) (lines : FileAnswers) (stated : Told) (name : List ℕ) (within : ℕ)
-    (its : SurveyedStation) (a : Agreement) → IsStationOfFile limits lines name its
+agrees_of : (limits : FaceLimits) (lines : FileAnswers) (stated : Told) (name : List ℕ)
+    (within : Option ℕ) (its : SurveyedStation) (a : Agreement)
+    → IsStationOfFile limits lines name its
     → (bytes : List ℕ) × (input_within LONGEST_TABLE stated ≡ Ended bytes)
     × IsAgreement its.station bytes within a
     → Agrees limits lines stated name within a
@@ -62,7 +63,7 @@ agrees_of limits lines stated name within its a station ended = record {
 }
 
 -- No fault of the field file comes of the table.
-no_file_fault : (its : SurveyedStation) (within : ℕ) (fault : Fault) (input : Input)
+no_file_fault : (its : SurveyedStation) (within : Option ℕ) (fault : Fault) (input : Input)
     → ByInput its.station within input (Err (File fault)) → ⊥
 no_file_fault its within fault (Ended bytes) h = h
 no_file_fault its within fault (BrokeOff bytes) (inl h) = cc
@@ -72,7 +73,7 @@ no_file_fault its within fault RanPast (inr h) = cc
 
 -- What is answered, where the station was found.
 pub compares_by_table : (limits : FaceLimits) (lines : FileAnswers) (stated : Told) (name : List ℕ)
-    (within : ℕ) (its : SurveyedStation) (r : Result Agreement CompareFault)
+    (within : Option ℕ) (its : SurveyedStation) (r : Result Agreement CompareFault)
     → IsStationOfFile limits lines name its
     → ByInput its.station within (input_within LONGEST_TABLE stated) r
     → Compares limits lines stated name within r
@@ -95,7 +96,7 @@ compares_by_table limits lines stated name within its (Err Memory) station h = t
 
 -- What is answered of a fault of the field file.
 pub compares_by_file : (limits : FaceLimits) (lines : FileAnswers) (stated : Told) (name : List ℕ)
-    (within : ℕ) (fault : Fault) → IsOfFile fault → Surveys limits lines (Err fault)
+    (within : Option ℕ) (fault : Fault) → IsOfFile fault → Surveys limits lines (Err fault)
     → Compares limits lines stated name within (Err (of_file fault))
 compares_by_file limits lines stated name within (file.Gsi fault) o h = h
 compares_by_file limits lines stated name within (file.Book fault) o h = h
@@ -119,7 +120,7 @@ compared station bytes targets directions stated apart same_targets same states 
 }
 
 -- What comes of the table is no fault of the field file, which has ended before.
-pub asked : (its : SurveyedStation) (within : ℕ) (r : Result Agreement CompareFault)
+pub asked : (its : SurveyedStation) (within : Option ℕ) (r : Result Agreement CompareFault)
     (input : Input) (table : ReaderChange) → ByInput its.station within input r
     → IsUnreadAtFileFault r table
 asked its within (Ok a) input table h = tt
@@ -132,7 +133,7 @@ asked its within (Err (Apart apart)) input table h = tt
 asked its within (Err Write) input table h = tt
 asked its within (Err Memory) input table h = tt
 
-pub left_by_table : (its : SurveyedStation) (within : ℕ) (r : Result Agreement CompareFault)
+pub left_by_table : (its : SurveyedStation) (within : Option ℕ) (r : Result Agreement CompareFault)
     (input : Input) (gsi : ReaderChange) → ByInput its.station within input r → IsReadOut gsi
     → LeavesFieldFile r gsi
 left_by_table its within (Ok a) input gsi h out = out
@@ -205,7 +206,7 @@ left_by_no_table items its count (Err Write) gsi h out = absurd h
 left_by_no_table items its count (Err Memory) gsi h out = out.unfailed
 
 -- Of two readers that tell, the answer is of what they tell.
-pub comparison_as_told : (limits : FaceLimits) (within : ℕ) (gsi table : ReaderChange)
+pub comparison_as_told : (limits : FaceLimits) (within : Option ℕ) (gsi table : ReaderChange)
     (name : List ℕ) (r : Result Agreement CompareFault)
     → IsComparison limits within gsi table name r → (file stated : Told)
     → gsi.told ≡ Some file → table.told ≡ Some stated

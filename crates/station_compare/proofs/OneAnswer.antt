@@ -1,6 +1,6 @@
 -- A comparison has one answer, and so have the directions of a station.
 use Rattle.std.proofs.Common.{◌≡◌, ◌⊎◌, inl, inr, ℕ, List, Result, Ok, Err, ap, refl, sym, subst}
-use Rattle.std.proofs.Common.{◌∙◌, arith}
+use Rattle.std.proofs.Common.{◌∙◌, arith, Option}
 use Rattle.adjust_kernel.specs.Stations.{StationValue}
 use Rattle.byte_ends.specs.Input.{Input, Ended, BrokeOff, RanPast, input_within}
 use Rattle.byte_ends.specs.Source.{Told}
@@ -49,7 +49,7 @@ module _ (station : StationValue) (bytes : List ℕ) where
       adjustment.never_both station has.adjustment fault has.tied has.exact has.limited own
       u.fault_stands
 
-  module _ (within : ℕ) where
+  module _ (within : Option ℕ) where
     -- What stands of the bytes of a table, as one case.
     abbrev Fits : Result Agreement CompareFault → Type 0
     Fits r = ByTable station within bytes r
@@ -144,7 +144,7 @@ is_fault : (r : Result Agreement CompareFault) (fault : CompareFault) → IsSett
 is_fault r fault set (inl e) = e
 is_fault r fault set (inr e) = absurd (not_memory r set e)
 
-one_by_input : (station : StationValue) (within : ℕ) (input : Input)
+one_by_input : (station : StationValue) (within : Option ℕ) (input : Input)
     (r s : Result Agreement CompareFault) → IsSettled r → IsSettled s
     → ByInput station within input r → ByInput station within input s → r ≡ s
 one_by_input station within (Ended bytes) r s set also p h =
@@ -155,7 +155,7 @@ one_by_input station within RanPast r s set also p h =
     is_fault r _ set p ∙ sym (is_fault s _ also h)
 
 module _ (limits : FaceLimits) (small : AreLimits limits) (file : FileAnswers) (stated : Told)
-    (name : List ℕ) (within : ℕ) where
+    (name : List ℕ) (within : Option ℕ) where
   -- Where an answer comes from: a fault of the file, no station of the name, or its station.
   record IsOfLines (r : Result Agreement CompareFault) : Type 0 where
     pub fault : Fault

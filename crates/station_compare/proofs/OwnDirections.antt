@@ -1,12 +1,14 @@
 -- A comparison of what was written as the station's own directions.
 use Rattle.std.proofs.Common.{◌≡◌, ℕ, zero, suc, ◌-◌, ◌^◌, ◌≤◌, ◌<◌, Bool, false, List, [], ◌∷◌}
 use Rattle.std.proofs.Common.{length, map, ℤ, pos, Err, arith, refl, ap, sym, subst, ◌∙◌}
-use Rattle.std.proofs.Common.{if◌then◌else◌}
+use Rattle.std.proofs.Common.{if◌then◌else◌, Option, Some, None, true, nat_lt, ◌*◌, ◌+◌}
 use Rattle.std.proofs.lemmas.Bool.{le-ltb}
 use Rattle.adjust_kernel.specs.Stations.{StationValue}
 use Rattle.byte_ends.specs.Input.{Input, Ended, RanPast, input_within}
 use Rattle.byte_ends.specs.Source.{Told}
 use Rattle.direction_table.proofs.LawLemmas.{never_both, one_table}
+use Rattle.direction_table.specs.FewestDecimals.{fewest_decimals, usual_within}
+use Rattle.direction_table.specs.Separators.{rows_of}
 use Rattle.direction_table.specs.TableTexts.{directions_of}
 use Rattle.direction_table.specs.Tables.{IsTableText}
 use Rattle.direction_table.specs.Texts.{step_of}
@@ -29,6 +31,7 @@ use Rattle.station_compare.specs.Agreeing.{Agrees}
 use Rattle.station_compare.specs.Answers.{Compares, IsRefusedByTable}
 use Rattle.station_compare.specs.Comparing.{ByInput, ByTable}
 use Rattle.station_compare.specs.Directions.{IsDirectionsText, StatesDirections, numbers_of}
+use Rattle.station_compare.specs.LimitInForce.{limit_in_force}
 use Rattle.station_compare.specs.OwnDirections.{MayRefuse}
 use Rattle.station_compare.specs.declared.agreement.Agreement.{Agreement}
 use Rattle.station_compare.specs.declared.fault.CompareFault.{CompareFault}
@@ -46,6 +49,15 @@ power_small (suc (suc (suc (suc k)))) h = absurd (omega (arith, h))
 -- The step of 6 decimals or more.
 small_step : (count : ℕ) → 6 ≤ count → step_of count ≤ 1_000
 small_step count many = power_small (9 - count) (omega (arith, many))
+
+-- The usual limit of a table is 1 or more.
+usual_some : (decimals : Option ℕ) → 1 ≤ usual_within decimals
+usual_some None = omega arith
+usual_some (Some decimals) = by (nat_lt decimals 5)
+  where
+    by : (few : Bool) → 1 ≤ (if few then 5 * 10 ^ (5 - decimals) + 1 else 10)
+    by true = omega arith
+    by false = omega arith
 
 -- What rows are read as are their numbers.
 read_as : (rows : List TargetDirection) → directions_of rows ≡ map pos (numbers_of rows)
@@ -73,12 +85,17 @@ module _ (count : ℕ) (text : List ℕ) (many : 6 ≤ count) where
         (omega (arith, small))
         (subst (λ ds. AreApart station (stated_by ds) apart) same is)
 
-    no_more : (within apart : ℕ) → within < apart → apart ≤ 1 → (within ≡ 0) × (apart ≡ 1)
-    no_more within apart more few = (omega (arith, more, few), omega (arith, more, few))
+    no_more : (within : Option ℕ) (apart : ℕ) → limit_in_force within station.targets text < apart
+        → apart ≤ 1 → (within ≡ Some 0) × (apart ≡ 1)
+    no_more (Some within) apart more few =
+        (ap Some (omega (arith, more, few)), omega (arith, more, few))
+    no_more None apart more few =
+        let some = usual_some (fewest_decimals (rows_of station.targets text)) in
+        absurd (omega (arith, more, few, some))
 
     -- Whose adjustment keeps the limit is not refused for it.
-    unadjusted : (within : ℕ) (fault : AdjustFault) → ByTable station within text (Err (Adjust fault))
-        → MayRefuse within (Adjust fault)
+    unadjusted : (within : Option ℕ) (fault : AdjustFault)
+        → ByTable station within text (Err (Adjust fault)) → MayRefuse within (Adjust fault)
     unadjusted within adjust.NotConnected h =
         absurd (h.fault_stands own.rounded.adjustable.tied)
     unadjusted within (adjust.Residual n) h =
@@ -87,7 +104,7 @@ module _ (count : ℕ) (text : List ℕ) (many : 6 ≤ count) where
         a.exact.rules.positive a.exact.sums a.limited)
     unadjusted within adjust.NotFound h = tt
 
-    by_table : (within : ℕ) (fault : CompareFault) → ByTable station within text (Err fault)
+    by_table : (within : Option ℕ) (fault : CompareFault) → ByTable station within text (Err fault)
         → MayRefuse within fault
     by_table within (File fault) h = h
     by_table within TableRead h = h
@@ -115,7 +132,7 @@ module _ (count : ℕ) (text : List ℕ) (many : 6 ≤ count) where
         (same_station limits small file name own.its other own.station s) own.directions
 
     -- Where own directions agree with their file, they are apart by 1 unit at most.
-    pub agrees_by_1 : (within : ℕ) (a : Agreement) → Agrees limits file whole name within a
+    pub agrees_by_1 : (within : Option ℕ) (a : Agreement) → Agrees limits file whole name within a
         → a.apart ≤ 1
     agrees_by_1 within a h =
         let ended : Ended text ≡ Ended h.bytes = sym read ∙ h.whole in
@@ -130,14 +147,14 @@ module _ (count : ℕ) (text : List ℕ) (many : 6 ≤ count) where
           };
         })
 
-    refused_by_table : (within : ℕ) (fault : CompareFault)
+    refused_by_table : (within : Option ℕ) (fault : CompareFault)
         → IsRefusedByTable limits file whole name within fault → MayRefuse within fault
     refused_by_table within fault h =
         by_table h.its.station (its h.its h.station) within fault
         (subst (λ (input : Input).
         ByInput h.its.station within input (Err fault)) read h.by_input)
 
-    refused_by_file : (within : ℕ) (fault : Fault)
+    refused_by_file : (within : Option ℕ) (fault : Fault)
         → Compares limits file whole name within (Err (File fault)) → ⊥
     refused_by_file within lines.NoStation h =
         never_none limits small file name own.its own.station h
@@ -159,7 +176,7 @@ module _ (count : ℕ) (text : List ℕ) (many : 6 ≤ count) where
         no_file_fault limits small file name own.its own.station lines.Memory h
 
     -- They are refused for being apart by 1, where 0 was asked for, for another sheet, or memory.
-    pub may_refuse : (within : ℕ) (fault : CompareFault)
+    pub may_refuse : (within : Option ℕ) (fault : CompareFault)
         → Compares limits file whole name within (Err fault) → MayRefuse within fault
     may_refuse within (File fault) h = refused_by_file within fault h
     may_refuse within TableRead h = refused_by_table within TableRead h

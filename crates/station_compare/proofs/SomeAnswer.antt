@@ -114,7 +114,7 @@ tied_or_not station =
     by (inr d) = inr (λ tied. tied none count d)
 
 -- What is answered of a station and the bytes of a table.
-module _ (station : StationValue) (within : ℕ) where
+module _ (station : StationValue) (within : Option ℕ) where
   -- The table is one of a station that is held together.
   record IsTied (input : Input) : Type 0 where
     pub tied : AreTied station
@@ -152,7 +152,7 @@ module _ (station : StationValue) (within : ℕ) where
   by_input RanPast = inl (Err (Table table.TooLong), inl refl, tt)
 
 module _ (limits : FaceLimits) (small : AreLimits limits) (file : FileAnswers) (stated : Told)
-    (name : List ℕ) (within : ℕ) where
+    (name : List ℕ) (within : Option ℕ) where
   abbrev AnAnswer : Type 0
   AnAnswer =
       ((r : Result Agreement CompareFault) × Compares limits file stated name within r

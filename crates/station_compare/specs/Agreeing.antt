@@ -2,7 +2,7 @@
 -- file, whose observations are its two-face directions within the limits, one rotation brings every
 -- direction that the table states within so many units of 0.000001 gon of the least-squares one,
 -- least over all directions, orientations and full turns, and none brings them nearer by a unit.
-use Rattle.std.specs.Prelude.{◌≡◌, ℕ, ◌≤◌, ◌<◌, List, length, ℤ}
+use Rattle.std.specs.Prelude.{◌≡◌, ℕ, ◌≤◌, ◌<◌, List, length, ℤ, Option}
 use Rattle.adjust_kernel.specs.Residuals.{Choice}
 use Rattle.byte_ends.specs.Input.{input_within, Ended}
 use Rattle.byte_ends.specs.Source.{Told}
@@ -15,12 +15,13 @@ use Rattle.least_directions.specs.LeastDirections.{IsAdjustable}
 use Rattle.station_book.specs.Limits.{FaceLimits}
 use Rattle.station_book.specs.Stations.{SurveyedStation}
 use Rattle.station_check.specs.StationOfFile.{IsStationOfFile}
+use Rattle.station_compare.specs.LimitInForce.{limit_in_force}
 use Rattle.station_compare.specs.declared.agreement.Agreement.{Agreement}
 
 -- Of these lines of a field file, and of these bytes of a table and how they end, this is the
--- agreement for the station of this name; `within` is what is asked for.
+-- agreement for the station of this name; `within` is the limit that is stated, or none.
 pub record Agrees (limits : FaceLimits) (file : FileAnswers) (stated : Told) (name : List ℕ)
-    (within : ℕ) (a : Agreement) : Type 0 where
+    (within : Option ℕ) (a : Agreement) : Type 0 where
   -- The station of this name: its observations are exactly its two-face directions, and every face
   -- difference is within the limits.
   pub its : SurveyedStation
@@ -42,7 +43,8 @@ pub record Agrees (limits : FaceLimits) (file : FileAnswers) (stated : Told) (na
   pub no_nearer : (nearer : ℕ) → nearer < a.apart → (c : Choice) (turns : List ℤ)
       → IsLeastOf its.station c turns
       → ¬ AreBroughtWithin (length its.station.targets) c (stated_by directions) nearer
-  -- That is no further than is asked for.
-  pub agrees : a.apart ≤ within
+  -- That is no further than the limit in force: the stated one, or the usual one for the decimals
+  -- of the table.
+  pub agrees : a.apart ≤ limit_in_force within its.station.targets bytes
   pub named : a.name ≡ its.station.name
   pub counted : a.targets ≡ length its.station.targets

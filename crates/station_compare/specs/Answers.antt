@@ -1,5 +1,5 @@
 -- What is answered of a field file and of a table of directions, and how their readers are left.
-use Rattle.std.specs.Prelude.{ℕ, List, Result, Ok, Err, ⊤}
+use Rattle.std.specs.Prelude.{ℕ, List, Option, Result, Ok, Err, ⊤}
 use Rattle.byte_ends.specs.Came.{IsReadOut, HasBroken, NoReadFailed}
 use Rattle.byte_ends.specs.Input.{input_within}
 use Rattle.byte_ends.specs.Source.{Told, ReaderChange, MayGive, HasGiven, given_then}
@@ -22,7 +22,7 @@ use Rattle.station_compare.specs.declared.fault.CompareFault.TheVariants.{Adjust
 
 -- The file has a station of this name, and with what came of the table's reader this is the fault.
 pub record IsRefusedByTable (limits : FaceLimits) (file : FileAnswers) (stated : Told)
-    (name : List ℕ) (within : ℕ) (fault : CompareFault) : Type 0 where
+    (name : List ℕ) (within : Option ℕ) (fault : CompareFault) : Type 0 where
   pub its : SurveyedStation
   pub station : IsStationOfFile limits file name its
   pub by_input : ByInput its.station within (input_within LONGEST_TABLE stated) (Err fault)
@@ -30,7 +30,7 @@ pub record IsRefusedByTable (limits : FaceLimits) (file : FileAnswers) (stated :
 -- What is answered, for the station of a name: that the table agrees; or the first fault that
 -- stands, in the order of the file, the station, the table, the adjustment and how far they are
 -- apart.
-abbrev pub Compares : FaceLimits → FileAnswers → Told → List ℕ → ℕ
+abbrev pub Compares : FaceLimits → FileAnswers → Told → List ℕ → Option ℕ
     → Result Agreement CompareFault → Type 0
 Compares limits file stated name within (Ok a) = Agrees limits file stated name within a
 Compares limits file stated name within (Err (File NoStation)) = HasNoStation limits file name
@@ -64,7 +64,7 @@ LeavesFieldFile (Err Memory) reader = NoReadFailed reader
 LeavesFieldFile r reader = IsReadOut reader
 
 -- The answer on what two readers gave, whatever they are, and how both are left.
-pub record IsComparison (limits : FaceLimits) (within : ℕ) (gsi table : ReaderChange)
+pub record IsComparison (limits : FaceLimits) (within : Option ℕ) (gsi table : ReaderChange)
     (name : List ℕ) (r : Result Agreement CompareFault) : Type 0 where
   -- The field file's reader gave these bytes, and the table's reader these.
   pub gsi_bytes : List ℕ

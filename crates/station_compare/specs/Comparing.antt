@@ -1,5 +1,6 @@
 -- How a table of directions and a station compare.
 use Rattle.std.specs.Prelude.{◌≡◌, ◌⊎◌, ℕ, ◌≤◌, ◌<◌, List, length, ℤ, Result, Ok, Err, ⊤}
+use Rattle.std.specs.Prelude.{Option}
 use Rattle.adjust_kernel.specs.Stations.{StationValue}
 use Rattle.byte_ends.specs.Input.{Input, Ended, BrokeOff, RanPast}
 use Rattle.direction_table.specs.Tables.{IsTableFault, IsTableText}
@@ -8,6 +9,7 @@ use Rattle.directions_apart.specs.Apart.{stated_by}
 use Rattle.exact_adjustment.specs.Faults.{IsAdjustFault}
 use Rattle.exact_adjustment.specs.declared.fault.AdjustFault.{AdjustFault}
 use Rattle.least_directions.specs.LeastDirections.{AreApart}
+use Rattle.station_compare.specs.LimitInForce.{limit_in_force}
 use Rattle.station_compare.specs.declared.agreement.Agreement.{Agreement}
 use Rattle.station_compare.specs.declared.fault.CompareFault.{CompareFault}
 use Rattle.station_compare.specs.declared.fault.CompareFault.TheVariants.{TableRead, Table}
@@ -21,11 +23,11 @@ pub record IsComparedWith (station : StationValue) (bytes : List ℕ) (apart : �
   pub states : IsTableText station.targets bytes directions
   pub are_apart : AreApart station (stated_by directions) apart
 
--- The table agrees: its directions are no further apart than is asked for.
-pub record IsAgreement (station : StationValue) (bytes : List ℕ) (within : ℕ) (a : Agreement)
-    : Type 0 where
+-- The table agrees: its directions are no further apart than the limit in force.
+pub record IsAgreement (station : StationValue) (bytes : List ℕ) (within : Option ℕ)
+    (a : Agreement) : Type 0 where
   pub compared : IsComparedWith station bytes a.apart
-  pub agrees : a.apart ≤ within
+  pub agrees : a.apart ≤ limit_in_force within station.targets bytes
   pub named : a.name ≡ station.name
   pub counted : a.targets ≡ length station.targets
 
@@ -39,12 +41,12 @@ pub record IsUnadjusted (station : StationValue) (bytes : List ℕ) (fault : Adj
 -- What is answered of a station and the bytes of a table. Where memory runs out in the adjustment,
 -- that is no fault of it.
 abbrev pub ByTable :
-    StationValue → ℕ → List ℕ → Result Agreement CompareFault → Type 0
+    StationValue → Option ℕ → List ℕ → Result Agreement CompareFault → Type 0
 ByTable station within bytes (Ok a) = IsAgreement station bytes within a
 ByTable station within bytes (Err (Table fault)) = IsTableFault station.targets bytes fault
 ByTable station within bytes (Err (Adjust fault)) = IsUnadjusted station bytes fault
 ByTable station within bytes (Err (Apart apart)) =
-    (within < apart) × IsComparedWith station bytes apart
+    (limit_in_force within station.targets bytes < apart) × IsComparedWith station bytes apart
 ByTable station within bytes (Err Memory) = ⊤
 ByTable station within bytes (Err fault) = ⊥
 
@@ -53,7 +55,8 @@ abbrev pub IsFaultOrMemory : Result Agreement CompareFault → CompareFault → 
 IsFaultOrMemory result fault = (result ≡ Err fault) ⊎ (result ≡ Err Memory)
 
 -- The same of what came of the table's reader.
-abbrev pub ByInput : StationValue → ℕ → Input → Result Agreement CompareFault → Type 0
+abbrev pub ByInput :
+    StationValue → Option ℕ → Input → Result Agreement CompareFault → Type 0
 ByInput station within (Ended bytes) result = ByTable station within bytes result
 ByInput station within (BrokeOff bytes) result = IsFaultOrMemory result TableRead
 ByInput station within RanPast result = IsFaultOrMemory result (Table TooLong)

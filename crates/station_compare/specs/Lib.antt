@@ -1,5 +1,6 @@
 -- The public definitions, which public contracts and laws cite, in the order in which a reader
 -- needs them.
+pub mod LimitInForce
 pub mod Agreeing
 pub mod Comparing
 pub mod Answers

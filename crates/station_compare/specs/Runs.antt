@@ -1,5 +1,5 @@
 -- What the answer of each run says, and what `out` got.
-use Rattle.std.specs.Prelude.{ℕ, List, Result}
+use Rattle.std.specs.Prelude.{ℕ, List, Option, Result}
 use Rattle.byte_ends.specs.Sink.{WriterChange}
 use Rattle.byte_ends.specs.Source.{ReaderChange}
 use Rattle.gsi_file.specs.FileAnswers.{FileAnswers}
@@ -21,8 +21,9 @@ pub record ReadsFieldFile {A : Type 0} (gsi : ReaderChange) (r : Result A Compar
   pub left : LeavesFieldFile r gsi
 
 -- A run of the comparison: all that it promises of its answer, and how that was printed.
-pub record IsCompareRun {A : Type 0} (limits : FaceLimits) (within : ℕ) (gsi table : ReaderChange)
-    (name : List ℕ) (r : Result A CompareFault) (out : WriterChange) : Type 0 where
+pub record IsCompareRun {A : Type 0} (limits : FaceLimits) (within : Option ℕ)
+    (gsi table : ReaderChange) (name : List ℕ) (r : Result A CompareFault) (out : WriterChange)
+    : Type 0 where
   pub verdict : Result Agreement CompareFault
   pub compares : IsComparison limits within gsi table name verdict
   pub printed : PrintsAnswer agreement_line Write verdict r out

@@ -11,14 +11,15 @@ use crate::agreement::Agreement;
 use crate::fault::CompareFault;
 use adjust_kernel::Station;
 use byte_ends::{Source, read_whole};
-use direction_table::{LONGEST_TABLE, read_table};
+use direction_table::{LONGEST_TABLE, read_stated_table, usual_within};
 use least_directions::apart_from_least;
 use station_book::Limits;
 use station_check::{Fault, stations_of_file};
 use std::alloc::Global;
 
 /// Whether the directions that a table states agree with the least-squares directions of the
-/// station of this name, within so many units of 0.000001 gon.
+/// station of this name, within so many units of 0.000001 gon; where no number is stated, within
+/// what is usual for the fewest decimals of the table's rows.
 ///
 /// Where they agree, one rotation brings every stated direction so near to the least-squares one,
 /// least over all directions, orientations and full turns, and none brings them nearer by a unit.
@@ -36,7 +37,7 @@ pub fn compare_bytes<R: Source, Q: Source>(
     table: &mut Q,
     name: &[u8],
     limits: Limits,
-    within: u32,
+    within: Option<u32>,
 ) -> Result<Agreement, CompareFault>
     // All of it is said of the very bytes that the two readers gave, whatever they are.
     ensures { UntilDropped R.told R.failed R.gave gsi (λ gsi. IsComparison limits within gsi
@@ -53,7 +54,7 @@ pub fn compare_sources<R: Source, Q: Source>(
     table: &mut Q,
     name: &[u8],
     limits: Limits,
-    within: u32,
+    within: Option<u32>,
 ) -> (Result<Agreement, CompareFault>, R)
     ensures { IsComparison limits within (reader_change R.told R.failed R.gave gsi result.1)
         (reader_change Q.told Q.failed Q.gave table.old table.new) name.now result.0 }
@@ -77,7 +78,7 @@ fn compare_station<Q: Source>(
     alloc: Global,
     station: &Station,
     table: &mut Q,
-    within: u32,
+    within: Option<u32>,
 ) -> Result<Agreement, CompareFault>
     ensures compares { BytesCame (reader_change Q.told Q.failed Q.gave table.old table.new)
         (λ stated. ByInput station.now within (input_within LONGEST_TABLE stated) result) }
@@ -93,13 +94,14 @@ fn compare_table(
     alloc: Global,
     station: &Station,
     bytes: &[u8],
-    within: u32,
+    within: Option<u32>,
 ) -> Result<Agreement, CompareFault>
     ensures { ByTable station.now within bytes.now result }
 {
-    let directions = read_table(alloc, station.targets(), bytes)?;
-    let apart = apart_from_least(alloc, station, &directions)?;
-    if apart > within {
+    let stated = read_stated_table(alloc, station.targets(), bytes)?;
+    let apart = apart_from_least(alloc, station, &stated.directions)?;
+    let limit = within.unwrap_or(usual_within(stated.decimals));
+    if apart > limit {
         return Err(CompareFault::Apart(apart));
     }
     Ok(Agreement {

@@ -1,6 +1,6 @@
 //! Laws of the definitions that contracts cite. The functions do nothing.
 
-ghost use Rattle.std.specs.Prelude.{◌≡◌, ◌≤◌, ◌⊎◌, ℕ, false, List, Result, Err};
+ghost use Rattle.std.specs.Prelude.{◌≡◌, ◌≤◌, ◌⊎◌, ℕ, false, List, Option, Result, Err};
 ghost use Rattle.byte_ends.specs.Source.{Told};
 ghost use Rattle.direction_table.specs.Texts.{AreDecimals};
 ghost use Rattle.gsi_file.specs.FileAnswers.{FileAnswers};
@@ -16,16 +16,17 @@ ghost use Rattle.station_compare.specs.declared.fault.CompareFault.{CompareFault
 
 /// What `write_directions` writes with 6 decimals or more, `compare_bytes` finds apart by 1 unit at
 /// most, of the same lines and by the same limits, whatever is asked for. It refuses it for no
-/// fault of the lines or of the table, not as `NotConnected` or `Residual`, and within 1 or more not
-/// as `Apart`. No contract excludes that the adjustment is not found again, or that memory runs out.
+/// fault of the lines or of the table, not as `NotConnected` or `Residual`, and as `Apart` only
+/// where 0 is stated. No contract excludes that the adjustment is not found again, or that memory
+/// runs out.
 pub fn directions_agree()
     ensures agrees { (limits : FaceLimits) (file : FileAnswers) (name text : List ℕ)
-        (count within : ℕ) (a : Agreement) → AreLimits limits
+        (count : ℕ) (within : Option ℕ) (a : Agreement) → AreLimits limits
         → 6 ≤ count → StatesDirections limits file name count text
         → Agrees limits file (record { bytes = text; fails = false }) name within a
         → a.apart ≤ 1 }
     ensures refused { (limits : FaceLimits) (file : FileAnswers) (name text : List ℕ)
-        (count within : ℕ) (fault : CompareFault) → AreLimits limits
+        (count : ℕ) (within : Option ℕ) (fault : CompareFault) → AreLimits limits
         → 6 ≤ count → StatesDirections limits file name count text
         → Compares limits file (record { bytes = text; fails = false }) name within (Err fault)
         → MayRefuse within fault }
@@ -37,7 +38,7 @@ pub fn directions_agree()
 /// in that of any, and that no adjustment was found in that of those from the adjustment on.
 pub fn one_answer()
     ensures compare { (limits : FaceLimits) (file : FileAnswers) (stated : Told) (name : List ℕ)
-        (within : ℕ) (r s : Result Agreement CompareFault) → AreLimits limits
+        (within : Option ℕ) (r s : Result Agreement CompareFault) → AreLimits limits
         → IsSettled r → IsSettled s
         → Compares limits file stated name within r → Compares limits file stated name within s
         → r ≡ s }
@@ -53,7 +54,7 @@ pub fn one_answer()
 /// it, no contract says.
 pub fn some_answer()
     ensures { (limits : FaceLimits) (file : FileAnswers) (stated : Told) (name : List ℕ)
-        (within : ℕ) → AreLimits limits → ((r : Result Agreement CompareFault)
+        (within : Option ℕ) → AreLimits limits → ((r : Result Agreement CompareFault)
         × Compares limits file stated name within r × IsNoMemory r)
         ⊎ IsUpToAdjustment limits file stated name }
 {}

@@ -22,16 +22,16 @@ use station_check::{DONE, REFUSED, write_whole};
 use std::alloc::Global;
 
 /// Compares the directions that a table states with those of the station of this name, and answers
-/// the exit status: 0 where they agree within so many units of 0.000001 gon and their line was
-/// written to `out`, else 1, with the line of a refusal on `err`. Where `err` fails, the line is
-/// lost and the status stays.
+/// the exit status: 0 where they agree within so many units of 0.000001 gon, or where no number is
+/// stated within what is usual for the table's decimals, and their line was written to `out`; else
+/// 1, with the line of a refusal on `err`. Where `err` fails, the line is lost and the status stays.
 pub fn run_compare<R: Source, Q: Source, W: Sink, E: Sink>(
     alloc: Global,
     gsi: R,
     table: &mut Q,
     name: &[u8],
     limits: Limits,
-    within: u32,
+    within: Option<u32>,
     out: &mut W,
     err: &mut E,
 ) -> u8

@@ -64,7 +64,7 @@ fn compared(
     gsi: &[u8],
     name: &[u8],
     table: &[u8],
-    within: u32,
+    within: Option<u32>,
 ) -> Result<u32, CompareFault> {
     let gsi = Script::new(gsi, usize::MAX, false);
     let mut table = Script::new(table, usize::MAX, false);
@@ -93,7 +93,34 @@ fn tables_lie_beside_the_least_directions(rt: HostRuntime) -> Result<(), Fail> {
         (b"A,-0.00001\nB,50.00003\n", 5, Ok(5)),
     ];
     for (table, within, want) in cases {
-        assert_eq!(rt; compared(&rt, rt.alloc(), S1, b"S1", table, within), want);
+        assert_eq!(rt;
+            compared(&rt, rt.alloc(), S1, b"S1", table, Some(within)),
+            want
+        );
+    }
+    Ok(())
+}
+
+#[test]
+fn where_nothing_is_stated_the_fewest_decimals_tell_the_limit(rt: HostRuntime) -> Result<(), Fail> {
+    let cases: [(&[u8], Result<u32, CompareFault>); 11] = [
+        // Five decimals or more, and whole gon alone: 10.
+        (b"A,0\nB,50.00001\n", Ok(10)),
+        (b"A,0\nB,50.000009\n", Err(CompareFault::Apart(11))),
+        (b"A,0\nB,50\n", Err(CompareFault::Apart(15))),
+        // Four decimals: 51, in whichever row.
+        (b"A,0.0000\nB,50.000132\n", Ok(51)),
+        (b"A,0.0000\nB,50.000133\n", Err(CompareFault::Apart(52))),
+        (b"A,0.0000000\nB,50.0001\n", Ok(35)),
+        // Three, two and one: 501, 5,001 and 50,001.
+        (b"A,0.000\nB,50.001032\n", Ok(501)),
+        (b"A,0.000\nB,50.001033\n", Err(CompareFault::Apart(502))),
+        (b"A,0.00\nB,50.0001\n", Ok(35)),
+        (b"A,0.0\nB,50.100032\n", Ok(50_001)),
+        (b"A,0.0\nB,50.100033\n", Err(CompareFault::Apart(50_002))),
+    ];
+    for (table, want) in cases {
+        assert_eq!(rt; compared(&rt, rt.alloc(), S1, b"S1", table, None), want);
     }
     Ok(())
 }
@@ -134,7 +161,10 @@ fn the_first_fault_is_answered(rt: HostRuntime) -> Result<(), Fail> {
         ),
     ];
     for (gsi, name, table, want) in cases {
-        assert_eq!(rt; compared(&rt, rt.alloc(), gsi, name, table, 0), Err(want));
+        assert_eq!(rt;
+            compared(&rt, rt.alloc(), gsi, name, table, Some(0)),
+            Err(want)
+        );
     }
     Ok(())
 }
@@ -203,7 +233,7 @@ fn a_run_prints_its_line_and_answers_its_status(rt: HostRuntime) -> Result<(), F
         let limits = limits(&rt);
         let alloc = rt.alloc();
         let answer = run_compare(
-            alloc, gsi, &mut table, b"S1", limits, 10, &mut out, &mut err,
+            alloc, gsi, &mut table, b"S1", limits, None, &mut out, &mut err,
         );
         assert_eq!(rt; answer, status);
         assert_eq!(rt; out.bytes(), printed);

@@ -689,14 +689,16 @@ See that the path names a sheet or a table: none that a station needs is so long
         meaning: "this row has the wrong number of columns",
         when: "\
 A row of a sheet has five columns, separated by four commas, where columns may be empty; a row of a
-table has two, the name and the direction. A column that begins with a quote goes on to the next
-quote, over commas and ends of lines.",
+table has two, the name and the direction, and after them blank ones alone. The first row of a table
+tells what separates the columns of all: commas, semicolons, tabs or blanks. A column that begins
+with a quote goes on to the next quote, over separators and ends of lines.",
         example: "refused: sheet row 3: Fields",
         remedy: "\
-Look at the commas and quotes of that row. A table program may have written semicolons
-in place of commas, or a comma in place of the point of a number. A name with a comma stands in
-quotes. Where row 1 has this fault, see that SHEET or TABLE names the right file. Of a table with
-more columns, keep the two of the name and the direction.",
+Look at the separators and quotes of that row. A spreadsheet may have written the sheet
+with semicolons in place of commas. In quotes stands a name that has the separator, and a direction
+with a decimal comma where commas separate. Where row 1 has this fault, see that SHEET or TABLE
+names the right file; where row 2 of a table has it, titles may be separated in another way than the
+rows: leave them out. Of a table with more columns, keep the two of the name and the direction.",
     },
     Said {
         names: &["Kind"],
@@ -747,14 +749,15 @@ const VALUE_FAULTS: &[Explanation] = &[
         meaning: "a number of the sheet or the table is not written as it should be",
         when: "\
 A number of a sheet is written as '0', or as a digit 1 to 9 with further digits, after a '-' where
-it is below 0: with no point, blank, plus or zero before it. A direction of a table is written as 1
-to 3 digits, and a point with 1 to 9 decimals where it has any, after a '-' where it is below 0:
-with no blank, plus or exponent.",
+it is below 0: with no point, blank, plus or zero before it. A direction of a table is written as at
+most 3 digits, and a decimal point or comma with decimals where it has any, after a '+' or '-' where
+it has a sign: with no exponent and no unit. Its decimals after the ninth are 0.",
         example: "refused: sheet row 3: Number",
         remedy: "\
 Write the number so. Directions and orientations of a sheet are whole numbers too: they
-are in half units of 0.005 mgon, times the denominator of the sheet. Those of a table are in gon. A
-row of titles has this fault in a table: leave it out.",
+are in half units of 0.005 mgon, times the denominator of the sheet. Those of a table are in gon:
+turn degrees into gon by 10/9, leave out the unit, and round to 9 decimals. Of titles a table has
+one row, the first, and it begins with no target's name: leave out others.",
     },
     Said {
         names: &["Range"],
@@ -762,12 +765,12 @@ row of titles has this fault in a table: leave it out.",
         when: "\
 The denominator is 1 to 10^9, directions and orientations are -10^18 to 10^18, or in version 2 up to
 10^12 and 10^21. The number of a set is 1 to 9999, a two-face direction 0 to 79999999, and full
-turns are -9 to 9. A direction of a table is below 400 gon, and above -400.",
+turns are -9 to 9. A direction of a table is from -400 to 400 gon.",
         example: "refused: sheet row 3: Range",
         remedy: "\
 See what made the number so large. A two-face direction is in half units of 0.005 mgon.
 A sheet with larger numbers than those of version 1 is of version 2. A direction of a table is in
-gon: 400 gon is written as 0.",
+gon: take full circles of 400 gon from a larger one.",
     },
     Said {
         names: &["TooMany"],
@@ -923,19 +926,19 @@ const TABLE_FAULTS: &[Explanation] = &[
         meaning: "a row of the table names no target of the station",
         when: "\
 The station has no target of the name in the first column of this row. Names are compared byte by
-byte.",
+byte. Blanks around a name are no part of it, unless a target's name has them.",
         example: "refused: table row 2: Unknown",
         remedy: "\
-See the names by 'station_check list GSI'. Blanks and small letters count; zeros at the
-left of a name in the field file do not. Leave out the row of a point that was not observed from
-this station.",
+See the names by 'station_check list GSI'. Small letters count, and blanks within a
+name; zeros at the left of a name in the field file do not. Leave out the row of a point that was
+not observed from this station.",
     },
     Said {
         names: &["Twice"],
         meaning: "two rows of the table have one name",
         when: "\
-A row before this one names the same target. A table has one direction for each target, that of the
-whole adjustment, and not one for each set.",
+A row before this one names the same target, be it with blanks around the name or without. A table
+has one direction for each target, that of the whole adjustment, and not one for each set.",
         example: "refused: table row 2: Twice",
         remedy: "\
 Leave out one of the two rows. Where they differ, see which of them is the adjusted
@@ -950,7 +953,9 @@ first observes the targets of the station.",
         example: "refused: table: Missing 1",
         remedy: "\
 Add the row of that target. 'station_check directions GSI STATION' prints all of them
-in their order. To compare fewer targets, check a copy of the field file without the others.",
+in their order. If it is the first row of the table, see its name and its direction: a first row
+that has neither a target's name nor a number after it is read as titles. To compare fewer targets,
+check a copy of the field file without the others.",
     },
     Said {
         names: &["NotFound"],
@@ -966,17 +971,21 @@ sheet with 'station_check check'.",
     },
     Said {
         names: &["Apart"],
-        meaning: "the table is further from the adjustment than --within states",
+        meaning: "the table is further from the adjustment than its limit",
         when: "\
 After the best rotation some direction of the table is further from the least-squares one than N
-units of 0.000001 gon: 10, or what '--within N' states. The number in the line is how far, rounded
-up: the least N with which the table agrees.",
+units of 0.000001 gon: what '--within N' states. Where it is not stated N is 10, or of a table with
+fewer than 5 decimals what rounding to these may do and 1 more: 51 for 4 decimals, 501 for 3, 5001
+for 2, 50001 for 1. The row with the fewest decimals counts; rows of whole gon don't. The number in
+the line is how far, rounded up: the least N with which the table agrees.",
         example: "refused: compare: Apart 15",
         remedy: "\
-Compare the table with that of 'station_check directions'. Where all rows differ by no
-more than the rounding, state the number of the line by --within: 5 decimals of a gon are rounded by
-up to 5 units, 4 decimals by up to 50. Where one row stands out, see what the program did: plain
-means of incomplete sets, weights and observations that it left out give other directions.",
+Compare the table with that of 'station_check directions'. Where one row stands out, see
+what the program did: plain means of incomplete sets, weights and observations that it left out give
+other directions. The best rotation halves the error of a single target: 1 mgon shows as 500. Where
+all rows differ by no more than the program rounds, in degrees as an example, state the number of
+the line by --within. The results of an instrument come from readings that it did not round: allow 4
+units more.",
     },
 ];
 

@@ -26,7 +26,7 @@ use Rattle.station_page.specs.Explained.{AnswersLine, explanation_or_refusal}
 use Rattle.station_page.specs.HandedOut.{HandsOut, verdict_line, text_or_refusal, refusal_text}
 use Rattle.station_page.specs.HandedOut.{comparison_line, table_or_refusal, copy_text}
 use Rattle.station_page.specs.HandedOut.{notes_or_refusal}
-use Rattle.station_page.specs.Limits.{States, residual_limit, stated_name}
+use Rattle.station_page.specs.Limits.{States, stated_limit, stated_name}
 use Rattle.station_page.specs.declared.explain.Unexplained.{Unexplained}
 
 -- The status and the line are those of the verdict on these bytes, of which the whole promise is
@@ -36,7 +36,7 @@ pub record IsCheckOf (two_c two_i : ℕ) (is_stated : Bool) (residual : ℕ) (gs
   pub limits : FaceLimits
   pub states : States two_c two_i limits
   pub verdict : Result Accepted Fault
-  pub promise : KeepsPromise limits (residual_limit is_stated residual)
+  pub promise : KeepsPromise limits (stated_limit is_stated residual)
       (file_answers (handed_in gsi)) (handed_in sheet) verdict
   pub of_check : IfErr verdict IsOfCheck
   pub hands_out : HandsOut (status_of verdict) (verdict_line verdict) room answered shown
@@ -91,12 +91,13 @@ pub record IsDirectionsOf (two_c two_i : ℕ) (gsi name : List ℕ) (decimals ro
 
 -- The status and the line are those of the comparison of these bytes of a table with the station of
 -- this name in these bytes of a field file, of which the whole promise is kept.
-pub record IsComparisonOf (two_c two_i : ℕ) (gsi table name : List ℕ) (within room answered : ℕ)
-    (shown : List ℕ) : Type 0 where
+pub record IsComparisonOf (two_c two_i : ℕ) (is_stated : Bool) (within : ℕ)
+    (gsi table name : List ℕ) (room answered : ℕ) (shown : List ℕ) : Type 0 where
   pub limits : FaceLimits
   pub states : States two_c two_i limits
   pub answer : Result Agreement CompareFault
-  pub compares : Compares limits (file_answers (handed_in gsi)) (handed_in table) name within answer
+  pub compares : Compares limits (file_answers (handed_in gsi)) (handed_in table) name
+      (stated_limit is_stated within) answer
   pub hands_out : HandsOut (status_of answer) (comparison_line answer) room answered shown
 
 -- The status, the copy and what is told of it, or the line of the refusal, are those of putting

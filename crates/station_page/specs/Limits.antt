@@ -15,19 +15,20 @@ abbrev pub IsResidualLimit : Bool → ℕ → Type 0
 IsResidualLimit true residual = residual ≤ LARGEST_RESIDUAL_LIMIT
 IsResidualLimit false residual = ⊤
 
--- A table may be asked to agree within so many units of 0.000001 gon: at most 1 gon.
-abbrev pub IsWithin : ℕ → Type 0
-IsWithin within = within ≤ LARGEST_WITHIN
+-- The limit of a comparison, where it is said that one is stated, is at most 1 gon.
+abbrev pub IsWithin : Bool → ℕ → Type 0
+IsWithin true within = within ≤ LARGEST_WITHIN
+IsWithin false within = ⊤
 
 -- These are the limits of face differences that the numbers state.
 pub record States (two_c two_i : ℕ) (limits : FaceLimits) : Type 0 where
   pub states_two_c : limits.two_c ≡ two_c
   pub states_two_i : limits.two_i ≡ two_i
 
--- the residual limit that the number states, where it is said that one is stated
-abbrev pub residual_limit : Bool → ℕ → Option ℕ
-residual_limit true residual = Some residual
-residual_limit false residual = None
+-- the limit that a number states, where it is said that one is stated
+abbrev pub stated_limit : Bool → ℕ → Option ℕ
+stated_limit true limit = Some limit
+stated_limit false limit = None
 
 -- These bytes may be handed in as the name of a file's one station: they are a name, or none, where
 -- no name is stated.

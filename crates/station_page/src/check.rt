@@ -5,7 +5,7 @@ ghost use Rattle.station_check.specs.RunEndings.{status_of};
 ghost use Rattle.station_check.specs.declared.verdict_line.TheConstants.{LONGEST_VERDICT_LINE};
 ghost use Rattle.station_page.specs.Answers.{IsCheckOf};
 ghost use Rattle.station_page.specs.HandedOut.{HandsOut, verdict_line};
-ghost use Rattle.station_page.specs.Limits.{AreFaceLimits, IsResidualLimit, residual_limit};
+ghost use Rattle.station_page.specs.Limits.{AreFaceLimits, IsResidualLimit, stated_limit};
 ghost use Rattle.station_page.specs.declared.hand_out.TheConstants.{OUT_OF_RANGE};
 
 use crate::hand_out::{OUT_OF_RANGE, hand_out};
@@ -54,13 +54,13 @@ pub extern "C" fn station_page_check(
     hand_out_verdict(&verdict, out, written)
 }
 
-/// A residual limit is above the largest.
+/// A limit is above the largest.
 #[derive(Clone, Copy, Drop)]
-struct BeyondLimits;
+pub(crate) struct BeyondLimits;
 
 /// The residual limit, where it is said that one is stated.
 fn residual_limit(is_stated: bool, residual: u32) -> Result<Option<ResidualLimit>, BeyondLimits>
-    ensures ok { IfOk result (λ limit. limit ≡ residual_limit is_stated residual) }
+    ensures ok { IfOk result (λ limit. limit ≡ stated_limit is_stated residual) }
     ensures valid { IfOk result (λ _. IsResidualLimit is_stated residual) }
     ensures invalid { IfErr result (λ _. IsResidualLimit is_stated residual → ⊥) }
 {

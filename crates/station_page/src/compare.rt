@@ -1,6 +1,6 @@
 //! The comparison of a table of directions, for a page.
 
-ghost use Rattle.std.specs.Prelude.{◌≡◌, ◌<◌, ◌≤◌, length, take};
+ghost use Rattle.std.specs.Prelude.{◌≡◌, ◌<◌, ◌≤◌, length, take, IfOk, IfErr};
 ghost use Rattle.gsi_file.specs.FileAnswers.{file_answers};
 ghost use Rattle.station_check.specs.Came.{handed_in};
 ghost use Rattle.station_check.specs.RunEndings.{status_of};
@@ -8,9 +8,10 @@ ghost use Rattle.station_check.specs.declared.verdict_line.TheConstants.{LONGEST
 ghost use Rattle.station_compare.specs.Answers.{Compares};
 ghost use Rattle.station_page.specs.Answers.{IsComparisonOf};
 ghost use Rattle.station_page.specs.HandedOut.{HandsOut, comparison_line};
-ghost use Rattle.station_page.specs.Limits.{AreFaceLimits, IsWithin};
+ghost use Rattle.station_page.specs.Limits.{AreFaceLimits, IsWithin, stated_limit};
 ghost use Rattle.station_page.specs.declared.hand_out.TheConstants.{OUT_OF_RANGE};
 
+use crate::check::BeyondLimits;
 use crate::hand_out::{OUT_OF_RANGE, hand_out};
 use station_book::Limits;
 use station_check::{DONE, REFUSED, handed_in};
@@ -24,7 +25,8 @@ pub(crate) const LARGEST_WITHIN: u32 = 1_000_000;
 /// file, both whole, and hands out the line of the agreement or of the refusal.
 ///
 /// The limits of 2c and 2i are in units of 0.00001 gon, at most 1,000,000; the table agrees within
-/// `within` units of 0.000001 gon, at most 1,000,000.
+/// `within` units of 0.000001 gon, at most 1,000,000, where `is_stated` says that so many are
+/// stated, and else within what is usual for its decimals.
 ///
 /// Answers 0 where the table agrees, 1 where it is refused, 2 for a number out of its range, and 3
 /// where `out` has too little room; 192 bytes are always enough.
@@ -36,16 +38,17 @@ pub extern "C" fn station_page_compare(
     name: &[u8],
     two_c: u32,
     two_i: u32,
+    is_stated: bool,
     within: u32,
     out: &mut [u8],
     written: &mut usize,
 ) -> u8
-    ensures compare { AreFaceLimits two_c two_i → IsWithin within
-        → IsComparisonOf two_c two_i gsi.now table.now name.now within (length out.old) result
-        (take written.new out.new) }
-    ensures beyond { (AreFaceLimits two_c two_i → IsWithin within → ⊥)
+    ensures compare { AreFaceLimits two_c two_i → IsWithin is_stated within
+        → IsComparisonOf two_c two_i is_stated within gsi.now table.now name.now (length out.old)
+        result (take written.new out.new) }
+    ensures beyond { (AreFaceLimits two_c two_i → IsWithin is_stated within → ⊥)
         → (result ≡ OUT_OF_RANGE) × (written.new ≡ 0) }
-    ensures answers { AreFaceLimits two_c two_i → IsWithin within
+    ensures answers { AreFaceLimits two_c two_i → IsWithin is_stated within
         → LONGEST_VERDICT_LINE ≤ length out.old → result < 2 }
     ensures fits { written.new ≤ length out.old }
 {
@@ -53,11 +56,26 @@ pub extern "C" fn station_page_compare(
     let Some(limits) = Limits::new(two_c, two_i) else {
         return OUT_OF_RANGE;
     };
-    if within > LARGEST_WITHIN {
+    let Ok(within) = stated_within(is_stated, within) else {
         return OUT_OF_RANGE;
-    }
+    };
     let answer = compare_slices(alloc, gsi, table, name, limits, within);
     hand_out_comparison(&answer, out, written)
+}
+
+/// The limit of a comparison, where it is said that one is stated.
+fn stated_within(is_stated: bool, within: u32) -> Result<Option<u32>, BeyondLimits>
+    ensures ok { IfOk result (λ limit. limit ≡ stated_limit is_stated within) }
+    ensures valid { IfOk result (λ _. IsWithin is_stated within) }
+    ensures err { IfErr result (λ _. IsWithin is_stated within → ⊥) }
+{
+    if !is_stated {
+        return Ok(None);
+    }
+    if within > LARGEST_WITHIN {
+        return Err(BeyondLimits);
+    }
+    Ok(Some(within))
 }
 
 /// Compares a table with the station of this name, where the bytes of both are at hand.
@@ -67,7 +85,7 @@ fn compare_slices(
     table: &[u8],
     name: &[u8],
     limits: Limits,
-    within: u32,
+    within: Option<u32>,
 ) -> Result<Agreement, CompareFault>
     ensures { Compares limits (file_answers (handed_in gsi.now)) (handed_in table.now) name.now
         within result }

@@ -43,9 +43,9 @@ two_i_rule = limit_rule (codes "two-i")
 abbrev pub residual_rule : Rule
 residual_rule = number_rule (codes "residual") 0 LARGEST_RESIDUAL_LIMIT
 
--- How near a table must be: 10 where it is left out.
+-- How near a table must be: as is usual for its decimals where it is left out.
 abbrev pub within_rule : Rule
-within_rule = usual_rule (codes "within") 0 1_000_000 (codes "10")
+within_rule = number_rule (codes "within") 0 1_000_000
 
 -- How many decimals a direction is written with: 6 where it is left out.
 abbrev pub decimals_rule : Rule

@@ -16,6 +16,7 @@ ghost use Rattle.station_program.specs.Commands.{residuals_words};
 ghost use Rattle.station_program.specs.CommandLine.{StatesLimits, StatesNumber, StatesResidual};
 ghost use Rattle.station_program.specs.CommandLine.{StatesNoLimits, StatesNoNumber};
 ghost use Rattle.station_program.specs.CommandLine.{StatesNoResidual, StatesDigests};
+ghost use Rattle.station_program.specs.CommandLine.{StatesWithin, StatesNoWithin};
 ghost use Rattle.station_program.specs.CommandLine.{StatesName, StatesNoName};
 ghost use Rattle.station_program.specs.CommandLine.{IsAskedFor, IsGiven, IsMissing, IsAskedForBy};
 ghost use Rattle.station_program.specs.CommandLine.{IsMistakeIn};
@@ -58,9 +59,6 @@ const STATED_NAME: &str = "station";
 
 /// The limit of a face difference that no option states, in units of 0.00001 gon.
 const USUAL_LIMIT: &str = "2000";
-
-/// How near a table must be where no option states it, in units of 0.000001 gon.
-const USUAL_WITHIN: &str = "10";
 
 /// The most that a table may be asked to be near, in units of 0.000001 gon.
 const LARGEST_WITHIN: u32 = 1_000_000;
@@ -115,13 +113,13 @@ pub enum Request<'a, F> {
     },
 
     /// Compares a table with a station of a field file: they agree within so many units of
-    /// 0.000001 gon.
+    /// 0.000001 gon, or where none are stated within what is usual for the table's decimals.
     Compare {
         gsi: F,
         station: &'a str,
         table: F,
         limits: Limits,
-        within: u32,
+        within: Option<u32>,
         digests: Digests,
     },
 
@@ -210,7 +208,7 @@ fn compare_command<'a>(alloc: Global) -> Result<Command<'a>, Error>
         .after_help(help::COMPARE_EXAMPLE)
         .arg(field_file(alloc))?
         .arg(station_name(alloc))?
-        .arg(given(alloc, TABLE).help("The table of directions, comma-separated text"))?;
+        .arg(given(alloc, TABLE).help("The table of directions, text of two columns"))?;
     let command = with_limits(alloc, command)?;
     Ok(command.arg(within(alloc))?.arg(digests_flag(alloc))?)
 }
@@ -394,8 +392,7 @@ fn within<'a>(alloc: Global) -> Arg<'a>
     ensures { rule_of result ≡ within_rule }
 {
     number(alloc, WITHIN, 0, LARGEST_WITHIN)
-        .default_value(USUAL_WITHIN)
-        .help("How near the directions must be, in units of 0.001 mgon: 0 to 1000000")
+        .help(help::WITHIN_HELP)
         .long_help(help::WITHIN_LONG_HELP)
 }
 
@@ -575,18 +572,21 @@ fn decimals_of(found: &ArgMatches<'_>) -> Option<Decimals>
     Decimals::new(found.get_one(DECIMALS)?)
 }
 
-/// Within how many units of 0.000001 gon a table agrees, unless it is missing or out of its range.
-fn within_of(found: &ArgMatches<'_>) -> Option<u32>
-    ensures stated { IfSome result (StatesNumber (found_of found.now) (codes "within")) }
-    ensures range { IfSome result (λ within. within ≤ LARGEST_WITHIN) }
-    ensures none { IfNone result (StatesNoNumber (found_of found.now) (codes "within")
-        0 LARGEST_WITHIN) }
+/// Within how many units of 0.000001 gon a table agrees, or that no number is stated, unless it is
+/// out of its range.
+fn within_of(found: &ArgMatches<'_>) -> Option<Option<u32>>
+    ensures stated { IfSome result (StatesWithin (found_of found.now)) }
+    ensures range { IfSome result (λ within. IfSome within (λ n. n ≤ LARGEST_WITHIN)) }
+    ensures none { IfNone result (StatesNoWithin (found_of found.now)) }
 {
+    if !found.contains_id(WITHIN) {
+        return Some(None);
+    }
     let within: u32 = found.get_one(WITHIN)?;
     if within > LARGEST_WITHIN {
         return None;
     }
-    Some(within)
+    Some(Some(within))
 }
 
 /// Whether digests are printed.

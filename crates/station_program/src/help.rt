@@ -46,9 +46,11 @@ The table agrees where one rotation brings each of its directions within N units
 table, then of the adjustment, in which no residual may be above 2000 half units (0.005 mgon); and
 at last how far they are apart.
 
-TABLE is comma-separated text: for each target of the station one row NAME,DIRECTION, in any order,
-with no row of titles. A direction is in gon, below 400: 1 to 3 digits, and a point with 1 to 9
-decimals where it has any, after a '-' where it is below 0. The first need not be 0.
+TABLE is text with a row for each target of the station, in any order: its name and its direction.
+Commas, semicolons, tabs or blanks separate the two, as the first row tells, which may be one of
+titles. A direction is in gon, from -400 to 400: a sign or none, at most 3 digits, and a decimal
+point or comma with decimals where it has any; those after the ninth are 0. Where commas separate,
+a decimal comma stands in quotes. The first direction need not be 0.
 
 STATION is compared byte by byte with the names in the field file, of which the zeros on the left
 are no part. A name that begins with '-' follows after '--'.";
@@ -60,7 +62,7 @@ Exit status:
   2  a mistake on the command line, or GSI or TABLE cannot be opened
 
 Example:
-  station_check compare --within 10 field.gsi S1 table.csv
+  station_check compare field.gsi S1 table.csv
 
   agrees S1: 2 targets, within 0";
 
@@ -254,9 +256,13 @@ pub const TWO_I_LONG_HELP: &str = "\
 The limit of 2i, in units of 0.01 mgon: 0 to 1000000. The face difference 2i of a target
 is both its zenith angles together, less 400 gon";
 
+pub const WITHIN_HELP: &str = "\
+How near the directions must be, in units of 0.001 mgon: 0 to 1000000 [default: by the decimals]";
+
 pub const WITHIN_LONG_HELP: &str = "\
-How near the directions must be, in units of 0.001 mgon: 0 to 1000000. Rounding to
-4 decimals of a gon moves a direction by up to 50 units, to 5 decimals by up to 5";
+How near the directions must be, in units of 0.001 mgon: 0 to 1000000. Where no N is
+stated it is 10; of a table with fewer than 5 decimals, what rounding to these may do and
+1 more, as 51 for 4 decimals. Its row with the fewest decimals counts";
 
 pub const DECIMALS_LONG_HELP: &str = "\
 How many decimals of a gon a direction is written with: 1 to 8. The sixth is of

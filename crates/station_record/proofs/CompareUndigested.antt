@@ -62,7 +62,7 @@ unread_too (Err Memory) s t a h = tt
 -- The promise of two digesting readers is one of the readers that they ask, of the same bytes.
 abbrev pub comparison_of : {R Q : Type 0} (told : R → Option Told) (failed : R → Bool)
     (gave : R → ℕ → List ℕ → Type 0) (told_q : Q → Option Told) (failed_q : Q → Bool)
-    (gave_q : Q → ℕ → List ℕ → Type 0) (limits : FaceLimits) (within : ℕ) (station : List ℕ)
+    (gave_q : Q → ℕ → List ℕ → Type 0) (limits : FaceLimits) (within : Option ℕ) (station : List ℕ)
     (d d' : Digesting R) (e e' : Digesting Q) (r : Result Agreement CompareFault)
     → Holds256 (hasher_of d) [] → Holds256 (hasher_of e) []
     → IsComparison limits within (reader_change (λ d. told (reader_of d))
@@ -86,7 +86,7 @@ comparison_of told failed gave told_q failed_q gave_q limits within station d d'
     }
 
 -- What was printed with two digests, where they are those of the bytes that the promise speaks of.
-pub recorded : {A : Type 0} (limits : FaceLimits) (within : ℕ) (station : List ℕ)
+pub recorded : {A : Type 0} (limits : FaceLimits) (within : Option ℕ) (station : List ℕ)
     (gsi table : ReaderChange) (gsi_name table_name : List ℕ)
     (verdict : Result Agreement CompareFault)
     (a : IsComparison limits within gsi table station verdict) (d e : List ℕ)

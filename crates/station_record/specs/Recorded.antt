@@ -35,9 +35,9 @@ pub record IsRecordedCheck {A : Type 0} (limits : FaceLimits) (most : Option ℕ
       check.Write verdict r out
 
 -- The same of a run of the comparison.
-pub record IsRecordedCompare {A : Type 0} (limits : FaceLimits) (within : ℕ) (station : List ℕ)
-    (gsi : ReaderChange) (gsi_name : List ℕ) (table : ReaderChange) (table_name : List ℕ)
-    (r : Result A CompareFault) (out : WriterChange) : Type 0 where
+pub record IsRecordedCompare {A : Type 0} (limits : FaceLimits) (within : Option ℕ)
+    (station : List ℕ) (gsi : ReaderChange) (gsi_name : List ℕ) (table : ReaderChange)
+    (table_name : List ℕ) (r : Result A CompareFault) (out : WriterChange) : Type 0 where
   pub verdict : Result Agreement CompareFault
   pub compares : IsComparison limits within gsi table station verdict
   pub printed : PrintsAnswer (λ a. recorded_text (agreement_line a)

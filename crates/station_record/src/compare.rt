@@ -29,7 +29,7 @@ pub fn run_compare_recorded<R: Source, Q: Source, W: Sink, E: Sink>(
     table: NamedReader<'_, Q>,
     station: &[u8],
     limits: Limits,
-    within: u32,
+    within: Option<u32>,
     out: &mut W,
     err: &mut E,
 ) -> u8

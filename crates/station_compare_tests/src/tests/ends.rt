@@ -24,7 +24,7 @@ const AGREES: &[u8] = b"agrees S1: 2 targets, within 0\n";
 /// The least-squares directions of S1.
 const DIRECTIONS: &[u8] = b"A,0.000000\nB,50.000030\n";
 
-/// A command over S1: directions within 10 units of 0.000001 gon, or written with 6 decimals.
+/// A command over S1: directions within the usual limit, or written with 6 decimals.
 #[derive(Clone, Copy, Debug)]
 enum Command {
     Compare,
@@ -44,7 +44,7 @@ impl Command {
     ) -> u8 {
         let limits = limits(rt);
         match self {
-            Command::Compare => run_compare(alloc, gsi, table, b"S1", limits, 10, out, err),
+            Command::Compare => run_compare(alloc, gsi, table, b"S1", limits, None, out, err),
             Command::Directions => {
                 let decimals = Decimals::new(6).expect(rt, "decimals");
                 run_directions(alloc, gsi, b"S1", limits, decimals, out, err)
