@@ -67,7 +67,7 @@ pub extern "C" fn station_page_compare(
 fn stated_within(is_stated: bool, within: u32) -> Result<Option<u32>, BeyondLimits>
     ensures ok { IfOk result (λ limit. limit ≡ stated_limit is_stated within) }
     ensures valid { IfOk result (λ _. IsWithin is_stated within) }
-    ensures err { IfErr result (λ _. IsWithin is_stated within → ⊥) }
+    ensures invalid { IfErr result (λ _. IsWithin is_stated within → ⊥) }
 {
     if !is_stated {
         return Ok(None);
