@@ -32,10 +32,11 @@ from typing import NamedTuple
 
 STATION, SET, END = "10", "20", "30"
 
-# The indices of words: a point, a direction, a zenith angle, a code, its first information, and
-# those of a line that sets up the instrument.
-POINT, DIRECTION, ZENITH, CODE, INFORMATION = 11, 21, 22, 41, 42
+# The indices of words: a point, a direction, a zenith angle, a slope distance, a code, its first
+# information, and those of a line that sets up the instrument, which measures nothing.
+POINT, DIRECTION, ZENITH, DISTANCE, CODE, INFORMATION = 11, 21, 22, 31, 41, 42
 SET_UP = {84, 85, 86, 88}
+MEASURED = {DIRECTION, ZENITH, DISTANCE}
 
 # A half circle and a full circle, in units of 0.00001 gon, and the byte at the fourth place of an
 # angle's information that says so.
@@ -115,9 +116,9 @@ class Block:
         return self.begins_with(POINT) and self.first_of(DIRECTION) is not None
 
     def sets_up(self):
-        """Whether it is a measurement that sets up the instrument, and no reading."""
+        """Whether it is a measurement that sets up the instrument, and measures nothing itself."""
         indices = {word.index for word in self.words}
-        return self.begins_with(POINT) and DIRECTION not in indices and bool(SET_UP & indices)
+        return self.begins_with(POINT) and not MEASURED & indices and bool(SET_UP & indices)
 
     def target(self):
         return self.name(POINT)

@@ -9,7 +9,7 @@ use Rattle.set_marks.specs.declared.division.Divided.TheVariants.{Sets, Flawed}
 use Rattle.set_marks.specs.declared.fault.MarkKind.TheVariants as kinds
 use Rattle.set_marks.specs.declared.mark.Code.TheVariants.{Station, Set, Close}
 use Rattle.set_marks.specs.declared.sight.Sight.{Sight}
-use Rattle.set_marks.specs.Stations.{sets_up, has_set_up_word, sights_of}
+use Rattle.set_marks.specs.Stations.{sets_up, tells_set_up, sights_of}
 use Rattle.set_marks.specs.Divisions.{divided, starts_of, end_in}
 use Rattle.set_marks.specs.Marking.{marks_of}
 use Rattle.set_marks.specs.Found.{Found, found_in}
@@ -81,12 +81,14 @@ record AreExamples : Type 0 where
   uncoded : found_in file
       ≡ None ∷ None ∷ None ∷ None ∷ None ∷ None ∷ None ∷ None ∷ None ∷ []
   height : sets_up (b (w 11 a_name ∷ w 87 (codes "00001500") ∷ [])) ≡ false
+  measured : sets_up (b (w 11 a_name ∷ w 22 (codes "10000000") ∷ w 31 (codes "00012345")
+      ∷ w 87 (codes "00001500") ∷ w 88 (codes "00001543") ∷ [])) ≡ false
   one_set : divided by_targets ≡ Flawed (record { block = 1; kind = kinds.OneSetByTargets })
   strangers : divided other_targets ≡ Flawed (record { block = 5; kind = kinds.OtherTargets })
 
 examples : AreExamples
 unfolding role_of target named number angles angle_fault is_of_face has_two lacks
-    has_set_up_word
+    tells_set_up
 examples = record {
   starts = refl;
   end = refl;
@@ -96,6 +98,7 @@ examples = record {
   in_copy = refl;
   uncoded = refl;
   height = refl;
+  measured = refl;
   one_set = refl;
   strangers = refl;
 }

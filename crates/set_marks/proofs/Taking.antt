@@ -22,7 +22,7 @@ use Rattle.set_marks.specs.declared.fault.MarkFault.TheVariants.{File, Reading, 
 use Rattle.set_marks.specs.declared.fault.MarkKind.TheVariants as kinds
 use Rattle.set_marks.specs.declared.readings.Readings.{Readings}
 use Rattle.set_marks.specs.declared.sight.SetUp.{SetUp}
-use Rattle.set_marks.specs.Stations.{begun, is_stated, fault_as, reading_fault, fault_of_blocks, own_fault, has_set_up_word}
+use Rattle.set_marks.specs.Stations.{begun, is_stated, fault_as, reading_fault, fault_of_blocks, own_fault, tells_set_up}
 use Rattle.set_marks.specs.Keeping.{Adds, Keeps, AreReadings, AnswersReadings}
 use Rattle.set_marks.specs.Markings.{AreBlocks, IsFileFault}
 
@@ -171,7 +171,7 @@ no_file_fault_as Station stated ss number b x e = cc
 no_file_fault_as Set stated ss number b x e = cc
 no_file_fault_as Close stated ss number b x e = cc
 no_file_fault_as Other stated ss number b x e = cc
-no_file_fault_as Measurement stated ss number b x e = by (lacks 21 b) (has_set_up_word b && stated) e
+no_file_fault_as Measurement stated ss number b x e = by (lacks 21 b) (tells_set_up b && stated) e
   where
     by : (l w : Bool) → (if l then (if w then Some (At number kinds.HasSetUp) else None)
         else reading_fault ss number b) ≡ Some (File x) → ⊥

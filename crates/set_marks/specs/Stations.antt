@@ -1,7 +1,8 @@
 -- The stations of a field file without codes, and their readings, by its blocks alone. Word 11 of a
 -- measurement names what is pointed at, or at a set-up line the station; words 84 to 86 are the
--- coordinates of the station, word 88 is the height of the instrument (GSI manual). A history is the
--- blocks of a file up to some place, the newest first, as in station_book.
+-- coordinates of the station, word 88 is the height of the instrument, words 22 and 31 are the
+-- vertical angle and the slope distance (GSI manual). A history is the blocks of a file up to some
+-- place, the newest first, as in station_book.
 use Rattle.std.specs.Prelude.{ℕ, ◌+◌, ◌-◌, ◌==◌, Bool, ◌&&◌, not, List, [], ◌∷◌, ◌++◌}
 use Rattle.std.specs.Prelude.{length, take, drop, if◌then◌else◌, Option, Some, None, is_some}
 use Rattle.std.specs.List.{list_any}
@@ -29,12 +30,18 @@ abbrev pub set_up_words : List ℕ
 set_up_words = 84 ∷ 85 ∷ 86 ∷ 88 ∷ []
 
 -- one of these words stands in the block
-unfoldable pub has_set_up_word : GsiBlock → Bool
+abbrev pub has_set_up_word : GsiBlock → Bool
 has_set_up_word b = list_any (λ index. not (lacks index b)) set_up_words
 
--- a set-up line: a measurement without a direction, with one of these words
+-- The same, and neither a vertical angle nor a distance: a block that has one of them measures a
+-- height, though it may have the height of the instrument too.
+unfoldable pub tells_set_up : GsiBlock → Bool
+tells_set_up b = has_set_up_word b && (lacks 22 b && lacks 31 b)
+
+-- a set-up line: a measurement without a direction, a vertical angle and a distance, with one of
+-- these words
 abbrev pub sets_up : GsiBlock → Bool
-sets_up b = is_measurement (role_of b) && (lacks 21 b && has_set_up_word b)
+sets_up b = is_measurement (role_of b) && (lacks 21 b && tells_set_up b)
 
 -- the reading in the block of this number, if it is a measurement with a direction
 abbrev pub sight_in : ℕ → GsiBlock → List Sight
@@ -99,7 +106,7 @@ fault_as Station stated begun number b = Some (At number kinds.HasCodes)
 fault_as Set stated begun number b = Some (At number kinds.HasCodes)
 fault_as Close stated begun number b = Some (At number kinds.HasCodes)
 fault_as Measurement stated begun number b =
-    if lacks 21 b then (if has_set_up_word b && stated then Some (At number kinds.HasSetUp) else None)
+    if lacks 21 b then (if tells_set_up b && stated then Some (At number kinds.HasSetUp) else None)
     else reading_fault begun number b
 fault_as Other stated begun number b = None
 

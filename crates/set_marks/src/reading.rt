@@ -14,7 +14,7 @@ ghost use Rattle.station_book.specs.declared.role.Role.TheVariants.{Measurement}
 ghost use Rattle.station_book.specs.Faults.{first_of};
 ghost use Rattle.adjust_kernel.specs.Names.{IsName};
 ghost use Rattle.gsi_word.specs.Names.{name_of};
-ghost use Rattle.set_marks.specs.Stations.{fault_as, has_set_up_word};
+ghost use Rattle.set_marks.specs.Stations.{fault_as, has_set_up_word, tells_set_up};
 ghost use Rattle.set_marks.specs.Keeping.{Adds, AnswersReadings, IsMemoryOr, Keeps};
 
 use crate::fault::{MarkFault, MarkKind};
@@ -23,12 +23,15 @@ use crate::sight::{SetUp, Sight};
 use adjust_kernel::Name;
 use byte_ends::{Script, Source};
 use gsi_file::Lines;
-use gsi_word::{Block, Found};
+use gsi_word::{Block, Found, VERTICAL_ANGLE};
 use station_book::{CIRCLE, HALF_CIRCLE, Reading, Role, read, role_of, target};
 use std::alloc::{AllocError, Global};
 
 /// Bytes that are read at a time.
 const PIECE: usize = 4_096;
+
+/// The index of a slope distance.
+const SLOPE_DISTANCE: u8 = 31;
 
 /// Whether a block has a word of this index.
 #[tactic(auto, unfolding(station_book::specs::Blocks::lacks))]
@@ -40,11 +43,19 @@ fn has_word(block: &Block<'_>, index: u8) -> bool
 
 /// Whether a block has a word of a set-up line: east, north or height of the station, height of the
 /// instrument.
-#[tactic(auto, unfolding(crate::specs::Stations::has_set_up_word))]
 fn has_set_up_word(block: &Block<'_>) -> bool
     ensures { result ≡ has_set_up_word (block_of block.now) }
 {
     has_word(block, 84) || has_word(block, 85) || has_word(block, 86) || has_word(block, 88)
+}
+
+/// Whether a block without a direction sets a station up: it has a word of a set-up line, and
+/// neither a vertical angle nor a distance, with which a height is measured.
+#[tactic(auto, unfolding(crate::specs::Stations::tells_set_up))]
+fn tells_set_up(block: &Block<'_>) -> bool
+    ensures { result ≡ tells_set_up (block_of block.now) }
+{
+    has_set_up_word(block) && !has_word(block, VERTICAL_ANGLE) && !has_word(block, SLOPE_DISTANCE)
 }
 
 /// Whether the zenith angle of a reading is of face II.
@@ -159,7 +170,7 @@ impl Readings {
     {
         match read(block) {
             Ok(None) => {
-                if !has_set_up_word(block) {
+                if !tells_set_up(block) {
                     self.blocks = number;
                     return Ok(());
                 }
