@@ -11,7 +11,8 @@ what both programs print byte for byte, and measures each command on each file:
 Instructions are the figure to keep: times depend on the machine and on what else it does.
 
 `directions` and `compare`, which the plain program has not, are then timed beside `means` of the same
-file, or alone where sets have gaps; it is said whether they keep their marks.
+file, or alone where sets have gaps; it is said whether they keep their marks. So is `mark`, beside
+`list` of the same files without codes.
 """
 
 import argparse
@@ -39,7 +40,8 @@ RUSTC = ["-C", "opt-level=3", "-C", "lto=fat", "-C", "codegen-units=1", "-C", "p
 class Shape:
     """A field file: its stations, the sets of each, the targets of each set, and how its lines are
     written. `gaps` is the share of readings that are left out after the first set; `parts` are
-    sessions of equal numbers of sets and targets, each of which has one target of the one before."""
+    sessions of equal numbers of sets and targets, each of which has one target of the one before.
+    A job without codes has so many detail points after the sets of each station."""
 
     title: str
     stations: int
@@ -51,6 +53,7 @@ class Shape:
     end: str = "\r\n"
     distances: bool = False
     shuffled: bool = False
+    details: int = 0
 
     def name(self):
         more = [
@@ -59,6 +62,7 @@ class Shape:
             *(["LF"] if self.end == "\n" else []),
             *(["words 31, 51, 87"] if self.distances else []),
             *(["shuffled"] if self.shuffled else []),
+            *([f"{self.details:,} detail points"] if self.details else []),
         ]
         return f"{self.title}, {', '.join(more)}"
 
@@ -93,6 +97,23 @@ STATED = (
     (Shape("two sessions with one target in common", 1, 40, 100, parts=2), (50, MILLISECONDS)),
     (Shape("ten sessions in a row", 1, 40, 100, parts=10), (50, MILLISECONDS)),
 )
+
+# The jobs without codes of `mark`, which takes at most so many times the time of `list`.
+JOBS = (
+    Shape("16 KB", 1, 16, 10),
+    Shape("400 KB", 10, 40, 10),
+    Shape("16 MB", 400, 40, 10),
+    Shape("400 KB", 1, 40, 100),
+    Shape("16 MB", 41, 40, 100),
+    Shape("600 KB", 10, 40, 10, width=16),
+    Shape("800 KB", 10, 40, 10, distances=True),
+    Shape("600 KB, 1,000 stations of 2 sets", 1000, 2, 3),
+    Shape("1.3 MB, 1,000 stations of 2 sets", 1000, 2, 3, details=15),
+    Shape("400 KB", 1, 40, 100, shuffled=True),
+    Shape("280 KB with gaps", 1, 40, 100, gaps=0.3),
+    Shape("1 MB", 1, 2, 100, details=20_000),
+)
+TIMES_LIST = 2
 
 # Files that are larger than this many bytes are counted only where it is asked for.
 COUNTED = 1_000_000
@@ -153,6 +174,39 @@ def field_file(shape):
     return "".join(lines)
 
 
+def seen_in_job(shape, draw, number, names):
+    """The targets of a set of a job without codes: the first and the last are those of set 1."""
+    first, *between, last = names
+    if number > 1:
+        between = [name for name in between if draw.random() >= shape.gaps]
+        between = draw.sample(between, len(between)) if shape.shuffled else between
+    return [first, *between, last]
+
+
+def job_file(shape):
+    """The text of stations as an instrument records them: set-up lines, and no codes."""
+    draw = random.Random(1)
+    lines = []
+
+    def read(name, face):
+        hz, v = draw.randrange(CIRCLE), draw.randrange(9_000_000, 11_000_000)
+        lines.append(reading(shape, len(lines) + 1, name, hz, v if face == 1 else CIRCLE - v))
+
+    for station in range(1, shape.stations + 1):
+        point = word(shape, "11", f"{len(lines) % 10000:04}+", f"S{station}")
+        lines.append(line(shape, point, word(shape, "88", "..10+", 1543)))
+        names = [f"P{target}" for target in range(1, shape.targets + 1)]
+        for number in range(1, shape.sets + 1):
+            seen = seen_in_job(shape, draw, number, names)
+            for name in seen:
+                read(name, 1)
+            for name in reversed(seen):
+                read(name, 2)
+        for number in range(shape.details):
+            read(f"D{number}", 1)
+    return "".join(lines)
+
+
 def build_plain(folder):
     """Builds the plain program, where rustc is found."""
     if shutil.which("rustc") is None:
@@ -178,13 +232,13 @@ def printed(command):
     return subprocess.run(command, stdin=subprocess.DEVNULL, stdout=subprocess.PIPE, check=True).stdout
 
 
-def least_times(commands, runs):
+def least_times(commands, runs, stderr=None):
     """The least time of each command; they take turns, and another one begins each round."""
     times = [[] for _ in commands]
     for turn in range(runs):
         for place in range(len(commands)):
             which = (turn + place) % len(commands)
-            times[which].append(run(commands[which]))
+            times[which].append(run(commands[which], stderr=stderr))
     return [min(of_one) for of_one in times]
 
 
@@ -197,11 +251,11 @@ def memory(command, folder):
     return most, sum(pages)
 
 
-def instructions(command, folder, statuses=(0,)):
+def instructions(command, folder, statuses=(0,), stderr=None):
     """How many instructions a command runs."""
     log = folder / "valgrind.log"
     tool = ["valgrind", "--tool=cachegrind", "--cache-sim=no", "--cachegrind-out-file=/dev/null"]
-    run([*tool, f"--log-file={log}", *command], statuses, None if statuses == (0,) else subprocess.DEVNULL)
+    run([*tool, f"--log-file={log}", *command], statuses, stderr)
     return int(re.search(r"I +refs: +([\d,]+)", log.read_text())[1].replace(",", ""))
 
 
@@ -236,7 +290,7 @@ class Bench:
             on_empty = [self.empty if isinstance(word, Path) else word for word in words]
             # Of empty files `means` and `check` refuse.
             commands = self.commands(on_empty)
-            self.starts[words[0]] = [instructions(command, self.folder, (0, 1)) for command in commands]
+            self.starts[words[0]] = [instructions(one, self.folder, (0, 1), subprocess.DEVNULL) for one in commands]
         return self.starts[words[0]]
 
     def row(self, name, words):
@@ -311,6 +365,24 @@ def measure_stated(folder, runs):
         show([shape.name(), *times, f"{most} {of}", kept])
 
 
+def measure_jobs(folder, runs):
+    """The times of `mark` beside those of `list`, and instructions where they can be counted."""
+    show(["job without codes", "list, ms", "mark, ms", "of list", "list, a byte", "mark, a byte", "kept"])
+    show(["---"] * 7)
+    for shape in JOBS:
+        gsi = folder / "job.gsi"
+        gsi.write_text(job_file(shape), newline="")
+        commands = [[PROGRAM, "list", gsi], [PROGRAM, "mark", gsi]]
+        listed, marked = least_times(commands, runs, subprocess.DEVNULL)
+        counts = ["", ""]
+        size = gsi.stat().st_size
+        if shutil.which("valgrind") and size <= COUNTED:
+            counted = [instructions(one, folder, stderr=subprocess.DEVNULL) for one in commands]
+            counts = figures([count / size for count in counted], 1)
+        kept = "yes" if marked <= TIMES_LIST * listed else "no"
+        show([shape.name(), f"{listed:.2f}", f"{marked:.2f}", f"{marked / listed:.2f}", *counts, kept])
+
+
 def named_program(text):
     name, sign, path = text.partition("=")
     if not sign:
@@ -323,7 +395,7 @@ def main():
     parser.add_argument("others", nargs="*", type=named_program, metavar="NAME=PROGRAM", help="measure these too")
     parser.add_argument("--runs", type=int, default=9, help="how often each command is timed (9)")
     parser.add_argument("--instructions", action="store_true", help="count those of the largest files too: minutes")
-    commands = ["words", "list", "means", "check", "directions", "compare"]
+    commands = ["words", "list", "means", "check", "directions", "compare", "mark"]
     parser.add_argument("--commands", nargs="+", default=commands, metavar="COMMAND")
     options = parser.parse_args()
     if not os.access(PROGRAM, os.X_OK):
@@ -345,6 +417,8 @@ def main():
             measure(bench)
         if set(options.commands) & {"directions", "compare"}:
             measure_stated(folder, options.runs)
+        if "mark" in options.commands:
+            measure_jobs(folder, options.runs)
 
 
 if __name__ == "__main__":
