@@ -207,6 +207,13 @@ class Job:
         words = [["11", self.lines.number(), "+", name], [f"{more}", "..10", "+", "1543"]]
         self.lines.add(*words)
 
+    def height(self, target):
+        """A height that is measured, with a word that a set-up line has too."""
+        measured = self.random.choice([["22"], ["31"], ["22", "31"]])
+        words = [[index, "..00", "+", "9500000"] for index in measured]
+        more = self.random.choice(["84", "86", "88"])
+        self.lines.add(["11", self.lines.number(), "+", target], *words, [more, "..10", "+", "1543"])
+
     def sight(self, target, face):
         direction = sum(map(ord, target)) * 100_000 + (face - 1) * HALF_CIRCLE
         error = self.random.randint(-40, 40)
@@ -245,6 +252,8 @@ class Job:
             seen = list(targets)
             if len(seen) > 2 and self.random.random() < 0.15:
                 seen.remove(self.random.choice(seen[1:]))
+            if number and self.random.random() < 0.2:
+                seen[1:-1] = self.random.sample(seen[1:-1], len(seen[1:-1]))
             if number and self.random.random() < 0.1:
                 between = self.random.sample("FGHJ", self.random.randint(1, 3))
                 seen = [seen[0], *between, *seen[1:][-1:]]
@@ -255,6 +264,8 @@ class Job:
             sights = self.changed(sights) if self.random.random() < 0.12 else sights
             for sight in sights:
                 self.sight(*sight)
+                if self.random.random() < 0.02:
+                    self.height(sight[0])
 
     def trailing(self, targets):
         """Check sights and detail points."""
@@ -266,6 +277,8 @@ class Job:
 
     def station(self):
         targets = self.random.sample(["A", "B", "C", "D", "E"], self.random.randint(1, 4))
+        if self.random.random() < 0.08:  # so many that they are not looked through one by one
+            targets = [f"T{number}" for number in range(self.random.randint(15, 40))]
         self.leading(targets)
         self.sets(targets)
         self.trailing(targets)
