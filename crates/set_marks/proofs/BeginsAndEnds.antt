@@ -120,7 +120,7 @@ same_listed : (names : List (List ℕ)) (name other : List ℕ) → bytes_eq nam
 same_listed names name other e h =
     subst (λ (n : List ℕ). is_among names n ≡ true) ((bytes_eq-Decides name other).0 e) h
 
-or_none : (b : Bool) → (b || false) ≡ b
+pub or_none : (b : Bool) → (b || false) ≡ b
 or_none true = refl
 or_none false = refl
 
@@ -130,7 +130,7 @@ or_listed false true both = both refl
 or_listed false false both = refl
 
 -- With a name more, what is listed.
-among_with : (names : List (List ℕ)) (name other : List ℕ)
+pub among_with : (names : List (List ℕ)) (name other : List ℕ)
     → is_among (with_new names name) other ≡ (is_among names other || bytes_eq name other)
 among_with names name other = elim (cases_Bool (is_among names name)) [
   | inl h ↦ rw h (or_listed (is_among names other) (bytes_eq name other)
@@ -140,7 +140,7 @@ among_with names name other = elim (cases_Bool (is_among names name)) [
 ]
 
 -- With the targets of readings, what is listed.
-among_names : (names : List (List ℕ)) (name : List ℕ) (rs : List Sight)
+pub among_names : (names : List (List ℕ)) (name : List ℕ) (rs : List Sight)
     → is_among (names_with names rs) name ≡ (is_among names name || list_any (is_of name) rs)
 among_names names name [] = sym (or_none (is_among names name))
 among_names names name (r ∷ rs) =

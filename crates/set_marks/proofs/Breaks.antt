@@ -1,11 +1,14 @@
 -- Where the first line of some bytes ends.
-use Rattle.std.proofs.Common.{◌≡◌, ℕ, suc, ◌+◌, ◌<◌, ◌≤◌, false, List, [], ◌∷◌, length, take, drop, Some, None, ap, subst, ◌∙◌, arith, inl, inr}
+use Rattle.std.proofs.Common.{◌≡◌, ℕ, suc, ◌+◌, ◌<◌, ◌≤◌, true, false, List, [], ◌∷◌, length, take, drop, get_or, not, Option, Some, None, refl, sym, ap, subst, ◌∙◌, arith, inl, inr}
 use Rattle.std.specs.Prelude.{cond}
 use Rattle.std.specs.List.{position, position_or_len}
-use Rattle.std.proofs.lemmas.Bool.{cases_lt, lt-ltb, le-ltb}
+use Rattle.std.proofs.lemmas.Bool.{cases_lt, lt-ltb, le-ltb, false_from_ne_true, false≢true, ne_eqb}
 use Rattle.std.proofs.lemmas.List.Elements.{All-from_get_or}
-use Rattle.std.proofs.lemmas.List.Sums.{fails_before_first, passes_at_first}
+use Rattle.std.proofs.lemmas.List.Sums.{fails_before_first, passes_at_first, prefix_len_is}
+use Rattle.std.specs.Prelude.{slice_index, ◌==◌}
+use Rattle.memchr.specs.Find.{IsFirstByte, is_byte2}
 use Rattle.std.proofs.lemmas.List.Splits.{slice_split_first, slice_split_none}
+use Rattle.gsi_word.specs.Words.{IsPrintable}
 use Rattle.gsi_file.specs.Parts.{is_line_end, parts}
 use Rattle.set_marks.specs.Placing.{IsFirstEnd}
 
@@ -43,3 +46,43 @@ no_end bytes e = elim (cases_lt (place bytes) (length bytes)) [
   | inr le ↦ slice_split_none is_line_end bytes (All-from_get_or (λ b. is_line_end b ≡ false) bytes 0
       (λ k lt. fails_before_first is_line_end bytes k 0 (omega arith)))
 ]
+
+-- The first byte of two is the first that ends a line.
+pub is_position : (bytes : List ℕ) (r : Option ℕ) → IsFirstByte (is_byte2 10 13) bytes r
+    → r ≡ position is_line_end bytes
+is_position bytes None none = sym (missed bytes (omega (
+  arith,
+  prefix_len_is
+      (λ b. not (is_line_end b)) bytes (length bytes) 0 (omega arith)
+      (λ k lt. ap not (false_from_ne_true (is_line_end (get_or bytes k 0))
+      (none k (omega arith) lt))) (λ lt. absurd (omega (arith, lt))),
+)))
+is_position bytes (Some k) found_at =
+    let first : place bytes ≡ k = prefix_len_is (λ b. not (is_line_end b)) bytes k 0
+    (let lt = found_at.0.high in omega (arith, lt))
+    (λ j lt. ap not (false_from_ne_true (is_line_end (get_or bytes j 0))
+    (found_at.0.before j (omega arith) lt))) (λ lt. ap not found_at.1) in
+    let inside : place bytes < length bytes =
+    (let lt = found_at.0.high in omega (arith, first, lt)) in
+    ap Some (sym first) ∙ sym (found bytes inside)
+
+no_line_end : (b : ℕ) → IsPrintable b → is_line_end b ≡ false
+no_line_end b is =
+    let low = is.0 in
+    let feed : (b == 10) ≡ false = ne_eqb b 10 (omega (arith, low)) in
+    let return : (b == 13) ≡ false = ne_eqb b 13 (omega (arith, low)) in
+    rw (feed, return) refl
+
+-- Of a byte that ends a line, where all before it are printable.
+pub printable_position : (bytes : List ℕ) (at : ℕ)
+    → ((k : ℕ) → k < at → IsPrintable (slice_index bytes k)) → at < length bytes
+    → is_line_end (slice_index bytes at) ≡ true → Some at ≡ position is_line_end bytes
+printable_position bytes at printable inside e = is_position bytes (Some at) (
+  record {
+    low = omega arith;
+    high = inside;
+    before = λ k low lt end. false≢true
+        (sym (no_line_end (get_or bytes k 0) (printable k lt)) ∙ end);
+  },
+  e,
+)

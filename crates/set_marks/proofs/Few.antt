@@ -19,12 +19,12 @@ use Rattle.set_marks.specs.Stations.{Occupation}
 use Rattle.set_marks.proofs.Fewest.{fewest}
 
 -- Where nothing stands first of some, nothing stands of each.
-none_of_two : {X : Type 0} (a b : Option X) → first_of (a ∷ b ∷ []) ≡ None → (a ≡ None) × (b ≡ None)
+pub none_of_two : {X : Type 0} (a b : Option X) → first_of (a ∷ b ∷ []) ≡ None → (a ≡ None) × (b ≡ None)
 none_of_two None None e = (refl, refl)
 none_of_two None (Some y) e = cc
 none_of_two (Some x) b e = cc
 
-none_of_three : {X : Type 0} (a b c : Option X) → first_of (a ∷ b ∷ c ∷ []) ≡ None
+pub none_of_three : {X : Type 0} (a b c : Option X) → first_of (a ∷ b ∷ c ∷ []) ≡ None
     → (a ≡ None) × (b ≡ None) × (c ≡ None)
 none_of_three None None None e = (refl, refl, refl)
 none_of_three None None (Some z) e = cc
@@ -64,7 +64,7 @@ few_rest leading (r ∷ rs) e =
     e).0 in
     omega (arith, all)
 
-no_flaw : (o : Option Flaw) → is_none o ≡ true → o ≡ None
+pub no_flaw : (o : Option Flaw) → is_none o ≡ true → o ≡ None
 no_flaw None e = refl
 no_flaw (Some f) e = cc
 
@@ -159,6 +159,17 @@ next_flaw first count end from starts rs whole lt none e =
     let step : suc count ≡ count + 1 = omega arith in
     ap (λ (k : ℕ). sets_flaw first k end starts rs) (sym step)
     ∙ sym (only_one (sets_flaw first (suc count) end starts rs)) ∙ sym f ∙ e
+
+-- After so many sets that there may be no more.
+pub many_flaw : (first : List Sight) (count end from : ℕ) (starts : List ℕ) (rs : List Sight)
+    (whole : Option Flaw) (flaw : Flaw) → MOST_SETS ≤ count
+    → flaw ≡ flaw_at kinds.TooManySets (slice_get rs from)
+    → sets_flaw first count end (from ∷ starts) rs ≡ whole → Some flaw ≡ whole
+many_flaw first count end from starts rs whole flaw le is e =
+    let many : nat_le MOST_SETS count ≡ true = le-leb MOST_SETS count le in
+    let f : sets_flaw first count end (from ∷ starts) rs
+    ≡ Some (flaw_at kinds.TooManySets (slice_get rs from)) = rw many refl in
+    ap Some is ∙ sym f ∙ e
 
 -- Of a station with readings something is told.
 pub is_told : (s : Occupation) (d : Divided) → 0 < length s.sights

@@ -74,7 +74,7 @@ AnswersReadings station answers (Err Memory) = ⊤
 pub record TakesStation (s : Occupation) (d : Divided) (old new : Marking) : Type 0 where
   pub marks : new.marks.items ≡ old.marks.items ++ station_marks old.in_set s d
   pub stations : new.stations.items ≡ old.stations.items ++ told_of s d
-  pub names : new.names.items ≡ names_after old.names.items s d
+  pub names : new.names ≡ names_after old.names s d
   pub in_set : new.in_set ≡ is_open_after old.in_set s d
 
 -- The stations that begin so, with these readings, are marked and told.

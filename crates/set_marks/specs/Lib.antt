@@ -17,4 +17,5 @@ pub mod MarkedBlocks
 pub mod MarkedFile
 -- The inside: what the code finds on the way.
 pub mod Leading
+pub mod Searching
 pub mod Keeping

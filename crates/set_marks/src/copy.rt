@@ -22,7 +22,7 @@ fn weave(alloc: Global, bytes: &[u8], marks: &[Mark]) -> Result<Vec<u8>, AllocEr
     requires { AreOrdered 0 (length bytes.now) marks.now }
     ensures { IfOk result (λ copy. copy.items ≡ woven 0 bytes.now marks.now) }
 {
-    let mut copy = Vec::new(alloc);
+    let mut copy = Vec::with_capacity(alloc, bytes.len())?;
     let mut from = 0;
     let mut left = marks;
     'marks: while let Some((mark, rest)) = left.split_first() {

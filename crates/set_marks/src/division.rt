@@ -1,25 +1,27 @@
 //! The division of a station's readings into sets.
 
-ghost use Rattle.std.specs.Prelude.{◌≡◌, ◌<◌, ◌≤◌, IfOk, Some, length, drop, not, ◌&&◌};
+ghost use Rattle.std.specs.Prelude.{◌≡◌, ◌≤◌, List, IfOk, Some, length, drop, not, ◌&&◌};
+ghost use Rattle.std.specs.Bool.{OnTrue};
 ghost use Rattle.std.specs.Str.{bytes_eq};
 ghost use Rattle.std.specs.List.{list_any};
-ghost use Rattle.station_book.specs.Places.{is_among};
+ghost use Rattle.set_marks.specs.declared.sight.Sight.{Sight};
 ghost use Rattle.set_marks.specs.Leading.{IsLeading};
+ghost use Rattle.set_marks.specs.Searching.{KnowsTargetsOf};
 ghost use Rattle.set_marks.specs.Divisions.{is_of, part, next_of, end_of, end_by, end_in, starts_of, first_set, sets_flaw, flaw_of, later, targets_of, begins_in_two};
 ghost use Rattle.set_marks.specs.Divisions.{is_pair, may_be_shifted, last_target, first_target, divided, parts_at};
 ghost use Rattle.set_marks.specs.Divisions.{is_one_by_targets, known_in, is_mostly_known, stranger_among, flaw_found, doubt_after, doubt_flaw};
 ghost use Rattle.set_marks.specs.declared.fault.MarkKind.TheVariants.{OtherTargets};
 
-use crate::bounds::MOST_SETS;
+use crate::bounds::{MOST_READINGS, MOST_SETS};
 use crate::fault::MarkKind;
 use crate::flaw::{Flaw, flaw_at, flaw_found};
+use crate::known::Known;
 use crate::set::{
-    first_target, front, has_pair, is_by_targets, is_in_one_face, is_of, last_target, set_flaw,
-    sight_at,
+    first_target, front, has_pair, is_by_targets, is_clean, is_in_one_face, last_target,
+    later_flaw, reads_target, repeats, sight_at,
 };
 use crate::sight::Sight;
 use crate::starts::{starts, starts_of};
-use adjust_kernel::Name;
 use std::alloc::{AllocError, Global};
 
 /// What a station's readings are.
@@ -60,43 +62,30 @@ pub(crate) fn part(from: usize, to: usize, sights: &[Sight]) -> &[Sight]
     front(to.saturating_sub(from), behind(from, sights))
 }
 
-/// Whether a name is one of these.
-pub(crate) fn is_among(names: &[Name], name: &Name) -> bool
-    ensures { result ≡ is_among names.now name.now }
+/// After the last of these readings whose target is known: it is looked for from behind.
+fn end_of(known: &mut Known, sights: &[Sight]) -> usize
+    ensures { (sets : List Sight) → KnowsTargetsOf sets known.old
+        → result ≡ end_of (targets_of sets) 0 0 sights.now }
 {
-    names.iter().any(|other| other.is_same(name))
+    let mut left = sights;
+    'sights: while let Some((sight, before)) = left.split_last() {
+        if known.has(&sight.target) {
+            return left.len();
+        }
+        left = before;
+    }
+    0
 }
 
-/// The targets of these readings, each once.
-pub(crate) fn targets_of(alloc: Global, sights: &[Sight]) -> Result<Vec<Name>, AllocError>
-    ensures { IfOk result (λ names. names.items ≡ targets_of sights.now) }
+/// Whether the last of these readings is of a target that the first set has. Then the last set ends
+/// with it, and no table of the targets is needed.
+fn ends_known(sets: &[Sight], sights: &[Sight]) -> bool
+    ensures { OnTrue result (end_of (targets_of sets.now) 0 0 sights.now ≡ length sights.now) }
 {
-    let mut names = Vec::new(alloc);
-    let mut left = sights;
-    'sights: while let Some((sight, rest)) = left.split_first() {
-        if !is_among(&names, &sight.target) {
-            names.push(sight.target)?;
-        }
-        left = rest;
+    match sights.split_last() {
+        Some((last, _)) => reads_target(front(MOST_READINGS, sets), &last.target),
+        None => false,
     }
-    Ok(names)
-}
-
-/// After the last reading of a target that is among these.
-fn end_of(known: &[Name], sights: &[Sight]) -> usize
-    ensures { result ≡ end_of known.now 0 0 sights.now }
-{
-    let mut end = 0;
-    let mut at = 0;
-    let mut left = sights;
-    'sights: while let Some((sight, rest)) = left.split_first() {
-        at += 1;
-        if is_among(known, &sight.target) {
-            end = at;
-        }
-        left = rest;
-    }
-    end
 }
 
 /// The last of some places.
@@ -118,8 +107,12 @@ pub(crate) fn end_by(alloc: Global, starts: &[usize], sights: &[Sight]) -> Resul
     match starts {
         [] | [_] => Ok(sights.len()),
         [_, rest @ ..] => {
-            let known = targets_of(alloc, front(last_place(rest), sights))?;
-            Ok(end_of(&known, sights))
+            let sets = front(last_place(rest), sights);
+            if ends_known(sets, sights) {
+                return Ok(sights.len());
+            }
+            let mut known = Known::of(alloc, sets)?;
+            Ok(end_of(&mut known, sights))
         }
     }
 }
@@ -160,14 +153,16 @@ fn sets_flaw(alloc: Global, starts: &[usize], sights: &[Sight]) -> Result<Option
         (end_by starts.now sights.now) starts.now sights.now) }
 {
     let first = first_set(starts, sights);
+    let clean = is_clean(alloc, first)?;
     let mut count = 0;
     let mut left = starts;
     'sets: while let Some((from, rest)) = left.split_first() {
         if count >= MOST_SETS {
-            return Ok(Some(flaw_at(MarkKind::TooManySets, sights.get(*from))));
+            let opening = sight_at(sights, *from);
+            return Ok(Some(flaw_at(MarkKind::TooManySets, opening)));
         }
         let to = end_of_set(alloc, rest, starts, sights)?;
-        if let Some(flaw) = set_flaw(first, part(*from, to, sights)) {
+        if let Some(flaw) = later_flaw(alloc, first, clean, part(*from, to, sights))? {
             return Ok(Some(flaw));
         }
         count += 1;
@@ -230,13 +225,6 @@ fn has_lone_second(leading: &[Sight]) -> bool
     leading.iter().any(|r| r.second && !has_pair(r, leading))
 }
 
-/// Whether one of these is of this target.
-fn reads_target(sights: &[Sight], name: &Name) -> bool
-    ensures { result ≡ list_any (is_of name.now) sights.now }
-{
-    sights.iter().any(|sight| is_of(name, sight))
-}
-
 /// Whether one of the leading readings is of the target that ends the set and doesn't begin it.
 fn leads_to_end(leading: &[Sight], set: &[Sight]) -> bool
     ensures { result ≡ (not (bytes_eq (last_target set.now) (first_target set.now))
@@ -276,15 +264,16 @@ fn is_one_by_targets(starts: &[usize], sights: &[Sight]) -> bool
     }
 }
 
-/// How many of these readings are of targets that the first set has.
-fn count_known(first: &[Sight], set: &[Sight]) -> usize
-    ensures known { result ≡ length (known_in first.now set.now) }
+/// How many of these readings are of targets that are known.
+fn count_known(known: &mut Known, set: &[Sight]) -> usize
+    ensures known { (first : List Sight) → KnowsTargetsOf first known.old
+        → result ≡ length (known_in first set.now) }
     ensures few { result ≤ length set.now }
 {
     let mut count = 0;
     let mut left = set;
     'sights: while let Some((sight, rest)) = left.split_first() {
-        if reads_target(first, &sight.target) {
+        if known.has(&sight.target) {
             count += 1;
         }
         left = rest;
@@ -293,10 +282,14 @@ fn count_known(first: &[Sight], set: &[Sight]) -> usize
 }
 
 /// Whether most targets of a set are targets of the first.
-fn is_mostly_known(first: &[Sight], set: &[Sight]) -> bool
-    ensures { result ≡ is_mostly_known first.now set.now }
+fn is_mostly_known(alloc: Global, first: &[Sight], set: &[Sight]) -> Result<bool, AllocError>
+    ensures { IfOk result (λ b. b ≡ is_mostly_known first.now set.now) }
 {
-    set.len() < 2 * count_known(first, set)
+    if !set.is_empty() && repeats(first, set) {
+        return Ok(true);
+    }
+    let mut known = Known::of(alloc, first)?;
+    Ok(set.len() < 2 * count_known(&mut known, set))
 }
 
 /// The first set that has other targets than the first, by its first reading.
@@ -314,7 +307,7 @@ fn strangers_flaw(
     'sets: while let Some((from, rest)) = left.split_first() {
         let to = end_of_set(alloc, rest, starts, sights)?;
         let set = part(*from, to, sights);
-        if !is_mostly_known(first, set) {
+        if !is_mostly_known(alloc, first, set)? {
             return Ok(flaw_found(MarkKind::OtherTargets, sight_at(set, 0)));
         }
         left = rest;

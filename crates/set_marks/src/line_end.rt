@@ -1,9 +1,13 @@
 //! How lines end.
 
-ghost use Rattle.std.specs.Prelude.{◌≡◌, slice_index};
+ghost use Rattle.std.specs.Prelude.{◌≡◌, ◌<◌, ℕ, slice_index};
 ghost use Rattle.std.specs.List.{position};
+ghost use Rattle.gsi_word.specs.Words.{IsPrintable};
 ghost use Rattle.gsi_file.specs.Parts.{is_blank, is_line_end};
 ghost use Rattle.set_marks.specs.Lines.{end_bytes, end_from, end_before, end_beside};
+
+use gsi_word::steps::{LANES, printable_run};
+use memchr::memchr2;
 
 const LINE_FEED: u8 = 10;
 
@@ -73,11 +77,50 @@ fn end_before(bytes: &[u8], at: usize) -> LineEnd
     }
 }
 
+/// A place before which all bytes are printable, so that none of them ends a line: where the first
+/// other one stands, or fewer than a load before the end.
+#[inline(always)]
+fn pass_printable(bytes: &[u8]) -> usize
+    ensures { (k : ℕ) → k < result → IsPrintable (slice_index bytes.now k) }
+{
+    let mut at = 0;
+    'loads: while bytes.len() - at >= LANES {
+        let run = printable_run(bytes, at);
+        at += run;
+        if run < LANES {
+            return at;
+        }
+    }
+    at
+}
+
 /// The place of the first byte that ends a line.
+// Apart from its caller, which needs it for the last bytes of a file alone.
+#[inline(never)]
+#[tactic(auto, using(crate::proofs::Breaks::is_position))]
+fn search_end(bytes: &[u8]) -> Option<usize>
+    ensures { result ≡ position is_line_end bytes.now }
+{
+    memchr2(LINE_FEED, CARRIAGE_RETURN, bytes)
+}
+
+/// The place of the first byte that ends a line.
+#[inline(always)]
 pub(crate) fn place_of_end(bytes: &[u8]) -> Option<usize>
     ensures { result ≡ position is_line_end bytes.now }
 {
-    bytes.iter().position(|byte| is_line_end(*byte))
+    let at = pass_printable(bytes);
+    if at < bytes.len() && is_line_end(bytes[at]) {
+        return Some(at);
+    }
+    search_end(bytes)
+}
+
+/// Whether a byte ends a line.
+fn is_line_end(byte: u8) -> bool
+    ensures { result ≡ is_line_end byte }
+{
+    byte == LINE_FEED || byte == CARRIAGE_RETURN
 }
 
 /// How the lines beside a place end: the line before it, or at the beginning of the file its first.
@@ -89,13 +132,6 @@ pub(crate) fn end_beside(bytes: &[u8], at: usize) -> LineEnd
     } else {
         end_before(bytes, at)
     }
-}
-
-/// Whether a byte ends a line.
-pub(crate) fn is_line_end(byte: u8) -> bool
-    ensures { result ≡ is_line_end byte }
-{
-    byte == LINE_FEED || byte == CARRIAGE_RETURN
 }
 
 /// Whether a part has no byte other than a blank.

@@ -4,15 +4,18 @@ ghost use Rattle.std.specs.Prelude.{◌≡◌, ◌<◌, ◌≤◌, ◌+◌, ◌+
 ghost use Rattle.set_marks.specs.declared.bounds.TheConstants.{MOST_SETS};
 ghost use Rattle.set_marks.specs.declared.division.Divided.TheVariants.{NoSets, Sets};
 ghost use Rattle.set_marks.specs.Divisions.{divided, starts_of, end_in};
+ghost use Rattle.station_book.specs.Places.{is_among};
 ghost use Rattle.set_marks.specs.Marks.{HasRoom, IsRoomy};
 ghost use Rattle.set_marks.specs.Stations.{occupations};
 ghost use Rattle.set_marks.specs.Marking.{as_fault, is_too_long, station_fault, mark_at, set_marks, close_mark, sets_marks, fault_of_stations};
 ghost use Rattle.set_marks.specs.Keeping.{TakesStation, AreMarked, IsMemoryOr};
 
-use crate::division::{Divided, behind, divide, end_by, is_among, part, targets_of};
+use crate::division::{Divided, behind, divide, end_by, part};
 use crate::fault::{MarkFault, MarkKind};
 use crate::flaw::{Flaw, first_flaw, flaw_when};
+use crate::known::count_targets;
 use crate::mark::{BlockMark, Code, width};
+use crate::names::Names;
 use crate::readings::Readings;
 use crate::recognized::Recognized;
 use crate::set::sight_at;
@@ -30,7 +33,7 @@ pub(crate) struct Marking {
     /// What is told of each station with readings.
     pub(crate) stations: Vec<Recognized>,
     /// The names of those that have sets.
-    pub(crate) names: Vec<Name>,
+    pub(crate) names: Names,
     /// Whether a set is open.
     pub(crate) in_set: bool,
 }
@@ -46,9 +49,10 @@ fn is_too_long(name: &Name, sight: Option<&Sight>) -> bool
 }
 
 /// The fault of a station, after the stations of these names that have sets.
-fn station_fault(names: &[Name], name: &Name, sights: &[Sight], divided: Divided) -> Option<Flaw>
-    ensures { result ≡ station_fault names.now
+fn station_fault(names: &mut Names, name: &Name, sights: &[Sight], divided: Divided) -> Option<Flaw>
+    ensures fault { result ≡ station_fault names.old
         (record { name = name.now; sights = sights.now }) divided }
+    ensures unchanged { names.new ≡ names.old }
 {
     match divided {
         Divided::NoSets => None,
@@ -58,12 +62,13 @@ fn station_fault(names: &[Name], name: &Name, sights: &[Sight], divided: Divided
 }
 
 /// The same, where its readings are sets after so many leading ones.
-fn sets_fault(names: &[Name], name: &Name, sights: &[Sight], leading: usize) -> Option<Flaw>
-    ensures { result ≡ station_fault names.now
+fn sets_fault(names: &mut Names, name: &Name, sights: &[Sight], leading: usize) -> Option<Flaw>
+    ensures fault { result ≡ station_fault names.old
         (record { name = name.now; sights = sights.now }) (Sets leading) }
+    ensures unchanged { names.new ≡ names.old }
 {
     let first = sight_at(sights, 0);
-    let twice = flaw_when(is_among(names, name), MarkKind::StationTwice, first);
+    let twice = flaw_when(names.has(name), MarkKind::StationTwice, first);
     let many = flaw_when(
         names.len() >= MOST_STATIONS,
         MarkKind::TooManyStations,
@@ -170,13 +175,13 @@ impl Marking {
     fn new(alloc: Global) -> Marking
         ensures marks { result.marks.items ≡ [] }
         ensures stations { result.stations.items ≡ [] }
-        ensures names { result.names.items ≡ [] }
+        ensures names { result.names ≡ [] }
         ensures in_set { result.in_set ≡ false }
     {
         Marking {
             marks: Vec::new(alloc),
             stations: Vec::new(alloc),
-            names: Vec::new(alloc),
+            names: Names::new(alloc),
             in_set: false,
         }
     }
@@ -214,6 +219,7 @@ impl Marking {
     ) -> Result<(), AllocError>
         requires few { length (starts_of (drop leading sights.now)) ≤ MOST_SETS }
         requires some { 0 < length sights.now }
+        requires new { is_among self.old.names name.now ≡ false }
         requires here { is_too_long name.now (slice_get sights.now leading) ≡ false }
         requires room { All IsRoomy self.old.marks.items }
         ensures room { OnOk result (All IsRoomy self.new.marks.items) }
@@ -232,13 +238,13 @@ impl Marking {
             &starts,
             end,
         )?;
-        let targets = targets_of(alloc, part(0, end, rest))?;
+        let targets = count_targets(alloc, part(0, end, rest))?;
         self.in_set = sight_at(rest, end).is_none();
-        self.names.push(*name)?;
+        self.names.add(name)?;
         self.stations.push(Recognized {
             name: *name,
             sets: starts.len(),
-            targets: targets.len(),
+            targets,
             before: leading,
             after: rest.len().saturating_sub(end),
         })?;
@@ -250,15 +256,15 @@ impl Marking {
     fn take(&mut self, alloc: Global, name: &Name, sights: &[Sight]) -> Result<(), MarkFault>
         requires room { All IsRoomy self.old.marks.items }
         ensures room { OnOk result (All IsRoomy self.new.marks.items) }
-        ensures clean { OnOk result (station_fault self.old.names.items
+        ensures clean { OnOk result (station_fault self.old.names
             (record { name = name.now; sights = sights.now }) (divided sights.now) ≡ None) }
         ensures takes { OnOk result (TakesStation (record { name = name.now; sights = sights.now })
             (divided sights.now) self.old self.new) }
-        ensures fault { IfErr result (IsMemoryOr (as_fault (station_fault self.old.names.items
+        ensures fault { IfErr result (IsMemoryOr (as_fault (station_fault self.old.names
             (record { name = name.now; sights = sights.now }) (divided sights.now)))) }
     {
         let divided = divide(alloc, sights)?;
-        if let Some(flaw) = station_fault(&self.names, name, sights, divided) {
+        if let Some(flaw) = station_fault(&mut self.names, name, sights, divided) {
             return Err(MarkFault::At(flaw.block, flaw.kind));
         }
         match divided {
@@ -298,7 +304,7 @@ pub(crate) fn marking_of(alloc: Global, readings: &Readings) -> Result<Marking, 
         marking.take(alloc, &set_up.name, sights)?;
         left = rest;
     }
-    if marking.names.is_empty() {
+    if marking.names.len() == 0 {
         return Err(MarkFault::At(readings.blocks + 1, MarkKind::NoSets));
     }
     Ok(marking)

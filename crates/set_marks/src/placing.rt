@@ -1,9 +1,11 @@
 //! Where code lines are put in: at the places where the lines of their blocks begin.
 
 ghost use Rattle.std.specs.Prelude.{◌≡◌, ◌≤◌, ◌+◌, ◌++◌, ◌∷◌, [], ℕ, List, All, IfOk, IfNone, IfSome, length, map, drop};
+ghost use Rattle.std.specs.Bool.{OnFalse};
 ghost use Rattle.gsi_file.specs.Parts.{parts};
 ghost use Rattle.set_marks.specs.Marks.{IsRoomy};
 ghost use Rattle.set_marks.specs.Placing.{IsFirstEnd, placed, placed_from, placed_at, marks_of_block, marks_after};
+ghost use Rattle.set_marks.specs.Searching.{HasNoMark};
 ghost use Rattle.set_marks.specs.Copies.{AreOrdered, BeginsAt, BeginsLine};
 
 use crate::line_end::{end_beside, is_blank, place_of_end};
@@ -21,6 +23,8 @@ fn first_end(bytes: &[u8]) -> Option<usize>
 
 /// Places the code lines of the block of this number, which come first of these, where its line
 /// begins, and answers those after them.
+// Apart from its caller, so that the usual way, a line without code lines, stays small.
+#[inline(never)]
 #[tactic(auto, using(crate::proofs::Joins::other_mark))]
 fn place_block<'a>(
     placed: &mut Vec<Mark>,
@@ -57,8 +61,20 @@ fn place_block<'a>(
     Ok(left)
 }
 
+/// Whether the first of these code lines is of the block of this number.
+#[tactic(auto, using(crate::proofs::Joins::other_mark))]
+fn is_next(marks: &[BlockMark], block: usize) -> bool
+    ensures { OnFalse result (HasNoMark block marks.now) }
+{
+    match marks.first() {
+        Some(mark) => mark.block as usize == block,
+        None => false,
+    }
+}
+
 /// Places the code lines of a part that begins at this place, after so many lines, if it is a line.
 /// Answers how many lines there are with it, and the code lines after it.
+#[inline(always)]
 fn place_part<'a>(
     placed: &mut Vec<Mark>,
     bytes: &[u8],
@@ -84,6 +100,9 @@ fn place_part<'a>(
 {
     if is_blank(part) {
         return Ok((number, marks));
+    }
+    if !is_next(marks, number + 1) {
+        return Ok((number + 1, marks));
     }
     let left = place_block(placed, bytes, at, number + 1, marks)?;
     Ok((number + 1, left))

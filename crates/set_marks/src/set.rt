@@ -1,17 +1,20 @@
 //! Whether some readings are a set, and what is wrong with them if they are not.
 
-ghost use Rattle.std.specs.Prelude.{◌≡◌, IfSome, IfNone, [], take, option_map, slice_get};
+ghost use Rattle.std.specs.Prelude.{◌≡◌, IfSome, IfNone, IfOk, [], take, option_map, slice_get};
 ghost use Rattle.std.specs.List.{list_any};
 ghost use Rattle.std.specs.Str.{bytes_eq};
 ghost use Rattle.set_marks.specs.Divisions.{is_of, is_again, is_pair, is_same_face, again_in, alone_in, are_in_face};
 ghost use Rattle.set_marks.specs.Divisions.{is_by_faces, is_by_targets, are_read_alike, first_target, last_target};
-ghost use Rattle.set_marks.specs.Divisions.{readings_flaw, order_flaw, set_flaw, is_in_one_face};
+ghost use Rattle.set_marks.specs.Divisions.{readings_flaw, order_flaw, set_flaw, is_set, is_in_one_face};
+ghost use Rattle.set_marks.specs.Searching.{repeats, KeepsFaces};
 
-use crate::bounds::MOST_READINGS;
+use crate::bounds::{FEW_READINGS, MOST_READINGS};
+use crate::faces::Faces;
 use crate::fault::MarkKind;
 use crate::flaw::{Flaw, first_flaw, flaw_at, flaw_when};
 use crate::sight::Sight;
 use adjust_kernel::Name;
+use std::alloc::{AllocError, Global};
 
 /// Whether a reading is of this target.
 pub(crate) fn is_of(name: &Name, sight: &Sight) -> bool
@@ -44,6 +47,32 @@ fn is_read_again(sight: &Sight, others: &[Sight]) -> bool
     ensures { result ≡ list_any (is_again sight.now) others.now }
 {
     others.iter().any(|other| is_again(sight, other))
+}
+
+/// Whether one of these is of this target.
+pub(crate) fn reads_target(sights: &[Sight], name: &Name) -> bool
+    ensures { result ≡ list_any (is_of name.now) sights.now }
+{
+    sights.iter().any(|sight| is_of(name, sight))
+}
+
+/// Whether a set reads the targets of another in the same faces, in the same order.
+pub(crate) fn repeats(first: &[Sight], set: &[Sight]) -> bool
+    ensures { result ≡ repeats first.now set.now }
+{
+    let mut others = first;
+    let mut left = set;
+    'sights: while let Some((sight, rest)) = left.split_first() {
+        let Some((other, later)) = others.split_first() else {
+            return false;
+        };
+        if !is_again(other, sight) {
+            return false;
+        }
+        others = later;
+        left = rest;
+    }
+    others.is_empty()
 }
 
 /// The first reading whose target was read in its face before it.
@@ -132,15 +161,14 @@ pub(crate) fn first_target(set: &[Sight]) -> Option<Name>
 }
 
 /// The target of the last reading.
-// It calls itself once for each reading of a set, of which there are at most 200.
+#[tactic(auto, using(crate::proofs::Asking::last_is))]
 pub(crate) fn last_target(set: &[Sight]) -> Option<Name>
     ensures value { IfSome result (λ name. name ≡ last_target set.now) }
     ensures some { IfNone result (set.now ≡ []) }
 {
-    match set {
-        [] => None,
-        [sight] => Some(sight.target),
-        [_, rest @ ..] => last_target(rest),
+    match set.split_last() {
+        Some((sight, _)) => Some(sight.target),
+        None => None,
     }
 }
 
@@ -171,8 +199,40 @@ fn are_read_alike(first: &[Sight], set: &[Sight]) -> bool
     by_faces || is_by_targets(first) && is_by_targets(set)
 }
 
-/// What is wrong with the readings of a set by themselves.
-fn readings_flaw(set: &[Sight]) -> Option<Flaw>
+/// The first reading whose target was read in its face before it. The targets of all are kept.
+fn again_kept(faces: &mut Faces, set: &[Sight]) -> Result<Option<Sight>, AllocError>
+    requires { KeepsFaces [] faces.old }
+    ensures value { IfOk result (λ o. o ≡ again_in set.now) }
+    ensures kept { IfOk result (λ o. IfNone o (KeepsFaces set.now faces.new)) }
+{
+    let mut left = set;
+    'sights: while let Some((sight, rest)) = left.split_first() {
+        let is_again = faces.add(sight.second, &sight.target)?;
+        if is_again {
+            return Ok(Some(*sight));
+        }
+        left = rest;
+    }
+    Ok(None)
+}
+
+/// The first of these readings whose target is not kept in the other face.
+fn alone_kept(faces: &mut Faces, set: &[Sight]) -> Option<Sight>
+    requires { KeepsFaces set.now faces.old }
+    ensures { result ≡ alone_in set.now }
+{
+    let mut left = set;
+    'sights: while let Some((sight, rest)) = left.split_first() {
+        if !faces.has(!sight.second, &sight.target) {
+            return Some(*sight);
+        }
+        left = rest;
+    }
+    None
+}
+
+/// What is wrong with the readings of a set by themselves, where each is compared with all.
+fn flaw_of_few(set: &[Sight]) -> Option<Flaw>
     ensures { result ≡ readings_flaw set.now }
 {
     if let Some(sight) = again_in(front(MOST_READINGS + 1, set)) {
@@ -186,6 +246,34 @@ fn readings_flaw(set: &[Sight]) -> Option<Flaw>
         Some(sight) => Some(flaw_at(MarkKind::FaceMissing, Some(&sight))),
         None => None,
     }
+}
+
+/// The same, where their targets are kept.
+fn flaw_of_many(alloc: Global, set: &[Sight]) -> Result<Option<Flaw>, AllocError>
+    ensures { IfOk result (λ o. o ≡ readings_flaw set.now) }
+{
+    let mut faces = Faces::with_room(alloc, set.len().min(MOST_READINGS) / 2)?;
+    if let Some(sight) = again_kept(&mut faces, front(MOST_READINGS + 1, set))? {
+        return Ok(Some(flaw_at(MarkKind::ReadTwice, Some(&sight))));
+    }
+    if set.len() > MOST_READINGS {
+        let sight = set.get(MOST_READINGS);
+        return Ok(Some(flaw_at(MarkKind::TooManyTargets, sight)));
+    }
+    match alone_kept(&mut faces, set) {
+        Some(sight) => Ok(Some(flaw_at(MarkKind::FaceMissing, Some(&sight)))),
+        None => Ok(None),
+    }
+}
+
+/// What is wrong with the readings of a set by themselves.
+fn readings_flaw(alloc: Global, set: &[Sight]) -> Result<Option<Flaw>, AllocError>
+    ensures { IfOk result (λ o. o ≡ readings_flaw set.now) }
+{
+    if set.len() <= FEW_READINGS {
+        return Ok(flaw_of_few(set));
+    }
+    flaw_of_many(alloc, set)
 }
 
 /// What is wrong with a set as a whole.
@@ -202,13 +290,41 @@ fn order_flaw(first: &[Sight], set: &[Sight]) -> Option<Flaw>
 }
 
 /// What is wrong with these readings as a set, where the first set of the station is this.
-pub(crate) fn set_flaw(first: &[Sight], set: &[Sight]) -> Option<Flaw>
-    ensures { result ≡ set_flaw first.now set.now }
+pub(crate) fn set_flaw(
+    alloc: Global,
+    first: &[Sight],
+    set: &[Sight],
+) -> Result<Option<Flaw>, AllocError>
+    ensures { IfOk result (λ o. o ≡ set_flaw first.now set.now) }
 {
-    match readings_flaw(set) {
-        Some(flaw) => Some(flaw),
-        None => order_flaw(first, set),
+    match readings_flaw(alloc, set)? {
+        Some(flaw) => Ok(Some(flaw)),
+        None => Ok(order_flaw(first, set)),
     }
+}
+
+/// Whether the first set of a station has no flaw.
+pub(crate) fn is_clean(alloc: Global, first: &[Sight]) -> Result<bool, AllocError>
+    ensures { IfOk result (λ b. b ≡ is_set first.now first.now) }
+{
+    Ok(set_flaw(alloc, first, first)?.is_none())
+}
+
+/// The same, where it is known whether the first set has no flaw. Then no other has one that
+/// repeats it.
+pub(crate) fn later_flaw(
+    alloc: Global,
+    first: &[Sight],
+    clean: bool,
+    set: &[Sight],
+) -> Result<Option<Flaw>, AllocError>
+    requires { clean ≡ is_set first.now first.now }
+    ensures { IfOk result (λ o. o ≡ set_flaw first.now set.now) }
+{
+    if clean && repeats(first, set) {
+        return Ok(None);
+    }
+    set_flaw(alloc, first, set)
 }
 
 /// The first of these readings.

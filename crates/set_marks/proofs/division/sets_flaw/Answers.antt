@@ -1,7 +1,9 @@
 use Rattle.std.proofs.Common.{◌≡◌, ◌∷◌, ◌<◌, ◌∙◌, List, ℕ, None, rules, sym, ap, arith}
 use Rattle.set_marks.specs.declared.bounds.TheConstants.{MOST_SETS}
-use Rattle.set_marks.specs.Divisions.{sets_flaw, set_flaw, end_by, part, next_of}
-use Rattle.set_marks.proofs.Few.{next_flaw}
+use Rattle.std.specs.Prelude.{slice_get}
+use Rattle.set_marks.specs.declared.fault.MarkKind.TheVariants as kinds
+use Rattle.set_marks.specs.Divisions.{sets_flaw, set_flaw, end_by, part, next_of, flaw_at}
+use Rattle.set_marks.proofs.Few.{many_flaw, next_flaw}
 use Rattle.set_marks.proofs.division.sets_flaw.Goals as goal
 
 pub sets-preserved : goal.sets-preserved
@@ -20,3 +22,17 @@ sets-preserved c =
           ∙ c.sets.invariant.found);
       few = omega (arith, few);
     }
+
+pub returns-then-count-ge-MOST_SETS : goal.returns-then-count-ge-MOST_SETS
+returns-then-count-ge-MOST_SETS c =
+    let split : c.sets.left.now ≡ c.in-Some.from.now ∷ c.in-Some.rest.now = search rules in
+    let is : c.flaw_at.result ≡ flaw_at kinds.TooManySets
+    (slice_get c.args.sights.now c.in-Some.from.now) = search rules in
+    many_flaw c.first_set-first.result.now c.sets.count
+    (end_by c.args.starts.now c.args.sights.now) c.in-Some.from.now c.in-Some.rest.now
+    c.args.sights.now _ c.flaw_at.result c.if-count-ge-MOST_SETS.true is
+    (ap (λ (l : List ℕ). sets_flaw c.first_set-first.result.now c.sets.count
+    (end_by c.args.starts.now c.args.sights.now) l c.args.sights.now) (sym split)
+    ∙ c.sets.invariant.found)
+    ∙ ap (λ f. sets_flaw f 0 (end_by c.args.starts.now c.args.sights.now) c.args.starts.now
+    c.args.sights.now) c.first_set-first.ensures

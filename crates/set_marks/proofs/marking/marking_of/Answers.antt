@@ -11,7 +11,7 @@ use Rattle.set_marks.proofs.marking.marking_of.Goals as goal
 pub returns-in_err-take-clause-fault : goal.returns-in_err-take-clause-fault
 returns-in_err-take-clause-fault c =
     let r = c.args.readings.now in
-    let names = c.stations.marking.names.items in
+    let names = c.stations.marking.names in
     let s : Occupation =
     record { name = c.in-Some.set_up.now.name; sights = c.sights_before-sights.result.now } in
     let d = divided s.sights in

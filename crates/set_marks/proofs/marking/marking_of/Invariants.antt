@@ -7,7 +7,7 @@ use Rattle.set_marks.proofs.marking.marking_of.Given as goal
 abbrev pub invariant-stations : goal.invariant-stations
 invariant-stations l = record {
   room : All IsRoomy l.marking.marks.items;
-  fault : fault_of_stations (l.readings.blocks + 1) l.marking.names.items
+  fault : fault_of_stations (l.readings.blocks + 1) l.marking.names
       (occupations l.left l.readings.sights.items)
       ≡ fault_of_stations (l.readings.blocks + 1) []
       (occupations l.readings.set_ups.items l.readings.sights.items);

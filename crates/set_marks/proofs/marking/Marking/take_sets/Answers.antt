@@ -11,6 +11,6 @@ returns-clause-takes c = record {
       ∙ ap (λ (l : List Recognized). c.args.self.now.stations.items ++ l)
       (sym (is_told (record { name = c.args.name.now; sights = c.args.sights.now })
       (Sets c.args.leading) c.requires.some));
-  names = c.in_ok-push.ensures.items;
+  names = search rules;
   in_set = search rules;
 }

@@ -1,9 +1,9 @@
 use Rattle.std.proofs.Common.{◌≡◌, [], length}
 use Rattle.set_marks.specs.Divisions.{names_with}
-use Rattle.set_marks.proofs.division.targets_of.Given as goal
+use Rattle.set_marks.proofs.known.targets_of.Given as goal
 
 abbrev pub invariant-sights : goal.invariant-sights
-invariant-sights l = names_with l.names.items l.left ≡ names_with [] l.sights
+invariant-sights l = names_with l.names l.left ≡ names_with [] l.sights
 
 abbrev pub decreases-sights : goal.decreases-sights
 decreases-sights l = length l.left

@@ -1,0 +1,26 @@
+use Rattle.std.proofs.Common.{sym, ap, ◌∙◌}
+use Rattle.set_marks.specs.Divisions.{targets_of}
+use Rattle.set_marks.specs.Searching.{knows}
+use Rattle.set_marks.specs.declared.known.Known.{Known}
+use Rattle.set_marks.proofs.Asking.{among_targets, end_here, end_before}
+use Rattle.set_marks.proofs.division.end_of.Goals as goal
+
+pub returns-then-has : goal.returns-then-has
+returns-then-has c sets told =
+    let name = c.in-Some.sight.now.target in
+    end_here (targets_of sets) c.sights.left.now c.in-Some.before.now c.in-Some.sight.now
+    c.in-Some.ensures.cases.0 (among_targets sets name ∙ sym (told name)
+    ∙ ap (λ (k : Known). knows k name) (sym c.sights.invariant.kept) ∙ sym c.has.ensures.value
+    ∙ c.if-has.true)
+    ∙ c.sights.invariant.found sets told
+
+pub sights-preserved : goal.sights-preserved
+sights-preserved c = record {
+  kept = c.has.ensures.unchanged ∙ c.sights.invariant.kept;
+  found = λ sets told. let name = c.in-Some.sight.now.target in
+      end_before (targets_of sets) c.sights.left.now c.in-Some.before.now c.in-Some.sight.now
+      c.in-Some.ensures.cases.0 (among_targets sets name ∙ sym (told name)
+      ∙ ap (λ (k : Known). knows k name) (sym c.sights.invariant.kept) ∙ sym c.has.ensures.value
+      ∙ c.if-has.false)
+      ∙ c.sights.invariant.found sets told;
+}

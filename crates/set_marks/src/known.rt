@@ -1,0 +1,86 @@
+//! The targets of some readings, to be asked for.
+
+ghost use Rattle.std.specs.Prelude.{◌≡◌, IfOk, length};
+ghost use Rattle.set_marks.specs.Divisions.{targets_of};
+ghost use Rattle.set_marks.specs.Searching.{knows, KnowsTargetsOf};
+
+use crate::bounds::{FEW_READINGS, MOST_READINGS};
+use crate::names::Names;
+use crate::set::reads_target;
+use crate::sight::Sight;
+use adjust_kernel::Name;
+use std::alloc::{AllocError, Global};
+
+/// The targets of some readings. Few are looked through, which takes less than a table of them.
+#[derive(Drop)]
+pub(crate) enum Known<'a> {
+    /// Those of these few readings.
+    Few(&'a [Sight]),
+    /// These.
+    Many(Names),
+}
+
+/// The targets of these readings, each once.
+pub(crate) fn targets_of(alloc: Global, sights: &[Sight]) -> Result<Names, AllocError>
+    ensures { IfOk result (λ names. names ≡ targets_of sights.now) }
+{
+    // Mostly the sets of a station have the same targets.
+    let mut names = Names::with_room(alloc, sights.len().min(MOST_READINGS) / 2)?;
+    let mut left = sights;
+    'sights: while let Some((sight, rest)) = left.split_first() {
+        names.add(&sight.target)?;
+        left = rest;
+    }
+    Ok(names)
+}
+
+/// How many targets these few readings have: those whose target is read before are left out.
+fn count_of_few(sights: &[Sight]) -> usize
+    ensures { result ≡ length (targets_of sights.now) }
+{
+    let mut count = 0;
+    let mut at = 0;
+    let mut left = sights;
+    'sights: while let Some((sight, rest)) = left.split_first() {
+        if !reads_target(&sights[..at], &sight.target) {
+            count += 1;
+        }
+        at += 1;
+        left = rest;
+    }
+    count
+}
+
+/// How many targets these readings have.
+pub(crate) fn count_targets(alloc: Global, sights: &[Sight]) -> Result<usize, AllocError>
+    ensures { IfOk result (λ n. n ≡ length (targets_of sights.now)) }
+{
+    if sights.len() <= FEW_READINGS {
+        return Ok(count_of_few(sights));
+    }
+    Ok(targets_of(alloc, sights)?.len())
+}
+
+impl<'a> Known<'a> {
+    /// The targets of these readings.
+    pub(crate) fn of(alloc: Global, sights: &'a [Sight]) -> Result<Known<'a>, AllocError>
+        ensures { IfOk result (KnowsTargetsOf sights.now) }
+    {
+        if sights.len() <= FEW_READINGS {
+            return Ok(Known::Few(sights));
+        }
+        Ok(Known::Many(targets_of(alloc, sights)?))
+    }
+
+    /// Whether a target is one of them.
+    #[inline(always)]
+    pub(crate) fn has(&mut self, name: &Name) -> bool
+        ensures value { result ≡ knows self.old name.now }
+        ensures unchanged { self.new ≡ self.old }
+    {
+        match self {
+            Known::Few(sights) => reads_target(sights, name),
+            Known::Many(names) => names.has(name),
+        }
+    }
+}
