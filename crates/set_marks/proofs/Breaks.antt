@@ -8,7 +8,7 @@ use Rattle.std.proofs.lemmas.List.Sums.{fails_before_first, passes_at_first, pre
 use Rattle.std.specs.Prelude.{slice_index, ◌==◌}
 use Rattle.memchr.specs.Find.{IsFirstByte, is_byte2}
 use Rattle.std.proofs.lemmas.List.Splits.{slice_split_first, slice_split_none}
-use Rattle.gsi_word.specs.Words.{IsPrintable}
+use Rattle.gsi_word.specs.Words.{IsLineByte}
 use Rattle.gsi_file.specs.Parts.{is_line_end, parts}
 use Rattle.set_marks.specs.Placing.{IsFirstEnd}
 
@@ -66,7 +66,7 @@ is_position bytes (Some k) found_at =
     (let lt = found_at.0.high in omega (arith, first, lt)) in
     ap Some (sym first) ∙ sym (found bytes inside)
 
-no_line_end : (b : ℕ) → IsPrintable b → is_line_end b ≡ false
+no_line_end : (b : ℕ) → IsLineByte b → is_line_end b ≡ false
 no_line_end b is =
     let low = is.0 in
     let feed : (b == 10) ≡ false = ne_eqb b 10 (omega (arith, low)) in
@@ -75,7 +75,7 @@ no_line_end b is =
 
 -- Of a byte that ends a line, where all before it are printable.
 pub printable_position : (bytes : List ℕ) (at : ℕ)
-    → ((k : ℕ) → k < at → IsPrintable (slice_index bytes k)) → at < length bytes
+    → ((k : ℕ) → k < at → IsLineByte (slice_index bytes k)) → at < length bytes
     → is_line_end (slice_index bytes at) ≡ true → Some at ≡ position is_line_end bytes
 printable_position bytes at printable inside e = is_position bytes (Some at) (
   record {

@@ -2,7 +2,7 @@
 
 ghost use Rattle.std.specs.Prelude.{◌≡◌, ◌<◌, ℕ, slice_index};
 ghost use Rattle.std.specs.List.{position};
-ghost use Rattle.gsi_word.specs.Words.{IsPrintable};
+ghost use Rattle.gsi_word.specs.Words.{IsLineByte};
 ghost use Rattle.gsi_file.specs.Parts.{is_blank, is_line_end};
 ghost use Rattle.set_marks.specs.Lines.{end_bytes, end_from, end_before, end_beside};
 
@@ -81,7 +81,7 @@ fn end_before(bytes: &[u8], at: usize) -> LineEnd
 /// other one stands, or fewer than a load before the end.
 #[inline(always)]
 fn pass_printable(bytes: &[u8]) -> usize
-    ensures { (k : ℕ) → k < result → IsPrintable (slice_index bytes.now k) }
+    ensures { (k : ℕ) → k < result → IsLineByte (slice_index bytes.now k) }
 {
     let mut at = 0;
     'loads: while bytes.len() - at >= LANES {
