@@ -24,7 +24,7 @@ LINKED = [
 TRUSTED = ROOT / "page" / "README.md"
 
 # The seal of what the solver said stands in its definition, in the contract and the proof of `find`,
-# and in the fault that rests on it.
+# in the fault that rests on it, and in what the test of an answer requires of it.
 SEAL = "WasSaid"
 SOLVER = ROOT / "crates" / "modular_solver"
 SEALED = [
@@ -32,6 +32,7 @@ SEALED = [
     SOLVER / "src" / "found.rt",
     SOLVER / "proofs" / "found" / "find" / "Answers.antt",
     ROOT / "crates" / "exact_adjustment" / "specs" / "Faults.antt",
+    ROOT / "crates" / "exact_adjustment" / "src" / "adjusting.rt",
 ]
 
 # A part of what is trusted, and how many lines it has.
