@@ -798,9 +798,10 @@ const MATCH_FAULTS: &[Explanation] = &[
         names: &["no station"],
         meaning: "the field file has no station of this name",
         when: "\
-No station of the field file that has sets has the name in the sheet or, for 'compare', 'directions'
-and 'means', the name STATION. Names are compared byte by byte. A job that was recorded without
-blocks of the codes 10 and 20, as most jobs are, has no station and an empty list.",
+No station of the field file that has sets has the name in the sheet or, for 'compare',
+'directions', 'residuals' and 'means', the name STATION. Names are compared byte by byte. A job that
+was recorded without blocks of the codes 10 and 20, as most jobs are, has no station and an empty
+list.",
         example: "refused: no station",
         remedy: "\
 'station_check list GSI' lists the names. Blanks and small letters count; zeros at the
@@ -815,9 +816,10 @@ A target of the station was not observed in each of its sets. Then the adjustmen
 'means' has none to print.",
         example: "refused: means: Incomplete",
         remedy: "\
-Print its directions by 'station_check directions', or compare those of another program
-by 'station_check compare'. For a sheet, have another program adjust the station, as adjust.py of
-the examples, and check its sheet with 'station_check check'.",
+Print its directions by 'station_check directions', its residuals by 'station_check
+residuals', or compare the directions of another program by 'station_check compare'. For a sheet,
+have another program adjust the station, as adjust.py of the examples, and check its sheet with
+'station_check check'.",
     },
     Said {
         names: &["TargetRow"],
@@ -908,9 +910,9 @@ its own.",
         when: "\
 As 'kernel: Residual', the residual of the obs row of this number, from 1, is above N half units of
 0.005 mgon, where '--residual N' was stated. As 'adjust: Residual', some least-squares residual is
-above 2000 half units in the adjustment of 'compare' or 'directions', and that of the observation of
-this number, from 1, is the greatest. The observations of a station are counted in the order in
-which 'station_check list GSI' has them.",
+above 2000 half units in the adjustment of 'compare', 'directions' or 'residuals', and that of the
+observation of this number, from 1, is the greatest. The observations of a station are counted in
+the order in which 'station_check list GSI' has them.",
         example: "refused: kernel: Residual 1",
         remedy: "\
 Look at that observation: one that stands out comes of a wrong target or a wrong name in
@@ -961,9 +963,9 @@ check a copy of the field file without the others.",
         names: &["NotFound"],
         meaning: "no exact adjustment was found",
         when: "\
-'compare' and 'directions' look for the exact adjustment of the station, and test it. Here none was
-found, though the observations hold all sets and targets together. No station is known of which this
-is so.",
+'compare', 'directions' and 'residuals' look for the exact adjustment of the station, and test it.
+Here none was found, though the observations hold all sets and targets together. No station is known
+of which this is so.",
         example: "refused: adjust: NotFound",
         remedy: "\
 Have another program adjust the station, as adjust.py of the examples, and check its
