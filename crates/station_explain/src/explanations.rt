@@ -495,9 +495,9 @@ stay in: without them two occupations can pass for one.",
         names: &["HasSetUp"],
         meaning: "--station names the station, and a line of the file does too",
         when: "\
-The block is a set-up line: a point number without a direction, with the coordinates of a station or
-the height of the instrument, in words 84, 85, 86 or 88. A station begins there and has that name,
-so --station cannot name one.",
+The block is a set-up line: a point number without a direction, vertical angle or distance, with the
+coordinates of a station or the height of the instrument, in words 84, 85, 86 or 88. A station begins
+there and has that name, so --station cannot name one.",
         example: "refused: block 1: mark: HasSetUp",
         remedy: "\
 Leave --station out. If the name in the line is wrong, give the block another one in a
@@ -508,7 +508,8 @@ copy, with 'prepare.py --rename BLOCK NAME' of the examples.",
         meaning: "nothing names the station of a reading",
         when: "\
 The block is a reading. No set-up line stands before it, and --station does not name its station. A
-set-up line is a point number without a direction, with a word 84, 85, 86 or 88.",
+set-up line is a point number without a direction, vertical angle or distance, with a word 84, 85,
+86 or 88.",
         example: "refused: block 1: mark: NoSetUp",
         remedy: "\
 If the file is of one station, name it: 'station_check mark --station NAME GSI'. If
