@@ -496,8 +496,8 @@ stay in: without them two occupations can pass for one.",
         meaning: "--station names the station, and a line of the file does too",
         when: "\
 The block is a set-up line: a point number without a direction, vertical angle or distance, with the
-coordinates of a station or the height of the instrument, in words 84, 85, 86 or 88. A station begins
-there and has that name, so --station cannot name one.",
+coordinates of a station or the height of the instrument, in words 84, 85, 86 or 88. A station
+begins there and has that name, so --station cannot name one.",
         example: "refused: block 1: mark: HasSetUp",
         remedy: "\
 Leave --station out. If the name in the line is wrong, give the block another one in a
