@@ -1,10 +1,10 @@
 // The program's command line over the calls of the page: node program.mjs PAGE WORD..
 //
-// The worker's script and the module are taken out of the page as it is. Beside the program's commands, `residuals GSI
-// SHEET` gives those of an accepted sheet as fractions of a half unit, `explain-bytes FILE` explains the
-// bytes of a file, `digest FILE NAME` gives the line of its digest with this name, and `time COMMAND
-// WORD..` gives the milliseconds that the fastest of some runs takes. With `--room=N` each text has room
-// for so many bytes, and a call is not made again with more.
+// The worker's script and the module are taken out of the page as it is. Beside the program's commands,
+// `sheet-residuals GSI SHEET` gives the residuals of an accepted sheet as fractions of a half unit,
+// `explain-bytes FILE` explains the bytes of a file, `digest FILE NAME` gives the line of its digest with
+// this name, and `time COMMAND WORD..` gives the milliseconds that the fastest of some runs takes. With
+// `--room=N` each text has room for so many bytes, and a call is not made again with more.
 import fs from 'node:fs';
 import vm from 'node:vm';
 
@@ -53,7 +53,7 @@ const answers = {
   digest: (file, name) => calls.digest(core, bytesOf(file), nameOf(name)),
   explain: (line = '') => calls.explain(core, nameOf(line)),
   'explain-bytes': file => calls.explain(core, bytesOf(file)),
-  residuals: async (gsi, sheet) => {
+  'sheet-residuals': async (gsi, sheet) => {
     const { status, shown: [line] } = await answers.check(gsi, sheet);
     const found = residualsOf(fs.readFileSync(sheet, 'utf8'), new TextDecoder().decode(line).trimEnd());
     const rows = found.rows.map(({ set, target, size }) => `${set} ${size}/${found.scale} ${target}\n`);

@@ -1,5 +1,6 @@
 """The calls of the page give the program's answers: its module and script, taken out of it, in node."""
 
+import csv
 import fcntl
 import hashlib
 import os
@@ -15,9 +16,8 @@ from pathlib import Path
 
 from program import EXAMPLE, PROGRAM, ROOT, SWEEP, TimedTest, answer_to
 
-sys.path[:0] = [str(ROOT / name) for name in ("conformance", "examples", "page")]
+sys.path[:0] = [str(ROOT / name) for name in ("conformance", "page")]
 import build  # noqa: E402
-import residuals  # noqa: E402
 import run  # noqa: E402
 
 PAGE = ROOT / "build" / "station_check.html"
@@ -26,6 +26,9 @@ EXAMPLES = [ROOT / "examples" / f"station_p7{end}" for end in (".gsi", ".csv", "
 JOB = ROOT / "examples" / "job.gsi"
 
 RT = os.environ.get("RT", "rt")
+
+# Half units of a full circle.
+TURN = 80_000_000
 
 # The smallest module whose memory has addresses of 64 bits.
 PROBE = "new WebAssembly.Module(new Uint8Array([0,97,115,109,1,0,0,0,5,3,1,4,1]))"
@@ -76,10 +79,26 @@ def node():
 
 def is_of_page(case):
     """Whether the files of a case can be handed in: they are there, and none is a folder. What the
-    program notes beside an empty list is its own."""
+    program notes beside an empty list is its own, and so are the residuals of a field file."""
     paths = [run.FOLDER / case.name / word for word in case.args if "." in word]
     is_noted = case.args[:1] == ["list"] and case.expected[0] == 0 and case.expected[2]
-    return not is_noted and case.expected[0] < 2 and all(path.is_file() for path in paths)
+    is_own = is_noted or case.args[:1] == ["residuals"]
+    return not is_own and case.expected[0] < 2 and all(path.is_file() for path in paths)
+
+
+def sheet_residuals(path):
+    """The residuals of a sheet, by set and target, in half units: exact fractions."""
+    with open(path, encoding="utf-8", newline="") as file:
+        rows = [row for row in csv.reader(file) if row]
+    denominator = int(rows[0][3])
+    directions = {row[2]: int(row[3]) for row in rows if row[0] == "target"}
+    orientations = {row[1]: int(row[3]) for row in rows if row[0] == "set"}
+    return {
+        (number, target): Fraction(directions[target] - orientations[number], denominator)
+        - (int(value) + TURN * int(turns))
+        for kind, number, target, value, turns in rows
+        if kind == "obs"
+    }
 
 
 def changed(data, chance):
@@ -218,17 +237,17 @@ class PageCallsTest(TimedTest):
                     answer = answer_to([*self.command(), "digest", path, name])
                     self.assertEqual((0, shown.stdout, b""), answer)
 
-    def test_the_residuals_are_those_that_are_drawn_beside_the_program(self):
+    def test_the_residuals_that_are_drawn_are_those_of_the_sheet(self):
         checks = [case for case in run.cases() if case.args[:1] == ["check"] and len(case.args) == 3]
         accepted = [case for case in checks if case.expected[0] == 0]
         self.assertGreater(len(accepted), 15)
         pairs = [[run.FOLDER / case.name / word for word in case.args[1:]] for case in accepted]
         for gsi, sheet in [EXAMPLES[:2], *pairs]:
-            status, shown, _ = answer_to([*self.command(), "residuals", gsi, sheet])
+            status, shown, _ = answer_to([*self.command(), "sheet-residuals", gsi, sheet])
             rows = [row.split(" ", 2) for row in shown.decode().splitlines()]
-            ours = {(int(number), target): Fraction(size) * residuals.MGON for number, size, target in rows}
+            ours = {(number, target): Fraction(size) for number, size, target in rows}
             with self.subTest(sheet):
-                self.assertEqual((0, residuals.read_sheet(sheet).residuals), (status, ours))
+                self.assertEqual((0, sheet_residuals(sheet)), (status, ours))
 
     @unittest.skipUnless(PROGRAM.exists(), "the program is not built")
     def test_changed_files_have_the_answers_of_the_program(self):
