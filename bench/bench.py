@@ -90,12 +90,12 @@ SHAPES = (
 TIMES_MEANS, MILLISECONDS = "times means", "ms"
 STATED = (
     (Shape("4 KB", 1, 4, 10), (1.1, TIMES_MEANS)),
-    (Shape("400 KB", 10, 40, 10), (1.1, TIMES_MEANS)),
+    (Shape("400 KB", 10, 40, 10), (30, MILLISECONDS)),
     (Shape("16 MB", 400, 40, 10), (1.1, TIMES_MEANS)),
-    (Shape("400 KB", 1, 40, 100), (50, MILLISECONDS)),
-    (Shape("280 KB with gaps", 1, 40, 100, gaps=0.3), (50, MILLISECONDS)),
-    (Shape("two sessions with one target in common", 1, 40, 100, parts=2), (50, MILLISECONDS)),
-    (Shape("ten sessions in a row", 1, 40, 100, parts=10), (50, MILLISECONDS)),
+    (Shape("400 KB", 1, 40, 100), (30, MILLISECONDS)),
+    (Shape("280 KB with gaps", 1, 40, 100, gaps=0.3), (30, MILLISECONDS)),
+    (Shape("two sessions with one target in common", 1, 40, 100, parts=2), (30, MILLISECONDS)),
+    (Shape("ten sessions in a row", 1, 40, 100, parts=10), (30, MILLISECONDS)),
 )
 
 # The jobs without codes of `mark`, which takes at most so many times the time of `list`.

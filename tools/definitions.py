@@ -172,24 +172,13 @@ def belief_of_contract(specs: list[Spec]) -> Iterator[str]:
     yield ""
 
 
-def belief_of_agreement(specs: list[Spec], known: list[Spec]) -> Iterator[str]:
+def belief_beside(title: str, says: str, specs: list[Spec], known: list[Spec]) -> Iterator[str]:
+    """What has to be believed of one more sentence, the last of the files, beside those that are known."""
     shared = sum(1 for spec in specs if spec in known)
     more = [spec for spec in specs if spec not in known]
-    yield "## What you have to believe of an agreement\n"
+    yield f"## What you have to believe of {title}\n"
     yield (
-        f"That a table of directions agrees says what {Spec(*AGREEMENT).link} says. "
-        f"It rests on {shared} of the files above and on the {size_of(more)}, and on no others.\n"
-    )
-    yield from in_words(more)
-    yield HOW_NEAR
-
-
-def belief_of_residuals(specs: list[Spec], known: list[Spec]) -> Iterator[str]:
-    shared = sum(1 for spec in specs if spec in known)
-    more = [spec for spec in specs if spec not in known]
-    yield "## What you have to believe of residuals\n"
-    yield (
-        f"What `residuals` prints says what {Spec(*RESIDUALS).link} says. "
+        f"{says} says what {specs[-1].link} says. "
         f"It rests on {shared} of the files above and on the {size_of(more)}, and on no others.\n"
     )
     yield from in_words(more)
@@ -218,12 +207,16 @@ What refusals, lists and texts are, and how the code keeps things: no acceptance
 
 
 def page() -> str:
-    accepted, agreed = closure(Spec(*ACCEPTANCE)), closure(Spec(*AGREEMENT))
     contract = [Spec(*pair) for pair in CONTRACT]
+    accepted, agreement, residuals = (closure(Spec(*root)) for root in (ACCEPTANCE, AGREEMENT, RESIDUALS))
     known = [*accepted, *contract]
-    stated = closure(Spec(*RESIDUALS))
-    believed = [*belief(accepted), *belief_of_contract(contract), *belief_of_agreement(agreed, known)]
-    believed += belief_of_residuals(stated, [*known, *agreed])
+    believed = [
+        *belief(accepted),
+        *belief_of_contract(contract),
+        *belief_beside("an agreement", "That a table of directions agrees", agreement, known),
+        HOW_NEAR,
+        *belief_beside("residuals", "What `residuals` prints", residuals, [*known, *agreement]),
+    ]
     return "\n".join([INTRODUCTION, *believed, EVERY_READER, OTHERS])
 
 

@@ -226,7 +226,7 @@ class SizesTest(ProgramTest):
     def test_names_of_each_length(self):
         """As the name of a station, of a first target and of a second one."""
         for name in NAMES:
-            others = [(name, ["T1", "T2"]), ("S1", [name, "T2"]), ("S1", ["T1", name])]
+            others = [(name, ["TOWER", "MAST"]), ("S1", [name, "MAST"]), ("S1", ["TOWER", name])]
             for asked, targets in others:
                 field = lines(named_station(asked, targets)) + b"\n"
                 sheet = model.means(field, asked.encode())[1]
