@@ -23,10 +23,14 @@ Answer = tuple[int, bytes, bytes]
 
 
 class Case(NamedTuple):
-    name: str
+    folder: Path
     args: list[str]
     stdin: bytes
     expected: Answer
+
+    @property
+    def name(self) -> str:
+        return self.folder.name
 
 
 def content(folder: Path, name: str) -> bytes:
@@ -38,16 +42,18 @@ def case_in(folder: Path) -> Case:
     status = int(content(folder, "status") or b"0")
     expected = status, content(folder, "stdout"), content(folder, "stderr")
     args = content(folder, "args").decode().splitlines()
-    return Case(folder.name, args, content(folder, "stdin"), expected)
+    return Case(folder, args, content(folder, "stdin"), expected)
 
 
-def names() -> list[str]:
-    """The names of all cases."""
-    return sorted(path.parent.name for path in FOLDER.glob("*/args"))
+def folders() -> dict[str, Path]:
+    """The folder of each case by its name, in the order of names."""
+    found = sorted(path.parent for path in FOLDER.rglob("args"))
+    return {folder.name: folder for folder in sorted(found, key=lambda folder: folder.name)}
 
 
 def cases(chosen: Iterable[str] = ()) -> list[Case]:
-    return [case_in(FOLDER / name) for name in sorted(chosen) or names()]
+    of = folders()
+    return [case_in(of[name]) for name in sorted(chosen) or of]
 
 
 def answer(command: Iterable[str | Path], case: Case, time: float = TIME) -> Answer | None:
@@ -55,7 +61,7 @@ def answer(command: Iterable[str | Path], case: Case, time: float = TIME) -> Ans
 
     `command` is the program and what stands before the words of the case."""
     with tempfile.TemporaryDirectory() as top:
-        folder = copytree(FOLDER / case.name, Path(top) / "case")
+        folder = copytree(case.folder, Path(top) / "case")
         run = subprocess.Popen(
             [*command, *case.args],
             cwd=folder,
@@ -112,7 +118,7 @@ def said(found: Answer | None, time: float) -> str:
 def main() -> None:
     parser = command_line()
     asked = parser.parse_intermixed_args()
-    if unknown := sorted(set(asked.cases) - set(names())):
+    if unknown := sorted(set(asked.cases) - set(folders())):
         parser.error(f"no case {', '.join(unknown)}")
     every, failed = cases(asked.cases), 0
     for case in every:
