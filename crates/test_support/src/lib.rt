@@ -1,0 +1,16 @@
+//! What the tests of several crates share. No library and no program stands on it.
+//!
+//! | Item | Is |
+//! |---|---|
+//! | `Recovers` | a reader that fails or ends once, and goes on after |
+//! | `Resumes` | a writer that fails once, and goes on after |
+//! | `hoard`, `hoard_of_all_but` | all memory, in `BLOCKS` blocks at most, so that what a call asks for is refused |
+#![tactic(auto)]
+
+mod memory;
+mod reader;
+mod writer;
+
+pub use memory::{BLOCKS, hoard, hoard_of_all_but};
+pub use reader::Recovers;
+pub use writer::Resumes;

@@ -1,0 +1,381 @@
+//! Stations worked in exact fractions, beside what is stated of their targets; and tables beside the
+//! worked station S1, through the whole.
+
+use adjust_kernel::{Name, Obs, Station};
+use byte_ends::{Held, Script};
+use direction_table::{RowKind, TableFault};
+use exact_adjustment::{AdjustError, AdjustFault};
+use station_book::Limits;
+use station_check::Fault;
+use station_compare::CompareFault;
+use station_differences::{
+    differences_text, run_differences, target_differences, text_of, write_differences,
+};
+use std::alloc::Global;
+use std::process::Abort;
+use std::test::Fail;
+
+/// An observation: the places of its set and its target, and its two-face direction in half units.
+type Observed = (u32, u32, u32);
+
+/// A table of S1, its rows in another order than the station's targets, turned by 100 gon.
+const STATED: &[u8] = b"B;150,0001\nA;100,0001\n";
+
+/// What is printed of it.
+const DIFFERENCES: &[u8] = b"target,stated,least squares,difference\n\
+A,100.000100,0.000000,0.015\n\
+B,150.000100,50.000030,-0.015\n";
+
+/// Two sets of targets A and B, each in both faces: B is 50.00003 gon from A.
+const S1: &[u8] = b"410001+00000010 42....+000000S1\n\
+410002+00000020 42....+00000001\n\
+110003+0000000A 21.102+00000000 22.102+10000000\n\
+110004+0000000B 21.102+05000000 22.102+10000000\n\
+110005+0000000B 21.102+25000010 22.102+30000000\n\
+110006+0000000A 21.102+20000006 22.102+29999998\n\
+410007+00000020 42....+00000002\n\
+110008+0000000A 21.102+10000000 22.102+10000000\n\
+110009+0000000B 21.102+15000004 22.102+10000000\n\
+110010+0000000B 21.102+35000008 22.102+30000000\n\
+110011+0000000A 21.102+30000004 22.102+30000000\n\
+410012+00000030\n";
+
+/// Two sets that have no target in common.
+const PARTS: &[u8] = b"410001+00000010 42....+000000S2\n\
+410002+00000020 42....+00000001\n\
+110003+0000000A 21.102+00000000 22.102+10000000\n\
+110004+0000000A 21.102+20000000 22.102+30000000\n\
+410005+00000020 42....+00000002\n\
+110006+0000000B 21.102+10000000 22.102+10000000\n\
+110007+0000000B 21.102+30000000 22.102+30000000\n\
+410008+00000030\n";
+
+/// Two sets, whose two-face directions of B are half a circle apart.
+const TIE: &[u8] = b"410001+00000010 42....+000000S3\n\
+410002+00000020 42....+00000001\n\
+110003+0000000A 21.102+00000000 22.102+10000000\n\
+110004+0000000B 21.102+00000000 22.102+10000000\n\
+110005+0000000B 21.102+20000000 22.102+30000000\n\
+110006+0000000A 21.102+20000000 22.102+30000000\n\
+410007+00000020 42....+00000002\n\
+110008+0000000A 21.102+00000000 22.102+10000000\n\
+110009+0000000B 21.102+20000000 22.102+10000000\n\
+110010+0000000B 21.102+00000000 22.102+30000000\n\
+110011+0000000A 21.102+20000000 22.102+30000000\n\
+410012+00000030\n";
+
+fn limits(rt: &impl Abort) -> Limits {
+    Limits::new(100, 100).expect(rt, "limits")
+}
+
+/// A station of targets A, B and so on, and of this many sets, with these observations.
+fn station_of(
+    rt: &impl Abort,
+    alloc: Global,
+    sets: u16,
+    letters: &[u8],
+    observed: &[Observed],
+) -> Result<Station, Fail> {
+    let name = |letter: u8| Name::new(&[letter]).expect(rt, "a name");
+    let mut names = Vec::new(alloc);
+    for letter in letters {
+        names.push(name(*letter))?;
+    }
+    let mut numbers = Vec::new(alloc);
+    for number in 1..=sets {
+        numbers.push(number)?;
+    }
+    let mut obs = Vec::new(alloc);
+    for (set, target, value) in observed {
+        obs.push(Obs {
+            set: *set,
+            target: *target,
+            value: *value,
+        })?;
+    }
+    let station = Station::new(name(b'S'), names, numbers, obs);
+    Ok(station.expect(rt, "a station"))
+}
+
+/// The text of stated directions, in units of 0.000000001 gon, beside a station.
+fn text(
+    rt: &impl Abort,
+    alloc: Global,
+    station: &Station,
+    stated: &[i64],
+) -> Result<Vec<u8>, Fail> {
+    assert_eq!(rt; stated.len(), station.targets().len());
+    let rows = target_differences(alloc, station, stated).map_err(|_| "no adjustment")?;
+    Ok(text_of(alloc, &rows)?)
+}
+
+/// Two targets in two sets, whose angles differ by 2 half units: that of the adjustment is 50.000025
+/// gon.
+const TWO: [Observed; 4] = [
+    (0, 0, 6),
+    (0, 1, 10_000_010),
+    (1, 0, 20_000_004),
+    (1, 1, 30_000_010),
+];
+
+/// The second set is without A and the third without B: the directions of B and C are 10000009 1/3
+/// and 30000009 2/3 half units.
+const GAPS: [Observed; 7] = [
+    (0, 0, 0),
+    (0, 1, 10_000_000),
+    (0, 2, 30_000_007),
+    (1, 1, 50_000_010),
+    (1, 2, 70_000_000),
+    (2, 0, 20_000_002),
+    (2, 2, 50_000_020),
+];
+
+/// One set of four targets, at 0, 100, 200 and 300 gon.
+const QUARTERS: [Observed; 4] = [
+    (0, 0, 0),
+    (0, 1, 20_000_000),
+    (0, 2, 40_000_000),
+    (0, 3, 60_000_000),
+];
+
+/// A full gon, in units of 0.000000001 gon.
+const GON: i64 = 1_000_000_000;
+
+#[test]
+fn two_targets_lie_on_both_sides_of_their_middle(rt: HostRuntime) -> Result<(), Fail> {
+    let cases: [([i64; 2], &[u8]); 6] = [
+        // Exactly the least-squares angle, in whichever rotation, and with more than six decimals.
+        (
+            [123_456_789_012, 173_456_814_012],
+            b"target,stated,least squares,difference\n\
+            A,123.456789012,0.000000,0.000\n\
+            B,173.456814012,50.000025,0.000\n",
+        ),
+        // Half a unit and one and a half: the middle of two goes up, on both sides of 0.
+        (
+            [0, 50_000_026_000],
+            b"target,stated,least squares,difference\n\
+            A,0.000000,0.000000,0.000\n\
+            B,50.000026,50.000025,0.001\n",
+        ),
+        (
+            [0, 50_000_028_000],
+            b"target,stated,least squares,difference\n\
+            A,0.000000,0.000000,-0.001\n\
+            B,50.000028,50.000025,0.002\n",
+        ),
+        (
+            [0, 50_000_024_000],
+            b"target,stated,least squares,difference\n\
+            A,0.000000,0.000000,0.001\n\
+            B,50.000024,50.000025,0.000\n",
+        ),
+        // What is stated below 0 is printed on the circle.
+        (
+            [-1_000, 50_000_024_000],
+            b"target,stated,least squares,difference\n\
+            A,399.999999,0.000000,0.000\n\
+            B,50.000024,50.000025,0.000\n",
+        ),
+        // Half a circle apart: of the two arcs the one that begins at the first target.
+        (
+            [200 * GON, 50_000_025_000],
+            b"target,stated,least squares,difference\n\
+            A,200.000000,0.000000,-100000.000\n\
+            B,50.000025,50.000025,100000.000\n",
+        ),
+    ];
+    let station = station_of(&rt, rt.alloc(), 2, b"AB", &TWO)?;
+    for (stated, want) in cases {
+        assert_eq!(rt; text(&rt, rt.alloc(), &station, &stated)?.as_slice(), want);
+    }
+    Ok(())
+}
+
+#[test]
+fn an_incomplete_station_has_differences_of_fractions(rt: HostRuntime) -> Result<(), Fail> {
+    let cases: [([i64; 3], &[u8]); 2] = [
+        (
+            [0, 50_000_026_000, 150_000_029_000],
+            b"target,stated,least squares,difference\n\
+            A,0.000000,0.000000,0.010\n\
+            B,50.000026,50.000047,-0.010\n\
+            C,150.000029,150.000049,-0.010\n",
+        ),
+        // One direction has a decimal more than six, so all have nine.
+        (
+            [1_000_000, 50_000_026_400, 150_000_029_000],
+            b"target,stated,least squares,difference\n\
+            A,0.001000000,0.000000,0.510\n\
+            B,50.000026400,50.000047,-0.510\n\
+            C,150.000029000,150.000049,-0.510\n",
+        ),
+    ];
+    let station = station_of(&rt, rt.alloc(), 3, b"ABC", &GAPS)?;
+    for (stated, want) in cases {
+        assert_eq!(rt; text(&rt, rt.alloc(), &station, &stated)?.as_slice(), want);
+    }
+    Ok(())
+}
+
+#[test]
+fn four_targets_have_one_rotation(rt: HostRuntime) -> Result<(), Fail> {
+    let cases: [([i64; 4], &[u8]); 4] = [
+        // One target is off by 1 mgon, and half of that shows at each.
+        (
+            [0, 100 * GON, 200_001_000_000, 300 * GON],
+            b"target,stated,least squares,difference\n\
+            A,0.000000,0.000000,-0.500\n\
+            B,100.000000,100.000000,-0.500\n\
+            C,200.001000,200.000000,0.500\n\
+            D,300.000000,300.000000,-0.500\n",
+        ),
+        // Differences of -1, 1, -2 and 0 units, across 0.
+        (
+            [399_999_999_000, 100_000_001_000, 199_999_998_000, 300 * GON],
+            b"target,stated,least squares,difference\n\
+            A,399.999999,0.000000,0.000\n\
+            B,100.000001,100.000000,0.002\n\
+            C,199.999998,200.000000,-0.001\n\
+            D,300.000000,300.000000,0.001\n",
+        ),
+        // Differences of 0, 100, 200 and 300 gon: an arc from each is as wide, and A is the first.
+        (
+            [0, 200 * GON, 400 * GON, 200 * GON],
+            b"target,stated,least squares,difference\n\
+            A,0.000000,0.000000,-150000.000\n\
+            B,200.000000,100.000000,-50000.000\n\
+            C,0.000000,200.000000,50000.000\n\
+            D,200.000000,300.000000,150000.000\n",
+        ),
+        // Differences of 0, 350, 200 and 150 gon: arcs from B and from D are as wide, and B is first.
+        (
+            [0, 50 * GON, 400 * GON, 50 * GON],
+            b"target,stated,least squares,difference\n\
+            A,0.000000,0.000000,-75000.000\n\
+            B,50.000000,100.000000,-125000.000\n\
+            C,0.000000,200.000000,125000.000\n\
+            D,50.000000,300.000000,75000.000\n",
+        ),
+    ];
+    let station = station_of(&rt, rt.alloc(), 1, b"ABCD", &QUARTERS)?;
+    for (stated, want) in cases {
+        assert_eq!(rt; text(&rt, rt.alloc(), &station, &stated)?.as_slice(), want);
+    }
+    Ok(())
+}
+
+#[test]
+fn one_target_has_no_difference(rt: HostRuntime) -> Result<(), Fail> {
+    let station = station_of(&rt, rt.alloc(), 1, b",", &[(0, 0, 7)])?;
+    let want: &[u8] = b"target,stated,least squares,difference\n\",\",399.000000,0.000000,0.000\n";
+    assert_eq!(rt;
+        text(&rt, rt.alloc(), &station, &[399 * GON])?.as_slice(),
+        want
+    );
+    Ok(())
+}
+
+#[test]
+fn a_residual_above_10_mgon_is_refused(rt: HostRuntime) -> Result<(), Fail> {
+    let far: [Observed; 6] = [
+        (0, 0, 0),
+        (0, 1, 0),
+        (1, 0, 0),
+        (1, 1, 0),
+        (2, 0, 0),
+        (2, 1, 6_001),
+    ];
+    let station = station_of(&rt, rt.alloc(), 3, b"AB", &far)?;
+    assert_eq!(rt; station.targets().len(), 2);
+    let answer = target_differences(rt.alloc(), &station, &[0, 0]);
+    assert!(rt; matches!(answer, Err(AdjustError::Fault(AdjustFault::Residual(5)))));
+    Ok(())
+}
+
+#[test]
+fn a_table_has_differences_or_the_first_fault(rt: HostRuntime) -> Result<(), Fail> {
+    let cases: [(&[u8], &[u8], &[u8], Result<&[u8], CompareFault>); 6] = [
+        (S1, b"S1", STATED, Ok(DIFFERENCES)),
+        (S1, b"S2", b"", Err(CompareFault::File(Fault::NoStation))),
+        (
+            S1,
+            b"S1",
+            b"A,0\nC,1\n",
+            Err(CompareFault::Table(TableFault::Row(2, RowKind::Unknown))),
+        ),
+        (
+            S1,
+            b"S1",
+            b"B,50\n",
+            Err(CompareFault::Table(TableFault::Missing(1))),
+        ),
+        (
+            PARTS,
+            b"S2",
+            b"A,0\nB,0\n",
+            Err(CompareFault::Adjust(AdjustFault::NotConnected)),
+        ),
+        (
+            TIE,
+            b"S3",
+            b"A,0\nB,0\n",
+            Err(CompareFault::Adjust(AdjustFault::Residual(1))),
+        ),
+    ];
+    for (gsi, name, table, want) in cases {
+        let gsi = Script::new(gsi, usize::MAX, false);
+        let mut table = Script::new(table, usize::MAX, false);
+        let answer = differences_text(rt.alloc(), gsi, &mut table, name, limits(&rt));
+        match (answer, want) {
+            (Ok(text), Ok(want)) => assert_eq!(rt; text.as_slice(), want),
+            (Err(fault), Err(want)) => assert_eq!(rt; fault, want),
+            _ => assert!(rt; false),
+        }
+    }
+    Ok(())
+}
+
+#[test]
+fn a_run_prints_its_text_and_answers_its_status(rt: HostRuntime) -> Result<(), Fail> {
+    let cases: [(&[u8], bool, bool, u8, &[u8], &[u8]); 4] = [
+        (b"S1", false, false, 0, DIFFERENCES, b""),
+        (b"S2", false, true, 1, b"", b"refused: no station\n"),
+        (b"S1", false, true, 1, b"", b"refused: table: Read\n"),
+        (b"S1", true, true, 1, b"", b"refused: block 13: Read\n"),
+    ];
+    for (name, gsi_fails, table_fails, status, printed, refused) in cases {
+        let gsi = Script::new(S1, 7, gsi_fails);
+        let mut table = Script::new(STATED, 1, table_fails);
+        let mut out = Held::new(rt.alloc(), 400, 400, false).map_err(|_| "no memory")?;
+        let mut err = Held::new(rt.alloc(), 100, 100, false).map_err(|_| "no memory")?;
+        let limits = limits(&rt);
+        let answer = run_differences(
+            rt.alloc(),
+            gsi,
+            &mut table,
+            name,
+            limits,
+            &mut out,
+            &mut err,
+        );
+        assert_eq!(rt; answer, status);
+        assert_eq!(rt; out.bytes(), printed);
+        assert_eq!(rt; err.bytes(), refused);
+    }
+    Ok(())
+}
+
+#[test]
+fn a_writer_without_room_or_whose_flush_fails_is_told(rt: HostRuntime) -> Result<(), Fail> {
+    for (room, flush_fails) in [(0, false), (50, false), (400, true)] {
+        let gsi = Script::new(S1, usize::MAX, false);
+        let mut table = Script::new(STATED, usize::MAX, false);
+        let mut out = Held::new(rt.alloc(), room, 7, flush_fails).map_err(|_| "no memory")?;
+        let answer = write_differences(rt.alloc(), gsi, &mut table, b"S1", limits(&rt), &mut out);
+        assert_eq!(rt; answer, Err(CompareFault::Write));
+        let written = room.min(DIFFERENCES.len());
+        assert_eq!(rt; out.bytes(), &DIFFERENCES[..written]);
+    }
+    Ok(())
+}

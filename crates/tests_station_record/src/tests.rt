@@ -1,0 +1,254 @@
+//! The worked station S1 with its sheet and a table of its directions, given in pieces: the lines of
+//! digests, and refusals, which have none. The digests are those that `sha256sum` prints.
+
+use adjust_kernel::ResidualLimit;
+use byte_ends::{Held, Script};
+use station_book::Limits;
+use station_record::{NamedReader, run_check_recorded, run_compare_recorded};
+use std::alloc::Global;
+use std::process::Abort;
+use std::test::Fail;
+
+/// Bytes that a sink has room for where no test wants less.
+const AMPLE: usize = 1_000;
+
+/// How many bytes the readers give at a time.
+const STEPS: [usize; 5] = [1, 7, 64, 4_096, usize::MAX];
+
+/// Two sets of targets A and B, each in both faces: B is 50.00003 gon from A.
+const S1: &[u8] = b"410001+00000010 42....+000000S1\n\
+410002+00000020 42....+00000001\n\
+110003+0000000A 21.102+00000000 22.102+10000000\n\
+110004+0000000B 21.102+05000000 22.102+10000000\n\
+110005+0000000B 21.102+25000010 22.102+30000000\n\
+110006+0000000A 21.102+20000006 22.102+29999998\n\
+410007+00000020 42....+00000002\n\
+110008+0000000A 21.102+10000000 22.102+10000000\n\
+110009+0000000B 21.102+15000004 22.102+10000000\n\
+110010+0000000B 21.102+35000008 22.102+30000000\n\
+110011+0000000A 21.102+30000004 22.102+30000000\n\
+410012+00000030\n";
+
+/// Its adjusted sheet, whose largest residual is one half unit.
+const SHEET: &[u8] = b"sheet,1,S1,4,\n\
+target,,A,0,\n\
+target,,B,40000024,\n\
+set,1,,-20,\n\
+set,2,,-80000020,\n\
+obs,1,A,6,0\n\
+obs,1,B,10000010,0\n\
+obs,2,A,20000004,0\n\
+obs,2,B,30000012,0\n";
+
+/// A table that agrees with it.
+const TABLE: &[u8] = b"A,0\nB,50.00003\n";
+
+/// What is printed of the check.
+const ACCEPTED: &[u8] = b"accepted S1: 2 sets, 2 targets, 4 directions, greatest residual 4/4\n\
+2f4ee076b5c212dab3274b4ac86ac3e8ed63b631b5c22f66f8f7e428f77bd167  job.gsi\n\
+aa3a8284e08fbd449811233917dcb0758ce46bee9eac082e94f1f864251ebb9d  S1.csv\n";
+
+/// What is printed of the comparison.
+const AGREES: &[u8] = b"agrees S1: 2 targets, within 0\n\
+2f4ee076b5c212dab3274b4ac86ac3e8ed63b631b5c22f66f8f7e428f77bd167  job.gsi\n\
+f5da1d3d1ff629ae485cd880ec2cf3c8bf17d9e17aa2aff7b23099abe37dc41e  S1.csv\n";
+
+/// A file as it is handed down: its bytes, how many are given at a time, whether a read fails after
+/// the last, and its name.
+#[derive(Clone, Copy)]
+struct File<'a> {
+    bytes: &'a [u8],
+    step: usize,
+    fails: bool,
+    name: &'a [u8],
+}
+
+impl<'a> File<'a> {
+    fn new(bytes: &'a [u8], step: usize, name: &'a [u8]) -> File<'a> {
+        File {
+            bytes,
+            step,
+            fails: false,
+            name,
+        }
+    }
+
+    /// It breaks off where it would end.
+    fn that_fails(self) -> File<'a> {
+        File {
+            fails: true,
+            ..self
+        }
+    }
+
+    fn reader(self) -> NamedReader<'a, Script<'a>> {
+        NamedReader {
+            name: self.name,
+            reader: Script::new(self.bytes, self.step.max(1), self.fails),
+        }
+    }
+}
+
+/// What a run answers: its status, and what it printed on its two outputs, the first of which takes
+/// so many bytes.
+#[derive(Drop)]
+struct Printed {
+    status: u8,
+    out: Held,
+    err: Held,
+}
+
+fn held(alloc: Global, room: usize) -> Result<Held, Fail> {
+    Ok(Held::new(alloc, room, usize::MAX, false).map_err(|_| "no memory")?)
+}
+
+fn limits(rt: &impl Abort) -> Limits {
+    Limits::new(100, 100).expect(rt, "limits")
+}
+
+/// A check of a sheet, with a residual limit in half units where one is stated.
+fn checked(
+    rt: &impl Abort,
+    alloc: Global,
+    gsi: File<'_>,
+    sheet: File<'_>,
+    residual: Option<ResidualLimit>,
+    room: usize,
+) -> Result<Printed, Fail> {
+    let (mut out, mut err) = (held(alloc, room)?, held(alloc, AMPLE)?);
+    let (gsi, sheet) = (gsi.reader(), sheet.reader());
+    let status = run_check_recorded(alloc, gsi, sheet, limits(rt), residual, &mut out, &mut err);
+    Ok(Printed { status, out, err })
+}
+
+/// A comparison of a table, within so many units.
+fn compared(
+    rt: &impl Abort,
+    alloc: Global,
+    gsi: File<'_>,
+    table: File<'_>,
+    within: u32,
+    room: usize,
+) -> Result<Printed, Fail> {
+    let (mut out, mut err) = (held(alloc, room)?, held(alloc, AMPLE)?);
+    let (gsi, table, within) = (gsi.reader(), table.reader(), Some(within));
+    let limits = limits(rt);
+    let status = run_compare_recorded(alloc, gsi, table, b"S1", limits, within, &mut out, &mut err);
+    Ok(Printed { status, out, err })
+}
+
+/// The field file and the other file, given so many bytes at a time.
+fn files(other: &'static [u8], step: usize) -> (File<'static>, File<'static>) {
+    (
+        File::new(S1, step, b"job.gsi"),
+        File::new(other, step, b"S1.csv"),
+    )
+}
+
+/// The run printed this text and was not refused.
+fn expect_text(rt: &impl Abort, printed: &Printed, text: &[u8]) {
+    assert_eq!(rt; printed.err.bytes(), b"".as_slice());
+    assert_eq!(rt; printed.out.bytes(), text);
+    assert_eq!(rt; printed.status, 0);
+}
+
+/// The run was refused with this line, and printed nothing.
+fn expect_refusal(rt: &impl Abort, printed: &Printed, line: &[u8]) {
+    assert_eq!(rt; printed.err.bytes(), line);
+    assert_eq!(rt; printed.out.bytes(), b"".as_slice());
+    assert_eq!(rt; printed.status, 1);
+}
+
+#[test]
+fn a_check_prints_the_digests_of_files_in_pieces(rt: HostRuntime) -> Result<(), Fail> {
+    for step in STEPS {
+        let (gsi, sheet) = files(SHEET, step);
+        let printed = checked(&rt, rt.alloc(), gsi, sheet, None, AMPLE)?;
+        expect_text(&rt, &printed, ACCEPTED);
+    }
+    Ok(())
+}
+
+#[test]
+fn a_comparison_prints_the_digests_of_files_in_pieces(rt: HostRuntime) -> Result<(), Fail> {
+    for step in STEPS {
+        let (gsi, table) = files(TABLE, step);
+        let printed = compared(&rt, rt.alloc(), gsi, table, 0, AMPLE)?;
+        expect_text(&rt, &printed, AGREES);
+    }
+    Ok(())
+}
+
+#[test]
+fn a_name_is_escaped_as_sha256sum_does(rt: HostRuntime) -> Result<(), Fail> {
+    let (gsi, _) = files(SHEET, 64);
+    let sheet = File::new(SHEET, 64, b"a\\b\nc\rd");
+    let text: &[u8] = b"accepted S1: 2 sets, 2 targets, 4 directions, greatest residual 4/4\n\
+2f4ee076b5c212dab3274b4ac86ac3e8ed63b631b5c22f66f8f7e428f77bd167  job.gsi\n\
+\\aa3a8284e08fbd449811233917dcb0758ce46bee9eac082e94f1f864251ebb9d  a\\\\b\\nc\\rd\n";
+    let printed = checked(&rt, rt.alloc(), gsi, sheet, None, AMPLE)?;
+    expect_text(&rt, &printed, text);
+    Ok(())
+}
+
+#[test]
+fn a_refused_check_prints_no_digest(rt: HostRuntime) -> Result<(), Fail> {
+    for step in STEPS {
+        let alloc = rt.alloc();
+        let (gsi, sheet) = files(SHEET, step);
+        let none = ResidualLimit::new(0);
+        let (cut, _) = files(SHEET, step);
+        let short = File::new(&SHEET[..40], step, b"S1.csv");
+        let cases: [(File<'_>, File<'_>, Option<ResidualLimit>, &[u8]); 5] = [
+            (gsi, sheet, none, b"refused: kernel: Residual 1\n"),
+            (cut.that_fails(), sheet, None, b"refused: block 13: Read\n"),
+            (gsi, sheet.that_fails(), None, b"refused: sheet: Read\n"),
+            (gsi, short, None, b"refused: sheet row 3: Fields\n"),
+            (sheet, gsi, None, b"refused: block 1: Word 1\n"),
+        ];
+        for (gsi, sheet, residual, line) in cases {
+            let printed = checked(&rt, alloc, gsi, sheet, residual, AMPLE)?;
+            expect_refusal(&rt, &printed, line);
+        }
+    }
+    Ok(())
+}
+
+#[test]
+fn a_refused_comparison_prints_no_digest(rt: HostRuntime) -> Result<(), Fail> {
+    for step in STEPS {
+        let alloc = rt.alloc();
+        let (gsi, table) = files(TABLE, step);
+        let (_, other) = files(b"A,0\nB,50.00005\n", step);
+        let cases: [(File<'_>, File<'_>, &[u8]); 4] = [
+            (gsi, other, b"refused: compare: Apart 10\n"),
+            (gsi.that_fails(), table, b"refused: block 13: Read\n"),
+            (gsi, table.that_fails(), b"refused: table: Read\n"),
+            (gsi, gsi, b"refused: table row 2: Number\n"),
+        ];
+        for (gsi, table, line) in cases {
+            let printed = compared(&rt, alloc, gsi, table, 9, AMPLE)?;
+            expect_refusal(&rt, &printed, line);
+        }
+    }
+    Ok(())
+}
+
+#[test]
+fn an_output_that_is_full_is_a_refusal(rt: HostRuntime) -> Result<(), Fail> {
+    let alloc = rt.alloc();
+    let line: &[u8] = b"refused: write failed\n";
+    for room in 0..ACCEPTED.len() {
+        let (gsi, sheet) = files(SHEET, usize::MAX);
+        let printed = checked(&rt, alloc, gsi, sheet, None, room)?;
+        assert_eq!(rt; printed.err.bytes(), line);
+        assert_eq!(rt; printed.status, 1);
+    }
+    for room in 0..AGREES.len() {
+        let (gsi, table) = files(TABLE, usize::MAX);
+        let printed = compared(&rt, alloc, gsi, table, 0, room)?;
+        assert_eq!(rt; printed.err.bytes(), line);
+        assert_eq!(rt; printed.status, 1);
+    }
+    Ok(())
+}
