@@ -1,0 +1,2 @@
+-- The public definitions, which public contracts cite.
+pub mod MgonTexts

@@ -1,0 +1,33 @@
+//! A direction in gon.
+ghost use Rattle.std.specs.Prelude.{◌≡◌, ◌++◌, OnOk};
+ghost use Rattle.direction_table.specs.Texts.{direction_text};
+
+use crate::digit::digit;
+use itoa::Buffer;
+use std::alloc::AllocError;
+
+/// Units of 0.000000001 gon in a gon.
+const GON: u64 = 1_000_000_000;
+
+/// Adds a direction in gon to a text, which is in units of 0.000000001 gon: the gon, a point and
+/// six decimals. What lies below the sixth decimal is left out.
+///
+/// The only error is that memory was refused; then a beginning of it may have been added.
+// Results have many rows, and digits at stated places take a third of the time of `push_direction`.
+pub fn push_gon(text: &mut Vec<u8>, direction: u64) -> Result<(), AllocError>
+    ensures { OnOk result
+        (text.new.items ≡ text.old.items ++ direction_text 6 direction) }
+{
+    let mut gons = Buffer::new();
+    text.extend_from_slice(gons.format(direction / GON).as_bytes())?;
+    text.extend_from_slice(&[
+        b'.',
+        digit(direction / 100_000_000),
+        digit(direction / 10_000_000),
+        digit(direction / 1_000_000),
+        digit(direction / 100_000),
+        digit(direction / 10_000),
+        digit(direction / 1_000),
+    ])?;
+    Ok(())
+}

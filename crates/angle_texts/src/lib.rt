@@ -1,0 +1,15 @@
+//! Angles as text, as results state them: directions in gon, face differences and residuals in mgon.
+//!
+//! | Call | Adds to a text |
+//! |---|---|
+//! | `push_gon` | a direction in gon, with six decimals |
+//! | `push_mgon` | an angle in mgon, with three decimals |
+//! | `push_short_mgon` | an angle in mgon, with two decimals |
+#![tactic(auto)]
+
+mod digit;
+mod gon;
+mod mgon;
+
+pub use gon::push_gon;
+pub use mgon::{push_mgon, push_short_mgon};

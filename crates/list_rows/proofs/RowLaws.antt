@@ -1,0 +1,56 @@
+-- The rows of stations, and those of a station, one after the other.
+use Rattle.std.proofs.Common.{◌≡◌, ◌∙◌, ℕ, ◌+◌, ◌<◌, ◌≤◌, List, [], ◌∷◌, ◌++◌, Some, ap, append_assoc}
+use Rattle.std.proofs.Common.{arith, flat_map, get_or, length, map, slice_get, sym, take, zip}
+use Rattle.std.proofs.lemmas.List.{append-nil, take_all, take_more}
+use Rattle.std.proofs.lemmas.List.Concat.{flat_map-append}
+use Rattle.std.proofs.lemmas.Option.{get_or_from_slice_get, slice_get-get_or, slice_get_within}
+use Rattle.csv.specs.Writing.{default_writer, row_text}
+use Rattle.sheet_format.specs.Texts.{rows_text}
+use Rattle.sheet_format.proofs.TextRows.{entry-more, rows_text-append}
+use Rattle.station_check.proofs.ListLaws.{zip_get, zip_short}
+
+-- After any text, the rows of one more entry join those of the entries before it.
+pub entries-joined : {X : Type 0} (f : X → List (List (List ℕ))) (text : List ℕ) (xs : List X)
+    (i : ℕ) (x : X) → slice_get xs i ≡ Some x
+    → (text ++ rows_text (flat_map f (take i xs))) ++ rows_text (f x)
+    ≡ text ++ rows_text (flat_map f (take (i + 1) xs))
+entries-joined f text xs i x here =
+    let last : get_or xs i x ≡ x = get_or_from_slice_get xs i x x here in
+    let more : take (i + 1) xs ≡ take i xs ++ (x ∷ []) =
+    take_more xs i x (slice_get_within xs i x here)
+    ∙ ap (λ y. take i xs ++ (y ∷ [])) last in
+    let joined : rows_text (flat_map f (take (i + 1) xs))
+    ≡ rows_text (flat_map f (take i xs)) ++ rows_text (f x) =
+    ap (λ ys. rows_text (flat_map f ys)) more
+    ∙ ap rows_text (flat_map-append f (take i xs) (x ∷ []))
+    ∙ ap (λ rows. rows_text (flat_map f (take i xs) ++ rows)) (append-nil (f x))
+    ∙ rows_text-append (flat_map f (take i xs)) (f x) in
+    append_assoc text (rows_text (flat_map f (take i xs))) (rows_text (f x))
+    ∙ ap (λ (t : List ℕ). text ++ t) (sym joined)
+
+-- After any text, the row of what stands at a place of both lists joins those before it.
+pub pair-joined : {A B C : Type 0} (f : A → B) (row : B × C → List (List ℕ)) (text : List ℕ)
+    (xs : List A) (ys : List C) (i : ℕ) (x : A) (y : C) → slice_get xs i ≡ Some x
+    → slice_get ys i ≡ Some y
+    → (text ++ rows_text (map row (take i (zip (map f xs) ys))))
+    ++ row_text default_writer (row (f x, y))
+    ≡ text ++ rows_text (map row (take (i + 1) (zip (map f xs) ys)))
+pair-joined f row text xs ys i x y ex ey =
+    let pairs = zip (map f xs) ys in
+    let here : slice_get pairs i ≡ Some (f x, y) = zip_get f xs ys i x y ex ey in
+    entry-more row text pairs i (f x, y)
+    (sym (get_or_from_slice_get pairs i (f x, y) (f x, y) here))
+    (slice_get_within pairs i (f x, y) here)
+
+-- What stands at a place of a list is the same whatever stood for none.
+pub same-at : {A : Type 0} (xs : List A) (i : ℕ) (d e : A) → i < length xs
+    → get_or xs i d ≡ get_or xs i e
+same-at xs i d e inside =
+    let both : Some (get_or xs i d) ≡ Some (get_or xs i e) =
+    sym (slice_get-get_or xs i d inside) ∙ slice_get-get_or xs i e inside in cc
+
+-- Past the last place all pairs are there.
+pub all-pairs : {A B C : Type 0} (f : A → B) (xs : List A) (ys : List C) (i : ℕ)
+    → length xs ≤ i → take i (zip (map f xs) ys) ≡ zip (map f xs) ys
+all-pairs f xs ys i past =
+    take_all i (zip (map f xs) ys) (omega (arith, past, zip_short f xs ys))
