@@ -1,0 +1,211 @@
+-- From the differences of a table to what is answered of them, and that the answer is one.
+use Rattle.std.proofs.Common.{◌≡◌, inl, inr, ℕ, List, Some, None, Result, Ok, Err}
+use Rattle.std.proofs.Common.{ap, arith, length, refl, sym, subst, ◌∙◌}
+use Rattle.std.specs.Prelude.{MatchResult}
+use Rattle.adjust_kernel.specs.Stations.{StationValue}
+use Rattle.byte_ends.specs.Came.{IsReadOut}
+use Rattle.byte_ends.specs.Input.{Input, Ended, BrokeOff, RanPast, input_within}
+use Rattle.byte_ends.specs.Source.{ReaderChange, Told}
+use Rattle.direction_table.proofs.LawLemmas.{one_table}
+use Rattle.direction_table.specs.declared.fault.TableFault.TheVariants as table
+use Rattle.direction_table.specs.declared.reading.TheConstants.{LONGEST_TABLE}
+use Rattle.directions_apart.specs.Apart.{stated_by}
+use Rattle.exact_adjustment.specs.Adjustments.{choice_by}
+use Rattle.gsi_file.specs.FileAnswers.{FileAnswers}
+use Rattle.least_directions.proofs.LeastLaws.{are_apart, least_of}
+use Rattle.least_directions.specs.LeastDirections.{AreApart}
+use Rattle.station_book.specs.Limits.{AreLimits, FaceLimits}
+use Rattle.station_book.specs.Stations.{SurveyedStation}
+use Rattle.station_check.specs.StationOfFile.{IsStationOfFile}
+use Rattle.station_check.specs.declared.fault.Fault.{Fault}
+use Rattle.station_compare.proofs.Comparisons.{compares_by_table}
+use Rattle.station_compare.proofs.OneAnswer.{one_answer as one_comparison}
+use Rattle.station_compare.proofs.OneStation.{same_station}
+use Rattle.station_compare.specs.Agreeing.{Agrees}
+use Rattle.station_compare.specs.Answers.{IsUnreadAtFileFault, LeavesFieldFile, LeavesTable}
+use Rattle.station_compare.specs.Comparing.{ByInput}
+use Rattle.station_compare.specs.OneAnswer.{IsSettled}
+use Rattle.station_compare.specs.declared.agreement.Agreement.{Agreement}
+use Rattle.station_compare.specs.declared.fault.CompareFault.{CompareFault}
+use Rattle.station_compare.specs.declared.fault.CompareFault.TheVariants.{File, TableRead, Table}
+use Rattle.station_compare.specs.declared.fault.CompareFault.TheVariants.{Adjust, Apart, Write}
+use Rattle.station_compare.specs.declared.fault.CompareFault.TheVariants.{Memory}
+use Rattle.station_differences.specs.Answers.{HasNoDifferences, TellsDifferences}
+use Rattle.station_differences.specs.Differences.{AreCompared}
+use Rattle.station_differences.specs.DifferenceTexts.{differences_text}
+use Rattle.station_differences.specs.OfInput.{HasNoneOf, HasNoneOfInput, IsTextOf}
+use Rattle.station_differences.specs.Stating.{IsDifferencesText, StatesDifferences}
+use Rattle.station_differences.proofs.DifferenceLaws.{some_apart}
+use Rattle.station_differences.proofs.LeastLaws.{one_list}
+
+-- Differences come of an input that ended.
+ended_by : (station : StationValue) (input : Input) (text : List ℕ) → IsTextOf station input text
+    → (bytes : List ℕ) × (input ≡ Ended bytes) × IsDifferencesText station bytes text
+ended_by station (Ended bytes) text h = (bytes, refl, h)
+ended_by station (BrokeOff bytes) text h = absurd h
+ended_by station RanPast text h = absurd h
+
+-- What is answered, where the station was found.
+pub tells_by_input : {T : Type 0} (items : T → List ℕ) (limits : FaceLimits) (file : FileAnswers)
+    (stated : Told) (name : List ℕ) (its : SurveyedStation) (r : Result T CompareFault)
+    → IsStationOfFile limits file name its
+    → MatchResult r (λ t. IsTextOf its.station (input_within LONGEST_TABLE stated) (items t))
+    (HasNoneOfInput its.station (input_within LONGEST_TABLE stated))
+    → MatchResult r (λ t. StatesDifferences limits file stated name (items t))
+    (HasNoDifferences limits file stated name)
+tells_by_input items limits file stated name its (Ok t) station h =
+    let ended = ended_by its.station (input_within LONGEST_TABLE stated) (items t) h in
+    record {
+      its = its;
+      station = station;
+      bytes = ended.0;
+      whole = ended.1;
+      differences = ended.2;
+    }
+tells_by_input items limits file stated name its (Err fault) station h =
+    λ within. compares_by_table limits file stated name within its (Err fault) station (h within)
+
+-- No fault of the field file comes of the table.
+no_file_fault : (station : StationValue) (fault : Fault) (input : Input)
+    → ByInput station None input (Err (File fault)) → ⊥
+no_file_fault station fault (Ended bytes) h = h
+no_file_fault station fault (BrokeOff bytes) (inl h) = cc
+no_file_fault station fault (BrokeOff bytes) (inr h) = cc
+no_file_fault station fault RanPast (inl h) = cc
+no_file_fault station fault RanPast (inr h) = cc
+
+module _ {T : Type 0} (items : T → List ℕ) (station : StationValue) (input : Input) where
+  -- What is answered of the station.
+  abbrev Comes : Result T CompareFault → Type 0
+  Comes r = MatchResult r (λ t. IsTextOf station input (items t)) (HasNoneOfInput station input)
+
+  -- How it leaves the field file's reader, which has ended before.
+  pub left_by_input : (r : Result T CompareFault) (gsi : ReaderChange) → Comes r → IsReadOut gsi
+      → LeavesFieldFile r gsi
+  left_by_input (Ok text) gsi h out = out
+  left_by_input (Err (File fault)) gsi h out = absurd (no_file_fault station fault input (h None))
+  left_by_input (Err TableRead) gsi h out = out
+  left_by_input (Err (Table fault)) gsi h out = out
+  left_by_input (Err (Adjust fault)) gsi h out = out
+  left_by_input (Err (Apart apart)) gsi h out = out
+  left_by_input (Err Write) gsi h out = out
+  left_by_input (Err Memory) gsi h out = out.unfailed
+
+  pub asked : (r : Result T CompareFault) (table : ReaderChange) → Comes r
+      → IsUnreadAtFileFault r table
+  asked (Ok text) table h = tt
+  asked (Err (File fault)) table h = absurd (no_file_fault station fault input (h None))
+  asked (Err TableRead) table h = tt
+  asked (Err (Table fault)) table h = tt
+  asked (Err (Adjust fault)) table h = tt
+  asked (Err (Apart apart)) table h = tt
+  asked (Err Write) table h = tt
+  asked (Err Memory) table h = tt
+
+-- How what is answered of a table's bytes leaves its reader, which has ended.
+pub left_by_bytes : {T : Type 0} (items : T → List ℕ) (station : StationValue) (bytes : List ℕ)
+    (r : Result T CompareFault) (reader : ReaderChange)
+    → MatchResult r (λ t. IsDifferencesText station bytes (items t)) (HasNoneOf station bytes)
+    → IsReadOut reader → LeavesTable r reader
+left_by_bytes items station bytes (Ok text) reader h out = out
+left_by_bytes items station bytes (Err (File fault)) reader h out = absurd (h None)
+left_by_bytes items station bytes (Err TableRead) reader h out = absurd (h None)
+left_by_bytes items station bytes (Err (Table table.TooLong)) reader h out = out.unfailed
+left_by_bytes items station bytes (Err (Table (table.Row number kind))) reader h out = out
+left_by_bytes items station bytes (Err (Table (table.Missing target))) reader h out = out
+left_by_bytes items station bytes (Err (Table table.Memory)) reader h out = out.unfailed
+left_by_bytes items station bytes (Err (Adjust fault)) reader h out = out
+left_by_bytes items station bytes (Err (Apart apart)) reader h out = out
+left_by_bytes items station bytes (Err Write) reader h out = out.unfailed
+left_by_bytes items station bytes (Err Memory) reader h out = out.unfailed
+
+-- The differences of a table's bytes from a station are one text.
+one_text : (station : StationValue) (bytes a b : List ℕ) → IsDifferencesText station bytes a
+    → IsDifferencesText station bytes b → a ≡ b
+one_text station bytes a b p q =
+    let directions = one_table station.targets bytes p.directions q.directions p.states q.states in
+    p.text_is
+    ∙ ap differences_text (one_list station q.directions p.rows q.rows
+    (subst (λ ds. AreCompared station ds p.rows) directions p.compared) q.compared)
+    ∙ sym q.text_is
+
+-- A fault that is settled is so as the answer of any call.
+settled_too : (A B : Type 0) (fault : CompareFault) → IsSettled {A = A} (Err fault)
+    → IsSettled {A = B} (Err fault)
+settled_too A B (File fault) set = tt
+settled_too A B TableRead set = tt
+settled_too A B (Table fault) set = tt
+settled_too A B (Adjust fault) set = set
+settled_too A B (Apart apart) set = tt
+settled_too A B Write set = tt
+settled_too A B Memory set = absurd set
+
+module _ (limits : FaceLimits) (small : AreLimits limits) (file : FileAnswers) (stated : Told)
+    (name : List ℕ) where
+  two_texts : (a b : List ℕ) → StatesDifferences limits file stated name a
+      → StatesDifferences limits file stated name b → a ≡ b
+  two_texts a b p q =
+      let its = same_station limits small file name p.its q.its p.station q.station in
+      let ended : Ended p.bytes ≡ Ended q.bytes = sym p.whole ∙ q.whole in
+      let bytes : p.bytes ≡ q.bytes = cc in
+      one_text q.its.station q.bytes a b
+      (subst (λ (o : SurveyedStation). IsDifferencesText o.station q.bytes a) its
+      (subst (λ (bs : List ℕ). IsDifferencesText p.its.station bs a) bytes p.differences))
+      q.differences
+
+  -- Where there are differences, the table agrees within some limit.
+  agrees_too : (text : List ℕ) → StatesDifferences limits file stated name text
+      → (apart : ℕ) × (a : Agreement) × Agrees limits file stated name (Some apart) a
+  agrees_too text p =
+      let station = p.its.station in
+      let d = p.differences in
+      let has = d.compared.rounded.adjustable in
+      let c = choice_by has.adjustment in
+      let least = least_of station has in
+      let some = some_apart (length station.targets) c (stated_by d.directions) _ least.positive
+      (d.compared.differ c has.adjustment.turns least) in
+      let are : AreApart station (stated_by d.directions) some.0 =
+      are_apart station has.rules has.adjustment has.tied has.exact has.limited
+      (stated_by d.directions) some.0 some.2 in (
+        some.0,
+        record { name = station.name; targets = length station.targets; apart = some.0 },
+        record {
+          its = p.its;
+          station = p.station;
+          bytes = p.bytes;
+          whole = p.whole;
+          directions = d.directions;
+          states = d.states;
+          adjustable = are.adjustable;
+          brought = λ c turns least. (are.from_each c turns least).brought;
+          no_nearer = λ n fewer c turns least. (are.from_each c turns least).no_nearer n fewer;
+          agrees = omega arith;
+          named = refl;
+          counted = refl;
+        },
+      )
+
+  -- Differences and a fault don't stand beside each other.
+  never_both : (text : List ℕ) (fault : CompareFault) → IsSettled {A = List ℕ} (Err fault)
+      → StatesDifferences limits file stated name text
+      → HasNoDifferences limits file stated name fault → ⊥
+  never_both text fault set p h =
+      let (apart, a, agrees) = agrees_too text p in
+      let e : Ok a ≡ Err fault =
+      one_comparison limits small file stated name (Some apart) (Ok a) (Err fault) tt
+      (settled_too (List ℕ) Agreement fault set) agrees (h (Some apart)) in
+      cc
+
+  -- A table has one answer of its differences.
+  pub one_answer : (r s : Result (List ℕ) CompareFault) → IsSettled r → IsSettled s
+      → TellsDifferences limits file stated name r → TellsDifferences limits file stated name s
+      → r ≡ s
+  one_answer (Ok a) (Ok b) set also p h = ap Ok (two_texts a b p h)
+  one_answer (Ok a) (Err fault) set also p h = absurd (never_both a fault also p h)
+  one_answer (Err fault) (Ok b) set also p h = absurd (never_both b fault set h p)
+  one_answer (Err fault) (Err other) set also p h =
+      let e : Err fault ≡ Err other =
+      one_comparison limits small file stated name None (Err fault) (Err other)
+      (settled_too (List ℕ) Agreement fault set) (settled_too (List ℕ) Agreement other also) (p None) (h None) in
+      let same : fault ≡ other = cc in
+      ap Err same

@@ -1,0 +1,7 @@
+pub mod SameArcs
+pub mod FirstArcs
+pub mod MiddleLaws
+pub mod DifferenceLaws
+pub mod RowLaws
+pub mod LeastLaws
+pub mod AnswerLaws

@@ -1,0 +1,97 @@
+use Rattle.std.proofs.Common.{◌≡◌, Err, [], List, ℕ, ap, refl, rules, sym, subst, ◌∙◌, option_copied}
+use Rattle.std.specs.Prelude.{MatchResult}
+use Rattle.adjust_kernel.specs.Stations.{StationValue}
+use Rattle.byte_ends.proofs.Coming.{given_none, some_left}
+use Rattle.byte_ends.specs.Came.{BytesCame}
+use Rattle.byte_ends.specs.Input.{input_within}
+use Rattle.byte_ends.specs.Source.{reader_change}
+use Rattle.direction_table.specs.declared.reading.TheConstants.{LONGEST_TABLE}
+use Rattle.station_check.proofs.LawLemmas.{station_of_file}
+use Rattle.station_compare.proofs.Comparisons.{compares_by_file, left_alone, left_by_file, unasked}
+use Rattle.station_compare.specs.Faults.{of_file}
+use Rattle.station_differences.specs.OfInput.{HasNoneOfInput, IsTextOf}
+use Rattle.station_differences.proofs.AnswerLaws.{asked, left_by_input, tells_by_input}
+use Rattle.station_differences.proofs.differences.differences_text.Goals as goal
+
+pub returns : goal.returns
+returns g c =
+    let stations = c.in_ok-stations.stations in
+    let its = c.in-Some.surveyed.now in
+    let answer = c.text_of_station.result in
+    let file = rw c.in_ok-stations.was at c.stations_of_file-surveyed.ensures.surveys in
+    let s = file.came in
+    let table = reader_change g.Q.Source.told g.Q.Source.failed g.Q.Source.gave c.args.table.now
+    c.text_of_station.new.table in
+    let q = subst (λ (station : StationValue). BytesCame table
+    (λ stated. MatchResult answer
+    (λ text. IsTextOf station (input_within LONGEST_TABLE stated) text.items)
+    (HasNoneOfInput station (input_within LONGEST_TABLE stated))))
+    c.station.ensures c.text_of_station.ensures.tells in
+    let left = some_left (g.Q.Source.told c.text_of_station.new.table) in
+    let by_input = q.so left.0 left.1 in (
+      c.stations_of_file-surveyed.result.1,
+      record {
+        gsi_bytes = s.given;
+        gsi_reads = s.by_reads;
+        table_bytes = q.given;
+        table_reads = q.by_reads;
+        so = λ gsi_left table_left gsi_may table_may.
+            tells_by_input (λ text. text.items) c.args.limits _ _ c.args.name.now its answer
+            ((station_of_file c.args.limits _ c.args.name.now its c.recall.ensures).0 (record {
+              stations = stations;
+              survey = s.so gsi_left gsi_may;
+              named = sym c.get.ensures ∙ ap option_copied c.in-Some.is;
+            })) (q.so table_left table_may);
+        unread = asked (λ text. text.items) its.station _ answer _ by_input;
+        gsi_reader = left_by_input (λ text. text.items) its.station _ answer _ by_input file.left;
+        table_reader = c.text_of_station.ensures.reader;
+      },
+    )
+
+pub returns-in_default : goal.returns-in_default
+returns-in_default g c =
+    let file = rw c.in_ok-stations.was at c.stations_of_file-surveyed.ensures.surveys in
+    let s = file.came in (
+      c.stations_of_file-surveyed.result.1,
+      record {
+        gsi_bytes = s.given;
+        gsi_reads = s.by_reads;
+        table_bytes = [];
+        table_reads = given_none g.Q.Source.told g.Q.Source.failed g.Q.Source.gave
+            c.args.table.now;
+        so = λ gsi_left table_left gsi_may table_may within. record {
+          stations = c.in_ok-stations.stations;
+          survey = s.so gsi_left gsi_may;
+          none = sym c.get.ensures ∙ ap option_copied c.in_default.is;
+        };
+        unread = refl;
+        gsi_reader = file.left;
+        table_reader = refl;
+      },
+    )
+
+pub returns-in_err-stations : goal.returns-in_err-stations
+returns-in_err-stations g c =
+    let fault = c.in_err-stations.field-0.0 in
+    let file = rw c.in_err-stations.was at c.stations_of_file-surveyed.ensures.surveys in
+    let of_file_fault = rw c.in_err-stations.was at c.stations_of_file-surveyed.ensures.of_file in
+    let s = file.came in
+    let is_its : c.from_residual.result ≡ Err (of_file fault) = search rules in
+    let left = left_by_file _ fault c.from_residual.result _ c.in_err-stations.was is_its
+    c.stations_of_file-surveyed.ensures.surveys.left in
+    rw is_its (
+      c.stations_of_file-surveyed.result.1,
+      record {
+        gsi_bytes = s.given;
+        gsi_reads = s.by_reads;
+        table_bytes = [];
+        table_reads = given_none g.Q.Source.told g.Q.Source.failed g.Q.Source.gave
+            c.args.table.now;
+        so = λ gsi_left table_left gsi_may table_may within.
+            compares_by_file c.args.limits _ _ c.args.name.now within fault of_file_fault
+            (s.so gsi_left gsi_may);
+        unread = unasked (List ℕ) fault _ refl;
+        gsi_reader = rw is_its at left;
+        table_reader = left_alone (List ℕ) fault _ refl;
+      },
+    )

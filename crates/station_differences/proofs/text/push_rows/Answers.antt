@@ -1,0 +1,44 @@
+use Rattle.std.proofs.Common.{List, ℕ, Bool, ◌++◌, ◌∙◌, ap, map, take, subst, FitsSigned, rules}
+use Rattle.std.specs.Int.{w32}
+use mir.Val.{to_z, of_z}
+use Rattle.std.proofs.lemmas.Int.{to_z-of_z}
+use Rattle.std.proofs.lemmas.List.{take_all}
+use Rattle.angle_texts.specs.MgonTexts.{mgon_text}
+use Rattle.direction_table.specs.Texts.{direction_text}
+use Rattle.sheet_format.specs.Texts.{HasWritten, rows_text}
+use Rattle.sheet_format.proofs.TextRows.{entry-more}
+use Rattle.station_differences.specs.DifferenceTexts.{are_short, row_of, stated_text}
+use Rattle.station_differences.proofs.text.push_rows.Goals as goal
+
+pub loop-row-preserved : goal.loop-row-preserved
+loop-row-preserved g c text h =
+    let row = c.row-item.result in
+    let short = are_short c.args.rows.now in
+    let fits : FitsSigned w32 row.difference = search rules in
+    let stated = c.as_slice.ensures.value ∙ c.in_ok-push_stated.ensures
+    ∙ ap (λ (t : List ℕ). t ++ stated_text c.are_short-short.result row.stated)
+    c.clear.ensures.items
+    ∙ ap (λ (b : Bool). stated_text b row.stated) c.are_short-short.ensures in
+    let least = c.as_slice-in-loop-row.ensures.value ∙ c.in_ok-push_gon.ensures
+    ∙ ap (λ (t : List ℕ). t ++ direction_text 6 row.least) c.clear-in-loop-row.ensures.items in
+    let difference = c.as_slice-in-loop-row-2.ensures.value ∙ c.in_ok-push_mgon.ensures
+    ∙ ap (λ (t : List ℕ). t ++ mgon_text (to_z w32 (of_z w32 row.difference)))
+    c.clear-in-loop-row-2.ensures.items
+    ∙ ap mgon_text (to_z-of_z w32 row.difference fits) in
+    let before = text ++ rows_text (map (row_of short) (take c.loop-row.row-index c.args.rows.now))
+    in
+    let written = rw (
+      c.bytes.ensures.value,
+      stated,
+      least,
+      difference,
+    ) at c.in_ok-push_row.ensures in
+    let more = entry-more (row_of short) text c.args.rows.now c.loop-row.row-index row
+    c.row-item.is c.loop-row-test.true in
+    subst (λ (t : List ℕ). HasWritten {W = g.row.W.Denot} g.W.Write.contents c.push_row.new.writer
+    t) more (written before (c.loop-row.invariant text h))
+
+pub returns : goal.returns
+returns g c text h =
+    let whole = take_all c.loop-row.row-index c.args.rows.now c.loop-row-test.false in
+    rw whole at (c.loop-row.invariant text h)

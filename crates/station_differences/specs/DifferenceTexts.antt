@@ -1,0 +1,31 @@
+-- The text of the differences of a table from its station (profile).
+use Rattle.std.specs.Prelude.{ℕ, ◌%◌, ◌==◌, Bool, if◌then◌else◌, List, [], ◌∷◌, map, codes}
+use Rattle.std.specs.List.{list_all}
+use Rattle.angle_texts.specs.MgonTexts.{mgon_text}
+use Rattle.direction_table.specs.Texts.{direction_text}
+use Rattle.directions_apart.specs.declared.units.TheConstants.{UNIT}
+use Rattle.sheet_format.specs.Texts.{rows_text}
+use Rattle.station_differences.specs.declared.compared.TargetDifference.{TargetDifference}
+
+-- six decimals of a gon write each stated direction of these rows exactly
+abbrev pub are_short : List TargetDifference → Bool
+are_short rows = list_all (λ row. row.stated % UNIT == 0) rows
+
+-- A stated direction as text, in gon: with six decimals, or with nine where some row needs more.
+abbrev pub stated_text : Bool → ℕ → List ℕ
+stated_text short direction = direction_text (if short then 6 else 9) direction
+
+-- the titles
+abbrev pub titles : List (List ℕ)
+titles = codes "target" ∷ codes "stated" ∷ codes "least squares" ∷ codes "difference" ∷ []
+
+-- The row of a target: its name, its stated direction and its least-squares direction in gon, and
+-- their difference in mgon.
+abbrev pub row_of : Bool → TargetDifference → List (List ℕ)
+row_of short row =
+    row.target ∷ stated_text short row.stated ∷ direction_text 6 row.least
+    ∷ mgon_text row.difference ∷ []
+
+-- The text: the titles, and the rows of the targets, in their order.
+abbrev pub differences_text : List TargetDifference → List ℕ
+differences_text rows = rows_text (titles ∷ map (row_of (are_short rows)) rows)

@@ -1,0 +1,12 @@
+-- The public definitions, which public contracts and laws cite, in the order in which a reader
+-- needs them.
+pub mod BestArcs
+pub mod Differences
+pub mod DifferenceTexts
+pub mod Stating
+pub mod Answers
+pub mod Runs
+-- The inside.
+pub mod Angles
+pub mod ByAdjustment
+pub mod OfInput

@@ -1,0 +1,30 @@
+//! Angles on the circle.
+ghost use Rattle.std.specs.Prelude.{◌+◌, ◌<◌, pos};
+ghost use Rattle.directions_apart.specs.Arcs.{IsWayRound};
+ghost use Rattle.directions_apart.specs.declared.units.TheConstants.{CIRCLE};
+ghost use Rattle.wide_number.specs.Limbs.{WIDE_LIMIT};
+
+use directions_apart::CIRCLE;
+use wide_number::Wide;
+
+/// A stated direction on the circle: from 0 and below it, in units of 0.000000001 gon.
+pub(crate) fn on_circle(stated: i64) -> u64
+    ensures { IsWayRound CIRCLE (pos 0) stated result }
+{
+    stated.rem_euclid(CIRCLE as i64) as u64
+}
+
+/// How far it is from one place on a circle onward to another: less than the circle.
+pub(crate) fn onward(circle: &Wide, from: &Wide, to: &Wide) -> Wide
+    requires from { from.now < circle.now }
+    requires to { to.now < circle.now }
+    requires fits { circle.now + circle.now < WIDE_LIMIT }
+    ensures { IsWayRound circle.now (pos from.now) (pos to.now) result }
+{
+    let mut way = to.times(1);
+    if way.is_below(from) {
+        way.add_product(circle, 1);
+    }
+    way.subtract(from);
+    way
+}

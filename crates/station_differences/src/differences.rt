@@ -1,0 +1,112 @@
+//! The differences of a table of directions from a station of a field file.
+ghost use Rattle.std.specs.Prelude.{MatchResult};
+ghost use Rattle.byte_ends.specs.Came.{BytesCame};
+ghost use Rattle.byte_ends.specs.Input.{input_within};
+ghost use Rattle.byte_ends.specs.Sink.{writer_change};
+ghost use Rattle.byte_ends.specs.Source.{reader_change, UntilDropped};
+ghost use Rattle.direction_table.specs.declared.reading.TheConstants.{LONGEST_TABLE};
+ghost use Rattle.station_compare.specs.Answers.{LeavesTable};
+ghost use Rattle.station_differences.specs.Answers.{HasNoDifferences, ReadsBoth};
+ghost use Rattle.station_differences.specs.OfInput.{HasNoneOf, HasNoneOfInput, IsTextOf};
+ghost use Rattle.station_differences.specs.Runs.{IsDifferencesRun};
+ghost use Rattle.station_differences.specs.Stating.{IsDifferencesText, StatesDifferences};
+
+use crate::compared::target_differences;
+use crate::text::text_of;
+use adjust_kernel::Station;
+use byte_ends::{Sink, Source, read_whole};
+use direction_table::{LONGEST_TABLE, read_table};
+use station_book::Limits;
+use station_check::{Fault, stations_of_file, write_whole};
+use station_compare::CompareFault;
+use std::alloc::Global;
+
+/// The text of the differences of a table from the station of this name: a row of titles, and a row
+/// for each of its targets, with the stated direction, the least-squares direction, and the
+/// difference of the two.
+///
+/// The least-squares directions are least over all directions, orientations and full turns. One
+/// rotation is taken off the differences: the one that makes the largest smallest. No least-squares
+/// residual may be above 2,000 half units (0.005 mgon each).
+///
+/// The field file is read to its end first, and the table's reader is not asked before.
+///
+/// # Errors
+///
+/// Those of `station_compare::compare_bytes`, in their order: the first fault of the file; then
+/// `NoStation`; then that of the table; then that of the adjustment. `Apart` is none of them.
+/// `Memory` may stand in the place of any answer.
+pub fn differences_text<R: Source, Q: Source>(
+    alloc: Global,
+    gsi: R,
+    table: &mut Q,
+    name: &[u8],
+    limits: Limits,
+) -> Result<Vec<u8>, CompareFault>
+    // All of it is said of the very bytes that the two readers gave, whatever they are.
+    ensures { UntilDropped R.told R.failed R.gave gsi (λ gsi. ReadsBoth gsi
+        (reader_change Q.told Q.failed Q.gave table.old table.new) result
+        (λ file stated. MatchResult result
+        (λ text. StatesDifferences limits file stated name.now text.items)
+        (HasNoDifferences limits file stated name.now))) }
+{
+    // The promise rests on laws of limits that were made.
+    limits.recall();
+    let (surveyed, _gsi) = stations_of_file(alloc, gsi, limits);
+    let stations = surveyed?;
+    let Some(surveyed) = stations.get(name) else {
+        return Err(CompareFault::File(Fault::NoStation));
+    };
+    text_of_station(alloc, surveyed.station(), table)
+}
+
+/// Writes that text, and flushes once.
+///
+/// # Errors
+///
+/// Those of the text; `Write` where a call of the writer failed. At any other nothing was asked of
+/// the writer.
+pub fn write_differences<R: Source, Q: Source, W: Sink>(
+    alloc: Global,
+    gsi: R,
+    table: &mut Q,
+    name: &[u8],
+    limits: Limits,
+    writer: &mut W,
+) -> Result<(), CompareFault>
+    ensures { UntilDropped R.told R.failed R.gave gsi (λ gsi. IsDifferencesRun limits gsi
+        (reader_change Q.told Q.failed Q.gave table.old table.new) name.now result
+        (writer_change W.failed W.holds W.handed_on writer.old writer.new)) }
+{
+    let text = differences_text(alloc, gsi, table, name, limits)?;
+    write_whole(writer, &text)?;
+    Ok(())
+}
+
+/// The text of what comes of the table's reader, for the station.
+fn text_of_station<Q: Source>(
+    alloc: Global,
+    station: &Station,
+    table: &mut Q,
+) -> Result<Vec<u8>, CompareFault>
+    ensures tells { BytesCame (reader_change Q.told Q.failed Q.gave table.old table.new)
+        (λ stated. MatchResult result
+        (λ text. IsTextOf station.now (input_within LONGEST_TABLE stated) text.items)
+        (HasNoneOfInput station.now (input_within LONGEST_TABLE stated))) }
+    ensures reader { LeavesTable result
+        (reader_change Q.told Q.failed Q.gave table.old table.new) }
+{
+    let bytes = read_whole(alloc, table, LONGEST_TABLE)?;
+    text_of_table(alloc, station, &bytes)
+}
+
+/// The text of the bytes of a table.
+fn text_of_table(alloc: Global, station: &Station, bytes: &[u8]) -> Result<Vec<u8>, CompareFault>
+    ensures { MatchResult result
+        (λ text. IsDifferencesText station.now bytes.now text.items)
+        (HasNoneOf station.now bytes.now) }
+{
+    let stated = read_table(alloc, station.targets(), bytes)?;
+    let rows = target_differences(alloc, station, &stated)?;
+    Ok(text_of(alloc, &rows)?)
+}

@@ -1,0 +1,24 @@
+//! What a table of directions states beside the least-squares directions of its station, target by
+//! target.
+//!
+//! `write_differences` reads a field file and a table, and writes for each target of a station what
+//! the table states, the least-squares direction, and the difference of the two after the rotation
+//! that makes the largest difference smallest: exactly rounded. `run_differences` does the same as a
+//! command: the text, the line of a refusal, and the exit status. The faults are those of the
+//! comparison, but that the directions are apart is none.
+#![tactic(auto)]
+
+mod angles;
+mod arc;
+mod circle;
+mod compared;
+mod difference;
+mod differences;
+pub mod laws;
+mod runs;
+mod text;
+
+pub use compared::{TargetDifference, target_differences};
+pub use differences::{differences_text, write_differences};
+pub use runs::run_differences;
+pub use text::text_of;

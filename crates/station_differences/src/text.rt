@@ -1,0 +1,126 @@
+//! The text of differences, made in memory.
+//!
+//! The rows go through `csv`'s writer, which puts quotes where a name asks for them.
+ghost use Rattle.std.specs.Prelude.{◌≡◌, ◌+◌, ◌%◌, ◌++◌, map, IfOk, OnOk};
+ghost use Rattle.csv.specs.Writing.{default_writer, row_text};
+ghost use Rattle.sheet_format.specs.Texts.{Writes, rows_text};
+ghost use Rattle.station_differences.specs.DifferenceTexts as spec;
+
+use crate::compared::TargetDifference;
+use angle_texts::{push_gon, push_mgon};
+use csv::{Writer, WriterBuilder};
+use directions_apart::UNIT;
+use std::alloc::{AllocError, Global};
+use std::io::Write;
+
+/// The text of the targets of a station: a row of titles, and a row for each in their order.
+///
+/// The only error is that memory was refused.
+pub fn text_of(alloc: Global, rows: &[TargetDifference]) -> Result<Vec<u8>, AllocError>
+    ensures { IfOk result (λ text. text.items ≡ spec.differences_text rows.now) }
+{
+    let mut writer = WriterBuilder::new().from_writer(Vec::new(alloc));
+    push_all(alloc, &mut writer, rows)?;
+    writer.into_inner().map_err(|_| AllocError)
+}
+
+/// Writes the titles and the rows.
+fn push_all<W: Write + Drop>(
+    alloc: Global,
+    writer: &mut Writer<W>,
+    rows: &[TargetDifference],
+) -> Result<(), AllocError>
+    ensures { OnOk result (Writes W.contents writer.old writer.new
+        (spec.differences_text rows.now)) }
+{
+    push_titles(writer)?;
+    push_rows(alloc, writer, rows)
+}
+
+/// Writes the titles.
+fn push_titles<W: Write + Drop>(writer: &mut Writer<W>) -> Result<(), AllocError>
+    ensures { OnOk result (Writes W.contents writer.old writer.new
+        (row_text default_writer spec.titles)) }
+{
+    push_row(
+        writer,
+        &[
+            b"target".as_slice(),
+            b"stated".as_slice(),
+            b"least squares".as_slice(),
+            b"difference".as_slice(),
+        ],
+    )
+}
+
+/// Writes the rows of the targets. The numbers of all rows are made into text in the same places.
+fn push_rows<W: Write + Drop>(
+    alloc: Global,
+    writer: &mut Writer<W>,
+    rows: &[TargetDifference],
+) -> Result<(), AllocError>
+    ensures { OnOk result (Writes W.contents writer.old writer.new
+        (rows_text (map (spec.row_of (spec.are_short rows.now)) rows.now))) }
+{
+    let short = are_short(rows);
+    let mut stated = Vec::new(alloc);
+    let mut least = Vec::new(alloc);
+    let mut difference = Vec::new(alloc);
+    for row in rows {
+        stated.clear();
+        push_stated(&mut stated, short, row.stated)?;
+        least.clear();
+        push_gon(&mut least, row.least)?;
+        difference.clear();
+        push_mgon(&mut difference, row.difference)?;
+        push_row(
+            writer,
+            &[
+                row.target.bytes(),
+                stated.as_slice(),
+                least.as_slice(),
+                difference.as_slice(),
+            ],
+        )?;
+    }
+    Ok(())
+}
+
+/// Writes one row after those that were written. An error of `csv` is out of memory: the text is
+/// made there.
+fn push_row<W: Write + Drop>(writer: &mut Writer<W>, fields: &[&[u8]]) -> Result<(), AllocError>
+    ensures { OnOk result (Writes W.contents writer.old writer.new
+        (row_text default_writer (map (λ f. f.now) fields.now))) }
+{
+    writer.write_fields(fields).map_err(|_| AllocError)
+}
+
+/// Whether six decimals of a gon write each stated direction exactly.
+fn are_short(rows: &[TargetDifference]) -> bool
+    ensures { result ≡ spec.are_short rows.now }
+{
+    rows.iter().all(|row| row.stated % UNIT == 0)
+}
+
+/// Adds a stated direction in gon: with six decimals, or with nine where these are not enough.
+fn push_stated(text: &mut Vec<u8>, short: bool, direction: u64) -> Result<(), AllocError>
+    ensures { OnOk result
+        (text.new.items ≡ text.old.items ++ spec.stated_text short direction) }
+{
+    push_gon(text, direction)?;
+    if !short {
+        text.extend_from_slice(&[
+            digit(direction / 100),
+            digit(direction / 10),
+            digit(direction),
+        ])?;
+    }
+    Ok(())
+}
+
+/// The last digit of a number, as text.
+fn digit(number: u64) -> u8
+    ensures { result ≡ 48 + number % 10 }
+{
+    b'0' + (number % 10) as u8
+}

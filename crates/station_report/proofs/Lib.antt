@@ -1,0 +1,6 @@
+pub mod SquareLaws
+pub mod DeviationLaws
+pub mod PlaceLaws
+pub mod FaceLaws
+pub mod ComputedLaws
+pub mod AnswerLaws

@@ -1,0 +1,12 @@
+-- The public definitions, which public contracts and laws cite, in the order in which a reader
+-- needs them.
+pub mod Readings
+pub mod Deviations
+pub mod Columns
+pub mod ReportTexts
+pub mod Stating
+pub mod Answers
+pub mod Runs
+-- The inside.
+pub mod Factors
+pub mod Computing

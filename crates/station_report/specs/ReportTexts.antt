@@ -1,0 +1,203 @@
+-- The text of a report (profile), in the order in which it is printed. Lines are at most 100 bytes
+-- wide, but for the one that names the field file.
+use Rattle.std.specs.Prelude.{ℕ, ◌+◌, ◌*◌, ◌%◌, List, [], ◌++◌, length, map, codes, decimal, ℤ, pos}
+use Rattle.std.specs.Prelude.{Option, Some, None, position, slice_index_or, if◌then◌else◌, ◌==◌}
+use Rattle.std.specs.Prelude.{◌&&◌, nat_le, nat_lt}
+use Rattle.std.specs.Option.{option_map_or}
+use Rattle.adjust_kernel.specs.Stations.{StationValue}
+use Rattle.adjust_kernel.specs.declared.obs.Obs.{Obs}
+use Rattle.angle_texts.specs.MgonTexts.{mgon_text, short_mgon_text}
+use Rattle.direction_table.specs.Texts.{direction_text}
+use Rattle.directions_apart.specs.declared.units.TheConstants.{HALF_UNIT}
+use Rattle.station_book.specs.Limits.{FaceLimits}
+use Rattle.station_book.specs.Stations.{SurveyedStation}
+use Rattle.station_report.specs.Columns.{each_place, left_text, right_text}
+use Rattle.station_report.specs.Deviations.{degrees_of}
+use Rattle.station_report.specs.Readings.{name_of, number_of, reading_one, reading_two, reduced}
+use Rattle.station_report.specs.Readings.{set_at, target_at, two_c_at, two_i_at, value_at}
+use Rattle.station_residuals.specs.declared.adjusted.AdjustedObs.{AdjustedObs}
+
+-- a direction in gon with five decimals, as it was read: of units of 0.00001 gon
+abbrev pub read_text : ℕ → List ℕ
+read_text units = direction_text 5 (10_000 * units)
+
+-- a direction in gon with six decimals: of half units
+abbrev pub mean_text : ℕ → List ℕ
+mean_text half_units = direction_text 6 (HALF_UNIT * half_units)
+
+-- a line that says what something is: its name, in a column of 22, and the text
+abbrev pub entry_text : List ℕ → List ℕ → List ℕ
+entry_text name text = left_text 22 name ++ (text ++ codes "\n")
+
+-- the program and its version, the field file, and the station
+abbrev pub named_text : List ℕ → StationValue → List ℕ
+named_text path station =
+    codes "station_check 1.0.0: report of the sets of a station\n\n"
+    ++ (entry_text (codes "Field file") path ++ entry_text (codes "Station") station.name)
+
+-- how much was measured
+abbrev pub counts_text : StationValue → List ℕ
+counts_text station =
+    entry_text (codes "Sets") (decimal (length station.sets))
+    ++ (entry_text (codes "Targets") (decimal (length station.targets))
+    ++ entry_text (codes "Two-face directions") (decimal (length station.obs)))
+
+-- the limits of face differences
+abbrev pub limits_text : FaceLimits → List ℕ
+limits_text limits =
+    entry_text (codes "Limit of 2c") (short_mgon_text (pos limits.two_c) ++ codes " mgon")
+    ++ entry_text (codes "Limit of 2i") (short_mgon_text (pos limits.two_i) ++ codes " mgon")
+
+-- The head: the program and its version, the field file as it was named, the station, how much was
+-- measured, and the limits of face differences.
+abbrev pub head_text : List ℕ → FaceLimits → StationValue → List ℕ
+head_text path limits station =
+    named_text path station ++ (counts_text station ++ limits_text limits)
+
+-- the number of the set of an observation, and the name of its target
+abbrev pub label_text : StationValue → ℕ → List ℕ
+label_text station place =
+    right_text 5 (decimal (number_of station (set_at station place)))
+    ++ (codes "  " ++ left_text 16 (name_of station (target_at station place)))
+
+-- what was read in face I and in face II, and the mean
+abbrev pub angles_text : SurveyedStation → ℕ → List ℕ
+angles_text its place =
+    right_text 12 (read_text (reading_one (value_at its.station place) (two_c_at its place)))
+    ++ (right_text 12 (read_text (reading_two (value_at its.station place) (two_c_at its place)))
+    ++ right_text 13 (mean_text (reduced its.station place)))
+
+-- 2c and 2i, and the end of the line
+abbrev pub differences_text : SurveyedStation → ℕ → List ℕ
+differences_text its place =
+    right_text 11 (short_mgon_text (two_c_at its place))
+    ++ (right_text 11 (short_mgon_text (two_i_at its place)) ++ codes "\n")
+
+-- The line of an observation: the number of its set, the name of its target, what was read in face
+-- I and in face II, their mean less that of the first observation of the set, 2c and 2i.
+abbrev pub reading_line : SurveyedStation → ℕ → List ℕ
+reading_line its place =
+    label_text its.station place ++ (angles_text its place ++ differences_text its place)
+
+-- the same, if the observation is of this set
+abbrev pub line_of : SurveyedStation → ℕ → ℕ → List ℕ
+line_of its set place = if set_at its.station place == set then reading_line its place else []
+
+-- The lines of a set, after an empty one.
+abbrev pub set_text : SurveyedStation → ℕ → List ℕ
+set_text its set = codes "\n" ++ each_place (length its.station.obs) (line_of its set)
+
+-- The readings, set by set.
+abbrev pub readings_text : SurveyedStation → List ℕ
+readings_text its =
+    codes "\nReadings in gon, mean of both faces counted from the first row of the set, 2c and 2i in mgon\n\n"
+    ++ (codes "  Set  Target                Face I     Face II         Mean         2c         2i\n"
+    ++ each_place (length its.station.sets) (set_text its))
+
+-- The line of a target: its name, and its adjusted direction.
+abbrev pub direction_line : StationValue → List ℕ → ℕ → List ℕ
+direction_line station directions target =
+    codes "  " ++ (left_text 16 (name_of station target)
+    ++ (right_text 13 (direction_text 6 (slice_index_or directions target 0)) ++ codes "\n"))
+
+-- The adjusted directions, target by target.
+abbrev pub directions_text : StationValue → List ℕ → List ℕ
+directions_text station directions =
+    codes "\nAdjusted directions in gon, by least squares, counted from the first target\n\n"
+    ++ (codes "  Target              Direction\n\n"
+    ++ each_place (length station.targets) (direction_line station directions))
+
+-- the residual of the observation at a place
+abbrev pub residual_at : List AdjustedObs → ℕ → ℤ
+residual_at rows place = slice_index_or (map (λ (row : AdjustedObs). row.residual) rows) place (pos 0)
+
+-- the place of the observation of a set and a target, if there is one
+abbrev pub place_of : StationValue → ℕ → ℕ → Option ℕ
+place_of station set target =
+    position (λ (o : Obs). (o.set == set) && (o.target == target)) station.obs
+
+-- the residual of a set and a target in mgon; a dash where the set has no such observation
+abbrev pub cell_text : StationValue → List AdjustedObs → ℕ → ℕ → List ℕ
+cell_text station rows target set =
+    option_map_or (λ place. mgon_text (residual_at rows place)) (place_of station set target)
+    (codes "-")
+
+-- what stands in the column of a set, if it is one of the ten from one on
+abbrev pub column_text : ℕ → ℕ → List ℕ → List ℕ
+column_text start set text =
+    if nat_le start set && nat_lt set (start + 10) then right_text 8 text else []
+
+-- the numbers of ten sets from one on, or of as many as there are, in their columns
+abbrev pub number_columns : StationValue → ℕ → List ℕ
+number_columns station start =
+    each_place (length station.sets)
+    (λ set. column_text start set (decimal (number_of station set)))
+
+-- the line above the columns
+abbrev pub numbers_line : StationValue → ℕ → List ℕ
+numbers_line station start =
+    codes "\n  Target      Set " ++ (number_columns station start ++ codes "\n\n")
+
+-- the residuals of a target in these sets, in their columns
+abbrev pub cell_columns : StationValue → List AdjustedObs → ℕ → ℕ → List ℕ
+cell_columns station rows start target =
+    each_place (length station.sets)
+    (λ set. column_text start set (cell_text station rows target set))
+
+-- the line of a target: its name, and its residuals in these sets
+abbrev pub residuals_line : StationValue → List AdjustedObs → ℕ → ℕ → List ℕ
+residuals_line station rows start target =
+    codes "  " ++ (left_text 16 (name_of station target)
+    ++ (cell_columns station rows start target ++ codes "\n"))
+
+-- the residuals of ten sets from one on: their numbers, and a line for each target
+abbrev pub group_text : StationValue → List AdjustedObs → ℕ → List ℕ
+group_text station rows start =
+    numbers_line station start
+    ++ each_place (length station.targets) (residuals_line station rows start)
+
+-- the same, at each tenth set
+abbrev pub group_at : StationValue → List AdjustedObs → ℕ → List ℕ
+group_at station rows start = if start % 10 == 0 then group_text station rows start else []
+
+-- The residuals, a row for each target and a column for each set, ten sets beside each other.
+abbrev pub residuals_text : StationValue → List AdjustedObs → List ℕ
+residuals_text station rows =
+    codes "\nResiduals in mgon: adjusted direction less two-face direction\n"
+    ++ each_place (length station.sets) (group_at station rows)
+
+-- the set and the target of an observation
+abbrev pub place_text : StationValue → ℕ → List ℕ
+place_text station place =
+    decimal (number_of station (set_at station place))
+    ++ (codes ", target " ++ name_of station (target_at station place))
+
+-- the residual of an observation, with its set and its target
+abbrev pub greatest_text : StationValue → List AdjustedObs → ℕ → List ℕ
+greatest_text station rows place =
+    mgon_text (residual_at rows place) ++ (codes " mgon, set " ++ place_text station place)
+
+-- a standard deviation in mgon: of units of 0.001 mgon
+abbrev pub deviation_text : Option ℕ → List ℕ
+deviation_text None = codes "none"
+deviation_text (Some units) =
+    mgon_text (pos units) ++ codes " mgon, of one two-face direction"
+
+-- The end: the greatest residual, the degrees of freedom, and the standard deviation of one
+-- two-face direction.
+abbrev pub end_text : StationValue → List AdjustedObs → ℕ → Option ℕ → List ℕ
+end_text station rows greatest deviation =
+    codes "\n"
+    ++ (entry_text (codes "Greatest residual") (greatest_text station rows greatest)
+    ++ (entry_text (codes "Degrees of freedom") (decimal (degrees_of station))
+    ++ entry_text (codes "Standard deviation") (deviation_text deviation)))
+
+-- The report.
+abbrev pub report_text : List ℕ → FaceLimits → SurveyedStation → List ℕ → List AdjustedObs → ℕ
+    → Option ℕ → List ℕ
+report_text path limits its directions rows greatest deviation =
+    head_text path limits its.station
+    ++ (readings_text its
+    ++ (directions_text its.station directions
+    ++ (residuals_text its.station rows
+    ++ end_text its.station rows greatest deviation)))

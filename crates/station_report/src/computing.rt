@@ -1,0 +1,72 @@
+//! How it is computed.
+ghost use Rattle.std.specs.Prelude.{◌≡◌, ◌<◌, ◌≤◌, ℕ, IfErr, IfOk, length, slice_index_or};
+ghost use Rattle.adjust_kernel.specs.declared.bounds.TheConstants.{LARGEST_RESIDUAL_LIMIT};
+ghost use Rattle.directions_apart.specs.Rounding.{IsRounded};
+ghost use Rattle.directions_apart.specs.declared.units.TheConstants.{UNIT};
+ghost use Rattle.exact_adjustment.specs.Adjustments.{choice_by};
+ghost use Rattle.exact_adjustment.specs.Exact.{IsExact, KeepsLimit};
+ghost use Rattle.exact_adjustment.specs.Faults.{IsAdjustError};
+ghost use Rattle.exact_adjustment.specs.LeastOf.{AreTied};
+ghost use Rattle.station_report.specs.Computing.{IsComputedOf};
+
+use crate::computed::Computed;
+use crate::deviation::deviation_by;
+use crate::greatest::greatest_of;
+use adjust_kernel::Station;
+use directions_apart::{UNIT, rounded};
+use exact_adjustment::{AdjustError, Adjustment, adjust};
+use station_residuals::adjusted_by;
+use std::alloc::{AllocError, Global};
+
+/// The adjusted directions of a station, its residuals, the greatest of them, and the standard
+/// deviation of one two-face direction: least over all directions, orientations and full turns. No
+/// residual may be above 10 mgon. Memory is linear in the observations.
+///
+/// # Errors
+///
+/// Those of `exact_adjustment::adjust`: its `AdjustFault`, and `Memory`.
+pub fn computed_of(alloc: Global, station: &Station) -> Result<Computed, AdjustError>
+    ensures computed { IfOk result (IsComputedOf station.now) }
+    ensures fault { IfErr result (IsAdjustError station.now) }
+{
+    let adjustment = adjust(alloc, station)?;
+    Ok(computed_by(alloc, station, &adjustment)?)
+}
+
+/// The same by an adjustment of the station.
+fn computed_by(
+    alloc: Global,
+    station: &Station,
+    adjustment: &Adjustment,
+) -> Result<Computed, AllocError>
+    requires exact { IsExact station.now adjustment.now }
+    requires limited { KeepsLimit station.now adjustment.now LARGEST_RESIDUAL_LIMIT }
+    requires tied { AreTied station.now }
+    ensures { IfOk result (IsComputedOf station.now) }
+{
+    let directions = directions_by(alloc, adjustment)?;
+    let deviation = deviation_by(alloc, station, adjustment)?;
+    let rows = adjusted_by(alloc, station, adjustment)?;
+    let greatest = greatest_of(&rows);
+    Ok(Computed {
+        directions,
+        rows,
+        greatest,
+        deviation,
+    })
+}
+
+/// The directions of an adjustment's targets, rounded to 0.000001 gon.
+fn directions_by(alloc: Global, adjustment: &Adjustment) -> Result<Vec<u64>, AllocError>
+    ensures count { IfOk result (λ directions.
+        length directions.items ≡ length adjustment.now.directions) }
+    ensures each { IfOk result (λ directions. (t : ℕ) → t < length directions.items
+        → IsRounded (choice_by adjustment.now) t UNIT (slice_index_or directions.items t 0)) }
+{
+    let targets = adjustment.directions().len();
+    let mut directions = Vec::with_capacity(alloc, targets)?;
+    for target in 0..targets {
+        directions.push(rounded(adjustment, target, UNIT as u32))?;
+    }
+    Ok(directions)
+}

@@ -1,0 +1,93 @@
+//! The head of a report.
+ghost use Rattle.std.specs.Prelude.{◌≡◌, ◌≤◌, ◌++◌, OnOk, codes, decimal, pos};
+ghost use Rattle.angle_texts.specs.MgonTexts.{short_mgon_text};
+ghost use Rattle.station_book.specs.declared.limits.TheConstants.{LARGEST_LIMIT};
+ghost use Rattle.station_report.specs.ReportTexts as spec;
+
+use crate::columns::{push_count, push_left};
+use adjust_kernel::Station;
+use angle_texts::push_short_mgon;
+use station_book::{LARGEST_LIMIT, Limits};
+use std::alloc::AllocError;
+
+/// The width of the column of names.
+const NAMES: usize = 22;
+
+/// Adds a line that says what something is.
+pub(crate) fn push_entry(text: &mut Vec<u8>, name: &[u8], entry: &[u8]) -> Result<(), AllocError>
+    ensures { OnOk result (text.new.items ≡ text.old.items ++ spec.entry_text name.now entry.now) }
+{
+    push_left(text, NAMES, name)?;
+    text.extend_from_slice(entry)?;
+    text.push(b'\n')?;
+    Ok(())
+}
+
+/// Adds a line that says how many there are.
+pub(crate) fn push_counted(text: &mut Vec<u8>, name: &[u8], count: usize) -> Result<(), AllocError>
+    ensures { OnOk result
+        (text.new.items ≡ text.old.items ++ spec.entry_text name.now (decimal count)) }
+{
+    push_left(text, NAMES, name)?;
+    push_count(text, count)?;
+    text.push(b'\n')?;
+    Ok(())
+}
+
+/// Adds a line that says a limit, which is in units of 0.01 mgon.
+fn push_limit(text: &mut Vec<u8>, name: &[u8], limit: u32) -> Result<(), AllocError>
+    requires { limit ≤ LARGEST_LIMIT }
+    ensures { OnOk result (text.new.items ≡ text.old.items
+        ++ spec.entry_text name.now (short_mgon_text (pos limit) ++ codes " mgon")) }
+{
+    push_left(text, NAMES, name)?;
+    push_short_mgon(text, limit as i32)?;
+    text.extend_from_slice(b" mgon\n")?;
+    Ok(())
+}
+
+/// Adds the lines of the program, the field file and the station.
+fn push_named(text: &mut Vec<u8>, path: &[u8], station: &Station) -> Result<(), AllocError>
+    ensures { OnOk result
+        (text.new.items ≡ text.old.items ++ spec.named_text path.now station.now) }
+{
+    text.extend_from_slice(b"station_check 1.0.0: report of the sets of a station\n\n")?;
+    push_entry(text, b"Field file", path)?;
+    push_entry(text, b"Station", station.name().bytes())?;
+    Ok(())
+}
+
+/// Adds the lines of how much was measured.
+fn push_counts(text: &mut Vec<u8>, station: &Station) -> Result<(), AllocError>
+    ensures { OnOk result (text.new.items ≡ text.old.items ++ spec.counts_text station.now) }
+{
+    push_counted(text, b"Sets", station.sets().len())?;
+    push_counted(text, b"Targets", station.targets().len())?;
+    push_counted(text, b"Two-face directions", station.obs().len())?;
+    Ok(())
+}
+
+/// Adds the lines of the limits.
+fn push_limits(text: &mut Vec<u8>, limits: Limits) -> Result<(), AllocError>
+    ensures { OnOk result (text.new.items ≡ text.old.items ++ spec.limits_text limits) }
+{
+    push_limit(text, b"Limit of 2c", limits.two_c())?;
+    push_limit(text, b"Limit of 2i", limits.two_i())?;
+    Ok(())
+}
+
+/// Adds the head of a report.
+pub(crate) fn push_head(
+    text: &mut Vec<u8>,
+    path: &[u8],
+    limits: Limits,
+    station: &Station,
+) -> Result<(), AllocError>
+    ensures { OnOk result
+        (text.new.items ≡ text.old.items ++ spec.head_text path.now limits station.now) }
+{
+    push_named(text, path, station)?;
+    push_counts(text, station)?;
+    push_limits(text, limits)?;
+    Ok(())
+}

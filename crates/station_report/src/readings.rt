@@ -1,0 +1,263 @@
+//! The readings of a report.
+ghost use Rattle.std.specs.Prelude.{◌≡◌, ◌≤◌, ◌<◌, ◌+◌, ◌++◌, IfSome, OnOk, length};
+ghost use Rattle.std.specs.Option.{option_map_or};
+ghost use Rattle.adjust_kernel.specs.declared.bounds.TheConstants.{TURN};
+ghost use Rattle.station_report.specs.Columns.{each_place, right_text};
+ghost use Rattle.station_report.specs.Readings as reading;
+ghost use Rattle.station_report.specs.ReportTexts as spec;
+ghost use Rattle.angle_texts.specs.MgonTexts.{short_mgon_text};
+
+use crate::columns::{push_left, push_right, push_right_number};
+use crate::places::{faces_at, name_of, number_of, observation_at};
+use adjust_kernel::{LONGEST_NAME, Station, TURN};
+use angle_texts::{push_gon, push_short_mgon};
+use direction_table::{Decimals, push_direction};
+use directions_apart::HALF_UNIT;
+use station_book::{CIRCLE, HALF_CIRCLE, Surveyed};
+use std::alloc::{AllocError, Global};
+
+/// Units of 0.000000001 gon in 0.00001 gon, in which is read.
+const READ_UNIT: u64 = 10_000;
+
+/// The decimals of a gon with which is read.
+const READ_DECIMALS: u32 = 5;
+
+/// The direction that was read in face I, in units of 0.00001 gon.
+fn reading_one(value: u32, two_c: i32) -> u32
+    ensures value { result ≡ reading.reading_one value two_c }
+    ensures bound { result < CIRCLE }
+{
+    let twice = (i64::from(value) - i64::from(two_c)).rem_euclid(i64::from(TURN));
+    (twice / 2) as u32
+}
+
+/// The direction that was read in face II, in units of 0.00001 gon.
+fn reading_two(value: u32, two_c: i32) -> u32
+    ensures value { result ≡ reading.reading_two value two_c }
+    ensures bound { result < CIRCLE }
+{
+    let opposite = i64::from(reading_one(value, two_c) + HALF_CIRCLE);
+    (opposite + i64::from(two_c)).rem_euclid(i64::from(CIRCLE)) as u32
+}
+
+/// The place of the first observation of a set.
+fn first_of(station: &Station, set: u32) -> Option<usize>
+    ensures place { result ≡ reading.first_of station.now set }
+    ensures inside { IfSome result (λ place. place < length station.now.obs) }
+{
+    station.obs().iter().position(|o| o.set == set)
+}
+
+/// The two-face direction of the first observation of a set.
+fn first_value(station: &Station, set: u32) -> u32
+    ensures value { result ≡ option_map_or (reading.value_at station.now)
+        (reading.first_of station.now set) 0 }
+    ensures bound { result < TURN }
+{
+    match first_of(station, set) {
+        Some(place) => observation_at(station, place).value,
+        None => 0,
+    }
+}
+
+/// Adds a field that was read, in units of 0.00001 gon.
+fn push_read(text: &mut Vec<u8>, field: &mut Vec<u8>, units: u32) -> Result<(), AllocError>
+    ensures { OnOk result (text.new.items ≡ text.old.items ++ right_text 12 (spec.read_text units)) }
+{
+    field.clear();
+    let decimals = Decimals::new(READ_DECIMALS).unwrap();
+    push_direction(field, READ_UNIT * u64::from(units), decimals)?;
+    push_right(text, 12, field)?;
+    Ok(())
+}
+
+/// Adds a field of a mean, in half units.
+fn push_mean(text: &mut Vec<u8>, field: &mut Vec<u8>, half_units: u32) -> Result<(), AllocError>
+    ensures { OnOk result
+        (text.new.items ≡ text.old.items ++ right_text 13 (spec.mean_text half_units)) }
+{
+    field.clear();
+    push_gon(field, HALF_UNIT * u64::from(half_units))?;
+    push_right(text, 13, field)?;
+    Ok(())
+}
+
+/// Adds a field of a face difference, in units of 0.01 mgon.
+fn push_difference(text: &mut Vec<u8>, field: &mut Vec<u8>, units: i32) -> Result<(), AllocError>
+    ensures { OnOk result
+        (text.new.items ≡ text.old.items ++ right_text 11 (short_mgon_text units)) }
+{
+    field.clear();
+    push_short_mgon(field, units)?;
+    push_right(text, 11, field)?;
+    Ok(())
+}
+
+/// Adds the number of the set of an observation, and the name of its target.
+fn push_label(text: &mut Vec<u8>, station: &Station, place: usize) -> Result<(), AllocError>
+    requires { place < length station.now.obs }
+    ensures { OnOk result (text.new.items ≡ text.old.items ++ spec.label_text station.now place) }
+{
+    let obs = observation_at(station, place);
+    push_right_number(text, 5, number_of(station, obs.set as usize))?;
+    text.extend_from_slice(b"  ")?;
+    push_left(
+        text,
+        LONGEST_NAME,
+        name_of(station, obs.target as usize).bytes(),
+    )?;
+    Ok(())
+}
+
+/// Adds what was read, and the mean, of an observation of which the first of its set has this
+/// two-face direction.
+fn push_angles(
+    text: &mut Vec<u8>,
+    field: &mut Vec<u8>,
+    surveyed: &Surveyed,
+    place: usize,
+    first: u32,
+) -> Result<(), AllocError>
+    requires inside { place < length surveyed.now.station.obs }
+    requires first { first ≡ option_map_or (reading.value_at surveyed.now.station)
+        (reading.first_of surveyed.now.station (reading.set_at surveyed.now.station place)) 0 }
+    requires bound { first < TURN }
+    ensures { OnOk result
+        (text.new.items ≡ text.old.items ++ spec.angles_text surveyed.now place) }
+{
+    let value = observation_at(surveyed.station(), place).value;
+    let two_c = faces_at(surveyed, place).two_c;
+    push_read(text, field, reading_one(value, two_c))?;
+    push_read(text, field, reading_two(value, two_c))?;
+    push_mean(text, field, (value + (TURN - first)) % TURN)?;
+    Ok(())
+}
+
+/// Adds the face differences, and ends the line.
+fn push_differences(
+    text: &mut Vec<u8>,
+    field: &mut Vec<u8>,
+    surveyed: &Surveyed,
+    place: usize,
+) -> Result<(), AllocError>
+    requires { place < length surveyed.now.station.obs }
+    ensures { OnOk result
+        (text.new.items ≡ text.old.items ++ spec.differences_text surveyed.now place) }
+{
+    let faces = faces_at(surveyed, place);
+    push_difference(text, field, faces.two_c)?;
+    push_difference(text, field, faces.two_i)?;
+    text.push(b'\n')?;
+    Ok(())
+}
+
+/// Adds the line of an observation, of which the first of its set has this two-face direction.
+fn push_line(
+    text: &mut Vec<u8>,
+    field: &mut Vec<u8>,
+    surveyed: &Surveyed,
+    place: usize,
+    first: u32,
+) -> Result<(), AllocError>
+    requires inside { place < length surveyed.now.station.obs }
+    requires first { first ≡ option_map_or (reading.value_at surveyed.now.station)
+        (reading.first_of surveyed.now.station (reading.set_at surveyed.now.station place)) 0 }
+    requires bound { first < TURN }
+    ensures { OnOk result
+        (text.new.items ≡ text.old.items ++ spec.reading_line surveyed.now place) }
+{
+    push_label(text, surveyed.station(), place)?;
+    push_angles(text, field, surveyed, place, first)?;
+    push_differences(text, field, surveyed, place)?;
+    Ok(())
+}
+
+/// Adds the line of an observation if it is of a set, whose first observation has this two-face
+/// direction.
+fn push_line_of(
+    text: &mut Vec<u8>,
+    field: &mut Vec<u8>,
+    surveyed: &Surveyed,
+    place: usize,
+    set: u32,
+    first: u32,
+) -> Result<(), AllocError>
+    requires inside { place < length surveyed.now.station.obs }
+    requires first { first ≡ option_map_or (reading.value_at surveyed.now.station)
+        (reading.first_of surveyed.now.station set) 0 }
+    requires bound { first < TURN }
+    ensures { OnOk result (text.new.items ≡ text.old.items
+        ++ spec.line_of surveyed.now set place) }
+{
+    if observation_at(surveyed.station(), place).set == set {
+        return push_line(text, field, surveyed, place, first);
+    }
+    Ok(())
+}
+
+/// Adds the lines of a set, whose first observation has this two-face direction.
+fn push_lines(
+    text: &mut Vec<u8>,
+    field: &mut Vec<u8>,
+    surveyed: &Surveyed,
+    set: u32,
+    first: u32,
+) -> Result<(), AllocError>
+    requires first { first ≡ option_map_or (reading.value_at surveyed.now.station)
+        (reading.first_of surveyed.now.station set) 0 }
+    requires bound { first < TURN }
+    ensures { OnOk result (text.new.items ≡ text.old.items
+        ++ each_place (length surveyed.now.station.obs) (spec.line_of surveyed.now set)) }
+{
+    let station = surveyed.station();
+    for place in 0..station.obs().len() {
+        push_line_of(text, field, surveyed, place, set, first)?;
+    }
+    Ok(())
+}
+
+/// Adds the lines of a set, after an empty one.
+fn push_set(
+    text: &mut Vec<u8>,
+    field: &mut Vec<u8>,
+    surveyed: &Surveyed,
+    set: u32,
+) -> Result<(), AllocError>
+    ensures { OnOk result (text.new.items ≡ text.old.items ++ spec.set_text surveyed.now set) }
+{
+    let first = first_value(surveyed.station(), set);
+    text.push(b'\n')?;
+    push_lines(text, field, surveyed, set, first)?;
+    Ok(())
+}
+
+/// Adds the lines of all sets.
+fn push_sets(text: &mut Vec<u8>, field: &mut Vec<u8>, surveyed: &Surveyed) -> Result<(), AllocError>
+    ensures { OnOk result (text.new.items ≡ text.old.items
+        ++ each_place (length surveyed.now.station.sets) (spec.set_text surveyed.now)) }
+{
+    let station = surveyed.station();
+    for set in 0..station.sets().len() {
+        push_set(text, field, surveyed, set as u32)?;
+    }
+    Ok(())
+}
+
+/// Adds the readings, set by set.
+pub(crate) fn push_readings(
+    alloc: Global,
+    text: &mut Vec<u8>,
+    surveyed: &Surveyed,
+) -> Result<(), AllocError>
+    ensures { OnOk result (text.new.items ≡ text.old.items ++ spec.readings_text surveyed.now) }
+{
+    let mut field = Vec::new(alloc);
+    text.extend_from_slice(
+        b"\nReadings in gon, mean of both faces counted from the first row of the set, 2c and 2i in mgon\n\n",
+    )?;
+    text.extend_from_slice(
+        b"  Set  Target                Face I     Face II         Mean         2c         2i\n",
+    )?;
+    push_sets(text, &mut field, surveyed)?;
+    Ok(())
+}
