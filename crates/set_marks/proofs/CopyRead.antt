@@ -14,7 +14,7 @@ use Rattle.adjust_kernel.specs.Names.{IsName}
 use Rattle.station_book.specs.Places.{History}
 use Rattle.set_marks.specs.declared.marked.Marked.{Marked}
 use Rattle.set_marks.specs.Marking.{marks_of}
-use Rattle.set_marks.specs.Markings.{IsMarking}
+use Rattle.set_marks.specs.Markings.{IsMarking, copy_of}
 use Rattle.set_marks.specs.Placing.{placed}
 use Rattle.set_marks.specs.Copies.{woven}
 use Rattle.set_marks.specs.Unmarked.{BeginsSomeLine, is_put_in, unmarked, whole_lines}
@@ -71,7 +71,7 @@ module _ (station : Option (List ℕ)) (bytes : List ℕ) (fails : Bool) (m : Ma
       (all_lines bytes fails marking.are_blocks.ended) marking.are_blocks.each
 
   -- The copy has the file's blocks, with those of the code lines before theirs.
-  pub copy_has_blocks : AreBlocksOf m.copy.items (copy_history station marking.blocks)
+  pub copy_has_blocks : AreBlocksOf (copy_of bytes m) (copy_history station marking.blocks)
   copy_has_blocks =
       subst (λ (copy : List ℕ). AreBlocksOf copy (copy_history station marking.blocks))
       (sym marking.copy) (subst (λ (bs : List GsiBlock). AllZip IsBlock
@@ -80,20 +80,20 @@ module _ (station : Option (List ℕ)) (bytes : List ℕ) (fails : Bool) (m : Ma
       (copy_is_blocks station bytes marking.blocks file_blocks is marking.clean))
 
   -- In it the book finds each reading where the division puts it.
-  pub copy_is_found : (copy : History) → AreBlocksOf m.copy.items copy
+  pub copy_is_found : (copy : History) → AreBlocksOf (copy_of bytes m) copy
       → IsFoundAsDivided station marking.blocks copy
   copy_is_found copy blocks =
       let lines = numbered_lines bytes in
       let h = marking.blocks in
       subst (λ (g : History). IsFoundAsDivided station h g)
-      (one_history m.copy.items (copy_history station h) copy copy_has_blocks blocks) (record {
+      (one_history (copy_of bytes m) (copy_history station h) copy copy_has_blocks blocks) (record {
         found = found_as_divided station lines h file_blocks is marking.clean;
         faults = λ limits. no_fault_of_codes limits station lines h file_blocks is marking.clean;
         end = no_fault_at_end station lines h file_blocks is marking.clean;
       })
 
   -- Without its code lines it is the file.
-  pub copy_without : list_any is_put_in (whole_lines bytes) ≡ false → unmarked m.copy.items ≡ bytes
+  pub copy_without : list_any is_put_in (whole_lines bytes) ≡ false → unmarked (copy_of bytes m) ≡ bytes
   copy_without none =
       let marks = marks_of station marking.blocks in
       let well = are_well bytes marks

@@ -1,5 +1,5 @@
 -- From what is kept and found to what is answered.
-use Rattle.std.proofs.Common.{◌≡◌, ℕ, ◌+◌, List, [], ◌∷◌, false, length, Option, Some, None, refl, sym, ap, ◌∙◌}
+use Rattle.std.proofs.Common.{◌≡◌, ℕ, ◌+◌, List, [], ◌∷◌, false, length, Option, Some, None, refl, sym, ap, subst, ◌∙◌, All}
 use Rattle.std.specs.Prelude.{Err}
 use Rattle.gsi_file.specs.FileAnswers.{FileAnswers}
 use Rattle.gsi_file.specs.declared.file_fault.FileFault.TheVariants as file
@@ -13,12 +13,13 @@ use Rattle.set_marks.specs.declared.marked.Marked.{Marked}
 use Rattle.set_marks.specs.declared.mark.Mark.{Mark}
 use Rattle.set_marks.specs.declared.flaw.Flaw.{Flaw}
 use Rattle.set_marks.specs.Stations.{occupations, stations_of}
-use Rattle.set_marks.specs.Marking.{fault_of_stations, fault_of, as_fault, marks_from}
+use Rattle.set_marks.specs.Marking.{fault_of_stations, fault_of, as_fault, marks_from, marks_of}
 use Rattle.set_marks.specs.Marking.{recognized_from}
 use Rattle.set_marks.specs.Placing.{placed}
-use Rattle.set_marks.specs.Copies.{woven, IsMarkedCopy}
+use Rattle.set_marks.specs.Copies.{woven, AreOrdered, BeginsLine}
 use Rattle.set_marks.specs.Keeping.{Keeps, AreReadings, AnswersReadings, IsMemoryOr, AreMarked}
-use Rattle.set_marks.specs.Markings.{AnswersMark, IsMarking}
+use Rattle.set_marks.specs.Markings.{AnswersMark, IsMarking, copy_of}
+use Rattle.set_marks.proofs.Identity.{made_is_copy}
 
 -- The stations of the blocks that are kept.
 stations_kept : (station : Option (List ℕ)) (h : History) (r : Readings) → Keeps station h r
@@ -35,20 +36,26 @@ pub is_marking : (station : Option (List ℕ)) (bytes : List ℕ) (answers : Fil
     (m : Marking) (found : List Mark) (made : Marked) → AreReadings station answers r
     → fault_of_stations (r.blocks + 1) [] (occupations r.set_ups.items r.sights.items) ≡ None
     → AreMarked r.set_ups.items r.sights.items m → found ≡ placed bytes m.marks.items
-    → made.copy.items ≡ woven 0 bytes found → IsMarkedCopy bytes made.copy.items
+    → AreOrdered 0 (length bytes) found → All (BeginsLine bytes) found
+    → made.marks.items ≡ found
     → made.stations.items ≡ m.stations.items → IsMarking station bytes answers made
-is_marking station bytes answers r m found made are clean marked is copy identity told =
+is_marking station bytes answers r m found made are clean marked is ordered begin kept told =
     let h = are.blocks in
     let same = stations_kept station h r are.kept in
+    let marks : made.marks.items ≡ placed bytes (marks_of station h) =
+    kept ∙ is ∙ ap (λ ms. placed bytes ms) (marked.marks ∙ ap (λ ss. marks_from false ss) same) in
     record {
       blocks = h;
       are_blocks = are.are_blocks;
       clean = ap (λ o. first_of (o ∷ as_fault
           (fault_of_stations (length h + 1) [] (stations_of station h)) ∷ [])) are.clean
           ∙ ap (λ o. first_of (as_fault o ∷ [])) (sym (fault_kept station h r are.kept) ∙ clean);
-      copy = copy ∙ ap (λ ms. woven 0 bytes ms) (is ∙ ap (λ ms. placed bytes ms)
-          (marked.marks ∙ ap (λ ss. marks_from false ss) same));
-      identity = identity;
+      marks = marks;
+      ordered = subst (λ (ms : List Mark). AreOrdered 0 (length bytes) ms) (sym kept) ordered;
+      begin = subst (λ (ms : List Mark). All (BeginsLine bytes) ms) (sym kept) begin;
+      copy = ap (λ ms. woven 0 bytes ms) marks;
+      identity = made_is_copy bytes (copy_of bytes made) found ordered begin
+          (ap (λ ms. woven 0 bytes ms) kept);
       told = told ∙ marked.stations ∙ ap (λ ss. recognized_from ss) same;
     }
 

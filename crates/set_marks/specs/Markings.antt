@@ -1,5 +1,5 @@
 -- What a field file comes to where codes are to be put in: a copy that has them, or its first fault.
-use Rattle.std.specs.Prelude.{◌≡◌, ℕ, ◌+◌, List, ◌++◌, length, reverse, Option, Some}
+use Rattle.std.specs.Prelude.{◌≡◌, ℕ, ◌+◌, List, ◌++◌, All, length, reverse, Option, Some}
 use Rattle.std.specs.Prelude.{None, Result, Ok, Err, ⊤}
 use Rattle.std.specs.List.{AllZip}
 use Rattle.gsi_word.specs.Blocks.{IsBlock}
@@ -12,7 +12,7 @@ use Rattle.set_marks.specs.declared.fault.MarkFault.{MarkFault}
 use Rattle.set_marks.specs.declared.fault.MarkFault.TheVariants.{File, Reading, At, Memory}
 use Rattle.set_marks.specs.declared.marked.Marked.{Marked}
 use Rattle.set_marks.specs.Placing.{placed}
-use Rattle.set_marks.specs.Copies.{woven, IsMarkedCopy}
+use Rattle.set_marks.specs.Copies.{woven, AreOrdered, BeginsLine, IsMarkedCopy}
 use Rattle.set_marks.specs.Marking.{fault_of, marks_of, recognized_of}
 
 -- The file ended without a fault of its lines, and these are its blocks, the newest first.
@@ -30,14 +30,22 @@ pub record IsFileFault (answers : FileAnswers) (number : ℕ) (kind : FileKind) 
   pub fault : FaultIsNext left kind
   pub counted : number ≡ length blocks + 1
 
--- The file has no fault, this is the copy with its code lines, and this is told of its stations.
+-- The copy of a file's bytes: with the code lines of a marking before their places.
+abbrev pub copy_of : List ℕ → Marked → List ℕ
+copy_of bytes m = woven 0 bytes m.marks.items
+
+-- The file has no fault, these are its code lines, in order, each where a line begins, so that this
+-- is its copy, and this is told of its stations.
 pub record IsMarking (station : Option (List ℕ)) (bytes : List ℕ) (answers : FileAnswers)
     (m : Marked) : Type 0 where
   pub blocks : History
   pub are_blocks : AreBlocks answers blocks
   pub clean : fault_of station blocks ≡ None
-  pub copy : m.copy.items ≡ woven 0 bytes (placed bytes (marks_of station blocks))
-  pub identity : IsMarkedCopy bytes m.copy.items
+  pub marks : m.marks.items ≡ placed bytes (marks_of station blocks)
+  pub ordered : AreOrdered 0 (length bytes) m.marks.items
+  pub begin : All (BeginsLine bytes) m.marks.items
+  pub copy : copy_of bytes m ≡ woven 0 bytes (placed bytes (marks_of station blocks))
+  pub identity : IsMarkedCopy bytes (copy_of bytes m)
   pub told : m.stations.items ≡ recognized_of station blocks
 
 -- The file's lines are blocks, and their first fault is this.

@@ -3,7 +3,7 @@
 ghost use Rattle.std.specs.Prelude.{◌≡◌, All, IfOk, length};
 ghost use Rattle.set_marks.specs.Copies.{woven, AreOrdered, BeginsLine, IsMarkedCopy};
 
-use crate::mark::{Mark, push_line};
+use crate::mark::{Mark, code_line};
 use std::alloc::{AllocError, Global};
 
 /// The bytes with the code lines put in before their places: the file, with whole code lines put in
@@ -27,7 +27,7 @@ fn weave(alloc: Global, bytes: &[u8], marks: &[Mark]) -> Result<Vec<u8>, AllocEr
     let mut left = marks;
     'marks: while let Some((mark, rest)) = left.split_first() {
         copy.extend_from_slice(&bytes[from..mark.at])?;
-        push_line(&mut copy, mark)?;
+        copy.extend_from_slice(code_line(mark).as_slice())?;
         from = mark.at;
         left = rest;
     }

@@ -7,7 +7,7 @@ ghost use Rattle.gsi_file.specs.FileAnswers.{file_answers};
 ghost use Rattle.adjust_kernel.specs.Names.{IsName};
 ghost use Rattle.station_book.specs.Places.{History};
 ghost use Rattle.set_marks.specs.declared.marked.Marked.{Marked};
-ghost use Rattle.set_marks.specs.Markings.{IsMarking};
+ghost use Rattle.set_marks.specs.Markings.{IsMarking, copy_of};
 ghost use Rattle.set_marks.specs.Unmarked.{is_put_in, unmarked, whole_lines};
 ghost use Rattle.set_marks.specs.MarkedFile.{AreBlocksOf, copy_history, IsFoundAsDivided};
 
@@ -20,15 +20,15 @@ pub fn copy_is_read()
         → IfSome station IsName
         → (marking : IsMarking station bytes
         (file_answers (record { bytes = bytes; fails = fails })) m)
-        → AreBlocksOf m.copy.items (copy_history station marking.blocks) }
+        → AreBlocksOf (copy_of bytes m) (copy_history station marking.blocks) }
     ensures found { (station : Option (List ℕ)) (bytes : List ℕ) (fails : Bool) (m : Marked)
         → IfSome station IsName
         → (marking : IsMarking station bytes
         (file_answers (record { bytes = bytes; fails = fails })) m)
-        → (copy : History) → AreBlocksOf m.copy.items copy
+        → (copy : History) → AreBlocksOf (copy_of bytes m) copy
         → IsFoundAsDivided station marking.blocks copy }
     ensures back { (station : Option (List ℕ)) (bytes : List ℕ) (fails : Bool) (m : Marked)
         → IfSome station IsName
         → IsMarking station bytes (file_answers (record { bytes = bytes; fails = fails })) m
-        → list_any is_put_in (whole_lines bytes) ≡ false → unmarked m.copy.items ≡ bytes }
+        → list_any is_put_in (whole_lines bytes) ≡ false → unmarked (copy_of bytes m) ≡ bytes }
 {}

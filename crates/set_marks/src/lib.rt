@@ -33,7 +33,7 @@ pub use division::{Divided, divide};
 pub use fault::{MarkFault, MarkKind};
 pub use flaw::Flaw;
 pub use line_end::LineEnd;
-pub use mark::{BlockMark, Code, Mark};
+pub use mark::{BlockMark, Code, CodeLine, LONGEST_CODE_LINE, Mark, code_line};
 pub use marked::{Marked, mark_file};
 pub use recognized::Recognized;
 pub use sight::{SetUp, Sight};

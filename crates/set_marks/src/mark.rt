@@ -1,12 +1,13 @@
 //! A code line that is put in.
 
-ghost use Rattle.std.specs.Prelude.{◌≡◌, ◌<◌, ◌≤◌, ◌++◌, ◌∷◌, OnOk, length, replicate, ◌-◌};
+ghost use Rattle.std.specs.Prelude.{◌≡◌, ◌<◌, ◌≤◌, ◌+◌, ◌-◌, ◌++◌, ◌∷◌, length, replicate};
+ghost use Rattle.arrayvec.specs.ArrayVec.{array_vec_len};
 ghost use Rattle.gsi_word.specs.Words.{spelled};
 ghost use Rattle.set_marks.specs.Marks.{width_of, word_of, digits, HasRoom, line_of, words_text};
 
 use crate::line_end::LineEnd;
 use adjust_kernel::Name;
-use std::alloc::AllocError;
+use arrayvec::ArrayVec;
 
 /// What a code line says.
 #[derive(Clone, Copy, Debug, Drop)]
@@ -43,6 +44,18 @@ pub struct BlockMark {
     pub code: Code,
 }
 
+/// Bytes of a code word, at most: an index, an information, a sign, and 16 of a content.
+const LONGEST_CODE_WORD: usize = 23;
+
+/// Bytes of the words of a code line, at most: two, and a blank.
+const LONGEST_CODE_WORDS: usize = 2 * LONGEST_CODE_WORD + 1;
+
+/// Bytes of a code line, at most: the `*`, its words, and its end.
+pub const LONGEST_CODE_LINE: usize = LONGEST_CODE_WORDS + 3;
+
+/// The bytes of a code line, in no memory but its own.
+pub type CodeLine = ArrayVec<u8, LONGEST_CODE_LINE>;
+
 const ZEROS: [u8; 16] = [b'0'; 16];
 
 /// How many bytes the content of each word of a line has.
@@ -60,33 +73,48 @@ fn zeros(count: usize) -> &'static [u8]
     &ZEROS[..count]
 }
 
-/// Appends a word of these first bytes, whose content is the name, filled with zeros.
-fn push_word(line: &mut Vec<u8>, front: &[u8], wide: bool, name: &[u8]) -> Result<(), AllocError>
-    requires { length name.now ≤ width_of wide }
-    ensures { OnOk result (line.new.items ≡ line.old.items
-        ++ (front.now ++ (replicate (width_of wide - length name.now) 48 ++ name.now))) }
+/// Adds bytes to a code line that has room for them.
+fn add(line: &mut CodeLine, bytes: &[u8])
+    requires { array_vec_len line.old + length bytes.now ≤ LONGEST_CODE_LINE }
+    ensures items { line.new.items ≡ line.old.items ++ bytes.now }
+    ensures len { array_vec_len line.new ≡ array_vec_len line.old + length bytes.now }
 {
-    line.extend_from_slice(front)?;
-    line.extend_from_slice(zeros(width(wide) - name.len()))?;
-    line.extend_from_slice(name)
+    line.try_extend_from_slice(bytes).unwrap();
 }
 
-/// Appends a code word: the number of the code, filled with zeros.
-fn push_code(line: &mut Vec<u8>, wide: bool, code: &[u8]) -> Result<(), AllocError>
-    requires { length code.now ≡ 2 }
-    ensures { OnOk result (line.new.items
-        ≡ line.old.items ++ spelled (word_of (width_of wide) 41 code.now)) }
+/// Adds a word of these first bytes, whose content is the name, filled with zeros.
+fn add_word(line: &mut CodeLine, front: &[u8], wide: bool, name: &[u8])
+    requires name { length name.now ≤ width_of wide }
+    requires room { array_vec_len line.old + length front.now + 16 ≤ LONGEST_CODE_LINE }
+    ensures items { line.new.items ≡ line.old.items
+        ++ (front.now ++ (replicate (width_of wide - length name.now) 48 ++ name.now)) }
+    ensures len { array_vec_len line.new ≤ array_vec_len line.old + length front.now + 16 }
 {
-    push_word(line, b"41....+", wide, code)
+    add(line, front);
+    add(line, zeros(width(wide) - name.len()));
+    add(line, name);
 }
 
-/// Appends a blank and a word of first information.
-fn push_information(line: &mut Vec<u8>, wide: bool, name: &[u8]) -> Result<(), AllocError>
-    requires { length name.now ≤ width_of wide }
-    ensures { OnOk result (line.new.items
-        ≡ line.old.items ++ 32 ∷ spelled (word_of (width_of wide) 42 name.now)) }
+/// Adds a code word: the number of the code, filled with zeros.
+fn add_code(line: &mut CodeLine, wide: bool, code: &[u8])
+    requires code { length code.now ≡ 2 }
+    requires room { array_vec_len line.old + LONGEST_CODE_WORD ≤ LONGEST_CODE_LINE }
+    ensures items { line.new.items
+        ≡ line.old.items ++ spelled (word_of (width_of wide) 41 code.now) }
+    ensures len { array_vec_len line.new ≤ array_vec_len line.old + LONGEST_CODE_WORD }
 {
-    push_word(line, b" 42....+", wide, name)
+    add_word(line, b"41....+", wide, code);
+}
+
+/// Adds a blank and a word of first information.
+fn add_information(line: &mut CodeLine, wide: bool, name: &[u8])
+    requires name { length name.now ≤ width_of wide }
+    requires room { array_vec_len line.old + 1 + LONGEST_CODE_WORD ≤ LONGEST_CODE_LINE }
+    ensures items { line.new.items
+        ≡ line.old.items ++ 32 ∷ spelled (word_of (width_of wide) 42 name.now) }
+    ensures len { array_vec_len line.new ≤ array_vec_len line.old + 1 + LONGEST_CODE_WORD }
+{
+    add_word(line, b" 42....+", wide, name);
 }
 
 /// The two digits of a number.
@@ -97,32 +125,36 @@ fn digits(number: u8) -> [u8; 2]
     [b'0' + number / 10, b'0' + number % 10]
 }
 
-/// Appends the words of a code line.
-fn push_words(line: &mut Vec<u8>, wide: bool, code: &Code) -> Result<(), AllocError>
-    requires { HasRoom wide code.now }
-    ensures { OnOk result (line.new.items ≡ line.old.items ++ words_text wide code.now) }
+/// Adds the words of a code line.
+fn add_words(line: &mut CodeLine, wide: bool, code: &Code)
+    requires code { HasRoom wide code.now }
+    requires room { array_vec_len line.old + LONGEST_CODE_WORDS ≤ LONGEST_CODE_LINE }
+    ensures items { line.new.items ≡ line.old.items ++ words_text wide code.now }
+    ensures len { array_vec_len line.new ≤ array_vec_len line.old + LONGEST_CODE_WORDS }
 {
     match code {
         Code::Station(name) => {
-            push_code(line, wide, b"10")?;
-            push_information(line, wide, name.bytes())
+            add_code(line, wide, b"10");
+            add_information(line, wide, name.bytes());
         }
         Code::Set(number) => {
-            push_code(line, wide, b"20")?;
-            push_information(line, wide, &digits(*number))
+            add_code(line, wide, b"20");
+            add_information(line, wide, &digits(*number));
         }
-        Code::Close => push_code(line, wide, b"30"),
+        Code::Close => add_code(line, wide, b"30"),
     }
 }
 
-/// Appends a code line with its end.
-pub(crate) fn push_line(line: &mut Vec<u8>, mark: &Mark) -> Result<(), AllocError>
+/// A code line, with its end.
+pub fn code_line(mark: &Mark) -> CodeLine
     requires { HasRoom mark.now.wide mark.now.code }
-    ensures { OnOk result (line.new.items ≡ line.old.items ++ line_of mark.now) }
+    ensures { result.items ≡ line_of mark.now }
 {
+    let mut line = CodeLine::new();
     if mark.wide {
-        line.push(b'*')?;
+        add(&mut line, b"*");
     }
-    push_words(line, mark.wide, &mark.code)?;
-    line.extend_from_slice(mark.line_end.bytes())
+    add_words(&mut line, mark.wide, &mark.code);
+    add(&mut line, mark.line_end.bytes());
+    line
 }

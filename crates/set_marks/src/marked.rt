@@ -1,10 +1,10 @@
-//! A field file with codes put in.
+//! Where codes are put into a field file.
 
 ghost use Rattle.gsi_file.specs.FileAnswers.{file_answers};
 ghost use Rattle.set_marks.specs.Markings.{AnswersMark};
 
-use crate::copy::marked_copy;
 use crate::fault::MarkFault;
+use crate::mark::Mark;
 use crate::marking::marking_of;
 use crate::placing::placed;
 use crate::reading::readings_of;
@@ -12,16 +12,17 @@ use crate::recognized::Recognized;
 use adjust_kernel::Name;
 use std::alloc::Global;
 
-/// A copy of a field file with codes put in, and what is told of its stations.
+/// The code lines that are put into a field file, and what is told of its stations. The copy is the
+/// file's bytes with these lines before their places: [`marked_copy`](crate::marked_copy) makes it.
 #[derive(Drop)]
 pub struct Marked {
-    /// The bytes of the copy.
-    pub copy: Vec<u8>,
+    /// The code lines, in the order of the file.
+    pub marks: Vec<Mark>,
     /// What was recognized of each station with readings, in the order of the file.
     pub stations: Vec<Recognized>,
 }
 
-/// Puts codes into a copy of a field file: 10 where a station begins, 20 where a set begins, 30
+/// Finds where codes are put into a field file: 10 where a station begins, 20 where a set begins, 30
 /// before the first reading after a set that is in none.
 ///
 /// `bytes` are those of the file; where `fails`, a read failed after them. `station` is the name of
@@ -44,9 +45,8 @@ pub fn mark_file(
     let readings = readings_of(alloc, bytes, fails, station)?;
     let marking = marking_of(alloc, &readings)?;
     let marks = placed(alloc, bytes, &marking.marks)?;
-    let copy = marked_copy(alloc, bytes, &marks)?;
     Ok(Marked {
-        copy,
+        marks,
         stations: marking.stations,
     })
 }

@@ -1,6 +1,7 @@
 -- What a reader gave is all of the file, or enough for its answers.
 use Rattle.std.proofs.Common.{◌≡◌, ℕ, ◌<◌, Bool, true, false, List, [], ◌++◌, length, Option, None, Some}
 use Rattle.std.proofs.Common.{Result, Ok, Err, ap, sym, subst, ◌∙◌, inl, inr, ◌⊎◌, refl}
+use Rattle.std.specs.Prelude.{IfOk}
 use Rattle.std.proofs.lemmas.List.{append-nil}
 use Rattle.byte_ends.proofs.Coming.{left_is}
 use Rattle.byte_ends.specs.Came.{IsReadOut, HasBroken, NoReadFailed}
@@ -11,14 +12,15 @@ use Rattle.gsi_file.specs.declared.bounds.TheConstants.{LONGEST_FILE}
 use Rattle.gsi_file.specs.declared.file_fault.FileKind.{FileKind}
 use Rattle.gsi_file.specs.declared.file_fault.FileFault.TheVariants as file
 use Rattle.gsi_file.specs.declared.file_fault.FileKind.TheVariants as kind
+use Rattle.set_marks.specs.Copies.{AreOrdered}
 use Rattle.set_marks.specs.Markings.{AnswersMark, IsFileFault}
 use Rattle.set_marks.specs.declared.fault.MarkFault.{MarkFault}
 use Rattle.set_marks.specs.declared.fault.MarkFault.TheVariants.{File, Reading, At, Memory}
-use Rattle.set_marks.specs.declared.marked.Marked.{Marked}
 use Rattle.station_mark.proofs.PastLimits.{past_limit, failed_at_end, past_at_end, no_read_at_end}
 use Rattle.station_mark.proofs.PastLimits.{IsFaultAtEnd, IsNoRead}
-use Rattle.station_mark.specs.Answers.{IsMarkAnswer, LeavesMarked}
+use Rattle.station_mark.specs.Answers.{IsMarkAnswer, LeavesMarked, marking_in}
 use Rattle.station_mark.specs.Giving.{IsAllGiven, IsLeft}
+use Rattle.station_mark.specs.declared.marked_file.MarkedFile.{MarkedFile}
 
 -- These bytes, and then a failed read or not.
 abbrev pub told_of : List ℕ → Bool → Told
@@ -70,8 +72,9 @@ read_is_last a number h = ap (λ (b : FileAnswers). b.last) h.split ∙ next h.l
     next left (inr (line, rest, e, none)) = absurd none
 
 leaves : (reader : ReaderChange) (bytes : List ℕ) (fails : Bool) (station : Option (List ℕ))
-    (r : Result Marked MarkFault) → IsLeft LONGEST_FILE (length bytes) fails reader
-    → AnswersMark station bytes (file_answers (told_of bytes fails)) r → LeavesMarked r reader
+    (r : Result MarkedFile MarkFault) → IsLeft LONGEST_FILE (length bytes) fails reader
+    → AnswersMark station bytes (file_answers (told_of bytes fails)) (marking_in r)
+    → LeavesMarked r reader
 leaves reader bytes fails station (Ok m) h a = ends reader bytes fails h a.are_blocks.ended
 leaves reader bytes fails station (Err (Reading number what)) h a =
     ends reader bytes fails h a.are_blocks.ended
@@ -89,14 +92,15 @@ leaves reader bytes fails station (Err Memory) h a = tt
 
 -- What is answered of the bytes that were kept is the answer on what the reader gave.
 pub answered : (station : Option (List ℕ)) (reader : ReaderChange) (bytes : List ℕ) (fails : Bool)
-    (r : Result Marked MarkFault) → IsAllGiven LONGEST_FILE reader bytes fails
-    → AnswersMark station bytes (file_answers (told_of bytes fails)) r
-    → IsMarkAnswer station reader r
-answered station reader bytes fails r h a = record {
+    (r : Result MarkedFile MarkFault) → IsAllGiven LONGEST_FILE reader bytes fails
+    → AnswersMark station bytes (file_answers (told_of bytes fails)) (marking_in r)
+    → IfOk r (λ file. file.bytes.items ≡ bytes) → IsMarkAnswer station reader r
+answered station reader bytes fails r h a kept = record {
   bytes = bytes;
   reads = h.reads;
-  marks = λ left may. subst (λ (f : FileAnswers). AnswersMark station bytes f r)
+  marks = λ left may. subst (λ (f : FileAnswers). AnswersMark station bytes f (marking_in r))
       (sym (same_answers reader bytes fails h.left left may)) a;
+  kept = kept;
   reader = leaves reader bytes fails station r h.left a;
 }
 
@@ -107,5 +111,16 @@ out_of_memory station reader bytes h = record {
   bytes = bytes;
   reads = h;
   marks = λ left may. tt;
+  kept = tt;
   reader = tt;
 }
+
+-- The code lines of a marked file stand in order.
+pub in_order : (station : Option (List ℕ)) (reader : ReaderChange) (file : MarkedFile)
+    → IsMarkAnswer station reader (Ok file)
+    → AreOrdered 0 (length file.bytes.items) file.marked.marks.items
+in_order station reader file a =
+    let may : MayGive reader.told' ended =
+    subst (λ (o : Option Told). MayGive o ended) (sym a.reader.ended) refl in
+    subst (λ (b : List ℕ). AreOrdered 0 (length b) file.marked.marks.items) (sym a.kept)
+    (a.marks ended may).ordered

@@ -1,3 +1,4 @@
 pub mod PastLimits
 pub mod Givings
 pub mod Telling
+pub mod Copying

@@ -1,5 +1,5 @@
 -- What is answered of a field file into which codes are to be put, and how its reader is left.
-use Rattle.std.specs.Prelude.{ℕ, List, Option, Result, Ok, Err, ⊤}
+use Rattle.std.specs.Prelude.{◌≡◌, ℕ, List, Option, Result, Ok, Err, IfOk, ⊤}
 use Rattle.byte_ends.specs.Came.{IsReadOut, HasBroken}
 use Rattle.byte_ends.specs.Source.{Told, ReaderChange, MayGive, HasGiven, given_then}
 use Rattle.gsi_file.specs.FileAnswers.{file_answers}
@@ -9,6 +9,12 @@ use Rattle.set_marks.specs.Markings.{AnswersMark}
 use Rattle.set_marks.specs.declared.fault.MarkFault.{MarkFault}
 use Rattle.set_marks.specs.declared.fault.MarkFault.TheVariants.{File, Reading, At}
 use Rattle.set_marks.specs.declared.marked.Marked.{Marked}
+use Rattle.station_mark.specs.declared.marked_file.MarkedFile.{MarkedFile}
+
+-- the marking of a marked file, or why there is none
+abbrev pub marking_in : Result MarkedFile MarkFault → Result Marked MarkFault
+marking_in (Ok file) = Ok file.marked
+marking_in (Err fault) = Err fault
 
 -- How an answer leaves the reader, which is read to its end, to a failed read or past the limit of
 -- a file before any line is judged: where the file is marked, and at each fault of its blocks and
@@ -23,13 +29,14 @@ LeavesMarked (Err fault) reader = ⊤
 -- The answer on what a reader gave, whatever it is, and how it is left. `station` is the name of
 -- the file's one station, where it is stated.
 pub record IsMarkAnswer (station : Option (List ℕ)) (gsi : ReaderChange)
-    (r : Result Marked MarkFault) : Type 0 where
+    (r : Result MarkedFile MarkFault) : Type 0 where
   -- The field file's reader gave these bytes.
   pub bytes : List ℕ
   pub reads : HasGiven gsi bytes
   -- Of these bytes, and whatever may be left in the reader after them, this is the answer; and a
-  -- copy is one of these very bytes.
+  -- marked file is of these very bytes.
   pub marks : (left : Told) → MayGive gsi.told' left
-      → AnswersMark station bytes (file_answers (given_then bytes left)) r
+      → AnswersMark station bytes (file_answers (given_then bytes left)) (marking_in r)
+  pub kept : IfOk r (λ file. file.bytes.items ≡ bytes)
   -- Where the file is marked, nothing is left: the bytes are all.
   pub reader : LeavesMarked r gsi

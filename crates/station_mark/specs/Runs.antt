@@ -2,25 +2,36 @@
 use Rattle.std.specs.Prelude.{◌≡◌, ℕ, true, List, Option, Result, Ok, Err}
 use Rattle.byte_ends.specs.Sink.{WriterChange}
 use Rattle.byte_ends.specs.Source.{ReaderChange}
+use Rattle.set_marks.specs.Markings.{copy_of}
 use Rattle.set_marks.specs.declared.fault.MarkFault.{MarkFault}
-use Rattle.set_marks.specs.declared.marked.Marked.{Marked}
 use Rattle.station_check.specs.RunEndings.{IsWritten, IsCutShort}
 use Rattle.station_mark.specs.Answers.{IsMarkAnswer}
+use Rattle.station_mark.specs.Notes.{notes_of}
+use Rattle.station_mark.specs.declared.marked_file.MarkedFile.{MarkedFile}
 use Rattle.station_mark.specs.declared.fault.PrintFault.{PrintFault}
 use Rattle.station_mark.specs.declared.fault.PrintFault.TheVariants.{Mark, Write}
+
+-- the copy of a marked file
+abbrev pub copy_in : MarkedFile → List ℕ
+copy_in file = copy_of file.bytes.items file.marked
+
+-- what is told of it
+abbrev pub notes_in : MarkedFile → List ℕ
+notes_in file = notes_of file.marked
 
 -- What a marking makes of `out`, and what the run then answers: the marking, its copy whole and
 -- handed on; or that a call of `out` failed, which got some of the copy's first bytes; at a refusal
 -- nothing is asked of `out`, and the refusal is answered.
-abbrev pub PrintsCopy : Result Marked MarkFault → Result Marked PrintFault → WriterChange → Type 0
-PrintsCopy (Ok m) (Ok printed) out =
-    (printed ≡ m) × IsWritten m.copy.items out × (out.is_handed_on ≡ true)
-PrintsCopy (Ok m) (Err fault) out = (fault ≡ Write) × IsCutShort m.copy.items out
+abbrev pub PrintsCopy : Result MarkedFile MarkFault → Result MarkedFile PrintFault → WriterChange
+    → Type 0
+PrintsCopy (Ok file) (Ok printed) out =
+    (printed ≡ file) × IsWritten (copy_in file) out × (out.is_handed_on ≡ true)
+PrintsCopy (Ok file) (Err fault) out = (fault ≡ Write) × IsCutShort (copy_in file) out
 PrintsCopy (Err fault) r out = (r ≡ Err (Mark fault)) × out.is_unasked
 
 -- A run that puts codes in: all that is promised of the marking, and how its copy was printed.
 pub record IsMarkRun (station : Option (List ℕ)) (gsi : ReaderChange)
-    (r : Result Marked PrintFault) (out : WriterChange) : Type 0 where
-  pub marking : Result Marked MarkFault
+    (r : Result MarkedFile PrintFault) (out : WriterChange) : Type 0 where
+  pub marking : Result MarkedFile MarkFault
   pub answers : IsMarkAnswer station gsi marking
   pub printed : PrintsCopy marking r out

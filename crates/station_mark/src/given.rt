@@ -8,7 +8,7 @@ use byte_ends::Source;
 use std::alloc::{AllocError, Global};
 
 /// Bytes that are asked for at a time.
-const PIECE: usize = 4_096;
+const PIECE: usize = 32_768;
 
 /// What a reader gave.
 #[derive(Drop)]

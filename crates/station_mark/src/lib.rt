@@ -3,7 +3,7 @@
 //!
 //! | Call | Does |
 //! |---|---|
-//! | `mark_bytes` | puts codes into a copy of the field file that a reader gives, or answers its first fault |
+//! | `mark_bytes` | finds where codes are put into the field file that a reader gives, or answers its first fault |
 //! | `mark_source` | the same, and gives the reader back |
 //! | `notes_text` | what is told of the stations of a marked file |
 //! | `refusal_line` | the line of a refusal |
@@ -12,15 +12,18 @@
 //! The rule by which codes are put in is `set_marks`.
 #![tactic(auto)]
 
+mod copy;
 mod fault;
 mod given;
 mod mark;
+mod marked_file;
 mod notes;
 mod refused;
 mod runs;
 
 pub use fault::PrintFault;
 pub use mark::{mark_bytes, mark_source};
+pub use marked_file::MarkedFile;
 pub use notes::{note_line, notes_text};
 pub use refused::refusal_line;
 pub use runs::run_mark;

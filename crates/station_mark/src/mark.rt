@@ -1,16 +1,20 @@
-//! The copy of what a reader gives.
+//! Codes for what a reader gives.
 
+ghost use Rattle.std.specs.Prelude.{◌≡◌, IfOk};
 ghost use Rattle.byte_ends.specs.Source.{reader_change, UntilDropped};
-ghost use Rattle.station_mark.specs.Answers.{IsMarkAnswer};
+ghost use Rattle.gsi_file.specs.FileAnswers.{file_answers};
+ghost use Rattle.set_marks.specs.Markings.{AnswersMark};
+ghost use Rattle.station_mark.specs.Answers.{IsMarkAnswer, marking_in};
 
-use crate::given::all_given;
+use crate::given::{Given, all_given};
+use crate::marked_file::MarkedFile;
 use adjust_kernel::Name;
 use byte_ends::Source;
 use gsi_file::LONGEST_FILE;
-use set_marks::{MarkFault, Marked, mark_file};
+use set_marks::{MarkFault, mark_file};
 use std::alloc::Global;
 
-/// Puts codes into a copy of a field file: 10 where a station begins, 20 where a set begins, 30
+/// Finds where codes are put into a field file: 10 where a station begins, 20 where a set begins, 30
 /// before the first reading after a set that is in none. `station` is the name of the file's one
 /// station, where its lines set none up.
 ///
@@ -24,14 +28,14 @@ pub fn mark_bytes<R: Source>(
     alloc: Global,
     gsi: R,
     station: Option<Name>,
-) -> Result<Marked, MarkFault>
+) -> Result<MarkedFile, MarkFault>
     ensures { UntilDropped R.told R.failed R.gave gsi (λ gsi. IsMarkAnswer station gsi result) }
 {
     let (answer, _gsi) = mark_source(alloc, gsi, station);
     answer
 }
 
-/// Puts codes into a copy of a field file, and gives its reader back.
+/// Finds where codes are put into a field file, and gives its reader back.
 ///
 /// It answers as [`mark_bytes`], and says of the reader what came of it and how it is left: the
 /// answer is that of the very bytes by which its histories have grown.
@@ -39,12 +43,26 @@ pub fn mark_source<R: Source>(
     alloc: Global,
     gsi: R,
     station: Option<Name>,
-) -> (Result<Marked, MarkFault>, R)
+) -> (Result<MarkedFile, MarkFault>, R)
     ensures { IsMarkAnswer station (reader_change R.told R.failed R.gave gsi result.1) result.0 }
 {
     let mut reader = gsi;
     match all_given(alloc, &mut reader, LONGEST_FILE) {
-        Ok(given) => (mark_file(alloc, &given.bytes, given.fails, station), reader),
+        Ok(given) => (mark_given(alloc, given, station), reader),
         Err(_) => (Err(MarkFault::Memory), reader),
     }
+}
+
+/// The same of what a reader gave.
+fn mark_given(alloc: Global, given: Given, station: Option<Name>) -> Result<MarkedFile, MarkFault>
+    ensures answers { AnswersMark station given.bytes.items
+        (file_answers (record { bytes = given.bytes.items; fails = given.fails }))
+        (marking_in result) }
+    ensures kept { IfOk result (λ file. file.bytes.items ≡ given.bytes.items) }
+{
+    let marked = mark_file(alloc, &given.bytes, given.fails, station)?;
+    Ok(MarkedFile {
+        bytes: given.bytes,
+        marked,
+    })
 }

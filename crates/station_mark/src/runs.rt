@@ -6,9 +6,9 @@ ghost use Rattle.byte_ends.specs.Sink.{writer_change};
 ghost use Rattle.byte_ends.specs.Source.{UntilDropped};
 ghost use Rattle.station_check.specs.RunEndings.{RunWithNotes, WritesOrFails};
 ghost use Rattle.station_mark.specs.FaultTexts.{refusal_line};
-ghost use Rattle.station_mark.specs.Notes.{notes_of};
-ghost use Rattle.station_mark.specs.Runs.{IsMarkRun};
+ghost use Rattle.station_mark.specs.Runs.{IsMarkRun, notes_in};
 
+use crate::copy::write_copy;
 use crate::fault::PrintFault;
 use crate::mark::mark_bytes;
 use crate::notes::notes_text;
@@ -16,7 +16,7 @@ use crate::refused::refusal_line;
 use adjust_kernel::Name;
 use byte_ends::{Sink, Source};
 use set_marks::MarkFault;
-use station_check::{DONE, REFUSED, write_whole};
+use station_check::{DONE, REFUSED};
 use std::alloc::Global;
 
 /// Prints a copy of a field file with codes put in, and answers the exit status: 0 where all of the
@@ -31,20 +31,20 @@ pub fn run_mark<R: Source, W: Sink, E: Sink>(
     out: &mut W,
     err: &mut E,
 ) -> u8
-    ensures { UntilDropped R.told R.failed R.gave gsi (λ gsi. RunWithNotes notes_of refusal_line
+    ensures { UntilDropped R.told R.failed R.gave gsi (λ gsi. RunWithNotes notes_in refusal_line
         (IsMarkRun station gsi)
         result (writer_change W.failed W.holds W.handed_on out.old out.new)
         (writer_change E.failed E.holds E.handed_on err.old err.new)) }
 {
-    let marked = match mark_bytes(alloc, gsi, station) {
-        Ok(marked) => marked,
+    let file = match mark_bytes(alloc, gsi, station) {
+        Ok(file) => file,
         Err(fault) => return refuse(PrintFault::Mark(fault), err),
     };
     // Memory is taken before a byte is written.
-    let Ok(notes) = notes_text(alloc, &marked.stations) else {
+    let Ok(notes) = notes_text(alloc, &file.marked.stations) else {
         return refuse(PrintFault::Mark(MarkFault::Memory), err);
     };
-    match write_whole(out, &marked.copy) {
+    match write_copy(out, &file.bytes, &file.marked.marks) {
         Ok(()) => tell(&notes, err),
         Err(_) => refuse(PrintFault::Write, err),
     }

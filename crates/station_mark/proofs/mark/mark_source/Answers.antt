@@ -6,7 +6,8 @@ pub returns-in-Ok : goal.returns-in-Ok
 returns-in-Ok g c =
     answered c.args.station (reader_change g.R.Source.told g.R.Source.failed g.R.Source.gave
     c.args.gsi c.all_given.new.source) c.in-Ok.given.bytes.items c.in-Ok.given.fails
-    c.mark_file.result c.in-Ok.ensures.given (rw c.deref.ensures.value at c.mark_file.ensures)
+    c.mark_given.result c.in-Ok.ensures.given c.mark_given.ensures.answers
+    c.mark_given.ensures.kept
 
 pub returns-in-Err : goal.returns-in-Err
 returns-in-Err g c =

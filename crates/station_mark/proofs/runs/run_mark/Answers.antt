@@ -5,9 +5,10 @@ use Rattle.byte_ends.specs.Sink.{writer_change}
 use Rattle.set_marks.specs.declared.fault.MarkFault.TheVariants.{Memory}
 use Rattle.set_marks.specs.declared.recognized.Recognized.{Recognized}
 use Rattle.station_check.specs.RunEndings.{WritesOrFails}
-use Rattle.station_mark.specs.Notes.{note_line, notes_text, notes_of}
+use Rattle.station_mark.specs.Notes.{note_line, notes_text}
+use Rattle.station_mark.specs.Runs.{notes_in}
 use Rattle.station_mark.specs.declared.fault.PrintFault.TheVariants.{Mark, Write}
-use Rattle.station_mark.proofs.Givings.{out_of_memory}
+use Rattle.station_mark.proofs.Givings.{in_order, out_of_memory}
 use Rattle.station_mark.proofs.Telling.{told}
 use Rattle.station_mark.proofs.runs.run_mark.Goals as goal
 
@@ -41,33 +42,33 @@ returns-in_default g c = (
   },
 )
 
-pub returns-in-Ok-write_whole : goal.returns-in-Ok-write_whole
-returns-in-Ok-write_whole g c =
-    let m = c.in-Ok.marked in
+pub returns-in-Ok-write_copy : goal.returns-in-Ok-write_copy
+returns-in-Ok-write_copy g c =
+    let file = c.in-Ok.file in
     let err = writer_change g.E.Sink.failed g.E.Sink.holds g.E.Sink.handed_on c.args.err.now
     c.tell.new.err in
-    let notes : c.deref-in-Ok-write_whole.result.now ≡ notes_of m =
-    c.deref-in-Ok-write_whole.ensures.value
+    let notes : c.deref-in-Ok-write_copy.result.now ≡ notes_in file =
+    c.deref-in-Ok-write_copy.ensures.value
     ∙ (c.in-Ok-notes_text.ensures
     ∙ ap (λ (stations : List Recognized). notes_text stations) c.deref.ensures.value) in
     let written = subst (λ (text : List ℕ). WritesOrFails text err) notes c.tell.ensures.notes in (
       c.in-Ok.ensures.0,
       record {
-        answer = Ok m;
+        answer = Ok file;
         so = record {
-          marking = Ok m;
+          marking = Ok file;
           answers = c.in-Ok.ensures.1;
           printed = (
             refl,
             record {
-              got = rw c.deref-2.ensures.value at c.in-Ok-write_whole.ensures.ok;
-              unfailed = c.in-Ok-write_whole.ensures.failed;
+              got = rw (c.deref-2.ensures.value, c.deref-3.ensures.value) at c.in-Ok-write_copy.ensures.ok;
+              unfailed = c.in-Ok-write_copy.ensures.failed;
             },
-            c.in-Ok-write_whole.ensures.handed_on,
+            c.in-Ok-write_copy.ensures.handed_on,
           );
         };
         exits = c.tell.ensures.status;
-        reports = told (flat_map note_line m.stations.items) 110
+        reports = told (flat_map note_line file.marked.stations.items) 110
             (codes "ote: compare this with the field book\n") err written;
       },
     )
@@ -78,17 +79,22 @@ returns g c = (
   record {
     answer = Err Write;
     so = record {
-      marking = Ok c.in-Ok.marked;
+      marking = Ok c.in-Ok.file;
       answers = c.in-Ok.ensures.1;
       printed = (
         refl,
         record {
-          got = rw c.deref-2.ensures.value at c.in-Err-write_whole.ensures.cut_short;
-          call_failed = c.in-Err-write_whole.ensures.failed;
+          got = rw (c.deref-2.ensures.value, c.deref-3.ensures.value) at c.in-Err-write_copy.ensures.cut_short;
+          call_failed = c.in-Err-write_copy.ensures.failed;
         },
       );
     };
-    exits = c.refuse-in-Err-write_whole.ensures.status;
-    reports = c.refuse-in-Err-write_whole.ensures.line;
+    exits = c.refuse-in-Err-write_copy.ensures.status;
+    reports = c.refuse-in-Err-write_copy.ensures.line;
   },
 )
+
+pub write_copy-requires : goal.write_copy-requires
+write_copy-requires g c =
+    rw (c.deref-2.ensures.value, c.deref-3.ensures.value)
+    (in_order c.args.station _ c.in-Ok.file c.in-Ok.ensures.1)
