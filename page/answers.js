@@ -1,21 +1,21 @@
 // Which call is asked for which files, and what it answered: a card for each station, and for each file
 // that belongs to none. Nothing here decides a verdict.
 import { ask, digestOf } from './work.js';
-import { fieldOfSheet, stationOfSheet, stationOfTable, stemOf, textOf } from './files.js';
+import { fieldOfSheet, stationOfSheet, stationOfTable, stemOf } from './files.js';
 import { commandOf } from './limits.js';
-import { differencesOf, each, isComplete, recognizedIn, residualsOf, stationsOf } from './records.js';
+import { each, greatestOf, recognizedIn, residualsIn, stationsOf } from './records.js';
 
 /**
  * @typedef {import('./files.js').Input} Input
  * @typedef {import('./files.js').Station} Station
- * @typedef {import('./records.js').Residuals} Residuals
- * How a card looks: all is in order, something was refused, or something is to be done first.
- * @typedef {'good' | 'bad' | 'open'} Mood
- * The answer of a command: its line, the fault in the words of the program where it is a refusal, the
- * residuals where it accepts a sheet, the differences by target where it compares a table.
+ * How a card looks: all is in order, something was refused, a station was read and has nothing to be
+ * compared, or something is to be done first.
+ * @typedef {'good' | 'bad' | 'read' | 'open'} Mood
+ * The answer of a command: its line or text, the fault in the words of the program where it is a refusal,
+ * the greatest residual where it accepts a sheet, the text of the differences where it compares a table.
  * @typedef {{ command: string, asked: string, status: number, line: string, explanation: string,
- *   field: Input, other?: Input, station?: Station, residuals: Residuals | null,
- *   differences?: import('./records.js').Difference[] | null }} Answer
+ *   field: Input, other?: Input, station?: Station, greatest?: import('./records.js').Residual,
+ *   differences?: string }} Answer
  * What is shown of a station, or of a file without one: `readings` counts those of a file without sets,
  * `waiting` has the files that can't be checked yet, `unplaced` the text that says why a file has no place,
  * `marked` is the answer when codes were put into a copy, and `recognized` what it told of the card's
@@ -23,8 +23,8 @@ import { differencesOf, each, isComplete, recognizedIn, residualsOf, stationsOf 
  * @typedef {{ title: string, mood: Mood, field?: Input, station?: Station, answers: Answer[],
  *   waiting: Input[], readings?: number, unplaced?: string, marked?: Answer,
  *   recognized?: import('./records.js').Recognized[], results?: Results }} Card
- * The results of a station: its directions, its residuals with the line that they rest on.
- * @typedef {{ directions: Answer, residuals: Residuals | null, basis: Answer | null }} Results
+ * The results of a station.
+ * @typedef {{ directions: Answer, residuals: Answer, report: Answer }} Results
  */
 
 /** Statuses of a call: those of the program's command, and the call's own. */
@@ -39,13 +39,13 @@ async function explanationOf(/** @type {string} */ line) {
 /**
  * An answer, with what its line speaks of.
  * @param {{ status: number, text: string }} reply
- * @param {Omit<Answer, 'status' | 'line' | 'explanation' | 'residuals' | 'differences'>} about
+ * @param {Omit<Answer, 'status' | 'line' | 'explanation' | 'greatest' | 'differences'>} about
  * @returns {Promise<Answer>}
  */
 async function answered({ status, text }, about) {
   const line = text.trimEnd();
   const explanation = status === REFUSED ? await explanationOf(line) : '';
-  return { ...about, status, line, explanation, residuals: null };
+  return { ...about, status, line, explanation };
 }
 
 /** The files that a card speaks of: a marked copy stands after the field file that it is of. */
@@ -67,7 +67,7 @@ async function cardsOfField(/** @type {Input} */ field, limits) {
   const stations = stationsOf(reply.text);
   if (stations.length === 0) return cardsWithoutSets(field, limits);
   return stations.map(listed => ({
-    title: listed.name, mood: 'open', field, station: { field, listed }, answers: [], waiting: [],
+    title: listed.name, mood: 'read', field, station: { field, listed }, answers: [], waiting: [],
   }));
 }
 
@@ -106,12 +106,10 @@ async function answerOfSheet(sheet, field, station, limits) {
     asked: 'check', field, other: sheet, station,
     command: commandOf('check', ['twoC', 'twoI', 'residual'], limits, [field.name, sheet.name]),
   });
-  if (answer.status === ACCEPTED) answer.residuals = residualsOf(textOf(sheet.bytes), answer.line);
-  return answer;
+  if (answer.status !== ACCEPTED) return answer;
+  const residuals = await residualsOf(station, limits);
+  return residuals.status === ACCEPTED ? { ...answer, greatest: greatestOf(residualsIn(residuals.line)) } : answer;
 }
-
-/** So many decimals of a gon are the most that the least-squares directions are asked with. */
-const MOST_DECIMALS = 8;
 
 async function answerOfTable(table, station, limits) {
   const { field, listed: { name } } = station, { twoC, twoI, within } = limits;
@@ -120,9 +118,8 @@ async function answerOfTable(table, station, limits) {
     command: commandOf('compare', ['twoC', 'twoI', 'within'], limits, [field.name, name, table.name]),
   });
   if (answer.status !== ACCEPTED && !/^refused: compare: /.test(answer.line)) return answer;
-  const least = await ask('directions', field.bytes, name, twoC, twoI, MOST_DECIMALS);
-  if (least.status === ACCEPTED) answer.differences = differencesOf(textOf(table.bytes), least.text);
-  return answer;
+  const { status, text } = await ask('differences', field.bytes, table.bytes, name, twoC, twoI);
+  return status === ACCEPTED ? { ...answer, differences: text } : answer;
 }
 
 /** The card that an answer belongs to takes it; it is good only where all its answers are. */
@@ -192,12 +189,20 @@ async function placeFile(file, cards, fields, stations, limits) {
 export const meansOf = (/** @type {Station} */ { field, listed }, limits) =>
   ask('means', field.bytes, listed.name, limits.twoC, limits.twoI);
 
-/** The answer of the check to the sheet of means: residuals rest on it where no other sheet is there. */
-async function answerOfMeans(station, limits) {
-  const means = await meansOf(station, limits);
-  if (means.status !== ACCEPTED) return null;
-  const sheet = { name: '', bytes: new TextEncoder().encode(means.text), kind: 'sheet', digest: '' };
-  return answerOfSheet(sheet, station.field, station, limits);
+/**
+ * What a command answers of a station, by its numbers of these names, and by the name of the file where it
+ * says that.
+ * @returns {Promise<Answer>}
+ */
+async function answerOfStation(asked, /** @type {Station} */ { field, listed: { name } }, names, limits, ...path) {
+  const reply = await ask(asked, field.bytes, ...path, name, ...names.map(one => limits[one]));
+  return answered(reply, { asked, field, command: commandOf(asked, names, limits, [field.name, name]) });
+}
+
+/** The residuals of a station: asked for once. */
+async function residualsOf(/** @type {Station} */ station, limits) {
+  station.residuals ??= await answerOfStation('residuals', station, ['twoC', 'twoI'], limits);
+  return station.residuals;
 }
 
 /**
@@ -205,13 +210,8 @@ async function answerOfMeans(station, limits) {
  * @param {Card} card
  * @returns {Promise<Results>}
  */
-export async function resultsOf(card, limits) {
-  const { station, field } = card, { name } = station.listed, { twoC, twoI, decimals } = limits;
-  const directions = await answered(await ask('directions', field.bytes, name, twoC, twoI, decimals), {
-    asked: 'directions', field, station,
-    command: commandOf('directions', ['twoC', 'twoI', 'decimals'], limits, [field.name, name]),
-  });
-  const accepted = card.answers.find(answer => answer.residuals);
-  const basis = accepted ?? (isComplete(station.listed) ? await answerOfMeans(station, limits) : null);
-  return { directions, residuals: basis?.residuals ?? null, basis };
+export async function resultsOf({ station }, limits) {
+  const directions = await answerOfStation('directions', station, ['twoC', 'twoI', 'decimals'], limits);
+  const report = await answerOfStation('report', station, ['twoC', 'twoI'], limits, station.field.name);
+  return { directions, residuals: await residualsOf(station, limits), report };
 }

@@ -26,7 +26,7 @@ HERE = Path(__file__).resolve().parent
 ROOT = HERE.parent
 CRATE = ROOT / "crates" / "station_page"
 # The libraries that stand on all others of the crate's.
-LIBRARIES = ["station_compare", "station_mark", "station_explain", "byte_digests"]
+LIBRARIES = ["station_differences", "station_report", "station_mark", "station_explain", "byte_digests"]
 RT = os.environ.get("RT", "rt")
 
 # The modules of each script that stands in the page, in the order in which they need each other: of the

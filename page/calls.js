@@ -62,8 +62,14 @@ export const calls = {
   words: (core, gsi) => callOf(core, 'station_page_words', [gsi], [], 2),
   directions: (core, gsi, name, twoC, twoI, decimals) =>
     callOf(core, 'station_page_directions', [gsi, name], [twoC, twoI, decimals]),
+  residuals: (core, gsi, name, twoC, twoI) =>
+    callOf(core, 'station_page_residuals', [gsi, name], [twoC, twoI]),
+  report: (core, gsi, path, name, twoC, twoI) =>
+    callOf(core, 'station_page_report', [gsi, path, name], [twoC, twoI]),
   compare: (core, gsi, table, name, twoC, twoI, within) =>
     callOf(core, 'station_page_compare', [gsi, table, name], [twoC, twoI, ...stated(within)]),
+  differences: (core, gsi, table, name, twoC, twoI) =>
+    callOf(core, 'station_page_differences', [gsi, table, name], [twoC, twoI]),
   mark: (core, gsi, name) => callOf(core, 'station_page_mark', [gsi, name], [], 2),
   digest: (core, file, name) => callOf(core, 'station_page_digest', [file, name], []),
   explain: (core, line) => callOf(core, 'station_page_explain', [line], []),

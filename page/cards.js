@@ -7,7 +7,7 @@ import { placeOf } from './place.js';
 import { protocolFile } from './protocol.js';
 import { isComplete } from './records.js';
 import { showResults } from './results.js';
-import { differencesFile, facesFile, residualsFile } from './tables.js';
+import { facesFile } from './tables.js';
 import { text } from './texts.js';
 
 /**
@@ -20,7 +20,7 @@ import { text } from './texts.js';
  *   name: (field: import('./files.js').Input, station: string) => void }} Desk
  */
 
-const MOODS = { good: 'moodGood', bad: 'moodBad', open: 'moodOpen' };
+const MOODS = { good: 'moodGood', bad: 'moodBad', read: 'moodRead', open: 'moodOpen' };
 
 // ---------------------------------------------------------------- refusals
 
@@ -113,10 +113,12 @@ function showButtons(/** @type {Card} */ card, desk, parent) {
   offer('saveProtocol', protocol, () => protocolFile(card, desk.limits), 'text/html');
   if (results.directions.status === ACCEPTED)
     offer('saveDirections', `${name}_directions.csv`, () => `${results.directions.line}\n`);
-  if (results.residuals)
-    offer('saveResiduals', `${name}_residuals.csv`, () => residualsFile(results.residuals));
+  if (results.residuals.status === ACCEPTED)
+    offer('saveResiduals', `${name}_residuals.csv`, () => `${results.residuals.line}\n`);
+  if (results.report.status === ACCEPTED)
+    offer('saveReport', `${name}_report.txt`, () => `${results.report.line}\n`, 'text/plain');
   for (const { differences, other } of card.answers)
-    if (differences) offer('saveDifferences', `${stemOf(other)}_differences.csv`, () => differencesFile(differences));
+    if (differences) offer('saveDifferences', `${stemOf(other)}_differences.csv`, () => differences);
   offer('saveFaces', `${name}_faces.csv`, () => facesFile(station));
   if (isComplete(listed)) offer('saveMeans', `${name}.csv`, async () => {
     const { status, text: sheet } = await meansOf(station, desk.limits);

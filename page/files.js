@@ -9,8 +9,9 @@ import { each, recordsOf } from './records.js';
  * is there once the file was judged.
  * @typedef {{ name: string, bytes: Uint8Array, kind: Kind, digest: string, choice?: string,
  *   station?: string, original?: Input }} Input
- * A station of a field file.
- * @typedef {{ field: Input, listed: import('./records.js').Listed, results?: any }} Station
+ * A station of a field file, with its residuals once they were asked for.
+ * @typedef {{ field: Input, listed: import('./records.js').Listed,
+ *   residuals?: import('./answers.js').Answer }} Station
  */
 
 /** So many bytes at the beginning of a file tell what it is. */

@@ -1,7 +1,6 @@
 // The answer in words and mgon, of each kind.
 import { ACCEPTED, OUT_OF_RANGE, TOO_LITTLE_ROOM } from './answers.js';
 import { APART, mgonOf } from './numbers.js';
-import { greatestOf, residualText } from './records.js';
 import { text } from './texts.js';
 
 /**
@@ -19,12 +18,11 @@ export function meaningOf(/** @type {Answer} */ { explanation }) {
 export const apartIn = (/** @type {string} */ line) =>
   Number(line.match(/^refused: compare: Apart (\d+)/)?.[1]);
 
-function acceptedHeadline(/** @type {Answer} */ { residuals }) {
-  if (!residuals) return text('acceptedBare');
-  const { greatest, scale } = residuals;
-  if (greatest === 0n) return text('acceptedZero');
-  const { set, target } = greatestOf(residuals), two = residualText(greatest, scale, 2);
-  return text('accepted', { size: two < '0.1' ? residualText(greatest, scale, 3) : two, set, target });
+function acceptedHeadline(/** @type {Answer} */ { line, greatest }) {
+  if (/greatest residual 0\//.test(line)) return text('acceptedZero');
+  if (!greatest) return text('acceptedBare');
+  const { set, target, residual } = greatest;
+  return text('accepted', { size: residual.replace('-', ''), set, target });
 }
 
 function agreesHeadline(/** @type {string} */ line) {

@@ -46,10 +46,13 @@ function sayHow() {
     const title = station ? `${text('station', { name: card.title })}: ` : '';
     return say(`${card.mood} unseen`, title + said);
   }
-  const count = mood => cards.filter(card => card.mood === mood).length;
-  const [good, bad, open] = ['good', 'bad', 'open'].map(count), all = cards.length;
-  say(bad ? 'bad' : open ? 'open' : 'good', text('summary', { all, good, bad, open }));
+  const moods = Object.keys(SUMMARIES), count = mood => cards.filter(card => card.mood === mood).length;
+  const met = moods.filter(mood => count(mood) > 0);
+  say(met[0], met.map(mood => text(SUMMARIES[mood], { n: count(mood) })).join('; '));
 }
+
+/** What is said of so many cards that look alike: that which asks most of the user comes first. */
+const SUMMARIES = { bad: 'summaryBad', open: 'summaryOpen', read: 'summaryRead', good: 'summaryGood' };
 
 /** What an input is, in words. */
 function kindText(/** @type {Input} */ input) {

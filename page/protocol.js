@@ -24,7 +24,7 @@ function showFiles(/** @type {import('./answers.js').Card} */ card, parent) {
 }
 
 function showAnswers(/** @type {import('./answers.js').Card} */ card, limits, parent) {
-  if (card.answers.length === 0) element('div', headlineOfCard(card), parent);
+  if (card.answers.length === 0) element('div', `${headlineOfCard(card)} ${text('notCompared')}`, parent);
   for (const answer of card.answers) {
     const mood = answer.status === ACCEPTED ? 'good' : 'bad';
     const said = `${answer.other.name}: ${saidOf(answer, limits)}`;

@@ -1,6 +1,5 @@
-// What stands in the texts of the program and in files that it accepted: records of comma-separated
-// text, the stations of a list, the residuals of a sheet. Nothing here decides anything.
-import { decimal } from './numbers.js';
+// What stands in the texts of the program: records of comma-separated text, the stations of a list, the
+// residuals and the report of a station, the differences of a table. Nothing here decides anything.
 
 /** @typedef {{ first: number, end: number, fields: string[] }} TextRecord */
 
@@ -112,111 +111,51 @@ export const readingsIn = (/** @type {string} */ words) =>
 
 // ---------------------------------------------------------------- residuals
 
-// A full circle in half units, of 0.005 mgon each.
-const TURN = 80_000_000n;
-
-const ACCEPTED_LINE =
-  /^accepted (.*): (\d+) sets, (\d+) targets, (\d+) directions, greatest residual (\d+)\/(\d+)/;
-
-const sizeOf = number => number < 0n ? -number : number;
-
 /**
- * A residual times the sheet's denominator, in half units.
- * @typedef {{ set: string, target: string, size: bigint }} Residual
- * @typedef {{ scale: bigint, greatest: bigint, rows: Residual[], sets: string[],
- *   targets: string[] }} Residuals
+ * An observation as the call wrote it: its residual in mgon, with three decimals.
+ * @typedef {{ set: string, target: string, residual: string }} Residual
+ * @typedef {{ rows: Residual[], sets: string[], targets: string[] }} Residuals
  */
 
 /**
- * The residuals of an accepted sheet, in its order; none where the line is not that of this sheet.
- * @param {string} sheet
- * @param {string} line
- * @returns {Residuals | null}
+ * The residuals of a station, in the order of the text that the call wrote.
+ * @returns {Residuals}
  */
-export function residualsOf(sheet, line) {
-  const found = line.match(ACCEPTED_LINE);
-  if (!found) return null;
-  const rows = recordsOf(sheet).map(record => record.fields);
-  const ofKind = kind => rows.filter(row => row[0] === kind);
-  const [, , name, denominator] = rows[0];
-  const directions = new Map(ofKind('target').map(row => [row[2], BigInt(row[3])]));
-  const orientations = new Map(ofKind('set').map(row => [row[1], BigInt(row[3])]));
-  const scale = BigInt(denominator);
-  const residuals = ofKind('obs').map(([, set, target, p, turns]) => ({
-    set, target,
-    size: directions.get(target) - orientations.get(set) - scale * (BigInt(p) + TURN * BigInt(turns)),
-  }));
-  const greatest = greatestSize(residuals.map(one => one.size));
-  const told = [name, orientations.size, directions.size, residuals.length, greatest, scale];
-  if (told.some((word, nth) => String(word) !== found[nth + 1])) return null;
-  const sets = [...orientations.keys()], targets = [...directions.keys()];
-  return { scale, greatest, rows: residuals, sets, targets };
+export function residualsIn(/** @type {string} */ text) {
+  const [, ...records] = recordsOf(text);
+  const rows = records.map(({ fields: [set, target, , , residual] }) => ({ set, target, residual }));
+  return { rows, sets: each(rows.map(row => row.set)), targets: each(rows.map(row => row.target)) };
 }
 
-/** The greatest size of these numbers. */
-export const greatestSize = (/** @type {bigint[]} */ numbers) =>
-  numbers.map(sizeOf).reduce((a, b) => a > b ? a : b, 0n);
+/** The size of a number that a call wrote, to be compared with that of others. */
+export const sizeOf = (/** @type {string} */ number) => Math.abs(Number(number));
 
-/** The first of the residuals of the greatest size, in the sheet's order. */
-export const greatestOf = (/** @type {Residuals} */ { rows, greatest }) =>
-  rows.find(one => sizeOf(one.size) === greatest);
-
-/** A residual in mgon with so many decimals: one half unit is 0.005 mgon. */
-export const residualText = (/** @type {bigint} */ size, /** @type {bigint} */ scale, decimals = 2) =>
-  decimal(size * 5n, scale * 1000n, decimals);
-
-/** Its part of the greatest, from -1 to 1. */
-export const partOf = (/** @type {bigint} */ size, /** @type {bigint} */ greatest) =>
-  greatest === 0n ? 0 : Number(size * 1000n / greatest) / 1000;
-
-/** Degrees of freedom: observations less unknowns, which are the directions but one and the orientations. */
-export const freedomOf = (/** @type {Residuals} */ { rows, targets, sets }) =>
-  rows.length - (targets.length - 1) - sets.length;
-
-/** The standard deviation of a two-face direction in mgon, as a text. No proved call says it. */
-export function deviationOf(/** @type {Residuals} */ residuals) {
-  const squares = residuals.rows.reduce((sum, { size }) =>
-    sum + (Number(size * 5n) / (1000 * Number(residuals.scale))) ** 2, 0);
-  return Math.sqrt(squares / freedomOf(residuals)).toFixed(3);
-}
-
-// ---------------------------------------------------------------- tables
-
-// A full circle in 0.000000001 gon, and so many of these in a mgon.
-const CIRCLE = 400_000_000_000n, MGON = 1_000_000n;
-
-/** A direction in 0.000000001 gon; none where the text is none. */
-function directionIn(/** @type {string} */ gon) {
-  const [, sign, whole, rest = ''] = gon.match(/^(-?)(\d+)(?:\.(\d{1,9}))?$/) ?? [];
-  return whole === undefined ? null : BigInt(`${sign}${whole}${rest.padEnd(9, '0')}`);
-}
+/** The first of the residuals of the greatest size. */
+export const greatestOf = (/** @type {Residuals} */ { rows }) =>
+  rows.reduce((a, b) => sizeOf(b.residual) > sizeOf(a.residual) ? b : a);
 
 /**
- * By target what a table states, the least-squares direction, and the difference after the best rotation,
- * in half units of 0.000000001 gon.
- * @typedef {{ target: string, stated: string, least: string, twice: bigint }} Difference
+ * What a report says at its end: the degrees of freedom, and the standard deviation of one two-face direction
+ * in mgon, or 'none'.
+ */
+export function accuracyIn(/** @type {string} */ report) {
+  const [, degrees, deviation] = report.match(/\nDegrees of freedom +(\d+)\nStandard deviation +(\S+)[^\n]*$/) ?? [];
+  return { degrees: Number(degrees), deviation };
+}
+
+// ---------------------------------------------------------------- differences
+
+/**
+ * By target what a table states and the least-squares direction, in gon, and their difference after the best
+ * rotation, in mgon, as the call wrote them.
+ * @typedef {{ target: string, stated: string, least: string, difference: string }} Difference
  */
 
 /**
- * The differences of a table from that of the least-squares directions; none where it isn't read so.
- * @param {string} table
- * @param {string} least what the call wrote
- * @returns {Difference[] | null}
+ * The differences of a table, in the order of the text that the call wrote.
+ * @returns {Difference[]}
  */
-export function differencesOf(table, least) {
-  const stated = new Map(recordsOf(table).map(({ fields }) => [fields[0], fields[1] ?? '']));
-  const rows = recordsOf(least).map(({ fields: [target, gon] }) =>
-    ({ target, stated: stated.get(target) ?? '', least: gon }));
-  if (rows.length === 0 || rows.some(row => directionIn(row.stated) === null)) return null;
-  const apart = rows.map(row => directionIn(row.stated) - directionIn(row.least));
-  // Each less the first, within half a circle of it; then less the middle of the least and the greatest.
-  const turned = apart.map(one => {
-    const rest = ((one - apart[0]) % CIRCLE + CIRCLE) % CIRCLE;
-    return rest * 2n > CIRCLE ? rest - CIRCLE : rest;
-  });
-  const middle = turned.reduce((a, b) => a < b ? a : b) + turned.reduce((a, b) => a > b ? a : b);
-  return rows.map((row, nth) => ({ ...row, twice: 2n * turned[nth] - middle }));
+export function differencesIn(/** @type {string} */ text) {
+  const [, ...records] = recordsOf(text);
+  return records.map(({ fields: [target, stated, least, difference] }) => ({ target, stated, least, difference }));
 }
-
-/** A difference in mgon, with three decimals. */
-export const differenceText = (/** @type {Difference} */ { twice }) => decimal(twice, 2n * MGON, 3);

@@ -2,17 +2,14 @@
 import { ACCEPTED } from './answers.js';
 import { element, ofProgram } from './elements.js';
 import { meaningOf } from './headlines.js';
-import { deviationNote, differencesTable, directionsTable, facesTables, residualsTable } from './tables.js';
+import { accuracyIn, differencesIn, residualsIn } from './records.js';
+import { accuracyNote, differencesTable, directionsTable, facesTables, residualsTable } from './tables.js';
 import { text } from './texts.js';
 
-/** Which sheet the residuals are of, or why there are none. */
-function showBasis(/** @type {import('./answers.js').Results} */ { basis, residuals }, parent) {
-  const name = basis?.other?.name, line = basis?.line ?? '';
-  const said = !basis ? text('residualsNeedSheet')
-    : !residuals ? text('residualsRefused', { line })
-      : name ? text('residualsBySheet', { name, line }) : text('residualsByMeans', { line });
-  element('p', said, parent, { className: 'quiet' });
-  if (residuals) deviationNote(residuals, parent);
+/** Why there are no adjusted directions, and so no residuals. */
+function showRefused(/** @type {import('./answers.js').Answer} */ answer, parent) {
+  ofProgram('samp', answer.line, element('p', '', parent));
+  ofProgram('p', meaningOf(answer), parent);
 }
 
 /** The results of a station, on the page and in the protocol. */
@@ -26,16 +23,16 @@ export function showResults(/** @type {import('./answers.js').Card} */ { station
   for (const { differences, other } of answers) {
     if (!differences) continue;
     const part = section(text('differences', { name: other.name }));
-    differencesTable(differences, part);
+    differencesTable(differencesIn(differences), part);
     element('p', text('differencesNote'), part, { className: 'quiet' });
   }
-  const [directions, residuals, faces] = ['directions', 'residuals', 'faces'].map(name => section(text(name)));
+  const directions = section(text('directions'));
   if (results.directions.status === ACCEPTED) directionsTable(results.directions.line, station, directions);
-  else {
-    ofProgram('samp', results.directions.line, element('p', '', directions));
-    ofProgram('p', meaningOf(results.directions), directions);
+  else showRefused(results.directions, directions);
+  if (results.residuals.status === ACCEPTED) {
+    const part = section(text('residuals'));
+    residualsTable(residualsIn(results.residuals.line), part);
+    if (results.report.status === ACCEPTED) accuracyNote(accuracyIn(results.report.line), part);
   }
-  if (results.residuals) residualsTable(results.residuals, residuals);
-  showBasis(results, residuals);
-  facesTables(station, faces);
+  facesTables(station, section(text('faces')));
 }

@@ -1,8 +1,7 @@
 // The results of a station as tables: targets as rows, and sets as columns, in groups that fit on a page.
 import { element, tableOf } from './elements.js';
 import { FACE, decimal, signed } from './numbers.js';
-import { deviationOf, differenceText, each, freedomOf, greatestSize } from './records.js';
-import { pairsOf, partOf, recordsOf, residualText } from './records.js';
+import { each, greatestOf, pairsOf, recordsOf, sizeOf } from './records.js';
 import { text } from './texts.js';
 
 /** So many sets stand side by side. */
@@ -41,40 +40,44 @@ export function directionsTable(table, station, parent) {
   tableOf(text('directionsCaption'), headings, /** @type {any} */ (rows), parent, 'numbers');
 }
 
-/** The differences of a table by target, each as a number and as a bar, the greatest marked. */
+/**
+ * A number that a call wrote as a cell: with its sign, the greatest in size marked, and a bar that is as
+ * long as its part of that.
+ */
+function cellWithBar(/** @type {string} */ number, /** @type {number} */ greatest) {
+  const isGreatest = greatest > 0 && sizeOf(number) === greatest;
+  return {
+    text: signed(number),
+    mark: isGreatest ? 'greatest' : '', bar: greatest > 0 ? Number(number) / greatest : 0,
+  };
+}
+
+/**
+ * The differences of a table by target, each as a number and as a bar, the greatest marked: beside the target,
+ * so that a phone shows them.
+ */
 export function differencesTable(/** @type {import('./records.js').Difference[]} */ differences, parent) {
-  const greatest = greatestSize(differences.map(one => one.twice));
-  const rows = differences.map(one => [one.target, { text: one.stated }, { text: one.least }, {
-    text: signed(differenceText(one)),
-    mark: greatest > 0n && greatestSize([one.twice]) === greatest ? 'greatest' : '',
-    bar: partOf(one.twice, greatest),
-  }]);
-  const headings = ['target', 'stated', 'leastSquares', 'difference'].map(name => text(name));
+  const greatest = Math.max(...differences.map(one => sizeOf(one.difference)));
+  const rows = differences.map(({ target, stated, least, difference }) =>
+    [target, cellWithBar(difference, greatest), { text: stated }, { text: least }]);
+  const headings = ['target', 'difference', 'stated', 'leastSquares'].map(name => text(name));
   tableOf(text('differencesCaption'), headings, /** @type {any} */ (rows), parent, 'numbers bars');
 }
 
 /** The residuals, each as a number and as a bar: the longest bar is the greatest residual. */
 export function residualsTable(/** @type {import('./records.js').Residuals} */ residuals, parent) {
-  const { rows, scale, greatest, sets, targets } = residuals;
-  const byPlace = new Map(rows.map(row => [`${row.set} ${row.target}`, row.size]));
-  const isSmall = residualText(greatest, scale, 3) < '0.1';
+  const { rows, sets, targets } = residuals, greatest = sizeOf(greatestOf(residuals).residual);
+  const byPlace = new Map(rows.map(row => [`${row.set} ${row.target}`, row.residual]));
   const cell = (set, target) => {
-    const size = byPlace.get(`${set} ${target}`);
-    if (size === undefined) return undefined;
-    const isGreatest = greatest > 0n && (size === greatest || size === -greatest);
-    return {
-      text: signed(residualText(size, scale, isSmall ? 3 : 2)),
-      mark: isGreatest ? 'greatest' : '', bar: partOf(size, greatest),
-    };
+    const residual = byPlace.get(`${set} ${target}`);
+    return residual === undefined ? undefined : cellWithBar(residual, greatest);
   };
   bySets(text('residualsCaption'), targets, sets, cell, parent, 'numbers bars');
 }
 
-/** The standard deviation, which no proved call says. */
-export function deviationNote(residuals, parent) {
-  const n = freedomOf(residuals);
-  const said = n > 0 ? text('deviation', { n, size: deviationOf(residuals) }) : text('noFreedom');
-  element('p', said, parent, { className: 'quiet' });
+/** The standard deviation, as the report has it. */
+export function accuracyNote({ degrees: n, deviation: size }, parent) {
+  element('p', text(n > 0 ? 'deviation' : 'noFreedom', { n, size }), parent, { className: 'quiet' });
 }
 
 /** The face differences of a station, the greatest of each kind marked. */
@@ -101,18 +104,6 @@ export function facesTables(station, parent) {
 const fieldText = (/** @type {string} */ field) =>
   /[",\r\n]/.test(field) ? `"${field.replaceAll('"', '""')}"` : field;
 const csv = rows => rows.map(row => `${row.map(fieldText).join(',')}\n`).join('');
-
-/** The residuals as a file: in mgon, with three decimals. */
-export const residualsFile = ({ rows, scale }) => csv([
-  ['set', 'target', 'residual mgon'],
-  ...rows.map(({ set, target, size }) => [set, target, residualText(size, scale, 3)]),
-]);
-
-/** The differences of a table as a file: in gon and mgon. */
-export const differencesFile = differences => csv([
-  ['target', 'stated', 'least squares', 'difference mgon'],
-  ...differences.map(one => [one.target, one.stated, one.least, differenceText(one)]),
-]);
 
 /** The face differences as a file: in mgon. */
 export const facesFile = station => csv([

@@ -21,7 +21,10 @@ use Rattle.station_compare.specs.Answers.{Compares}
 use Rattle.station_compare.specs.Directions.{TellsDirections}
 use Rattle.station_compare.specs.declared.agreement.Agreement.{Agreement}
 use Rattle.station_compare.specs.declared.fault.CompareFault.{CompareFault}
+use Rattle.station_differences.specs.Answers.{TellsDifferences}
 use Rattle.station_explain.specs.Table.{Explanation}
+use Rattle.station_report.specs.Answers.{TellsReport}
+use Rattle.station_residuals.specs.Answers.{TellsResiduals}
 use Rattle.station_page.specs.Explained.{AnswersLine, explanation_or_refusal}
 use Rattle.station_page.specs.HandedOut.{HandsOut, verdict_line, text_or_refusal, refusal_text}
 use Rattle.station_page.specs.HandedOut.{comparison_line, table_or_refusal, copy_text}
@@ -89,6 +92,26 @@ pub record IsDirectionsOf (two_c two_i : ℕ) (gsi name : List ℕ) (decimals ro
   pub tells : TellsDirections limits (file_answers (handed_in gsi)) name decimals answer
   pub hands_out : HandsOut (status_of answer) (table_or_refusal answer) room answered shown
 
+-- The status and the text are those of the residuals of the station of this name in these bytes,
+-- observation by observation.
+pub record IsResidualsOf (two_c two_i : ℕ) (gsi name : List ℕ) (room answered : ℕ)
+    (shown : List ℕ) : Type 0 where
+  pub limits : FaceLimits
+  pub states : States two_c two_i limits
+  pub answer : Result (List ℕ) CompareFault
+  pub tells : TellsResiduals limits (file_answers (handed_in gsi)) name answer
+  pub hands_out : HandsOut (status_of answer) (table_or_refusal answer) room answered shown
+
+-- The status and the text are those of the report of the station of this name in these bytes, which
+-- names the field file by these bytes of a path.
+pub record IsReportOf (two_c two_i : ℕ) (gsi path name : List ℕ) (room answered : ℕ)
+    (shown : List ℕ) : Type 0 where
+  pub limits : FaceLimits
+  pub states : States two_c two_i limits
+  pub answer : Result (List ℕ) CompareFault
+  pub tells : TellsReport path limits (file_answers (handed_in gsi)) name answer
+  pub hands_out : HandsOut (status_of answer) (table_or_refusal answer) room answered shown
+
 -- The status and the line are those of the comparison of these bytes of a table with the station of
 -- this name in these bytes of a field file, of which the whole promise is kept.
 pub record IsComparisonOf (two_c two_i : ℕ) (is_stated : Bool) (within : ℕ)
@@ -100,6 +123,16 @@ pub record IsComparisonOf (two_c two_i : ℕ) (is_stated : Bool) (within : ℕ)
       (stated_limit is_stated within) answer
   pub hands_out : HandsOut (status_of answer) (comparison_line answer) room answered shown
 
+-- The status and the text are those of the differences of these bytes of a table from the station of
+-- this name in these bytes of a field file, target by target.
+pub record IsDifferencesOf (two_c two_i : ℕ) (gsi table name : List ℕ) (room answered : ℕ)
+    (shown : List ℕ) : Type 0 where
+  pub limits : FaceLimits
+  pub states : States two_c two_i limits
+  pub answer : Result (List ℕ) CompareFault
+  pub tells : TellsDifferences limits (file_answers (handed_in gsi)) (handed_in table) name answer
+  pub hands_out : HandsOut (status_of answer) (table_or_refusal answer) room answered shown
+
 -- The status, the copy and what is told of it, or the line of the refusal, are those of putting
 -- codes into these bytes, by the name that is stated.
 pub record IsMarkOf (gsi name : List ℕ) (room notes_room answered : ℕ) (shown notes : List ℕ)
@@ -107,7 +140,7 @@ pub record IsMarkOf (gsi name : List ℕ) (room notes_room answered : ℕ) (show
   pub answer : Result Marked MarkFault
   pub marks : AnswersMark (stated_name name) gsi (file_answers (handed_in gsi)) answer
   pub status : ℕ
-  pub hands_copy_out : HandsOut (status_of answer) (copy_text answer) room status shown
+  pub hands_copy_out : HandsOut (status_of answer) (copy_text gsi answer) room status shown
   pub hands_notes_out : HandsOut status (notes_or_refusal answer) notes_room answered notes
 
 -- The status and the text are those of the explanation that a line asks for, of the faults of a

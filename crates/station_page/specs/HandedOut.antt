@@ -7,6 +7,7 @@ use Rattle.station_compare.specs.FaultTexts.{agreement_line}
 use Rattle.station_compare.specs.FaultTexts as compare
 use Rattle.station_compare.specs.declared.agreement.Agreement.{Agreement}
 use Rattle.station_compare.specs.declared.fault.CompareFault.{CompareFault}
+use Rattle.set_marks.specs.Markings.{copy_of}
 use Rattle.set_marks.specs.declared.fault.MarkFault.{MarkFault}
 use Rattle.set_marks.specs.declared.marked.Marked.{Marked}
 use Rattle.station_mark.specs.FaultTexts as mark
@@ -40,15 +41,16 @@ abbrev pub comparison_line : Result Agreement CompareFault → List ℕ
 comparison_line (Ok agreement) = agreement_line agreement
 comparison_line (Err fault) = compare.refusal_line fault
 
--- the table of directions that is answered, or the line of the refusal in its place
+-- the table that is answered, of directions, residuals or differences, or the report; or the line of
+-- the refusal in its place
 abbrev pub table_or_refusal : Result (List ℕ) CompareFault → List ℕ
 table_or_refusal (Ok table) = table
 table_or_refusal (Err fault) = compare.refusal_line fault
 
--- the copy with codes; at a refusal nothing
-abbrev pub copy_text : Result Marked MarkFault → List ℕ
-copy_text (Ok m) = m.copy.items
-copy_text (Err fault) = []
+-- the copy of these bytes, with codes; at a refusal nothing
+abbrev pub copy_text : List ℕ → Result Marked MarkFault → List ℕ
+copy_text gsi (Ok m) = copy_of gsi m
+copy_text gsi (Err fault) = []
 
 -- what is told of it, or the line of the refusal
 abbrev pub notes_or_refusal : Result Marked MarkFault → List ℕ

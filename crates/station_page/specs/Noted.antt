@@ -1,7 +1,7 @@
 -- A copy with codes in memory, and what is told of it.
 use Rattle.std.specs.Prelude.{◌≡◌, ℕ, List, [], Option, Result, Ok, Err}
 use Rattle.gsi_file.specs.FileAnswers.{file_answers}
-use Rattle.set_marks.specs.Markings.{AnswersMark}
+use Rattle.set_marks.specs.Markings.{AnswersMark, copy_of}
 use Rattle.set_marks.specs.declared.fault.MarkFault.{MarkFault}
 use Rattle.set_marks.specs.declared.marked.Marked.{Marked}
 use Rattle.station_check.specs.Came.{handed_in}
@@ -10,18 +10,18 @@ use Rattle.station_mark.specs.Notes.{notes_of}
 use Rattle.station_mark.specs.declared.fault.PrintFault.TheVariants.{Mark}
 use Rattle.station_page.specs.declared.mark.Noted.{Noted}
 
--- It is the copy of the marking, and its notes; or the marking's refusal.
-abbrev pub Notes : Result Marked MarkFault → Result Noted MarkFault → Type 0
-Notes (Ok m) (Ok n) = (n.copy.items ≡ m.copy.items) × (n.notes.items ≡ notes_of m)
-Notes (Err fault) (Err given) = given ≡ fault
-Notes marking r = ⊥
+-- It is the copy that the marking makes of these bytes, and its notes; or the marking's refusal.
+abbrev pub Notes : List ℕ → Result Marked MarkFault → Result Noted MarkFault → Type 0
+Notes gsi (Ok m) (Ok n) = (n.copy.items ≡ copy_of gsi m) × (n.notes.items ≡ notes_of m)
+Notes gsi (Err fault) (Err given) = given ≡ fault
+Notes gsi marking r = ⊥
 
 -- It is so of the marking of these bytes.
 pub record IsNoted (station : Option (List ℕ)) (gsi : List ℕ) (r : Result Noted MarkFault)
     : Type 0 where
   pub marking : Result Marked MarkFault
   pub marks : AnswersMark station gsi (file_answers (handed_in gsi)) marking
-  pub notes : Notes marking r
+  pub notes : Notes gsi marking r
 
 -- the copy, or nothing
 abbrev pub copy_in : Result Noted MarkFault → List ℕ

@@ -7,7 +7,10 @@
 //! | `station_page_means` | hands out the sheet of means of a station |
 //! | `station_page_words` | hands out the words of a field file |
 //! | `station_page_directions` | hands out the table of a station's least-squares directions |
+//! | `station_page_residuals` | hands out the residuals of a station, observation by observation |
+//! | `station_page_report` | hands out the report of a station's sets |
 //! | `station_page_compare` | compares a table of directions, and hands out the line of the answer |
+//! | `station_page_differences` | hands out the differences of a table of directions, target by target |
 //! | `station_page_mark` | hands out a copy of a field file with codes put in, and what was recognized |
 //! | `station_page_digest` | hands out the line of a file's SHA-256 digest |
 //! | `station_page_explain` | hands out what the fault means that a text names |
@@ -22,6 +25,7 @@
 
 mod check;
 mod compare;
+mod differences;
 mod digest;
 mod directions;
 mod explain;
@@ -29,5 +33,7 @@ mod hand_out;
 mod list;
 mod mark;
 mod means;
+mod report;
+mod residuals;
 mod text;
 mod words;

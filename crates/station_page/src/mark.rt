@@ -10,7 +10,7 @@ ghost use Rattle.station_page.specs.declared.hand_out.TheConstants.{OUT_OF_RANGE
 
 use crate::hand_out::{OUT_OF_RANGE, hand_out};
 use adjust_kernel::Name;
-use set_marks::{MarkFault, mark_file};
+use set_marks::{MarkFault, mark_file, marked_copy};
 use station_check::{DONE, REFUSED};
 use station_mark::{PrintFault, notes_text, refusal_line};
 use std::alloc::Global;
@@ -119,9 +119,7 @@ fn with_notes(alloc: Global, gsi: &[u8], station: Option<Name>) -> Result<Noted,
     ensures { IsNoted station gsi.now result }
 {
     let marked = mark_file(alloc, gsi, false, station)?;
+    let copy = marked_copy(alloc, gsi, &marked.marks)?;
     let notes = notes_text(alloc, &marked.stations)?;
-    Ok(Noted {
-        copy: marked.copy,
-        notes,
-    })
+    Ok(Noted { copy, notes })
 }

@@ -18,7 +18,7 @@ use Rattle.station_page.proofs.mark.station_page_mark.Goals as goal
 of_answer : (gsi name : List ℕ) (room notes_room status answered : ℕ) (shown notes : List ℕ)
     (r : Result Noted MarkFault) (marking : Result Marked MarkFault)
     → AnswersMark (stated_name name) gsi (file_answers (handed_in gsi)) marking
-    → Notes marking r → HandsOut (status_of r) (copy_in r) room status shown
+    → Notes gsi marking r → HandsOut (status_of r) (copy_in r) room status shown
     → HandsOut status (notes_in r) notes_room answered notes
     → IsMarkOf gsi name room notes_room answered shown notes
 of_answer gsi name room notes_room status answered shown notes (Ok n) (Ok m) marks same copy told =

@@ -6,7 +6,7 @@ pub returns : goal.returns
 returns c = record {
   marking = Ok c.in_ok-marked.marked;
   marks = c.in_ok-marked.ensures;
-  notes = (refl, rw c.deref.ensures.value at c.in_ok-notes.ensures);
+  notes = (rw c.deref.ensures.value at c.in_ok-copy.ensures.woven, rw c.deref-2.ensures.value at c.in_ok-notes.ensures);
 }
 
 pub returns-in_err-marked : goal.returns-in_err-marked
@@ -18,4 +18,9 @@ returns-in_err-marked c =
 pub returns-in_err-notes : goal.returns-in_err-notes
 returns-in_err-notes c =
     let is_its : c.from_residual-in_err-notes.result ≡ Err Memory = search rules in
+    rw is_its (record { marking = Err Memory; marks = tt; notes = refl })
+
+pub returns-in_err-copy : goal.returns-in_err-copy
+returns-in_err-copy c =
+    let is_its : c.from_residual-in_err-copy.result ≡ Err Memory = search rules in
     rw is_its (record { marking = Err Memory; marks = tt; notes = refl })

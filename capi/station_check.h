@@ -1,0 +1,135 @@
+/* station_check: the proved calls of the program, for C.
+ *
+ * Whole files and numbers go in, a status and a text come out. docs/LIBRARY.md has an example, and
+ * docs/FORMATS.md the files and texts, byte by byte. Link with -lstation_check.
+ *
+ * Buffers are the caller's: a call reads `length` bytes at a pointer, which is never null, and keeps
+ * no pointer when it returns. No two buffers of a call overlap. The library takes memory by malloc,
+ * and gives all of it back. Calls on several threads may run at the same time. A call is not made
+ * from a signal handler, nor in the child that a process with threads forked.
+ *
+ * Texts: `text` has room for `room` bytes. The call writes the text to its beginning, without a zero
+ * at the end, and its length to `*length`. Where there is too little room nothing is written, and
+ * the status is 3: call again with more. STATION_CHECK_LINE bytes are enough for each line of
+ * station_check_check and station_check_compare; any other text may have more bytes than the files.
+ *
+ * Limits: those of face differences, `two_c` and `two_i`, are in units of 0.01 mgon, at most
+ * 1,000,000, and usually STATION_CHECK_FACES. Where `is_stated` is false there is no limit of
+ * residuals, or the usual one of a comparison, whatever number stands after it.
+ *
+ * Names of stations have 1 to 16 bytes from 20 to 7E (hex), without a zero at the end.
+ */
+#ifndef STATION_CHECK_H
+#define STATION_CHECK_H
+
+#include <stdbool.h>
+#include <stddef.h>
+#include <stdint.h>
+
+#ifdef __cplusplus
+extern "C" {
+#endif
+
+/* What a call answers. */
+enum {
+    STATION_CHECK_DONE = 0,            /* accepted, agrees, or written: the text says it */
+    STATION_CHECK_REFUSED = 1,         /* the text is the line of the refusal, with the first fault */
+    STATION_CHECK_OUT_OF_RANGE = 2,    /* a number or a name is out of its range: no text */
+    STATION_CHECK_TOO_LITTLE_ROOM = 3  /* the text has more bytes than there is room for: no text */
+};
+
+/* Room for any line of a check or a comparison, in bytes. */
+#define STATION_CHECK_LINE 192
+
+/* The limits of face differences that are usual, in units of 0.01 mgon: 20 mgon. */
+#define STATION_CHECK_FACES 2000
+
+/* Checks a sheet against a field file. The text is the line of the acceptance or of the refusal.
+ * `residual` limits the residuals, in half units of 0.005 mgon, at most 2,000. */
+uint8_t station_check_check(const void *gsi, size_t gsi_length,
+                            const void *sheet, size_t sheet_length,
+                            uint32_t two_c, uint32_t two_i, bool is_stated, uint32_t residual,
+                            char *text, size_t room, size_t *length);
+
+/* Compares a table of directions with the least-squares ones of a station. The text is the line of
+ * the agreement or of the refusal. `within` is how far they may be apart, in units of 0.001 mgon, at
+ * most 1,000,000; where none is stated, what is usual for the decimals of the table. */
+uint8_t station_check_compare(const void *gsi, size_t gsi_length,
+                              const void *table, size_t table_length,
+                              const char *station, size_t station_length,
+                              uint32_t two_c, uint32_t two_i, bool is_stated, uint32_t within,
+                              char *text, size_t room, size_t *length);
+
+/* The differences of a table of directions from the least-squares ones of a station: a row of titles,
+ * and a row for each target, with what the table states and the least-squares direction in gon, and
+ * their difference in mgon after the rotation that makes the largest smallest, exactly rounded. */
+uint8_t station_check_differences(const void *gsi, size_t gsi_length,
+                                  const void *table, size_t table_length,
+                                  const char *station, size_t station_length,
+                                  uint32_t two_c, uint32_t two_i,
+                                  char *text, size_t room, size_t *length);
+
+/* The table of a station's least-squares directions, in gon with 1 to 8 decimals, exactly rounded. */
+uint8_t station_check_directions(const void *gsi, size_t gsi_length,
+                                 const char *station, size_t station_length,
+                                 uint32_t two_c, uint32_t two_i, uint32_t decimals,
+                                 char *text, size_t room, size_t *length);
+
+/* The residuals of a station: a row of titles, and a row for each two-face direction, with the
+ * adjusted direction in gon and the residual in mgon, exactly rounded. */
+uint8_t station_check_residuals(const void *gsi, size_t gsi_length,
+                                const char *station, size_t station_length,
+                                uint32_t two_c, uint32_t two_i,
+                                char *text, size_t room, size_t *length);
+
+/* The report of a station's sets: what was read in both faces, the least-squares directions, the
+ * residuals, the greatest of them, and the standard deviation of one two-face direction, exactly
+ * rounded. It names the field file by `path`, which may be any bytes. */
+uint8_t station_check_report(const void *gsi, size_t gsi_length,
+                             const char *path, size_t path_length,
+                             const char *station, size_t station_length,
+                             uint32_t two_c, uint32_t two_i,
+                             char *text, size_t room, size_t *length);
+
+/* The sheet of a station whose sets are complete. */
+uint8_t station_check_means(const void *gsi, size_t gsi_length,
+                            const char *station, size_t station_length,
+                            uint32_t two_c, uint32_t two_i,
+                            char *text, size_t room, size_t *length);
+
+/* The list of the stations, their two-face directions and face differences. */
+uint8_t station_check_list(const void *gsi, size_t gsi_length,
+                           uint32_t two_c, uint32_t two_i,
+                           char *text, size_t room, size_t *length);
+
+/* The words of a field file, one a line. At a fault of the file `text` has the words before it, and
+ * `refusal` the line of the refusal; else that is empty. The status is 3 where either has too little
+ * room. */
+uint8_t station_check_words(const void *gsi, size_t gsi_length,
+                            char *text, size_t room, size_t *length,
+                            char *refusal, size_t refusal_room, size_t *refusal_length);
+
+/* A copy of a job that was recorded without codes, with codes put in, and in `notes` what was
+ * recognized, or the line of the refusal. `station` names the file's one station where its lines
+ * name none, and is else of length 0. The status is 3 where either text has too little room. */
+uint8_t station_check_mark(const void *gsi, size_t gsi_length,
+                           const char *station, size_t station_length,
+                           char *copy, size_t room, size_t *length,
+                           char *notes, size_t notes_room, size_t *notes_length);
+
+/* The line that sha256sum prints of a file of this name. 68 bytes and twice those of the name are
+ * always enough. */
+uint8_t station_check_digest(const void *file, size_t file_length,
+                             const char *name, size_t name_length,
+                             char *text, size_t room, size_t *length);
+
+/* What the fault means that the line of a refusal names, in UTF-8, without its line feed; of length
+ * 0, the names of all faults. */
+uint8_t station_check_explain(const char *line, size_t line_length,
+                              char *text, size_t room, size_t *length);
+
+#ifdef __cplusplus
+}
+#endif
+
+#endif

@@ -1,0 +1,70 @@
+//! The differences of a table of directions from its station, target by target, for a page.
+
+ghost use Rattle.std.specs.Prelude.{◌≡◌, ◌≤◌, length, take, MatchResult};
+ghost use Rattle.gsi_file.specs.FileAnswers.{file_answers};
+ghost use Rattle.station_check.specs.Came.{handed_in};
+ghost use Rattle.station_differences.specs.Answers.{HasNoDifferences};
+ghost use Rattle.station_differences.specs.Stating.{StatesDifferences};
+ghost use Rattle.station_page.specs.Answers.{IsDifferencesOf};
+ghost use Rattle.station_page.specs.Limits.{AreFaceLimits};
+ghost use Rattle.station_page.specs.declared.hand_out.TheConstants.{OUT_OF_RANGE};
+
+use crate::hand_out::{OUT_OF_RANGE, hand_out};
+use station_book::Limits;
+use station_check::{DONE, REFUSED, handed_in};
+use station_compare::{CompareFault, refusal_line};
+use station_differences::differences_text;
+use std::alloc::Global;
+
+/// Hands out the differences of a table of directions from the station of this name in a field
+/// file, both whole: a row of titles, and a row for each target, with what the table states, the
+/// least-squares direction, and the difference after the rotation that makes the largest smallest,
+/// exactly rounded; or the line of the refusal.
+///
+/// The limits of 2c and 2i are in units of 0.00001 gon, at most 1,000,000. Answers 0 for the
+/// differences, however large they are, 1 for a refusal, 2 for a number out of its range, and 3
+/// where `out` has too little room.
+#[unsafe(no_mangle)]
+pub extern "C" fn station_page_differences(
+    alloc: Global,
+    gsi: &[u8],
+    table: &[u8],
+    name: &[u8],
+    two_c: u32,
+    two_i: u32,
+    out: &mut [u8],
+    written: &mut usize,
+) -> u8
+    ensures differences { AreFaceLimits two_c two_i
+        → IsDifferencesOf two_c two_i gsi.now table.now name.now (length out.old) result
+        (take written.new out.new) }
+    ensures beyond { (AreFaceLimits two_c two_i → ⊥)
+        → (result ≡ OUT_OF_RANGE) × (written.new ≡ 0) }
+    ensures fits { written.new ≤ length out.old }
+{
+    *written = 0;
+    let Some(limits) = Limits::new(two_c, two_i) else {
+        return OUT_OF_RANGE;
+    };
+    match differences_of(alloc, gsi, table, name, limits) {
+        Ok(text) => hand_out(DONE, &text, out, written),
+        Err(fault) => hand_out(REFUSED, refusal_line(fault).as_slice(), out, written),
+    }
+}
+
+/// The differences of a table from the station of this name, where the bytes of both are at hand.
+fn differences_of(
+    alloc: Global,
+    gsi: &[u8],
+    table: &[u8],
+    name: &[u8],
+    limits: Limits,
+) -> Result<Vec<u8>, CompareFault>
+    ensures { MatchResult result
+        (λ text. StatesDifferences limits (file_answers (handed_in gsi.now))
+        (handed_in table.now) name.now text.items)
+        (HasNoDifferences limits (file_answers (handed_in gsi.now)) (handed_in table.now)
+        name.now) }
+{
+    differences_text(alloc, handed_in(gsi), &mut handed_in(table), name, limits)
+}
