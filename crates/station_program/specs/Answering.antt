@@ -8,6 +8,8 @@ use Rattle.clap.specs.declared.error.Error.{Error}
 use Rattle.clap.specs.declared.error.kind.ErrorKind.{ErrorKind}
 use Rattle.clap.specs.declared.error.kind.ErrorKind.TheVariants.{DisplayHelp, DisplayVersion}
 use Rattle.clap.specs.declared.error.kind.ErrorKind.TheVariants.{OutOfMemory}
+use Rattle.list_rows.specs.Runs.{IsRowsRun}
+use Rattle.station_book.specs.Limits.{FaceLimits}
 use Rattle.station_check.specs.ListNotes.{unchecked_note}
 use Rattle.station_check.specs.RunEndings.{Run, RunWithNotes, WritesOrFails}
 use Rattle.station_check.specs.Runs.{IsCheckRun, IsMeansRun, IsNotedListRun, IsWordsRun}
@@ -15,16 +17,18 @@ use Rattle.station_check.specs.VerdictLines.{refusal_line}
 use Rattle.station_check.specs.declared.fault.Fault.TheVariants.{Memory}
 use Rattle.station_compare.specs.FaultTexts.{refusal_line as compare_refusal_line}
 use Rattle.station_compare.specs.Runs.{IsCompareRun, IsDirectionsRun}
+use Rattle.station_differences.specs.Runs.{IsDifferencesRun}
 use Rattle.station_explain.specs.Explaining.{IsExplainRun}
 use Rattle.station_explain.specs.Table.{Explanation}
 use Rattle.station_mark.specs.FaultTexts.{refusal_line as mark_refusal_line}
-use Rattle.station_mark.specs.Notes.{notes_of}
-use Rattle.station_mark.specs.Runs.{IsMarkRun}
+use Rattle.station_mark.specs.Runs.{IsMarkRun, notes_in}
 use Rattle.station_program.specs.CommandLine.{Asked, IsAskedForBy, IsMistakeIn}
 use Rattle.station_program.specs.Hosts.{Known, Readers, IsAsKnown, IsUnread, IsTakenIn}
 use Rattle.station_program.specs.Hosts.{change_of}
 use Rattle.station_program.specs.Unopened.{unopened_line}
+use Rattle.station_program.specs.declared.command_line.Digests.{Digests}
 use Rattle.station_program.specs.declared.command_line.Digests.TheVariants as digests
+use Rattle.station_program.specs.declared.command_line.ListForm.TheVariants as form
 use Rattle.station_program.specs.declared.command_line.Request.{Request}
 use Rattle.station_program.specs.declared.command_line.Request.TheVariants as request
 use Rattle.station_program.specs.declared.host.NoWords.{NoWords}
@@ -32,23 +36,40 @@ use Rattle.station_program.specs.declared.host.NoWords.TheVariants as no_words
 use Rattle.station_program.specs.declared.run.TheConstants.{NOT_TEXT}
 use Rattle.station_record.specs.Recorded.{IsRecordedCheck, IsRecordedCompare}
 use Rattle.station_record.specs.declared.named.NamedReader.{NamedReader}
+use Rattle.station_report.specs.Runs.{IsReportRun}
 use Rattle.station_residuals.specs.Runs.{IsResidualsRun}
+
+-- A sheet was checked against a field file with this exit status, and this is what the run made of
+-- the two sinks. It is recorded, under the names of the files, exactly where digests are asked for.
+abbrev pub ChecksFiles : {F : Type 0} → Readers F → WriterChange → WriterChange → NamedReader F
+    → NamedReader F → FaceLimits → Option ℕ → Digests → ℕ → Type 0
+ChecksFiles {F} files out err gsi sheet limits residual digests.Omitted status =
+    (sheet' : F) × IsTakenIn files gsi.reader (λ gsi. Run {A = ⊤} refusal_line
+    (IsCheckRun limits residual gsi (change_of files sheet.reader sheet')) status out err)
+ChecksFiles files out err gsi sheet limits residual digests.Printed status =
+    IsTakenIn files gsi.reader (λ gsi_change. IsTakenIn files sheet.reader (λ sheet_change.
+    Run {A = ⊤} refusal_line (IsRecordedCheck limits residual
+    gsi_change gsi.name.now sheet_change sheet.name.now) status out err))
+
+-- A table was compared with the station of this name of a field file; all else as at a check.
+abbrev pub ComparesFiles : {F : Type 0} → Readers F → WriterChange → WriterChange → NamedReader F
+    → List ℕ → NamedReader F → FaceLimits → Option ℕ → Digests → ℕ → Type 0
+ComparesFiles {F} files out err gsi station table limits within digests.Omitted status =
+    (table' : F) × IsTakenIn files gsi.reader (λ gsi. Run {A = ⊤} compare_refusal_line
+    (IsCompareRun limits within gsi (change_of files table.reader table') station) status out err)
+ComparesFiles files out err gsi station table limits within digests.Printed status =
+    IsTakenIn files gsi.reader (λ gsi_change. IsTakenIn files table.reader (λ table_change.
+    Run {A = ⊤} compare_refusal_line (IsRecordedCompare limits within station
+    gsi_change gsi.name.now table_change table.name.now) status out err))
 
 -- A request whose files are open was answered with this exit status: by a run of its own kind, over
 -- its own files, or over standard input where it names none, with its limits, its residual limit,
 -- its station, its decimals, its nearness or its fault; and this is what the run made of the two
--- sinks. The run is recorded, under the names of the files, exactly where digests are asked for.
+-- sinks.
 abbrev pub IsRun : {F I : Type 0} → Readers F → Readers I → I → List (Bor (List Explanation))
     → WriterChange → WriterChange → Request (NamedReader F) → ℕ → Type 0
-IsRun {F} files inputs input faults out err
-    (request.Check gsi sheet limits residual digests.Omitted) status =
-    (sheet' : F) × IsTakenIn files gsi.reader (λ gsi. Run {A = ⊤} refusal_line
-    (IsCheckRun limits residual gsi (change_of files sheet.reader sheet')) status out err)
-IsRun files inputs input faults out err
-    (request.Check gsi sheet limits residual digests.Printed) status =
-    IsTakenIn files gsi.reader (λ gsi_change. IsTakenIn files sheet.reader (λ sheet_change.
-    Run {A = ⊤} refusal_line (IsRecordedCheck limits residual
-    gsi_change gsi.name.now sheet_change sheet.name.now) status out err))
+IsRun files inputs input faults out err (request.Check gsi sheet limits residual digests) status =
+    ChecksFiles files out err gsi sheet limits residual digests status
 IsRun files inputs input faults out err (request.Means gsi station limits) status =
     IsTakenIn files gsi.reader (λ gsi. Run {A = ⊤} refusal_line
     (IsMeansRun limits gsi station.now) status out err)
@@ -58,22 +79,25 @@ IsRun files inputs input faults out err (request.Directions gsi station limits d
 IsRun files inputs input faults out err (request.Residuals gsi station limits) status =
     IsTakenIn files gsi.reader (λ gsi. Run {A = ⊤} compare_refusal_line
     (IsResidualsRun limits gsi station.now) status out err)
-IsRun {F} files inputs input faults out err
-    (request.Compare gsi station table limits within digests.Omitted) status =
-    (table' : F) × IsTakenIn files gsi.reader (λ gsi. Run {A = ⊤} compare_refusal_line
-    (IsCompareRun limits within gsi (change_of files table.reader table') station.now)
-    status out err)
+IsRun files inputs input faults out err (request.Report gsi station limits) status =
+    IsTakenIn files gsi.reader (λ gsi_change. Run {A = ⊤} compare_refusal_line
+    (IsReportRun gsi.name.now limits gsi_change station.now) status out err)
 IsRun files inputs input faults out err
-    (request.Compare gsi station table limits within digests.Printed) status =
-    IsTakenIn files gsi.reader (λ gsi_change. IsTakenIn files table.reader (λ table_change.
-    Run {A = ⊤} compare_refusal_line (IsRecordedCompare limits within station.now
-    gsi_change gsi.name.now table_change table.name.now) status out err))
+    (request.Compare gsi station table limits within digests) status =
+    ComparesFiles files out err gsi station.now table limits within digests status
+IsRun {F} files inputs input faults out err (request.Differences gsi station table limits) status =
+    (table' : F) × IsTakenIn files gsi.reader (λ gsi. Run {A = ⊤} compare_refusal_line
+    (IsDifferencesRun limits gsi (change_of files table.reader table') station.now)
+    status out err)
 IsRun files inputs input faults out err (request.Mark gsi station) status =
-    IsTakenIn files gsi.reader (λ gsi. RunWithNotes notes_of mark_refusal_line
+    IsTakenIn files gsi.reader (λ gsi. RunWithNotes notes_in mark_refusal_line
     (IsMarkRun station gsi) status out err)
-IsRun files inputs input faults out err (request.List gsi limits) status =
+IsRun files inputs input faults out err (request.List gsi limits form.Lines) status =
     IsTakenIn files gsi.reader (λ gsi. RunWithNotes unchecked_note refusal_line
     (IsNotedListRun limits gsi) status out err)
+IsRun files inputs input faults out err (request.List gsi limits form.Rows) status =
+    IsTakenIn files gsi.reader (λ gsi. RunWithNotes unchecked_note refusal_line
+    (IsRowsRun limits gsi) status out err)
 IsRun files inputs input faults out err (request.Words gsi) status =
     IsTakenIn files gsi.reader (λ gsi. Run refusal_line (IsWordsRun gsi) status out err)
 IsRun files inputs input faults out err request.WordsOfInput status =
@@ -102,16 +126,26 @@ IsOpened files known (request.Residuals gsi station limits)
     (request.Residuals field_file station' limits') =
     IsUnread files known gsi.now field_file
     × (station'.now ≡ station.now) × (limits' ≡ limits)
+IsOpened files known (request.Report gsi station limits)
+    (request.Report field_file station' limits') =
+    IsUnread files known gsi.now field_file
+    × (station'.now ≡ station.now) × (limits' ≡ limits)
 IsOpened files known (request.Compare gsi station table limits within digests)
     (request.Compare field_file station' stated limits' within' digests') =
     IsUnread files known gsi.now field_file
     × (station'.now ≡ station.now)
     × IsUnread files known table.now stated
     × (limits' ≡ limits) × (within' ≡ within) × (digests' ≡ digests)
+IsOpened files known (request.Differences gsi station table limits)
+    (request.Differences field_file station' stated limits') =
+    IsUnread files known gsi.now field_file
+    × (station'.now ≡ station.now)
+    × IsUnread files known table.now stated
+    × (limits' ≡ limits)
 IsOpened files known (request.Mark gsi station) (request.Mark field_file station') =
     IsUnread files known gsi.now field_file × (station' ≡ station)
-IsOpened files known (request.List gsi limits) (request.List field_file limits') =
-    IsUnread files known gsi.now field_file × (limits' ≡ limits)
+IsOpened files known (request.List gsi limits form) (request.List field_file limits' form') =
+    IsUnread files known gsi.now field_file × (limits' ≡ limits) × (form' ≡ form)
 IsOpened files known (request.Words gsi) (request.Words field_file) =
     IsUnread files known gsi.now field_file
 IsOpened files known request.WordsOfInput request.WordsOfInput = ⊤
@@ -124,10 +158,13 @@ NamesFile (request.Check gsi sheet limits residual digests) path = (path ≡ gsi
 NamesFile (request.Means gsi station limits) path = path ≡ gsi.now
 NamesFile (request.Directions gsi station limits decimals) path = path ≡ gsi.now
 NamesFile (request.Residuals gsi station limits) path = path ≡ gsi.now
+NamesFile (request.Report gsi station limits) path = path ≡ gsi.now
 NamesFile (request.Compare gsi station table limits within digests) path =
     (path ≡ gsi.now) ⊎ (path ≡ table.now)
+NamesFile (request.Differences gsi station table limits) path =
+    (path ≡ gsi.now) ⊎ (path ≡ table.now)
 NamesFile (request.Mark gsi station) path = path ≡ gsi.now
-NamesFile (request.List gsi limits) path = path ≡ gsi.now
+NamesFile (request.List gsi limits form) path = path ≡ gsi.now
 NamesFile (request.Words gsi) path = path ≡ gsi.now
 NamesFile request.WordsOfInput path = ⊥
 NamesFile (request.Explain fault) path = ⊥

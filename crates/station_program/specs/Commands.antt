@@ -6,8 +6,6 @@ use Rattle.clap.specs.Simple.{new_shape}
 use Rattle.clap.specs.Words.{App, Rule, Shape, Text, new_rule}
 use Rattle.clap.specs.declared.builder.action.ArgAction.TheVariants.{Set, SetTrue, Append}
 use Rattle.clap.specs.declared.builder.value_parser.ValueParser.TheVariants.{Signed}
-use Rattle.adjust_kernel.specs.declared.bounds.TheConstants.{LARGEST_RESIDUAL_LIMIT}
-use Rattle.station_book.specs.declared.limits.TheConstants.{LARGEST_LIMIT}
 
 -- An argument that must be given: one word.
 abbrev pub given_rule : Text → Rule
@@ -27,44 +25,53 @@ abbrev pub usual_rule : Text → ℕ → ℕ → Text → Rule
 usual_rule id smallest largest usual =
     record (number_rule id smallest largest) { defaults = usual ∷ [] }
 
--- The limit of a face difference: 0.02 gon where it is left out.
-abbrev pub limit_rule : Text → Rule
-limit_rule id = usual_rule id 0 LARGEST_LIMIT (codes "2000")
+-- An option `--id TEXT`, which may be left out: one text.
+abbrev pub text_rule : Text → Rule
+text_rule id = record (new_rule id) {
+  long = Some id;
+  action = Some Set;
+  value_names = 1;
+}
+
+-- The limit of a face difference: 20 mgon where it is left out.
+abbrev pub face_limit_rule : Text → Rule
+face_limit_rule id = record (text_rule id) { defaults = codes "20mgon" ∷ [] }
 
 -- The limit of 2c.
 abbrev pub two_c_rule : Rule
-two_c_rule = limit_rule (codes "two-c")
+two_c_rule = face_limit_rule (codes "two-c")
 
 -- The limit of 2i.
 abbrev pub two_i_rule : Rule
-two_i_rule = limit_rule (codes "two-i")
+two_i_rule = face_limit_rule (codes "two-i")
 
 -- The limit of residuals: none where it is left out.
 abbrev pub residual_rule : Rule
-residual_rule = number_rule (codes "residual") 0 LARGEST_RESIDUAL_LIMIT
+residual_rule = text_rule (codes "residual")
 
 -- How near a table must be: as is usual for its decimals where it is left out.
 abbrev pub within_rule : Rule
-within_rule = number_rule (codes "within") 0 1_000_000
+within_rule = text_rule (codes "within")
 
 -- How many decimals a direction is written with: 6 where it is left out.
 abbrev pub decimals_rule : Rule
 decimals_rule = usual_rule (codes "decimals") 1 8 (codes "6")
 
+-- A flag `--id`.
+abbrev pub flag_rule : Text → Rule
+flag_rule id = record (new_rule id) { long = Some id; action = Some SetTrue }
+
 -- The flag `--sha256`: digests are printed.
 abbrev pub digests_rule : Rule
-digests_rule = record (new_rule (codes "sha256")) {
-  long = Some (codes "sha256");
-  action = Some SetTrue;
-}
+digests_rule = flag_rule (codes "sha256")
+
+-- The flag `--csv`: rows are printed, as CSV.
+abbrev pub csv_rule : Rule
+csv_rule = flag_rule (codes "csv")
 
 -- The option `--station NAME`, which may be left out: the name of the file's one station.
 abbrev pub stated_name_rule : Rule
-stated_name_rule = record (new_rule (codes "station")) {
-  long = Some (codes "station");
-  action = Some Set;
-  value_names = 1;
-}
+stated_name_rule = text_rule (codes "station")
 
 -- The path of the field file.
 abbrev pub field_file_rule : Rule
@@ -95,6 +102,11 @@ compare_words = command (codes "compare")
     (field_file_rule ∷ station_rule ∷ given_rule (codes "TABLE")
     ∷ two_c_rule ∷ two_i_rule ∷ within_rule ∷ digests_rule ∷ [])
 
+-- `differences GSI STATION TABLE`
+abbrev pub differences_words : Shape
+differences_words = command (codes "differences")
+    (field_file_rule ∷ station_rule ∷ given_rule (codes "TABLE") ∷ two_c_rule ∷ two_i_rule ∷ [])
+
 -- `directions GSI STATION`
 abbrev pub directions_words : Shape
 directions_words = command (codes "directions")
@@ -104,6 +116,11 @@ directions_words = command (codes "directions")
 abbrev pub residuals_words : Shape
 residuals_words =
     command (codes "residuals") (field_file_rule ∷ station_rule ∷ two_c_rule ∷ two_i_rule ∷ [])
+
+-- `report GSI STATION`
+abbrev pub report_words : Shape
+report_words =
+    command (codes "report") (field_file_rule ∷ station_rule ∷ two_c_rule ∷ two_i_rule ∷ [])
 
 -- `check GSI SHEET`
 abbrev pub check_words : Shape
@@ -122,7 +139,8 @@ mark_words = command (codes "mark") (field_file_rule ∷ stated_name_rule ∷ []
 
 -- `list GSI`
 abbrev pub list_words : Shape
-list_words = command (codes "list") (field_file_rule ∷ two_c_rule ∷ two_i_rule ∷ [])
+list_words =
+    command (codes "list") (field_file_rule ∷ two_c_rule ∷ two_i_rule ∷ csv_rule ∷ [])
 
 -- `words GSI`
 abbrev pub words_words : Shape
@@ -140,6 +158,6 @@ the_program = record {
     has_version = true;
     propagate_version = true;
   };
-  subs = compare_words ∷ directions_words ∷ residuals_words ∷ check_words ∷ means_words ∷ mark_words
-      ∷ list_words ∷ words_words ∷ explain_words ∷ [];
+  subs = compare_words ∷ differences_words ∷ directions_words ∷ residuals_words ∷ report_words
+      ∷ check_words ∷ means_words ∷ mark_words ∷ list_words ∷ words_words ∷ explain_words ∷ [];
 }

@@ -3,17 +3,23 @@
 ghost use Rattle.std.specs.Prelude.{◌≡◌, ◌≤◌, IfOk, IfErr, OnErr, true, false};
 ghost use Rattle.byte_ends.specs.Sink.{writer_change};
 ghost use Rattle.station_program.specs.Answering.{IsAnswered, IsOpened, IsRun, NamesFile};
+ghost use Rattle.station_program.specs.Answering.{ChecksFiles, ComparesFiles};
 ghost use Rattle.station_program.specs.Hosts.{IsUnread, known_of, readers};
 
-use crate::command_line::{Digests, Request};
+use crate::command_line::{Digests, ListForm, Request};
 use crate::host::Host;
 use crate::unopened::Unopened;
+use adjust_kernel::ResidualLimit;
 use byte_ends::{Failed, Sink, Source};
+use list_rows::run_list_rows;
+use station_book::Limits;
 use station_check::{run_check, run_list, run_means, run_words};
 use station_compare::{run_compare, run_directions};
+use station_differences::run_differences;
 use station_explain::{Explanation, run_explain};
 use station_mark::run_mark;
 use station_record::{NamedReader, run_check_recorded, run_compare_recorded};
+use station_report::run_report;
 use station_residuals::run_residuals;
 use std::alloc::Global;
 
@@ -97,6 +103,15 @@ fn open_files<'a, H: Host>(
             station,
             limits,
         },
+        Request::Report {
+            gsi,
+            station,
+            limits,
+        } => Request::Report {
+            gsi: open(host, gsi)?,
+            station,
+            limits,
+        },
         Request::Compare {
             gsi,
             station,
@@ -112,13 +127,25 @@ fn open_files<'a, H: Host>(
             within,
             digests,
         },
+        Request::Differences {
+            gsi,
+            station,
+            table,
+            limits,
+        } => Request::Differences {
+            gsi: open(host, gsi)?,
+            station,
+            table: open(host, table)?,
+            limits,
+        },
         Request::Mark { gsi, station } => Request::Mark {
             gsi: open(host, gsi)?,
             station,
         },
-        Request::List { gsi, limits } => Request::List {
+        Request::List { gsi, limits, form } => Request::List {
             gsi: open(host, gsi)?,
             limits,
+            form,
         },
         Request::Words { gsi } => Request::Words {
             gsi: open(host, gsi)?,
@@ -166,26 +193,11 @@ fn run_request<F: Source, I: Source, W: Sink, E: Sink>(
     match request {
         Request::Check {
             gsi,
-            mut sheet,
-            limits,
-            residual,
-            digests: Digests::Omitted,
-        } => run_check(
-            alloc,
-            gsi.reader,
-            &mut sheet.reader,
-            limits,
-            residual,
-            out,
-            err,
-        ),
-        Request::Check {
-            gsi,
             sheet,
             limits,
             residual,
-            digests: Digests::Printed,
-        } => run_check_recorded(alloc, gsi, sheet, limits, residual, out, err),
+            digests,
+        } => check_files(alloc, gsi, sheet, limits, residual, digests, out, err),
         Request::Means {
             gsi,
             station,
@@ -210,44 +222,125 @@ fn run_request<F: Source, I: Source, W: Sink, E: Sink>(
             station,
             limits,
         } => run_residuals(alloc, gsi.reader, station.as_bytes(), limits, out, err),
+        Request::Report {
+            gsi,
+            station,
+            limits,
+        } => run_report(
+            alloc,
+            gsi.reader,
+            gsi.name,
+            station.as_bytes(),
+            limits,
+            out,
+            err,
+        ),
         Request::Compare {
+            gsi,
+            station,
+            table,
+            limits,
+            within,
+            digests,
+        } => compare_files(
+            alloc, gsi, table, station, limits, within, digests, out, err,
+        ),
+        Request::Differences {
             gsi,
             station,
             mut table,
             limits,
-            within,
-            digests: Digests::Omitted,
-        } => run_compare(
+        } => run_differences(
             alloc,
             gsi.reader,
             &mut table.reader,
             station.as_bytes(),
             limits,
-            within,
-            out,
-            err,
-        ),
-        Request::Compare {
-            gsi,
-            station,
-            table,
-            limits,
-            within,
-            digests: Digests::Printed,
-        } => run_compare_recorded(
-            alloc,
-            gsi,
-            table,
-            station.as_bytes(),
-            limits,
-            within,
             out,
             err,
         ),
         Request::Mark { gsi, station } => run_mark(alloc, gsi.reader, station, out, err),
-        Request::List { gsi, limits } => run_list(alloc, gsi.reader, limits, out, err),
+        Request::List {
+            gsi,
+            limits,
+            form: ListForm::Lines,
+        } => run_list(alloc, gsi.reader, limits, out, err),
+        Request::List {
+            gsi,
+            limits,
+            form: ListForm::Rows,
+        } => run_list_rows(alloc, gsi.reader, limits, out, err),
         Request::Words { gsi } => run_words(alloc, gsi.reader, out, err),
         Request::WordsOfInput => run_words(alloc, input, out, err),
         Request::Explain { fault } => run_explain(alloc, faults, fault, out, err),
+    }
+}
+
+/// Checks a sheet against a field file, and answers the exit status. The run is recorded where
+/// digests are asked for.
+fn check_files<F: Source, W: Sink, E: Sink>(
+    alloc: Global,
+    gsi: NamedReader<'_, F>,
+    mut sheet: NamedReader<'_, F>,
+    limits: Limits,
+    residual: Option<ResidualLimit>,
+    digests: Digests,
+    out: &mut W,
+    err: &mut E,
+) -> u8
+    ensures status { result ≤ 1 }
+    ensures run { ChecksFiles (readers F.told F.failed F.gave)
+        (writer_change W.failed W.holds W.handed_on out.old out.new)
+        (writer_change E.failed E.holds E.handed_on err.old err.new)
+        gsi.entry sheet.entry limits residual digests result }
+{
+    match digests {
+        Digests::Omitted => run_check(
+            alloc,
+            gsi.reader,
+            &mut sheet.reader,
+            limits,
+            residual,
+            out,
+            err,
+        ),
+        Digests::Printed => run_check_recorded(alloc, gsi, sheet, limits, residual, out, err),
+    }
+}
+
+/// Compares a table with a station of a field file, and answers the exit status. The run is
+/// recorded where digests are asked for.
+fn compare_files<F: Source, W: Sink, E: Sink>(
+    alloc: Global,
+    gsi: NamedReader<'_, F>,
+    mut table: NamedReader<'_, F>,
+    station: &str,
+    limits: Limits,
+    within: Option<u32>,
+    digests: Digests,
+    out: &mut W,
+    err: &mut E,
+) -> u8
+    ensures status { result ≤ 1 }
+    ensures run { ComparesFiles (readers F.told F.failed F.gave)
+        (writer_change W.failed W.holds W.handed_on out.old out.new)
+        (writer_change E.failed E.holds E.handed_on err.old err.new)
+        gsi.entry station.now table.entry limits within digests result }
+{
+    let name = station.as_bytes();
+    match digests {
+        Digests::Omitted => run_compare(
+            alloc,
+            gsi.reader,
+            &mut table.reader,
+            name,
+            limits,
+            within,
+            out,
+            err,
+        ),
+        Digests::Printed => {
+            run_compare_recorded(alloc, gsi, table, name, limits, within, out, err)
+        }
     }
 }

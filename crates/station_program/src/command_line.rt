@@ -1,7 +1,7 @@
 //! What the words of a command line ask for. Each subcommand is one case of `Request` and one
 //! command of the builder.
 
-ghost use Rattle.std.specs.Prelude.{◌≡◌, ◌≤◌, IfSome, IfNone, IfOk, IfErr, codes};
+ghost use Rattle.std.specs.Prelude.{◌≡◌, ◌≤◌, ◌^◌, ℕ, IfSome, IfNone, IfOk, IfErr, codes};
 ghost use Rattle.std.specs.Prelude.{map, string_bytes};
 ghost use Rattle.clap.specs.Words.{app_of, found_of, kind_of, rule_of, subcommand_rows_of};
 ghost use Rattle.clap.specs.Words.{with_rule};
@@ -9,10 +9,13 @@ ghost use Rattle.station_program.specs.Commands.{alone, the_program, compare_wor
 ghost use Rattle.station_program.specs.Commands.{directions_words, means_words, list_words};
 ghost use Rattle.station_program.specs.Commands.{words_words, explain_words, given_rule};
 ghost use Rattle.station_program.specs.Commands.{field_file_rule, station_rule, number_rule};
-ghost use Rattle.station_program.specs.Commands.{limit_rule, two_c_rule, two_i_rule, residual_rule};
+ghost use Rattle.station_program.specs.Commands.{face_limit_rule, residual_rule, text_rule};
+ghost use Rattle.station_program.specs.Commands.{two_c_rule, two_i_rule};
 ghost use Rattle.station_program.specs.Commands.{within_rule, decimals_rule, fault_rule};
 ghost use Rattle.station_program.specs.Commands.{digests_rule, mark_words, stated_name_rule};
-ghost use Rattle.station_program.specs.Commands.{residuals_words};
+ghost use Rattle.station_program.specs.Commands.{csv_rule, differences_words, flag_rule};
+ghost use Rattle.station_program.specs.Commands.{report_words, residuals_words};
+ghost use Rattle.station_program.specs.CommandLine.{LimitIsStated, StatesForm};
 ghost use Rattle.station_program.specs.CommandLine.{StatesLimits, StatesNumber, StatesResidual};
 ghost use Rattle.station_program.specs.CommandLine.{StatesNoLimits, StatesNoNumber};
 ghost use Rattle.station_program.specs.CommandLine.{StatesNoResidual, StatesDigests};
@@ -27,11 +30,12 @@ use adjust_kernel::{LARGEST_RESIDUAL_LIMIT, Name, ResidualLimit};
 use clap::error::ErrorKind;
 use clap::{Arg, ArgAction, ArgMatches, Command, Error, value_parser};
 use direction_table::{Decimals, MOST_WRITTEN};
+use limit_texts::{LimitUnit, limit_stated};
 use station_book::{LARGEST_LIMIT, Limits};
 use station_explain::{Explanation, explanation_meant, fault_named_in, list_of_near_names};
 use std::alloc::{AllocError, Global};
 
-const VERSION: &str = "0.1.0";
+const VERSION: &str = "1.0.0";
 
 const FAULT: &str = "FAULT";
 
@@ -55,10 +59,12 @@ const DECIMALS: &str = "decimals";
 
 const SHA256: &str = "sha256";
 
+const CSV: &str = "csv";
+
 const STATED_NAME: &str = "station";
 
-/// The limit of a face difference that no option states, in units of 0.00001 gon.
-const USUAL_LIMIT: &str = "2000";
+/// The limit of a face difference that no option states.
+const USUAL_LIMIT: &str = "20mgon";
 
 /// The most that a table may be asked to be near, in units of 0.000001 gon.
 const LARGEST_WITHIN: u32 = 1_000_000;
@@ -67,7 +73,7 @@ const LARGEST_WITHIN: u32 = 1_000_000;
 const USUAL_DECIMALS: &str = "6";
 
 /// Whether the digests of the two files that were judged are printed.
-#[derive(Clone, Copy, Debug, PartialEq, Eq)]
+#[derive(Clone, Copy)]
 pub enum Digests {
     /// None is.
     Omitted,
@@ -77,9 +83,19 @@ pub enum Digests {
     Printed,
 }
 
+/// The form in which stations are listed.
+#[derive(Clone, Copy)]
+pub enum ListForm {
+    /// Lines to read.
+    Lines,
+
+    /// Rows for other programs, as CSV.
+    Rows,
+}
+
 /// What the program is asked to do with files of type `F`: their paths, or the files once they are
 /// open.
-#[derive(Debug, Drop)]
+#[derive(Drop)]
 pub enum Request<'a, F> {
     /// Checks a sheet against a field file.
     Check {
@@ -112,6 +128,13 @@ pub enum Request<'a, F> {
         limits: Limits,
     },
 
+    /// Prints the report of a station of a field file.
+    Report {
+        gsi: F,
+        station: &'a str,
+        limits: Limits,
+    },
+
     /// Compares a table with a station of a field file: they agree within so many units of
     /// 0.000001 gon, or where none are stated within what is usual for the table's decimals.
     Compare {
@@ -121,6 +144,14 @@ pub enum Request<'a, F> {
         limits: Limits,
         within: Option<u32>,
         digests: Digests,
+    },
+
+    /// Prints the differences of a table from a station of a field file, target by target.
+    Differences {
+        gsi: F,
+        station: &'a str,
+        table: F,
+        limits: Limits,
     },
 
     /// Prints a copy of a field file with codes put in. The name is that of the file's one station,
@@ -134,6 +165,7 @@ pub enum Request<'a, F> {
     List {
         gsi: F,
         limits: Limits,
+        form: ListForm,
     },
 
     /// Prints the words of a field file.
@@ -171,8 +203,7 @@ pub fn asked_for<'a>(
     }
     match request_of(&matches) {
         Some(request) => Ok(request),
-        // The parse has tested all but the name that is stated to 'mark'.
-        None => Err(program.error(ErrorKind::ValueValidation, help::NO_NAME)?),
+        None => Err(mistake_in(alloc, &mut program, &matches)?),
     }
 }
 
@@ -187,8 +218,10 @@ fn program<'a>(alloc: Global) -> Result<Command<'a>, Error>
         .long_about(help::LONG_ABOUT)
         .after_help(help::STATUSES)
         .subcommand(compare_command(alloc)?)?
+        .subcommand(differences_command(alloc)?)?
         .subcommand(directions_command(alloc)?)?
         .subcommand(residuals_command(alloc)?)?
+        .subcommand(report_command(alloc)?)?
         .subcommand(check_command(alloc)?)?
         .subcommand(means_command(alloc)?)?
         .subcommand(mark_command(alloc)?)?
@@ -208,9 +241,23 @@ fn compare_command<'a>(alloc: Global) -> Result<Command<'a>, Error>
         .after_help(help::COMPARE_EXAMPLE)
         .arg(field_file(alloc))?
         .arg(station_name(alloc))?
-        .arg(given(alloc, TABLE).help("The table of directions, text of two columns"))?;
+        .arg(given(alloc, TABLE).help(help::TABLE_HELP))?;
     let command = with_limits(alloc, command)?;
     Ok(command.arg(within(alloc))?.arg(digests_flag(alloc))?)
+}
+
+fn differences_command<'a>(alloc: Global) -> Result<Command<'a>, Error>
+    ensures words { IfOk result (λ command. app_of command ≡ alone differences_words) }
+    ensures memory { IfErr result (λ error. kind_of error ≡ ErrorKind.OutOfMemory) }
+{
+    let command = Command::new(alloc, "differences")
+        .about("Prints by how much a table of directions differs, target by target")
+        .long_about(help::DIFFERENCES_LONG_ABOUT)
+        .after_help(help::DIFFERENCES_EXAMPLE)
+        .arg(field_file(alloc))?
+        .arg(station_name(alloc))?
+        .arg(given(alloc, TABLE).help(help::TABLE_HELP))?;
+    with_limits(alloc, command)
 }
 
 fn directions_command<'a>(alloc: Global) -> Result<Command<'a>, Error>
@@ -235,6 +282,19 @@ fn residuals_command<'a>(alloc: Global) -> Result<Command<'a>, Error>
         .about("Prints the adjusted directions and the residuals of a station, row by row")
         .long_about(help::RESIDUALS_LONG_ABOUT)
         .after_help(help::RESIDUALS_EXAMPLE)
+        .arg(field_file(alloc))?
+        .arg(station_name(alloc))?;
+    with_limits(alloc, command)
+}
+
+fn report_command<'a>(alloc: Global) -> Result<Command<'a>, Error>
+    ensures words { IfOk result (λ command. app_of command ≡ alone report_words) }
+    ensures memory { IfErr result (λ error. kind_of error ≡ ErrorKind.OutOfMemory) }
+{
+    let command = Command::new(alloc, "report")
+        .about("Prints the protocol of the sets of a station, with readings and residuals")
+        .long_about(help::REPORT_LONG_ABOUT)
+        .after_help(help::REPORT_EXAMPLE)
         .arg(field_file(alloc))?
         .arg(station_name(alloc))?;
     with_limits(alloc, command)
@@ -292,7 +352,8 @@ fn list_command<'a>(alloc: Global) -> Result<Command<'a>, Error>
         .long_about(help::LIST_LONG_ABOUT)
         .after_help(help::LIST_EXAMPLE)
         .arg(field_file(alloc))?;
-    with_limits(alloc, command)
+    let command = with_limits(alloc, command)?;
+    Ok(command.arg(csv_flag(alloc))?)
 }
 
 fn words_command<'a>(alloc: Global) -> Result<Command<'a>, Error>
@@ -344,10 +405,7 @@ fn station_name<'a>(alloc: Global) -> Arg<'a>
 fn stated_name<'a>(alloc: Global) -> Arg<'a>
     ensures { rule_of result ≡ stated_name_rule }
 {
-    Arg::new(alloc, STATED_NAME)
-        .long(STATED_NAME)
-        .value_name("NAME")
-        .action(ArgAction::Set)
+    text_option(alloc, STATED_NAME, "NAME")
         .help("The name of the station, of a file without set-up lines")
         .long_help(help::STATION_LONG_HELP)
 }
@@ -366,32 +424,32 @@ fn with_limits<'a>(alloc: Global, command: Command<'a>) -> Result<Command<'a>, E
     ensures memory { IfErr result (λ error. kind_of error ≡ ErrorKind.OutOfMemory) }
 {
     let two_c = face_limit(alloc, TWO_C)
-        .help("The limit of 2c, in units of 0.01 mgon: 0 to 1000000")
+        .help(help::TWO_C_HELP)
         .long_help(help::TWO_C_LONG_HELP);
     let two_i = face_limit(alloc, TWO_I)
-        .help("The limit of 2i, in units of 0.01 mgon: 0 to 1000000")
+        .help(help::TWO_I_HELP)
         .long_help(help::TWO_I_LONG_HELP);
     Ok(command.arg(two_c)?.arg(two_i)?)
 }
 
 fn face_limit<'a>(alloc: Global, name: &'a str) -> Arg<'a>
-    ensures { rule_of result ≡ limit_rule name.entry.now }
+    ensures { rule_of result ≡ face_limit_rule name.entry.now }
 {
-    number(alloc, name, 0, LARGEST_LIMIT).default_value(USUAL_LIMIT)
+    limit(alloc, name).default_value(USUAL_LIMIT)
 }
 
 fn residual_limit<'a>(alloc: Global) -> Arg<'a>
     ensures { rule_of result ≡ residual_rule }
 {
-    number(alloc, RESIDUAL, 0, LARGEST_RESIDUAL_LIMIT).help(
-        "The limit of residuals, in half units of 0.005 mgon: 0 to 2000 [default: none]",
-    )
+    limit(alloc, RESIDUAL)
+        .help(help::RESIDUAL_HELP)
+        .long_help(help::RESIDUAL_LONG_HELP)
 }
 
 fn within<'a>(alloc: Global) -> Arg<'a>
     ensures { rule_of result ≡ within_rule }
 {
-    number(alloc, WITHIN, 0, LARGEST_WITHIN)
+    limit(alloc, WITHIN)
         .help(help::WITHIN_HELP)
         .long_help(help::WITHIN_LONG_HELP)
 }
@@ -409,11 +467,41 @@ fn decimals<'a>(alloc: Global) -> Arg<'a>
 fn digests_flag<'a>(alloc: Global) -> Arg<'a>
     ensures { rule_of result ≡ digests_rule }
 {
-    Arg::new(alloc, SHA256)
-        .long(SHA256)
-        .action(ArgAction::SetTrue)
+    flag(alloc, SHA256)
         .help("Print the SHA-256 digests of both files after the line of the answer")
         .long_help(help::SHA256_LONG_HELP)
+}
+
+fn csv_flag<'a>(alloc: Global) -> Arg<'a>
+    ensures { rule_of result ≡ csv_rule }
+{
+    flag(alloc, CSV)
+        .help("Print rows for other programs, as CSV")
+        .long_help(help::CSV_LONG_HELP)
+}
+
+/// An option without a value.
+fn flag<'a>(alloc: Global, name: &'a str) -> Arg<'a>
+    ensures { rule_of result ≡ flag_rule name.entry.now }
+{
+    Arg::new(alloc, name).long(name).action(ArgAction::SetTrue)
+}
+
+/// An option with a limit.
+fn limit<'a>(alloc: Global, name: &'a str) -> Arg<'a>
+    ensures { rule_of result ≡ text_rule name.entry.now }
+{
+    text_option(alloc, name, "LIMIT")
+}
+
+/// An option with a text, which help calls by this name.
+fn text_option<'a>(alloc: Global, name: &'a str, value_name: &'a str) -> Arg<'a>
+    ensures { rule_of result ≡ text_rule name.entry.now }
+{
+    Arg::new(alloc, name)
+        .long(name)
+        .value_name(value_name)
+        .action(ArgAction::Set)
 }
 
 /// An option with a number from a smallest up to a largest.
@@ -452,6 +540,7 @@ fn request_of<'a>(matches: &ArgMatches<'a>) -> Option<Request<'a, &'a str>>
         Some(("list", found)) => Some(Request::List {
             gsi: found.get_str(GSI)?,
             limits: limits_of(found)?,
+            form: form_of(found),
         }),
         Some(("words", found)) => Some(Request::Words {
             gsi: found.get_str(GSI)?,
@@ -475,8 +564,88 @@ fn request_of<'a>(matches: &ArgMatches<'a>) -> Option<Request<'a, &'a str>>
             station: station_of(found)?,
             limits: limits_of(found)?,
         }),
+        Some(("differences", found)) => Some(Request::Differences {
+            gsi: found.get_str(GSI)?,
+            station: station_of(found)?,
+            table: found.get_str(TABLE)?,
+            limits: limits_of(found)?,
+        }),
+        Some(("report", found)) => Some(Request::Report {
+            gsi: found.get_str(GSI)?,
+            station: station_of(found)?,
+            limits: limits_of(found)?,
+        }),
         Some(_) => None,
         None => Some(Request::WordsOfInput),
+    }
+}
+
+/// An option that states a limit.
+struct LimitOption {
+    name: &'static str,
+    unit: LimitUnit,
+    /// The largest limit, in its unit.
+    largest: u32,
+    /// What may be stated.
+    stated_as: &'static str,
+}
+
+const LIMIT_OPTIONS: [LimitOption; 4] = [
+    LimitOption {
+        name: TWO_C,
+        unit: LimitUnit::Hundredth,
+        largest: LARGEST_LIMIT,
+        stated_as: help::FACE_LIMITS,
+    },
+    LimitOption {
+        name: TWO_I,
+        unit: LimitUnit::Hundredth,
+        largest: LARGEST_LIMIT,
+        stated_as: help::FACE_LIMITS,
+    },
+    LimitOption {
+        name: RESIDUAL,
+        unit: LimitUnit::HalfUnit,
+        largest: LARGEST_RESIDUAL_LIMIT,
+        stated_as: help::RESIDUAL_LIMITS,
+    },
+    LimitOption {
+        name: WITHIN,
+        unit: LimitUnit::Thousandth,
+        largest: LARGEST_WITHIN,
+        stated_as: help::TABLE_LIMITS,
+    },
+];
+
+/// The mistake of words that lack what their subcommand needs: a limit that may not be stated, or a
+/// name that no station can have. The parse has tested all else.
+fn mistake_in<'a>(
+    alloc: Global,
+    program: &mut Command<'a>,
+    matches: &ArgMatches<'a>,
+) -> Result<Error, AllocError>
+    ensures { IfOk result (λ error. kind_of error ≡ ErrorKind.ValueValidation) }
+{
+    if let Some((_, found)) = matches.subcommand() {
+        for option in &LIMIT_OPTIONS {
+            if let Some(text) = text_of_no_limit(found, option) {
+                let message = format!(in alloc;
+                    "invalid value '{text}' for '--{} <LIMIT>': {}",
+                    option.name, option.stated_as
+                )?;
+                return program.error(ErrorKind::ValueValidation, message.as_str());
+            }
+        }
+    }
+    program.error(ErrorKind::ValueValidation, help::NO_NAME)
+}
+
+/// What stands after an option where it is no limit that may be stated.
+fn text_of_no_limit<'a>(found: &ArgMatches<'a>, option: &LimitOption) -> Option<&'a str> {
+    let text = found.get_str(option.name)?;
+    match limit_stated(text, option.unit) {
+        Some(limit) if limit <= option.largest => None,
+        _ => Some(text),
     }
 }
 
@@ -549,7 +718,18 @@ fn limits_of(found: &ArgMatches<'_>) -> Option<Limits>
     ensures stated { IfSome result (StatesLimits (found_of found.now)) }
     ensures none { IfNone result (StatesNoLimits (found_of found.now)) }
 {
-    Limits::new(found.get_one(TWO_C)?, found.get_one(TWO_I)?)
+    let two_c = limit_of(found, TWO_C, LimitUnit::Hundredth)?;
+    let two_i = limit_of(found, TWO_I, LimitUnit::Hundredth)?;
+    Limits::new(two_c, two_i)
+}
+
+/// The limit that an option states, counted in this unit.
+fn limit_of(found: &ArgMatches<'_>, option: &str, unit: LimitUnit) -> Option<u32>
+    ensures stated { IfSome result (LimitIsStated (found_of found.now) option.now unit) }
+    ensures none { IfNone result ((limit : ℕ)
+        → LimitIsStated (found_of found.now) option.now unit limit → 2 ^ 32 ≤ limit) }
+{
+    limit_stated(found.get_str(option)?, unit)
 }
 
 /// The residual limit or that there is none, unless it is out of its range.
@@ -560,7 +740,8 @@ fn residual_of(found: &ArgMatches<'_>) -> Option<Option<ResidualLimit>>
     if !found.contains_id(RESIDUAL) {
         return Some(None);
     }
-    Some(Some(ResidualLimit::new(found.get_one(RESIDUAL)?)?))
+    let most = limit_of(found, RESIDUAL, LimitUnit::HalfUnit)?;
+    Some(Some(ResidualLimit::new(most)?))
 }
 
 /// How many decimals a direction is written with, unless it is missing or out of its range.
@@ -582,11 +763,21 @@ fn within_of(found: &ArgMatches<'_>) -> Option<Option<u32>>
     if !found.contains_id(WITHIN) {
         return Some(None);
     }
-    let within: u32 = found.get_one(WITHIN)?;
+    let within = limit_of(found, WITHIN, LimitUnit::Thousandth)?;
     if within > LARGEST_WITHIN {
         return None;
     }
     Some(Some(within))
+}
+
+/// The form in which stations are listed.
+fn form_of(found: &ArgMatches<'_>) -> ListForm
+    ensures { StatesForm (found_of found.now) result }
+{
+    match found.get_one(CSV) {
+        Some(true) => ListForm::Rows,
+        _ => ListForm::Lines,
+    }
 }
 
 /// Whether digests are printed.

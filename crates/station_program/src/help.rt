@@ -27,8 +27,10 @@ Exit status:
 
 Examples:
   station_check compare field.gsi S1 table.csv
+  station_check differences field.gsi S1 table.csv
   station_check directions field.gsi S1 > table.csv
   station_check residuals field.gsi S1 > residuals.csv
+  station_check report field.gsi S1 > report.txt
   station_check check field.gsi sheet.csv
   station_check means field.gsi S1 > sheet.csv
   station_check mark job.gsi > marked.gsi
@@ -65,6 +67,40 @@ Example:
   station_check compare field.gsi S1 table.csv
 
   agrees S1: 2 targets, within 0";
+
+pub const TABLE_HELP: &str = "The table of directions, text of two columns";
+
+pub const DIFFERENCES_LONG_ABOUT: &str = "\
+Prints a row for each target of a station, complete sets or not: the direction that TABLE states,
+the least-squares direction, and the difference of the two after one rotation. So it shows which
+target makes 'compare' refuse a table. It is no verdict: however far apart they are, the status is
+0.
+
+The rotation is the one that makes the largest of the differences smallest: half of the gap between
+the least and the greatest lies on each side of 0. Where one target is off by 1 mgon and all others
+agree, the one has 0.500 and the others -0.500, or the other way round.
+
+The first row has the titles. Directions are in gon: the stated ones exact, with 6 decimals, or all
+with 9 where one needs more; the least-squares ones counted from the first target, with 6.
+Differences are in mgon with 3 decimals. What is rounded is rounded from the exact fraction; the
+middle of two goes up.
+
+TABLE is read as 'compare' reads it. STATION is compared byte by byte with the names in the field
+file, of which the zeros on the left are no part. A name that begins with '-' follows after '--'.";
+
+pub const DIFFERENCES_EXAMPLE: &str = "\
+Exit status:
+  0  all rows were written
+  1  refused: the first fault is named on standard error, and nothing was written, unless a write
+     failed
+  2  a mistake on the command line, or GSI or TABLE cannot be opened
+
+Example:
+  station_check differences field.gsi S1 table.csv
+
+  target,stated,least squares,difference
+  A,100.000100,0.000000,0.015
+  B,150.000100,50.000030,-0.015";
 
 pub const DIRECTIONS_LONG_ABOUT: &str = "\
 Prints the least-squares directions of a station, complete sets or not, as a table: least over all
@@ -116,6 +152,31 @@ Example:
   set,target,direction,adjusted,residual
   1,A,0.000030,0.000025,-0.005";
 
+pub const REPORT_LONG_ABOUT: &str = "\
+Prints the protocol of a station's sets, complete or not, as text of fixed columns for the files of
+an office: by set and target what was read in both faces, the mean, 2c and 2i; the adjusted
+directions; the residuals, targets as rows and sets as columns; the greatest of them; and the
+standard deviation of one two-face direction with its degrees of freedom. They are those of the
+least-squares directions, orientations and full turns. A residual above 10 mgon is a fault.
+
+Directions are in gon. Face differences are in mgon with 2 decimals, residuals and the standard
+deviation in mgon with 3, each rounded from the exact fraction; the middle of two goes up. A mean is
+counted from that of the first row of its set. A dash stands where a set has no direction of a
+target. No line is wider than 100 bytes, but for a longer path.
+
+STATION is compared byte by byte with the names in the field file, of which the zeros on the left
+are no part. A name that begins with '-' follows after '--'.";
+
+pub const REPORT_EXAMPLE: &str = "\
+Exit status:
+  0  the whole report was written
+  1  refused: the first fault is named on standard error, and nothing was written, unless a write
+     failed
+  2  a mistake on the command line, or GSI cannot be opened
+
+Example:
+  station_check report field.gsi S1 > report.txt";
+
 pub const CHECK_LONG_ABOUT: &str = "\
 Checks a sheet against the station of its name in a field file.
 
@@ -137,7 +198,7 @@ Exit status:
   2  a mistake on the command line, or GSI or SHEET cannot be opened
 
 Example:
-  station_check check --residual 200 field.gsi sheet.csv
+  station_check check --residual 1mgon field.gsi sheet.csv
 
   accepted S1: 2 sets, 2 targets, 4 directions, greatest residual 4/4";
 
@@ -196,7 +257,10 @@ pub const LIST_LONG_ABOUT: &str = "\
 Lists the stations of a field file that have sets. Under each station stand its observations: the
 set, the target, the two-face direction p in half units (0.005 mgon), and the face differences in
 units of 0.00001 gon (0.01 mgon): 2c, the direction in face II, less that in face I, less 200 gon;
-and 2i, both zenith angles together, less 400 gon.";
+and 2i, both zenith angles together, less 400 gon.
+
+With --csv the same is printed for other programs: a row of titles, and a row for each observation
+with its station, set and target, the direction in gon and the face differences in mgon.";
 
 pub const LIST_EXAMPLE: &str = "\
 Exit status:
@@ -209,7 +273,12 @@ Example:
   station_check list field.gsi
 
   station S1: 2 sets, 2 targets, 4 directions
-  set 1, target A: p 6, 2c 6, 2i -2";
+  set 1, target A: p 6, 2c 6, 2i -2
+
+  station_check list --csv field.gsi > list.csv
+
+  station,set,target,direction,2c,2i
+  S1,1,A,0.000030,0.06,-0.02";
 
 pub const WORDS_LONG_ABOUT: &str = "\
 Prints the words of a field file, one a line: the number of the block, the number of the word in
@@ -248,25 +317,57 @@ Example:
 
   TwoC: the face difference 2c of a pair is above its limit";
 
+pub const TWO_C_HELP: &str = "The limit of 2c, as 0.3mgon";
+
 pub const TWO_C_LONG_HELP: &str = "\
-The limit of 2c, in units of 0.01 mgon: 0 to 1000000. The face difference 2c of a target
-is its direction in face II, less that in face I, less 200 gon";
+The limit of 2c, as 0.3mgon: to 10000mgon, by 0.01; or in units of 0.01 mgon: 0 to
+1000000. The face difference 2c of a target is its
+direction in face II, less that in face I, less 200 gon";
+
+pub const TWO_I_HELP: &str = "The limit of 2i, as 0.3mgon";
 
 pub const TWO_I_LONG_HELP: &str = "\
-The limit of 2i, in units of 0.01 mgon: 0 to 1000000. The face difference 2i of a target
-is both its zenith angles together, less 400 gon";
+The limit of 2i, as 0.3mgon: to 10000mgon, by 0.01; or in units of 0.01 mgon: 0 to
+1000000. The face difference 2i of a target is
+both its zenith angles together, less 400 gon";
+
+pub const RESIDUAL_HELP: &str = "The limit of residuals, as 0.3mgon [default: none]";
+
+pub const RESIDUAL_LONG_HELP: &str = "\
+The limit of residuals, as 0.3mgon: to 10mgon, by 0.005; or in half units of 0.005 mgon:
+0 to 2000 [default: none]";
 
 pub const WITHIN_HELP: &str = "\
-How near the directions must be, in units of 0.001 mgon: 0 to 1000000 [default: by the decimals]";
+How near the directions must be, as 0.05mgon [default: by the decimals]";
 
 pub const WITHIN_LONG_HELP: &str = "\
-How near the directions must be, in units of 0.001 mgon: 0 to 1000000. Where no N is
-stated it is 10; of a table with fewer than 5 decimals, what rounding to these may do and
-1 more, as 51 for 4 decimals. Its row with the fewest decimals counts";
+How near the directions must be, as 0.05mgon: to 1000mgon, by 0.001; or in units of
+0.001 mgon: 0 to 1000000. Where none is stated it is 0.01mgon; of a table with fewer than
+5 decimals, what rounding to these may do and 1 unit more, as 0.051mgon for 4 decimals.
+Its row with the fewest decimals counts";
+
+/// What may be stated as a limit of face differences.
+pub const FACE_LIMITS: &str = "\
+state mgon, as 0.3mgon: from 0mgon to 10000mgon, by 0.01;
+or units of 0.01 mgon: from 0 to 1000000";
+
+/// What may be stated as a limit of residuals.
+pub const RESIDUAL_LIMITS: &str = "\
+state mgon, as 0.3mgon: from 0mgon to 10mgon, by 0.005;
+or half units of 0.005 mgon: from 0 to 2000";
+
+/// What may be stated as a limit of the directions of a table.
+pub const TABLE_LIMITS: &str = "\
+state mgon, as 0.05mgon: from 0mgon to 1000mgon, by 0.001;
+or units of 0.001 mgon: from 0 to 1000000";
 
 pub const DECIMALS_LONG_HELP: &str = "\
 How many decimals of a gon a direction is written with: 1 to 8. The sixth is of
 0.001 mgon";
+
+pub const CSV_LONG_HELP: &str = "\
+Print rows for other programs, as CSV with a row of titles: station, set, target, the
+direction in gon with 6 decimals, 2c and 2i in mgon with 2";
 
 pub const SHA256_LONG_HELP: &str = "\
 Print the SHA-256 digests of both files after the line of the answer. They are those of

@@ -27,11 +27,6 @@ use station_explain::all_explanations;
 use std::io;
 use std::process::ExitCode;
 
-const LIMITS_ARE_WHOLE: &str = "
-Limits are whole numbers: of 2c and 2i in units of 0.01 mgon, of residuals in half units of
-0.005 mgon, of --within in units of 0.001 mgon. So 0.3 mgon is --two-c 30, --two-i 30,
---residual 60 and --within 300.";
-
 fn main(rt: HostRuntime) -> ExitCode {
     let faults = all_explanations();
     let input = OfRead::new(rt.stdin());
@@ -51,11 +46,6 @@ fn show(rt: &HostRuntime, error: &Error) -> u8
     match error.kind() {
         ErrorKind::OutOfMemory => refused(rt, Fault::Memory),
         ErrorKind::DisplayHelp | ErrorKind::DisplayVersion => status_of_print(rt, error.print(rt)),
-        ErrorKind::ValueValidation => {
-            let _ = error.print(rt);
-            let _ = eprintln!(rt; "{LIMITS_ARE_WHOLE}");
-            USAGE
-        }
         _ => {
             let _ = error.print(rt);
             USAGE

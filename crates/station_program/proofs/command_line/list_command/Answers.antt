@@ -1,5 +1,4 @@
 use Rattle.std.proofs.Common.{◌≡◌, ◌∙◌, ap, codes, refl, rules}
-use Rattle.std.proofs.lemmas.Result.{IfOk-weaker}
 use Rattle.clap.specs.Words.{App, app_of, new_app, with_rule}
 use Rattle.station_program.specs.Commands.{two_c_rule, two_i_rule}
 use Rattle.station_program.proofs.CommandsLaws.{adds_rule}
@@ -9,7 +8,7 @@ pub returns-clause-words : goal.returns-clause-words
 returns-clause-words c =
     let named : app_of c.after_help.result ≡ new_app (codes "list") = search rules in
     let filed = adds_rule _ _ _ _ _ c.in_ok-command.ensures named c.field_file.ensures refl in
-    IfOk-weaker c.with_limits.result _ _
-    (λ a limits. limits
-    ∙ ap (λ (x : App). with_rule (with_rule x two_c_rule) two_i_rule) filed)
-    c.with_limits.ensures.limits
+    let limited =
+    c.in_ok-command-2.ensures.limits
+    ∙ ap (λ (a : App). with_rule (with_rule a two_c_rule) two_i_rule) filed in
+    adds_rule _ _ _ _ _ c.in_ok-arg.ensures limited c.csv_flag.ensures refl

@@ -25,21 +25,23 @@ returns-clause-commands c =
     ∙ (versioned ∙ ap with_version c.new.ensures.app)))) in
     let first = adds_command _ _ _ _ _ c.in_ok-subcommand.ensures named
     c.in_ok-compare_command.ensures.words refl in
-    let second =
-    adds_command _ _ _ _ _ c.in_ok-subcommand-2.ensures first
-    c.in_ok-directions_command.ensures.words refl in
+    let second = adds_command _ _ _ _ _ c.in_ok-subcommand-2.ensures first
+    c.in_ok-differences_command.ensures.words refl in
     let third = adds_command _ _ _ _ _ c.in_ok-subcommand-3.ensures second
-    c.in_ok-residuals_command.ensures.words refl in
+    c.in_ok-directions_command.ensures.words refl in
     let fourth = adds_command _ _ _ _ _ c.in_ok-subcommand-4.ensures third
-    c.in_ok-check_command.ensures.words refl in
-    let fifth =
-    adds_command _ _ _ _ _ c.in_ok-subcommand-5.ensures fourth
-    c.in_ok-means_command.ensures.words refl in
+    c.in_ok-residuals_command.ensures.words refl in
+    let fifth = adds_command _ _ _ _ _ c.in_ok-subcommand-5.ensures fourth
+    c.in_ok-report_command.ensures.words refl in
     let sixth = adds_command _ _ _ _ _ c.in_ok-subcommand-6.ensures fifth
-    c.in_ok-mark_command.ensures.words refl in
+    c.in_ok-check_command.ensures.words refl in
     let seventh = adds_command _ _ _ _ _ c.in_ok-subcommand-7.ensures sixth
-    c.in_ok-list_command.ensures.words refl in
+    c.in_ok-means_command.ensures.words refl in
     let eighth = adds_command _ _ _ _ _ c.in_ok-subcommand-8.ensures seventh
+    c.in_ok-mark_command.ensures.words refl in
+    let ninth = adds_command _ _ _ _ _ c.in_ok-subcommand-9.ensures eighth
+    c.in_ok-list_command.ensures.words refl in
+    let tenth = adds_command _ _ _ _ _ c.in_ok-subcommand-10.ensures ninth
     c.in_ok-words_command.ensures.words refl in
-    adds_command _ _ _ _ _ c.in_ok-program.ensures eighth c.in_ok-explain_command.ensures.words
+    adds_command _ _ _ _ _ c.in_ok-program.ensures tenth c.in_ok-explain_command.ensures.words
     refl

@@ -35,6 +35,7 @@ returns-in_ok-limits_of-in-Some-list-default-clause-asked c = record {
       (search rules) (search rules);
   field_file = search rules;
   of_limits = search rules;
+  of_form = search rules;
 }
 
 pub returns-in_ok-get_str-in-Some-words-default-clause-asked :
@@ -88,7 +89,33 @@ pub returns-in_ok-limits_of-in-Some-residuals-default-clause-asked :
 returns-in_ok-limits_of-in-Some-residuals-default-clause-asked c = record {
   found = found_of c.in-Some-residuals-default.found.now;
   met = meets c.args.matches.now (codes "residuals")
-      (found_of c.in-Some-residuals-default.found.now) (search rules) (search rules);
+      (found_of c.in-Some-residuals-default.found.now) (search (rules, c.in-Some-residuals-default.ensures.name, c.in-Some-residuals-default.is-residuals))
+      (search (rules, c.in-Some-residuals-default.ensures.rows));
+  field_file = search rules;
+  of_station = search rules;
+  of_limits = search rules;
+}
+
+pub returns-in_ok-limits_of-in-Some-differences-default-clause-asked :
+    goal.returns-in_ok-limits_of-in-Some-differences-default-clause-asked
+returns-in_ok-limits_of-in-Some-differences-default-clause-asked c = record {
+  found = found_of c.in-Some-differences-default.found.now;
+  met = meets c.args.matches.now (codes "differences")
+      (found_of c.in-Some-differences-default.found.now) (search (rules, c.in-Some-differences-default.ensures.name, c.in-Some-differences-default.is-differences))
+      (search (rules, c.in-Some-differences-default.ensures.rows));
+  field_file = search rules;
+  of_station = search rules;
+  of_table = search rules;
+  of_limits = search rules;
+}
+
+pub returns-in_ok-limits_of-in-Some-report-default-clause-asked :
+    goal.returns-in_ok-limits_of-in-Some-report-default-clause-asked
+returns-in_ok-limits_of-in-Some-report-default-clause-asked c = record {
+  found = found_of c.in-Some-report-default.found.now;
+  met = meets c.args.matches.now (codes "report")
+      (found_of c.in-Some-report-default.found.now) (search (rules, c.in-Some-report-default.ensures.name, c.in-Some-report-default.is-report))
+      (search (rules, c.in-Some-report-default.ensures.rows));
   field_file = search rules;
   of_station = search rules;
   of_limits = search rules;
@@ -263,8 +290,8 @@ pub returns-in_err-get_str-in-Some-residuals-default-clause-none :
     goal.returns-in_err-get_str-in-Some-residuals-default-clause-none
 returns-in_err-get_str-in-Some-residuals-default-clause-none c =
     lacks_need c.from_residual-in_err-get_str-in-Some-residuals-default.result c.args.matches.now
-    (codes "residuals") (found_of c.in-Some-residuals-default.found.now) (search rules)
-    (search rules)
+    (codes "residuals") (found_of c.in-Some-residuals-default.found.now) (search (rules, c.in-Some-residuals-default.ensures.name, c.in-Some-residuals-default.is-residuals))
+    (search (rules, c.in-Some-residuals-default.ensures.rows))
     (inr (inr (inr (inr (inr (inr (inr (inl (refl, inl (search rules))))))))))
 
 pub returns-in_err-station_of-in-Some-residuals-default-clause-none :
@@ -272,7 +299,8 @@ pub returns-in_err-station_of-in-Some-residuals-default-clause-none :
 returns-in_err-station_of-in-Some-residuals-default-clause-none c =
     lacks_need c.from_residual-in_err-station_of-in-Some-residuals-default.result
     c.args.matches.now (codes "residuals") (found_of c.in-Some-residuals-default.found.now)
-    (search rules) (search rules)
+    (search (rules, c.in-Some-residuals-default.ensures.name, c.in-Some-residuals-default.is-residuals))
+    (search (rules, c.in-Some-residuals-default.ensures.rows))
     (inr (inr (inr (inr (inr (inr (inr (inl (refl, inr (inl (search rules)))))))))))
 
 pub returns-in_err-limits_of-in-Some-residuals-default-clause-none :
@@ -280,28 +308,89 @@ pub returns-in_err-limits_of-in-Some-residuals-default-clause-none :
 returns-in_err-limits_of-in-Some-residuals-default-clause-none c =
     lacks_need c.from_residual-in_err-limits_of-in-Some-residuals-default.result
     c.args.matches.now (codes "residuals") (found_of c.in-Some-residuals-default.found.now)
-    (search rules) (search rules)
+    (search (rules, c.in-Some-residuals-default.ensures.name, c.in-Some-residuals-default.is-residuals))
+    (search (rules, c.in-Some-residuals-default.ensures.rows))
     (inr (inr (inr (inr (inr (inr (inr (inl (refl, inr (inr (search rules)))))))))))
+
+pub returns-in_err-get_str-in-Some-differences-default-clause-none :
+    goal.returns-in_err-get_str-in-Some-differences-default-clause-none
+returns-in_err-get_str-in-Some-differences-default-clause-none c =
+    lacks_need c.from_residual-in_err-get_str-in-Some-differences-default.result
+    c.args.matches.now (codes "differences") (found_of c.in-Some-differences-default.found.now)
+    (search (rules, c.in-Some-differences-default.ensures.name, c.in-Some-differences-default.is-differences))
+    (search (rules, c.in-Some-differences-default.ensures.rows))
+    (inr (inr (inr (inr (inr (inr (inr (inr (inl (refl, inl (search rules)))))))))))
+
+pub returns-in_err-station_of-in-Some-differences-default-clause-none :
+    goal.returns-in_err-station_of-in-Some-differences-default-clause-none
+returns-in_err-station_of-in-Some-differences-default-clause-none c =
+    lacks_need c.from_residual-in_err-station_of-in-Some-differences-default.result
+    c.args.matches.now (codes "differences") (found_of c.in-Some-differences-default.found.now)
+    (search (rules, c.in-Some-differences-default.ensures.name, c.in-Some-differences-default.is-differences))
+    (search (rules, c.in-Some-differences-default.ensures.rows))
+    (inr (inr (inr (inr (inr (inr (inr (inr (inl (refl, inr (inl (search rules))))))))))))
+
+pub returns-in_err-get_str-in-Some-differences-default-2-clause-none :
+    goal.returns-in_err-get_str-in-Some-differences-default-2-clause-none
+returns-in_err-get_str-in-Some-differences-default-2-clause-none c =
+    lacks_need c.from_residual-in_err-get_str-in-Some-differences-default-2.result
+    c.args.matches.now (codes "differences") (found_of c.in-Some-differences-default.found.now)
+    (search (rules, c.in-Some-differences-default.ensures.name, c.in-Some-differences-default.is-differences))
+    (search (rules, c.in-Some-differences-default.ensures.rows))
+    (inr (inr (inr (inr (inr (inr (inr (inr (inl (refl, inr (inr (inl (search rules)))))))))))))
+
+pub returns-in_err-limits_of-in-Some-differences-default-clause-none :
+    goal.returns-in_err-limits_of-in-Some-differences-default-clause-none
+returns-in_err-limits_of-in-Some-differences-default-clause-none c =
+    lacks_need c.from_residual-in_err-limits_of-in-Some-differences-default.result
+    c.args.matches.now (codes "differences") (found_of c.in-Some-differences-default.found.now)
+    (search (rules, c.in-Some-differences-default.ensures.name, c.in-Some-differences-default.is-differences))
+    (search (rules, c.in-Some-differences-default.ensures.rows))
+    (inr (inr (inr (inr (inr (inr (inr (inr (inl (refl, inr (inr (inr (search rules)))))))))))))
+
+pub returns-in_err-get_str-in-Some-report-default-clause-none :
+    goal.returns-in_err-get_str-in-Some-report-default-clause-none
+returns-in_err-get_str-in-Some-report-default-clause-none c =
+    lacks_need c.from_residual-in_err-get_str-in-Some-report-default.result c.args.matches.now
+    (codes "report") (found_of c.in-Some-report-default.found.now) (search (rules, c.in-Some-report-default.ensures.name, c.in-Some-report-default.is-report))
+    (search (rules, c.in-Some-report-default.ensures.rows))
+    (inr (inr (inr (inr (inr (inr (inr (inr (inr (inl (refl, inl (search rules))))))))))))
+
+pub returns-in_err-station_of-in-Some-report-default-clause-none :
+    goal.returns-in_err-station_of-in-Some-report-default-clause-none
+returns-in_err-station_of-in-Some-report-default-clause-none c =
+    lacks_need c.from_residual-in_err-station_of-in-Some-report-default.result
+    c.args.matches.now (codes "report") (found_of c.in-Some-report-default.found.now)
+    (search (rules, c.in-Some-report-default.ensures.name, c.in-Some-report-default.is-report))
+    (search (rules, c.in-Some-report-default.ensures.rows))
+    (inr (inr (inr (inr (inr (inr (inr (inr (inr (inl (refl, inr (inl (search rules)))))))))))))
+
+pub returns-in_err-limits_of-in-Some-report-default-clause-none :
+    goal.returns-in_err-limits_of-in-Some-report-default-clause-none
+returns-in_err-limits_of-in-Some-report-default-clause-none c =
+    lacks_need c.from_residual-in_err-limits_of-in-Some-report-default.result
+    c.args.matches.now (codes "report") (found_of c.in-Some-report-default.found.now)
+    (search (rules, c.in-Some-report-default.ensures.name, c.in-Some-report-default.is-report))
+    (search (rules, c.in-Some-report-default.ensures.rows))
+    (inr (inr (inr (inr (inr (inr (inr (inr (inr (inl (refl, inr (inr (search rules)))))))))))))
 
 pub returns-in-Some-clause-none : goal.returns-in-Some-clause-none
 returns-in-Some-clause-none c =
     let met = meets c.args.matches.now c.in-Some.field-0.0.now (found_of c.in-Some.field-0.1.now)
-    (search rules) (search rules) in record {
+    (search (rules, c.in-Some.ensures.name)) (search (rules, c.in-Some.ensures.rows)) in record {
       name = c.in-Some.field-0.0.now;
       found = found_of c.in-Some.field-0.1.now;
       met = met;
-      lacks = inr (inr
-          (inr (inr (inr
-          (inr
-          (inr
-          (inr (
-            search rules,
-            search rules,
-            search rules,
-            search rules,
-            search rules,
-            search rules,
-            search rules,
-            search rules,
-          ))))))));
+      lacks = inr (inr (inr (inr (inr (inr (inr (inr (inr (inr (
+        search rules,
+        search rules,
+        search rules,
+        search rules,
+        search rules,
+        search rules,
+        search rules,
+        search rules,
+        search rules,
+        search rules,
+      ))))))))));
     }

@@ -1,0 +1,16 @@
+use Rattle.std.proofs.Common.{◌≡◌, ◌∙◌, ap, codes, refl, rules}
+use Rattle.std.proofs.lemmas.Result.{IfOk-weaker}
+use Rattle.clap.specs.Words.{App, app_of, new_app, with_rule}
+use Rattle.station_program.specs.Commands.{two_c_rule, two_i_rule}
+use Rattle.station_program.proofs.CommandsLaws.{adds_rule}
+use Rattle.station_program.proofs.command_line.report_command.Goals as goal
+
+pub returns-clause-words : goal.returns-clause-words
+returns-clause-words c =
+    let named : app_of c.after_help.result ≡ new_app (codes "report") = search rules in
+    let filed = adds_rule _ _ _ _ _ c.in_ok-arg.ensures named c.field_file.ensures refl in
+    let stationed = adds_rule _ _ _ _ _ c.in_ok-command.ensures filed c.station_name.ensures refl in
+    IfOk-weaker c.with_limits.result _ _
+    (λ a limits. limits
+    ∙ ap (λ (x : App). with_rule (with_rule x two_c_rule) two_i_rule) stationed)
+    c.with_limits.ensures.limits
