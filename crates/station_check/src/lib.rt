@@ -10,6 +10,7 @@
 //! | `write_words` | writes the words of a field file |
 //! | `check_sources` | as `check_bytes`, and gives the field file's reader back |
 //! | `stations_of_file` | the stations of a field file, for what else is made of them, and its reader |
+//! | `noted_stations_of_file`, `note_unchecked` | the same, and how many readings stand in no set; and the note of these |
 //! | `run_check`, `run_means`, `run_list`, `run_words` | the same as commands: a line of the verdict or the text, the line of a refusal, and the exit status |
 //!
 //! Each reads its bytes from a `Source` and writes to a `Sink`, which may be a file, a slice, or
@@ -52,13 +53,14 @@ mod words;
 pub use accepted::accepted_line;
 pub use check::{check_bytes, check_slices, check_sources, handed_in};
 pub use fault::Fault;
-pub use list::write_list;
+pub use list::{noted_stations_of_file, write_list};
 pub use means::write_means;
+pub use page::Page;
 pub use refused::{
     LONGEST_CARRIED, LONGEST_PLACE, add_carried, add_number, add_numbered_place, add_place,
     refusal_line,
 };
-pub use runs::{DONE, REFUSED, refuse, run_check, run_list, run_means, run_words};
+pub use runs::{DONE, REFUSED, note_unchecked, refuse, run_check, run_list, run_means, run_words};
 pub use survey::stations_of_file;
 pub use verdict_line::{
     LONGEST_U32, LONGEST_U64, LONGEST_VERDICT_LINE, VerdictLine, add, add_numbered,

@@ -9,7 +9,7 @@ ghost use Rattle.station_check.specs.ListTexts.{station_line, key_text, faces_te
 ghost use Rattle.station_check.specs.ListTexts.{observation_line};
 
 use crate::page::PAGE;
-use crate::put::{Room, put, put_number, put_start};
+use crate::put::{Room, put, put_digits, put_number, put_signed, put_start};
 use crate::verdict_line::{LONGEST_U32, LONGEST_U64};
 use adjust_kernel::{LONGEST_NAME, Name, Obs, Station};
 use station_book::Faces;
@@ -17,11 +17,8 @@ use station_book::Faces;
 /// Bytes of three counts, with the words around them.
 const COUNTS: usize = 31 + 3 * LONGEST_U64;
 
-/// Bytes of the number of a set: five digits at most.
-const SET_NUMBER: usize = 5;
-
 /// Bytes of what was observed: a set, a target and a direction, with the words around them.
-const KEY: usize = 17 + SET_NUMBER + LONGEST_NAME + LONGEST_U32;
+const KEY: usize = 17 + LONGEST_NAME + 2 * LONGEST_U32;
 
 /// Bytes of two face differences, each with its sign, and of the words around them.
 const FACES: usize = 11 + 2 * (1 + LONGEST_U32);
@@ -104,11 +101,11 @@ fn put_key(room: &mut Room, at: usize, station: &Station, obs: Obs) -> usize
         ++ key_text (key_of_obs station.now.sets station.now.targets obs) }
 {
     let set_at = put(room, at, b"set ");
-    let set_end = put_number(room, set_at, station.sets()[obs.set as usize]);
+    let set_end = put_digits(room, set_at, u32::from(station.sets()[obs.set as usize]));
     let target_at = put(room, set_end, b", target ");
     let target_end = put_name(room, target_at, &station.targets()[obs.target as usize]);
     let value_at = put(room, target_end, b": p ");
-    put_number(room, value_at, obs.value)
+    put_digits(room, value_at, obs.value)
 }
 
 /// Puts face differences, and ends the line.
@@ -118,8 +115,8 @@ fn put_faces(room: &mut Room, at: usize, faces: Faces) -> usize
     ensures text { take result room.new ≡ take at room.old ++ faces_text faces }
 {
     let two_c_at = put(room, at, b", 2c ");
-    let two_c_end = put_number(room, two_c_at, faces.two_c);
+    let two_c_end = put_signed(room, two_c_at, faces.two_c);
     let two_i_at = put(room, two_c_end, b", 2i ");
-    let two_i_end = put_number(room, two_i_at, faces.two_i);
+    let two_i_end = put_signed(room, two_i_at, faces.two_i);
     put(room, two_i_end, b"\n")
 }

@@ -4,10 +4,12 @@
 //! is whole, and no byte of it waits for the last one's count. A piece of a constant length is a
 //! load and a store.
 
-ghost use Rattle.std.specs.Prelude.{◌≡◌, ◌≤◌, ◌+◌, ◌++◌, length, take};
+ghost use Rattle.std.specs.Prelude.{◌≡◌, ◌<◌, ◌≤◌, ◌+◌, ◌++◌, length, take, decimal};
+ghost use Rattle.std.specs.Fmt.{signed_decimal};
 
 use crate::page::PAGE;
-use itoa::{Buffer, Integer};
+use crate::verdict_line::LONGEST_U32;
+use itoa::{Buffer, Integer, write_digits};
 
 /// The room of a page: the text up to a place stands, and what is after it may be written over.
 pub(crate) type Room = [u8; PAGE];
@@ -17,6 +19,7 @@ pub(crate) type Room = [u8; PAGE];
 pub(crate) fn put_bytes(room: &mut Room, at: usize, bytes: &[u8]) -> usize
     requires { at + length bytes.now ≤ PAGE }
     ensures next { result ≡ at + length bytes.now }
+    ensures whole { length room.new ≡ PAGE }
     ensures text { take result room.new ≡ take at room.old ++ bytes.now }
 {
     let end = at + bytes.len();
@@ -75,4 +78,64 @@ pub(crate) fn put_number<I: Integer>(room: &mut Room, at: usize, number: I) -> u
 {
     let mut digits = Buffer::new();
     put_bytes(room, at, digits.format(number).as_bytes())
+}
+
+/// How many digits a number below 10,000 has.
+#[inline(always)]
+#[tactic(auto, using(crate::proofs::DigitCounts::one_digit, crate::proofs::DigitCounts::two_digits, crate::proofs::DigitCounts::three_digits, crate::proofs::DigitCounts::four_digits))]
+fn short_count(number: u32) -> usize
+    requires { number < 10000 }
+    ensures value { result ≡ length (decimal number) }
+    ensures few { result ≤ 4 }
+    ensures fewer { number < 100 → result ≤ 2 }
+{
+    if number < 100 {
+        if number < 10 { 1 } else { 2 }
+    } else if number < 1_000 {
+        3
+    } else {
+        4
+    }
+}
+
+/// How many digits a number has in plain decimals.
+#[inline(always)]
+#[tactic(auto, using(crate::proofs::DigitCounts::four_more, crate::proofs::DigitCounts::eight_more))]
+fn digit_count(number: u32) -> usize
+    ensures value { result ≡ length (decimal number) }
+    ensures few { result ≤ LONGEST_U32 }
+{
+    if number < 10_000 {
+        short_count(number)
+    } else if number < 100_000_000 {
+        4 + short_count(number / 10_000)
+    } else {
+        8 + short_count(number / 100_000_000)
+    }
+}
+
+/// Puts a number in plain decimals. Its digits are written where they stand, with no copy.
+#[inline(always)]
+pub(crate) fn put_digits(room: &mut Room, at: usize, number: u32) -> usize
+    requires { at + LONGEST_U32 ≤ PAGE }
+    ensures next { result ≤ at + LONGEST_U32 }
+    ensures text { take result room.new ≡ take at room.old ++ decimal number }
+{
+    let end = at + digit_count(number);
+    write_digits(u64::from(number), room, end);
+    end
+}
+
+/// Puts a number in plain decimals, with a sign where it is below 0: likewise.
+#[inline(always)]
+pub(crate) fn put_signed(room: &mut Room, at: usize, number: i32) -> usize
+    requires { at + 1 + LONGEST_U32 ≤ PAGE }
+    ensures next { result ≤ at + 1 + LONGEST_U32 }
+    ensures text { take result room.new ≡ take at room.old ++ signed_decimal number }
+{
+    if number >= 0 {
+        return put_digits(room, at, number.unsigned_abs());
+    }
+    let digits_at = put(room, at, b"-");
+    put_digits(room, digits_at, number.unsigned_abs())
 }

@@ -11,7 +11,6 @@ ghost use Rattle.station_explain.specs.Table.{IsTheTable};
 ///
 /// The kind of the texts is a parameter, so that clauses can name a table of explanations: they can
 /// name no constant whose struct has references for its fields.
-#[derive(Clone, Copy, Debug)]
 pub struct Said<Names, Text> {
     /// Its names, as the line of a refusal has them, without what they carry.
     pub names: Names,
@@ -800,9 +799,9 @@ const MATCH_FAULTS: &[Explanation] = &[
         meaning: "the field file has no station of this name",
         when: "\
 No station of the field file that has sets has the name in the sheet or, for 'compare',
-'directions', 'residuals' and 'means', the name STATION. Names are compared byte by byte. A job that
-was recorded without blocks of the codes 10 and 20, as most jobs are, has no station and an empty
-list.",
+'differences', 'directions', 'residuals' and 'means', the name STATION. Names are compared byte by
+byte. A job that was recorded without blocks of the codes 10 and 20, as most jobs are, has no
+station and an empty list.",
         example: "refused: no station",
         remedy: "\
 'station_check list GSI' lists the names. Blanks and small letters count; zeros at the
@@ -911,9 +910,9 @@ its own.",
         when: "\
 As 'kernel: Residual', the residual of the obs row of this number, from 1, is above N half units of
 0.005 mgon, where '--residual N' was stated. As 'adjust: Residual', some least-squares residual is
-above 2000 half units in the adjustment of 'compare', 'directions' or 'residuals', and that of the
-observation of this number, from 1, is the greatest. The observations of a station are counted in
-the order in which 'station_check list GSI' has them.",
+above 2000 half units in the adjustment of 'compare', 'differences', 'directions' or 'residuals',
+and that of the observation of this number, from 1, is the greatest. The observations of a station
+are counted in the order in which 'station_check list GSI' has them.",
         example: "refused: kernel: Residual 1",
         remedy: "\
 Look at that observation: one that stands out comes of a wrong target or a wrong name in
@@ -964,9 +963,9 @@ check a copy of the field file without the others.",
         names: &["NotFound"],
         meaning: "no exact adjustment was found",
         when: "\
-'compare', 'directions' and 'residuals' look for the exact adjustment of the station, and test it.
-Here none was found, though the observations hold all sets and targets together. No station is known
-of which this is so.",
+'compare', 'differences', 'directions' and 'residuals' look for the exact adjustment of the station,
+and test it. Here none was found, though the observations hold all sets and targets together. No
+station is known of which this is so.",
         example: "refused: adjust: NotFound",
         remedy: "\
 Have another program adjust the station, as adjust.py of the examples, and check its
@@ -983,12 +982,13 @@ for 2, 50001 for 1. The row with the fewest decimals counts; rows of whole gon d
 the line is how far, rounded up: the least N with which the table agrees.",
         example: "refused: compare: Apart 15",
         remedy: "\
-Compare the table with that of 'station_check directions'. Where one row stands out, see
-what the program did: plain means of incomplete sets, weights and observations that it left out give
-other directions. The best rotation halves the error of a single target: 1 mgon shows as 500. Where
-all rows differ by no more than the program rounds, in degrees as an example, state the number of
-the line by --within. The results of an instrument come from readings that it did not round: allow 4
-units more.",
+Print the difference of each target by 'station_check differences'. The best rotation
+halves the error of a single target, since all others take the other half: 1 mgon shows as 500, and
+as 0.500 beside -0.500. Where one row stands out, see what the program did: plain means of
+incomplete sets, weights and observations that it left out give other directions. Where all rows
+differ by no more than the program rounds, in degrees as an example, state the number of the line by
+--within. The results of an instrument come from readings that it did not round: allow 4 units
+more.",
     },
 ];
 

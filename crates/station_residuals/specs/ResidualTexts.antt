@@ -1,24 +1,10 @@
 -- The text of a station's residuals (profile).
-use Rattle.std.specs.Prelude.{ℕ, ◌+◌, ◌*◌, ◌/◌, ◌%◌, List, [], ◌∷◌, ◌++◌, map, codes, decimal}
-use Rattle.std.specs.Prelude.{ℤ, pos, negsuc, unsigned_abs}
+use Rattle.std.specs.Prelude.{ℕ, ◌*◌, List, [], ◌∷◌, map, codes, decimal}
+use Rattle.angle_texts.specs.MgonTexts.{mgon_text}
 use Rattle.direction_table.specs.Texts.{direction_text}
 use Rattle.directions_apart.specs.declared.units.TheConstants.{HALF_UNIT}
 use Rattle.sheet_format.specs.Texts.{rows_text}
 use Rattle.station_residuals.specs.declared.adjusted.AdjustedObs.{AdjustedObs}
-
--- a number of thousandths: the whole, a point, and three decimals
-abbrev pub thousandths_text : ℕ → List ℕ
-thousandths_text n =
-    decimal (n / 1_000) ++ (46 ∷ (48 + n / 100 % 10) ∷ (48 + n / 10 % 10) ∷ (48 + n % 10) ∷ [])
-
--- what stands before a number: a minus where it is negative
-abbrev pub sign_text : ℤ → List ℕ
-sign_text (pos n) = []
-sign_text (negsuc n) = codes "-"
-
--- a residual as text, in mgon: of units of 0.001 mgon
-abbrev pub residual_text : ℤ → List ℕ
-residual_text units = sign_text units ++ thousandths_text (unsigned_abs units)
 
 -- the titles
 abbrev pub titles : List (List ℕ)
@@ -30,7 +16,7 @@ titles =
 abbrev pub row_of : AdjustedObs → List (List ℕ)
 row_of o =
     decimal o.set ∷ o.target ∷ direction_text 6 (HALF_UNIT * o.value)
-    ∷ direction_text 6 o.adjusted ∷ residual_text o.residual ∷ []
+    ∷ direction_text 6 o.adjusted ∷ mgon_text o.residual ∷ []
 
 -- The text: the titles, and the rows of the observations, in their order.
 abbrev pub residuals_text : List AdjustedObs → List ℕ

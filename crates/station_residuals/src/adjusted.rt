@@ -56,7 +56,7 @@ pub fn adjusted_observations(
 }
 
 /// The observations of a station, adjusted by an adjustment of it.
-fn adjusted_by(
+pub fn adjusted_by(
     alloc: Global,
     station: &Station,
     adjustment: &Adjustment,

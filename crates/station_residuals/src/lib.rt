@@ -13,7 +13,8 @@ mod residuals;
 mod runs;
 mod text;
 
-pub use adjusted::{AdjustedObs, adjusted_observations};
+pub use adjusted::{AdjustedObs, adjusted_by, adjusted_observations};
+pub use residual::{LIFT, lifted, sides};
 pub use residuals::{residuals_text, write_residuals};
 pub use runs::run_residuals;
 pub use text::text_of;

@@ -21,10 +21,10 @@ const PARTS: u64 = HALF_UNIT / UNIT;
 pub(crate) const LARGEST_RESIDUAL: u64 = LARGEST_RESIDUAL_LIMIT as u64 * PARTS;
 
 /// As many turns are added to each observation, so that none is negative.
-const LIFT: u64 = LARGEST_TURN as u64 * TURN as u64;
+pub const LIFT: u64 = LARGEST_TURN as u64 * TURN as u64;
 
 /// An observation with its full turns, lifted, in half units.
-fn lifted(value: u32, turn: i8) -> u64
+pub fn lifted(value: u32, turn: i8) -> u64
     requires value { value < TURN }
     requires turn { IsWithin LARGEST_TURN turn }
     ensures value { pos result ≡ (pos value +ℤ pos TURN *ℤ turn) +ℤ pos LIFT }
@@ -36,7 +36,7 @@ fn lifted(value: u32, turn: i8) -> u64
 
 /// The residual of an observation with these full turns, in half units times the denominator: the
 /// first number less the second.
-fn sides(adjustment: &Adjustment, obs: &Obs, turn: i8) -> (Wide, Wide)
+pub fn sides(adjustment: &Adjustment, obs: &Obs, turn: i8) -> (Wide, Wide)
     requires obs { IsObs (length adjustment.now.orientations) (length adjustment.now.directions)
         obs.now }
     requires turn { IsWithin LARGEST_TURN turn }

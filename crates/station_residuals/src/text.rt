@@ -1,21 +1,18 @@
 //! The text of residuals, made in memory.
 //!
 //! The rows go through `csv`'s writer, which puts quotes where a name asks for them.
-ghost use Rattle.std.specs.Prelude.{◌≡◌, ◌+◌, ◌%◌, ◌++◌, ℕ, List, map, IfOk, OnOk};
+ghost use Rattle.std.specs.Prelude.{◌≡◌, map, IfOk, OnOk};
 ghost use Rattle.csv.specs.Writing.{default_writer, row_text};
-ghost use Rattle.direction_table.specs.Texts.{direction_text};
 ghost use Rattle.sheet_format.specs.Texts.{Writes, rows_text};
 ghost use Rattle.station_residuals.specs.ResidualTexts as spec;
 
 use crate::adjusted::AdjustedObs;
+use angle_texts::{push_gon, push_mgon};
 use csv::{Writer, WriterBuilder};
 use directions_apart::HALF_UNIT;
 use itoa::Buffer;
 use std::alloc::{AllocError, Global};
 use std::io::Write;
-
-/// Units of 0.000000001 gon in a gon.
-const GON: u64 = 1_000_000_000;
 
 /// The text of adjusted observations: a row of titles, and a row for each in their order.
 ///
@@ -78,7 +75,7 @@ fn push_rows<W: Write + Drop>(
         adjusted.clear();
         push_gon(&mut adjusted, row.adjusted)?;
         residual.clear();
-        push_residual(&mut residual, row.residual)?;
+        push_mgon(&mut residual, row.residual)?;
         push_row(
             writer,
             &[
@@ -100,54 +97,4 @@ fn push_row<W: Write + Drop>(writer: &mut Writer<W>, fields: &[&[u8]]) -> Result
         (row_text default_writer (map (λ f. f.now) fields.now))) }
 {
     writer.write_fields(fields).map_err(|_| AllocError)
-}
-
-/// Adds a direction in gon, which is in units of 0.000000001 gon, to a text: the gon, a point and
-/// six decimals.
-// Rows are many, and digits at stated places take a third of the time of `push_direction`.
-fn push_gon(text: &mut Vec<u8>, direction: u64) -> Result<(), AllocError>
-    ensures { OnOk result
-        (text.new.items ≡ text.old.items ++ direction_text 6 direction) }
-{
-    let mut gons = Buffer::new();
-    text.extend_from_slice(gons.format(direction / GON).as_bytes())?;
-    text.extend_from_slice(&[
-        b'.',
-        digit(direction / 100_000_000),
-        digit(direction / 10_000_000),
-        digit(direction / 1_000_000),
-        digit(direction / 100_000),
-        digit(direction / 10_000),
-        digit(direction / 1_000),
-    ])?;
-    Ok(())
-}
-
-/// The last digit of a number, as text.
-fn digit(number: u64) -> u8
-    ensures { result ≡ 48 + number % 10 }
-{
-    b'0' + (number % 10) as u8
-}
-
-/// Adds a residual in mgon, which is in units of 0.001 mgon, to a text.
-fn push_residual(text: &mut Vec<u8>, units: i32) -> Result<(), AllocError>
-    ensures { OnOk result (text.new.items ≡ text.old.items ++ spec.residual_text units) }
-{
-    if units < 0 {
-        text.push(b'-')?;
-    }
-    push_thousandths(text, units.unsigned_abs())
-}
-
-/// Adds a number of thousandths to a text: the whole, a point and three decimals.
-fn push_thousandths(text: &mut Vec<u8>, number: u32) -> Result<(), AllocError>
-    ensures { OnOk result
-        (text.new.items ≡ text.old.items ++ spec.thousandths_text number) }
-{
-    let number = u64::from(number);
-    let mut whole = Buffer::new();
-    text.extend_from_slice(whole.format(number / 1_000).as_bytes())?;
-    text.extend_from_slice(&[b'.', digit(number / 100), digit(number / 10), digit(number)])?;
-    Ok(())
 }

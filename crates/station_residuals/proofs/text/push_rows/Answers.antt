@@ -3,10 +3,11 @@ use Rattle.std.specs.Int.{w32}
 use mir.Val.{to_z, of_z}
 use Rattle.std.proofs.lemmas.Int.{to_z-of_z}
 use Rattle.std.proofs.lemmas.List.{take_all}
+use Rattle.angle_texts.specs.MgonTexts.{mgon_text}
 use Rattle.direction_table.specs.Texts.{direction_text}
 use Rattle.sheet_format.specs.Texts.{HasWritten, rows_text}
 use Rattle.sheet_format.proofs.TextRows.{entry-more}
-use Rattle.station_residuals.specs.ResidualTexts.{residual_text, row_of}
+use Rattle.station_residuals.specs.ResidualTexts.{row_of}
 use Rattle.station_residuals.proofs.text.push_rows.Goals as goal
 
 pub loop-row-preserved : goal.loop-row-preserved
@@ -19,10 +20,10 @@ loop-row-preserved g c text h =
     ∙ ap (λ (n : ℕ). direction_text 6 (5_000 * n)) c.from.ensures in
     let adjusted = c.as_slice-in-loop-row.ensures.value ∙ c.in_ok-push_gon-2.ensures
     ∙ ap (λ (t : List ℕ). t ++ direction_text 6 row.adjusted) c.clear-in-loop-row.ensures.items in
-    let residual = c.as_slice-in-loop-row-2.ensures.value ∙ c.in_ok-push_residual.ensures
-    ∙ ap (λ (t : List ℕ). t ++ residual_text (to_z w32 (of_z w32 row.residual)))
+    let residual = c.as_slice-in-loop-row-2.ensures.value ∙ c.in_ok-push_mgon.ensures
+    ∙ ap (λ (t : List ℕ). t ++ mgon_text (to_z w32 (of_z w32 row.residual)))
     c.clear-in-loop-row-2.ensures.items
-    ∙ ap residual_text (to_z-of_z w32 row.residual fits) in
+    ∙ ap mgon_text (to_z-of_z w32 row.residual fits) in
     let before = text ++ rows_text (map row_of (take c.loop-row.row-index c.args.rows.now)) in
     let written = rw (
       number,
