@@ -98,7 +98,8 @@ STATED = (
     (Shape("ten sessions in a row", 1, 40, 100, parts=10), (30, MILLISECONDS)),
 )
 
-# The jobs without codes of `mark`, which takes at most so many times the time of `list`.
+# The jobs without codes of `mark`, which takes at most so many times the time of `list`. The last two
+# are refused: more sets than a station may have, of one target.
 JOBS = (
     Shape("16 KB", 1, 16, 10),
     Shape("400 KB", 10, 40, 10),
@@ -107,11 +108,15 @@ JOBS = (
     Shape("16 MB", 41, 40, 100),
     Shape("600 KB", 10, 40, 10, width=16),
     Shape("800 KB", 10, 40, 10, distances=True),
+    Shape("1.2 MB", 10, 40, 10, width=16, distances=True),
+    Shape("790 KB, 80 stations of 1 set", 80, 1, 100),
     Shape("600 KB, 1,000 stations of 2 sets", 1000, 2, 3),
     Shape("1.3 MB, 1,000 stations of 2 sets", 1000, 2, 3, details=15),
     Shape("400 KB", 1, 40, 100, shuffled=True),
     Shape("280 KB with gaps", 1, 40, 100, gaps=0.3),
     Shape("1 MB", 1, 2, 100, details=20_000),
+    Shape("400 KB", 1, 4_000, 1),
+    Shape("16 MB", 1, 170_000, 1),
 )
 TIMES_LIST = 2
 
@@ -176,6 +181,8 @@ def field_file(shape):
 
 def seen_in_job(shape, draw, number, names):
     """The targets of a set of a job without codes: the first and the last are those of set 1."""
+    if len(names) == 1:
+        return names
     first, *between, last = names
     if number > 1:
         between = [name for name in between if draw.random() >= shape.gaps]
@@ -232,21 +239,21 @@ def printed(command):
     return subprocess.run(command, stdin=subprocess.DEVNULL, stdout=subprocess.PIPE, check=True).stdout
 
 
-def least_times(commands, runs, stderr=None):
+def least_times(commands, runs, statuses=(0,), stderr=None):
     """The least time of each command; they take turns, and another one begins each round."""
     times = [[] for _ in commands]
     for turn in range(runs):
         for place in range(len(commands)):
             which = (turn + place) % len(commands)
-            times[which].append(run(commands[which], stderr=stderr))
+            times[which].append(run(commands[which], statuses, stderr))
     return [min(of_one) for of_one in times]
 
 
-def memory(command, folder):
+def memory(command, folder, statuses=(0,), stderr=None):
     """The most memory that a run of a command held, in KB, and how many pages were brought in. A
     small program has to start it: the kernel counts what its parent held, too."""
     log = folder / "time.log"
-    run(["time", "--format=%M %R %F", f"--output={log}", *command])
+    run(["time", "--quiet", "--format=%M %R %F", f"--output={log}", *command], statuses, stderr)
     most, *pages = map(int, log.read_text().split())
     return most, sum(pages)
 
@@ -365,22 +372,33 @@ def measure_stated(folder, runs):
         show([shape.name(), *times, f"{most} {of}", kept])
 
 
-def measure_jobs(folder, runs):
-    """The times of `mark` beside those of `list`, and instructions where they can be counted."""
-    show(["job without codes", "list, ms", "mark, ms", "of list", "list, a byte", "mark, a byte", "kept"])
-    show(["---"] * 7)
+def measure_jobs(bench):
+    """The times of `mark` beside those of `list`, the pages that they bring in, and instructions, where
+    these can be counted."""
+    header = ["job without codes", "list, ms", "mark, ms", "of list", "kept"]
+    header += ["list, KB", "mark, KB", "list, pages", "mark, pages"] if bench.can_weigh else []
+    header += ["list, a byte", "mark, a byte", "of list"] if bench.can_count else []
+    show(header)
+    show(["---"] * len(header))
     for shape in JOBS:
-        gsi = folder / "job.gsi"
+        gsi = bench.folder / "job.gsi"
         gsi.write_text(job_file(shape), newline="")
         commands = [[PROGRAM, "list", gsi], [PROGRAM, "mark", gsi]]
-        listed, marked = least_times(commands, runs, subprocess.DEVNULL)
-        counts = ["", ""]
-        size = gsi.stat().st_size
-        if shutil.which("valgrind") and size <= COUNTED:
-            counted = [instructions(one, folder, stderr=subprocess.DEVNULL) for one in commands]
-            counts = figures([count / size for count in counted], 1)
+        quiet = {"statuses": (0, 1), "stderr": subprocess.DEVNULL}
+        listed, marked = least_times(commands, bench.options.runs, **quiet)
         kept = "yes" if marked <= TIMES_LIST * listed else "no"
-        show([shape.name(), f"{listed:.2f}", f"{marked:.2f}", f"{marked / listed:.2f}", *counts, kept])
+        row = [shape.name(), f"{listed:.2f}", f"{marked:.2f}", f"{marked / listed:.2f}", kept]
+        if bench.can_weigh:
+            held = [memory(command, bench.folder, **quiet) for command in commands]
+            row += [*(f"{most:,}" for most, _ in held), *(f"{pages:,}" for _, pages in held)]
+        if bench.can_count:
+            size = gsi.stat().st_size
+            if bench.options.instructions or size <= COUNTED:
+                counted = [instructions(one, bench.folder, **quiet) / size for one in commands]
+                row += [*(f"{count:.1f}" for count in counted), f"{counted[1] / counted[0]:.2f}"]
+            else:
+                row += [""] * 3
+        show(row)
 
 
 def named_program(text):
@@ -418,7 +436,7 @@ def main():
         if set(options.commands) & {"directions", "compare"}:
             measure_stated(folder, options.runs)
         if "mark" in options.commands:
-            measure_jobs(folder, options.runs)
+            measure_jobs(bench)
 
 
 if __name__ == "__main__":

@@ -15,7 +15,12 @@ from concurrent.futures import ProcessPoolExecutor, as_completed
 from pathlib import Path
 from typing import Collection, Iterator, NamedTuple
 
-FOLDERS = [str(Path(__file__).resolve().parent / name) for name in ("cli", "page")]
+HERE = Path(__file__).resolve().parent
+
+FOLDERS = [str(HERE / name) for name in ("cli", "page")]
+
+# What the tests share.
+SUPPORT = str(HERE / "support")
 
 # Words of the tests that take longest: they begin first.
 LONGEST = [
@@ -55,7 +60,7 @@ class Counts(NamedTuple):
 
 def load() -> Iterator[unittest.TestCase]:
     """All tests, one by one."""
-    sys.path[:0] = FOLDERS
+    sys.path[:0] = [*FOLDERS, SUPPORT]
     suites: list[unittest.TestSuite | unittest.TestCase]
     suites = [unittest.TestLoader().discover(folder) for folder in FOLDERS]
     while suites:
@@ -70,7 +75,7 @@ def outcome_of(name: str) -> Outcome:
     """Runs the test of a name."""
     result, start = unittest.TestResult(), time.monotonic()
     if FOLDERS[0] not in sys.path:
-        sys.path[:0] = FOLDERS
+        sys.path[:0] = [*FOLDERS, SUPPORT]
     unittest.defaultTestLoader.loadTestsFromName(name).run(result)
     failures = [said for _, said in result.failures + result.errors]
     failures += ["it passes, and is marked as failing"] * len(result.unexpectedSuccesses)

@@ -29,6 +29,9 @@ ENTRY = re.compile(r"^ +(?:-\w, )?(--[\w-]+|<\w+>|\[\w+\]\S*)(?: <(\w+)>)?\n((?:
 DEFAULT = re.compile(r"\s*\[default: (\w+)\]")
 RANGE = re.compile(r"(\d+) to (\d+)")
 
+# What stands for a limit, which may be stated in mgon.
+LIMIT = "LIMIT"
+
 # What the help says where an option that isn't stated sets no limit.
 NO_LIMIT = "none"
 
@@ -54,7 +57,8 @@ class Option(NamedTuple):
 
     def wanted(self) -> str:
         """What its value is, as a completion says."""
-        if found := RANGE.search(self.text):
+        found = RANGE.search(self.text)
+        if found and self.value != LIMIT:
             return "number from {} to {}".format(*found.groups())
         return self.value.lower()
 

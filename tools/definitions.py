@@ -1,8 +1,9 @@
 """Makes docs/DEFINITIONS.md from the comments in specs/: `python3 tools/definitions.py`.
 
-The page has what the promise of an acceptance rests on, then that of an agreement, and then that of
-residuals: the file of each promise and all that it cites, however far, in reading order, with the comment that it begins
-with and those of its records. The other definitions are read where they stand.
+The page has what the promise of an acceptance rests on, then that of an agreement, and then those of
+differences, of residuals and of a report: the file of each promise and all that it cites, however far, in
+reading order, with the comment that it begins with and those of its records. The other definitions are
+read where they stand.
 """
 
 import re
@@ -19,7 +20,9 @@ CONTRACT = [
     ("station_check", "Promise"),
 ]
 AGREEMENT = ("station_compare", "Agreeing")
+DIFFERENCES = ("station_differences", "Stating")
 RESIDUALS = ("station_residuals", "Stating")
+REPORT = ("station_report", "Stating")
 
 USE = re.compile(r"^use Rattle\.(\w+)\.specs\.(\w+)(?:\.|$| as)", re.MULTILINE)
 DEFINITION = re.compile(r"^(?:abbrev|unfoldable) pub ([^\s:]+)|^pub (?:record|data) ([^\s:]+)")
@@ -202,20 +205,26 @@ def in_words(specs: list[Spec]) -> Iterator[str]:
 OTHERS = """\
 ## The other definitions
 
-What refusals, lists and texts are, and how the code keeps things: no acceptance, agreement or residual rests on any of it. Each crate has its definitions in `specs/`; `specs/Lib.antt` lists the files in the order in which a reader needs them, the public ones first.
+What refusals, lists and texts are, and how the code keeps things: no acceptance, agreement, difference, residual or report rests on any of it. Each crate has its definitions in `specs/`; `specs/Lib.antt` lists the files in the order in which a reader needs them, the public ones first.
 """
 
 
 def page() -> str:
     contract = [Spec(*pair) for pair in CONTRACT]
-    accepted, agreement, residuals = (closure(Spec(*root)) for root in (ACCEPTANCE, AGREEMENT, RESIDUALS))
+    roots = ACCEPTANCE, AGREEMENT, DIFFERENCES, RESIDUALS, REPORT
+    accepted, agreement, differences, residuals, report = (closure(Spec(*root)) for root in roots)
     known = [*accepted, *contract]
+    compared = [*known, *agreement]
     believed = [
         *belief(accepted),
         *belief_of_contract(contract),
         *belief_beside("an agreement", "That a table of directions agrees", agreement, known),
         HOW_NEAR,
-        *belief_beside("residuals", "What `residuals` prints", residuals, [*known, *agreement]),
+        *belief_beside("differences", "What `differences` prints", differences, compared),
+        *belief_beside("residuals", "What `residuals` prints", residuals, [*compared, *differences]),
+        *belief_beside(
+            "a report", "What `report` prints", report, [*compared, *differences, *residuals]
+        ),
     ]
     return "\n".join([INTRODUCTION, *believed, EVERY_READER, OTHERS])
 

@@ -21,7 +21,18 @@ from program import (
     answer_of,
     answer_to,
 )
-from worked import ACCEPTED, AGREES, LIST, RESIDUALS, SHEET, STATION, TABLE, refused
+from worked import (
+    ACCEPTED,
+    AGREES,
+    DIFFERENCES,
+    LIST,
+    REPORT,
+    RESIDUALS,
+    SHEET,
+    STATION,
+    TABLE,
+    refused,
+)
 
 sys.path.insert(0, str(ROOT / "tools"))
 import manuals  # noqa: E402
@@ -30,9 +41,11 @@ import manuals  # noqa: E402
 COMMANDS = {
     "check": ["check", "{gsi}", str(EXAMPLE_SHEET)],
     "compare": ["compare", "{gsi}", "S1", str(EXAMPLE_TABLE)],
+    "differences": ["differences", "{gsi}", "S1", str(EXAMPLE_TABLE)],
     "means": ["means", "{gsi}", "S1"],
     "directions": ["directions", "{gsi}", "S1"],
     "residuals": ["residuals", "{gsi}", "S1"],
+    "report": ["report", "{gsi}", "S1"],
     "list": ["list", "{gsi}"],
     "words": ["words", "{gsi}"],
 }
@@ -40,15 +53,25 @@ COMMANDS = {
 OF_EXAMPLE = {
     "check": ACCEPTED,
     "compare": AGREES,
+    "differences": DIFFERENCES,
     "means": SHEET,
     "directions": TABLE,
     "residuals": RESIDUALS,
+    "report": REPORT,
     "list": LIST,
     "words": model.words(STATION)[1],
 }
 
-# The commands that have limits of 2c and 2i.
-LIMITED = ["check", "compare", "means", "directions", "residuals", "list"]
+
+
+def printed(command, path):
+    """What a command prints of the example, which stands at this path: the report names it."""
+    text = OF_EXAMPLE[command]
+    return text % os.fsencode(path) if command == "report" else text
+
+
+# The commands that have limits of 2c and 2i. The report tells them in its head.
+LIMITED = ["check", "compare", "differences", "means", "directions", "residuals", "report", "list"]
 
 NO_MEMORY = (1, b"", b"refused: out of memory\n")
 
@@ -57,12 +80,9 @@ NOT_LOADED = 127
 
 MORE = b"\nFor more information, try '--help'.\n"
 
-# What stands after a limit that is no whole number, or out of its range.
-LIMITS_ARE_WHOLE = b"""
-Limits are whole numbers: of 2c and 2i in units of 0.01 mgon, of residuals in half units of
-0.005 mgon, of --within in units of 0.001 mgon. So 0.3 mgon is --two-c 30, --two-i 30,
---residual 60 and --within 300.
-"""
+# What is said of a limit that is no whole number of its unit, or out of its range.
+FACE_LIMITS = b"state mgon, as 0.3mgon: from 0mgon to 10000mgon, by 0.01;\nor units of 0.01 mgon: from 0 to 1000000\n"
+RESIDUAL_LIMITS = b"state mgon, as 0.3mgon: from 0mgon to 10mgon, by 0.005;\nor half units of 0.005 mgon: from 0 to 2000\n"
 
 # What 2c and 2i are, in the help of each command that has their limits.
 FACE_DIFFERENCES = [
@@ -103,9 +123,10 @@ class CommandLineTest(ProgramTest):
             self.assertEqual(expected, answer_of(args, *given))
 
     def test_each_command_answers_of_the_example(self):
-        for command, stdout in OF_EXAMPLE.items():
-            self.assert_answer((0, stdout, b""), of_file(command, EXAMPLE))
-            self.assert_answer((0, stdout, b""), of_file(command, "/dev/stdin"), STATION)
+        for command in OF_EXAMPLE:
+            for path, *given in [[EXAMPLE], ["/dev/stdin", STATION]]:
+                expected = 0, printed(command, path), b""
+                self.assert_answer(expected, of_file(command, path), *given)
 
     def test_a_file_that_cannot_be_opened_is_named(self):
         missing, unsound = self.folder / "missing", self.folder / "unsound.gsi"
@@ -115,7 +136,8 @@ class CommandLineTest(ProgramTest):
                 self.assert_answer(cannot_open(path), of_file(command, path))
         for gsi in [EXAMPLE, unsound, self.folder]:
             self.assert_answer(cannot_open(missing), ["check", str(gsi), str(missing)])
-            self.assert_answer(cannot_open(missing), ["compare", str(gsi), "S9", str(missing)])
+            for command in ["compare", "differences"]:
+                self.assert_answer(cannot_open(missing), [command, str(gsi), "S9", str(missing)])
         other = self.folder / "other"
         self.assert_answer(cannot_open(missing), ["check", str(missing), str(other)])
         self.assert_answer(cannot_open(missing), ["compare", str(missing), "S1", str(other)])
@@ -144,17 +166,19 @@ class CommandLineTest(ProgramTest):
     def test_a_named_pipe_is_a_file(self):
         pipe = self.folder / "pipe"
         os.mkfifo(pipe)
-        for command, stdout in OF_EXAMPLE.items():
+        for command in OF_EXAMPLE:
             run = answer_in_shell(f"cat '{EXAMPLE}' > '{pipe}' & \"$@\"", *of_file(command, pipe))
-            self.assertEqual((0, stdout, b""), run, command)
+            self.assertEqual((0, printed(command, pipe), b""), run, command)
 
     def test_an_empty_file_has_no_station(self):
         for command, expected in [
             ("check", (1, b"", refused("no station"))),
             ("compare", (1, b"", refused("no station"))),
+            ("differences", (1, b"", refused("no station"))),
             ("means", (1, b"", refused("no station"))),
             ("directions", (1, b"", refused("no station"))),
             ("residuals", (1, b"", refused("no station"))),
+            ("report", (1, b"", refused("no station"))),
             ("list", (0, b"", b"")),
             ("words", (0, b"", b"")),
         ]:
@@ -165,7 +189,7 @@ class CommandLineTest(ProgramTest):
         self.assert_answer(missing, ["compare", EXAMPLE, "S1", "/dev/null"])
 
     def test_limits_are_those_of_the_command_line(self):
-        for command in LIMITED:
+        for command in [command for command in LIMITED if command != "report"]:
             args, stdout = of_file(command, EXAMPLE), OF_EXAMPLE[command]
             for options, fault in [
                 (["--two-c", "10", "--two-i", "2"], None),
@@ -175,6 +199,9 @@ class CommandLineTest(ProgramTest):
                 (["--two-c", "1000000", "--two-i", "1000000"], None),
                 (["--two-c", "+0010"], None),
                 (["--two-c", "0"], "block 5: TwoC"),
+                (["--two-c", "0.1mgon", "--two-i", ".02mgon"], None),
+                (["--two-c", "0.09mgon"], "block 5: TwoC"),
+                (["--two-i", "0.01mgon"], "block 6: TwoI"),
             ]:
                 expected = (1, b"", refused(fault)) if fault else (0, stdout, b"")
                 self.assert_answer(expected, [*args, *options])
@@ -189,15 +216,20 @@ class CommandLineTest(ProgramTest):
             (["check", "a"], missing + b"  <SHEET>\n"),
             (["directions", "a"], missing + b"  <STATION>\n"),
             (["residuals", "a"], missing + b"  <STATION>\n"),
+            (["report", "a"], missing + b"  <STATION>\n"),
             (["compare", "a"], missing + b"  <STATION>\n  <TABLE>\n"),
             (["compare", "a", "b"], missing + b"  <TABLE>\n"),
+            (["differences", "a"], missing + b"  <STATION>\n  <TABLE>\n"),
+            (["differences", "a", "b"], missing + b"  <TABLE>\n"),
             (["nonsense"], b"error: unrecognized subcommand 'nonsense'\n"),
             (["--nonsense"], b"error: unexpected argument '--nonsense' found\n"),
             (["words", "a", "b"], b"error: unexpected argument 'b' found\n"),
             (["check", "a", "b", "c"], b"error: unexpected argument 'c' found\n"),
             (["directions", "a", "b", "c"], b"error: unexpected argument 'c' found\n"),
             (["residuals", "a", "b", "c"], b"error: unexpected argument 'c' found\n"),
+            (["report", "a", "b", "c"], b"error: unexpected argument 'c' found\n"),
             (["compare", "a", "b", "c", "d"], b"error: unexpected argument 'd' found\n"),
+            (["differences", "a", "b", "c", "d"], b"error: unexpected argument 'd' found\n"),
             (["words", "--two-c", "1", "a"], b"error: unexpected argument '--two-c' found\n"),
             (["list", "--residual", "1", "a"], b"error: unexpected argument '--residual' found\n"),
             *(
@@ -206,41 +238,45 @@ class CommandLineTest(ProgramTest):
                     ["means", "--residual"],
                     ["compare", "--residual"],
                     ["compare", "--decimals"],
+                    ["differences", "--within"],
+                    ["differences", "--sha256"],
                     ["directions", "--within"],
                     ["residuals", "--decimals"],
+                    ["report", "--sha256"],
                     ["check", "--within"],
                 ]
             ),
             (["list", "--two-c", "-5", "a"], b"error: unexpected argument '-5' found\n"),
             (
                 ["list", "a", "--two-c"],
-                b"error: a value is required for '--two-c <N>' but none was supplied\n",
+                b"error: a value is required for '--two-c <LIMIT>' but none was supplied\n",
+            ),
+            *(
+                (
+                    ["check", "--residual", text, "a", "b"],
+                    f"error: invalid value '{text}' for '--residual <LIMIT>': ".encode() + RESIDUAL_LIMITS,
+                )
+                for text in ["2001", "0.3", "10.005mgon", "0.303mgon"]
             ),
             (
-                ["check", "--residual", "2001", "a", "b"],
-                b"error: invalid value '2001' for '--residual <N>': 2001 is not in 0..=2000\n",
-            ),
-            (
-                ["check", "--residual", "0.3", "a", "b"],
-                b"error: invalid value '0.3' for '--residual <N>': ",
+                ["directions", "--decimals", "9", "a", "b"],
+                b"error: invalid value '9' for '--decimals <K>': 9 is not in 1..=8\n",
             ),
         ]
         for command in LIMITED:
             for option in ["two-c", "two-i"]:
                 args = [*of_file(command, "a"), f"--{option}"]
-                for value in ["1000001", "4294967296", "1e3", "2.5", " 1", "9" * 40]:
-                    invalid = f"error: invalid value '{value}' for '--{option} <N>'"
-                    mistakes.append(([*args, value], invalid.encode()))
-                twice = f"error: the argument '--{option} <N>' cannot be used multiple times\n"
+                for value in ["1000001", "4294967296", "1e3", "2.5", " 1", "9" * 40, "0.305mgon"]:
+                    invalid = f"error: invalid value '{value}' for '--{option} <LIMIT>': "
+                    mistakes.append(([*args, value], invalid.encode() + FACE_LIMITS))
+                twice = f"error: the argument '--{option} <LIMIT>' cannot be used multiple times\n"
                 mistakes.append(([*args, "1", f"--{option}", "1"], twice.encode()))
         for args, message in mistakes:
             with self.subTest(args=args):
                 status, stdout, stderr = answer_of(args)
                 self.assertEqual((2, b""), (status, stdout))
                 self.assertTrue(stderr.startswith(message), stderr)
-                of_limit = message.startswith(b"error: invalid value")
-                end = MORE + LIMITS_ARE_WHOLE if of_limit else MORE
-                self.assertTrue(stderr.endswith(end), stderr)
+                self.assertTrue(stderr.endswith(MORE), stderr)
 
     def test_an_argument_that_is_no_text_is_a_mistake(self):
         for args in [
@@ -248,8 +284,10 @@ class CommandLineTest(ProgramTest):
             [b"check", EXAMPLE, b"\xff.csv"],
             [b"means", EXAMPLE, b"S\xff"],
             [b"compare", EXAMPLE, b"S1", b"\xff.csv"],
+            [b"differences", EXAMPLE, b"S1", b"\xff.csv"],
             [b"directions", EXAMPLE, b"S\xff"],
             [b"residuals", EXAMPLE, b"S\xff"],
+            [b"report", EXAMPLE, b"S\xff"],
             [b"list", EXAMPLE, b"--two-c", b"\xff"],
             [b"\xff"],
         ]:
@@ -264,14 +302,17 @@ class CommandLineTest(ProgramTest):
             (["--help"], [b"Exit status:", b"0.00001 gon", b"/dev/stdin"]),
             (["-h"], [b"Usage: "]),
             (["help"], [b"Usage: "]),
-            (["check", "--help"], [b"--residual <N>", b"half units", b"[default: none]"]),
+            (["check", "--help"], [b"--residual <LIMIT>", b"0.3mgon", b"half units", b"[default: none]"]),
             (["check", "--help"], [b"With --residual", b"no other full turns give a\nsmaller sum"]),
-            (["means", "--help"], [b"<STATION>", b"--two-c <N>", b"[default: 2000]"]),
+            (["means", "--help"], [b"<STATION>", b"--two-c <LIMIT>", b"[default: 20mgon]"]),
             (["means", "--help"], [b"where no residual\nlimit is stated"]),
-            (["list", "--help"], [b"0.01 mgon", b"--two-i <N>", b"[default: 2000]"]),
-            (["compare", "--help"], [b"--within <N>", b"0.001 mgon", b"stated it is 10;", b"<TABLE>"]),
+            (["list", "--help"], [b"--csv", b"station,set,target,direction,2c,2i", b"in mgon with 2"]),
+            (["list", "--help"], [b"0.01 mgon", b"--two-i <LIMIT>", b"[default: 20mgon]"]),
+            (["compare", "--help"], [b"--within <LIMIT>", b"0.001 mgon", b"it is 0.01mgon;", b"<TABLE>"]),
             (["directions", "--help"], [b"--decimals <K>", b"[default: 6]", b"<STATION>"]),
-            (["residuals", "--help"], [b"<STATION>", b"--two-c <N>", b"in mgon with 3"]),
+            (["differences", "--help"], [b"<TABLE>", b"--two-c <LIMIT>", b"in mgon with 3"]),
+            (["residuals", "--help"], [b"<STATION>", b"--two-c <LIMIT>", b"in mgon with 3"]),
+            (["report", "--help"], [b"<STATION>", b"--two-c <LIMIT>", b"degrees of freedom"]),
             *(([command, "--help"], FACE_DIFFERENCES) for command in LIMITED),
             (["words", "--help"], [b"GSI-8, GSI-16 or both"]),
             (["help", "words"], [b"GSI-8, GSI-16 or both"]),

@@ -19,8 +19,9 @@ ZSH = SHARE / "zsh" / "site-functions"
 FISH = SHARE / "fish" / "vendor_completions.d" / "station_check.fish"
 
 COMMANDS = [
-    *["compare", "directions", "residuals", "check", "means", "mark", "list", "words", "explain"],
-    "help",
+    *["compare", "differences", "directions", "residuals", "report", "check", "means", "mark"],
+    *["list", "words"],
+    *["explain", "help"],
 ]
 
 FACE_LIMITS = ["--two-c", "--two-i"]
@@ -87,7 +88,8 @@ class CompletionsTest(ProgramTest):
             self.assertEqual([*FACE_LIMITS, option, *FLAGS[command], "--help"], self.of_bash(command, "-"))
             self.assertEqual([""], self.of_bash(command, option, ""))
         self.assertEqual(FACE_LIMITS, self.of_bash("check", "field.gsi", "--two"))
-        for command in ["residuals", "means", "list"]:
+        self.assertEqual([*FACE_LIMITS, "--csv", "--help"], self.of_bash("list", "-"))
+        for command in ["differences", "residuals", "report", "means"]:
             self.assertEqual([*FACE_LIMITS, "--help"], self.of_bash(command, "-"))
         self.assertEqual(["--station", "--help"], self.of_bash("mark", "-"))
         for command in ["words", "explain", "help"]:
@@ -101,9 +103,10 @@ class CompletionsTest(ProgramTest):
         self.assertEqual(["sheet.csv"], self.of_bash("check", "--two-c", "1", "field.gsi", "s"))
         self.assertEqual(["sheet.csv"], self.of_bash("check", "--two-c", "=", "1", "field.gsi", "s"))
         self.assertEqual(["sheet.csv"], self.of_bash("check", "--sha256", "field.gsi", "s"))
-        self.assertEqual(["sheet.csv"], self.of_bash("compare", "field.gsi", "S1", "s"))
-        named = ["means a", "directions a", "residuals a", "compare a"]
-        for words in ["check a b", *named, "compare a b c", "list a"]:
+        for command in ["compare", "differences"]:
+            self.assertEqual(["sheet.csv"], self.of_bash(command, "field.gsi", "S1", "s"))
+        named = ["means a", "directions a", "residuals a", "report a", "compare a", "differences a"]
+        for words in ["check a b", *named, "compare a b c", "differences a b c", "list a"]:
             self.assertEqual([""], self.of_bash(*words.split(), ""))
 
     def test_bash_completes_faults(self):

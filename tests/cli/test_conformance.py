@@ -5,6 +5,7 @@ import subprocess
 import sys
 import unittest
 from argparse import ArgumentParser
+from functools import partial
 
 import model
 from kinds import OF_COUNTS, OF_READS, REFUSALS, kind_of
@@ -27,19 +28,23 @@ NOTHING = ""
 
 def command_line():
     parser = ArgumentParser()
-    parser.add_argument("--two-c", type=int, default=model.USUAL_LIMIT)
-    parser.add_argument("--two-i", type=int, default=model.USUAL_LIMIT)
-    parser.add_argument("--residual", type=int)
+    of_faces = partial(model.limit, unit=model.FACE_UNIT, largest=model.LARGEST_LIMIT)
+    parser.add_argument("--two-c", type=of_faces, default=model.USUAL_LIMIT)
+    parser.add_argument("--two-i", type=of_faces, default=model.USUAL_LIMIT)
+    of_residuals = partial(model.limit, unit=model.RESIDUAL_UNIT, largest=model.LARGEST_RESIDUAL)
+    parser.add_argument("--residual", type=of_residuals)
     parser.add_argument("--decimals", type=int, default=model.USUAL_DECIMALS)
-    parser.add_argument("--within", type=int)
+    of_tables = partial(model.limit, unit=model.TABLE_UNIT, largest=model.LARGEST_WITHIN)
+    parser.add_argument("--within", type=of_tables)
     parser.add_argument("--station", type=str.encode)
+    parser.add_argument("--csv", action="store_true")
     parser.add_argument("command", nargs="?")
     parser.add_argument("operands", nargs="*")
     return parser
 
 
 # Of each command, which of its operands are files.
-FILES = {"check": [0, 1], "compare": [0, 2]}
+FILES = {"check": [0, 1], "compare": [0, 2], "differences": [0, 2]}
 
 
 def model_answer(case):
@@ -47,7 +52,7 @@ def model_answer(case):
     asked = command_line().parse_intermixed_args(case.args)
     limits = model.Limits(asked.two_c, asked.two_i)
     paths = [
-        run.FOLDER / case.name / name
+        case.folder / name
         for place, name in enumerate(asked.operands)
         if place in FILES.get(asked.command, [0])
     ]
@@ -60,6 +65,8 @@ def model_answer(case):
         return model.words(case.stdin)
     if asked.command == "words":
         return model.words(files[0], fails[0])
+    if asked.csv:
+        return model.listed_rows(files[0], limits, fails[0])
     if asked.command == "list":
         return model.listed(files[0], limits, fails[0])
     if asked.command == "check":
@@ -73,6 +80,10 @@ def model_answer(case):
         return model.directions(files[0], station, limits, asked.decimals, fails[0])
     if asked.command == "residuals":
         return model.residuals(files[0], station, limits, fails[0])
+    if asked.command == "differences":
+        return model.differences(files[0], station, files[1], limits, fails)
+    if asked.command == "report":
+        return model.reported(files[0], asked.operands[0].encode(), station, limits, fails[0])
     return model.compared(files[0], station, files[1], limits, asked.within, fails)
 
 
@@ -95,6 +106,14 @@ class ConformanceTest(unittest.TestCase):
     def test_each_refusal_has_a_case(self):
         met = {kind_of(case.expected) for case in run.cases() if case.expected[0] == 1}
         self.assertEqual({*REFUSALS, *OF_COUNTS, *OF_READS}, met)
+
+    def test_each_case_lies_where_its_answer_belongs(self):
+        statuses = {"answered": 0, "refused": 1, "mistaken": 2}
+        for case in run.cases():
+            with self.subTest(case.name):
+                kind = case.folder.relative_to(run.FOLDER).parts[0]
+                self.assertEqual(statuses[kind], case.expected[0])
+        self.assertEqual(len(list(run.FOLDER.rglob("args"))), len(run.cases()))
 
     def test_what_is_named_a_fault_is_refused(self):
         for case in run.cases():

@@ -76,8 +76,9 @@ class CutsTest(AgainstModel):
 
     def test_every_first_part_of_the_example(self):
         steps = [("words", 3), ("list", 3), ("means", 3), ("check", 3), ("directions", 5)]
-        for command, step in [*steps, ("residuals", 5)]:
+        for command, step in [*steps, ("residuals", 5), ("report", 5), ("list --csv", 5)]:
             self.compare(sample(cuts(command, b"", FIELD, sheet=SHEET), step))
+        self.compare(sample(cuts("differences", b"", FIELD, sheet=TABLE), 5))
 
     def test_every_first_part_of_a_job(self):
         self.compare(sample(cuts("mark", b"", JOB), 3))
@@ -92,17 +93,21 @@ class CutsTest(AgainstModel):
 
     def test_every_first_part_of_the_table(self):
         lengths = range(len(TABLE) + 1)
-        self.compare(Case(f"{left} bytes", "compare", FIELD, TABLE[:left]) for left in lengths)
+        for command in ["compare", "differences"]:
+            self.compare(Case(f"{left} bytes", command, FIELD, TABLE[:left]) for left in lengths)
 
     def test_every_byte_of_the_table_replaced(self):
         tables = sample(replaced(TABLE), 3)
-        self.compare(Case(name, "compare", FIELD, table) for name, table in tables)
+        for command in ["compare", "differences"]:
+            self.compare(Case(name, command, FIELD, table) for name, table in tables)
 
     def test_every_byte_of_the_example_replaced(self):
         steps = [("list", 5), ("check", 23), ("words", 29), ("means", 31), ("directions", 37)]
-        for command, step in [*steps, ("residuals", 41)]:
+        for command, step in [*steps, ("residuals", 41), ("report", 43), ("list --csv", 47)]:
             fields = sample(replaced(FIELD), step)
             self.compare(Case(f"{command}, {name}", command, *pair) for name, *pair in fields)
+        fields = sample(replaced(FIELD), 43)
+        self.compare(Case(f"differences, {name}", "differences", field, TABLE) for name, field in fields)
 
     def test_every_byte_of_the_sheet_replaced(self):
         sheets = sample(replaced(SHEET), 5)

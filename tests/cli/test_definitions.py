@@ -13,7 +13,8 @@ import definitions
 
 def promised():
     """The files that the promises rest on."""
-    firsts = [definitions.ACCEPTANCE, definitions.AGREEMENT, definitions.RESIDUALS]
+    beside = [definitions.DIFFERENCES, definitions.RESIDUALS, definitions.REPORT]
+    firsts = [definitions.ACCEPTANCE, definitions.AGREEMENT, *beside]
     closures = [definitions.closure(definitions.Spec(*first)) for first in firsts]
     return dict.fromkeys(spec for closure in closures for spec in closure)
 

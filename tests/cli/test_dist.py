@@ -6,6 +6,7 @@ import os
 import re
 import shutil
 import subprocess
+import sys
 import tarfile
 import tempfile
 import unittest
@@ -14,13 +15,11 @@ from pathlib import Path
 from pages import page_steps, printed_by
 from program import PROGRAM, ROOT, ProgramTest, answer_of
 from test_install import INSTALLED, TOOLS
+from test_library import LIBRARY
 
 EXAMPLES = "share/doc/station_check/examples"
 
 TIME = 120
-
-# The page's library, and those that no command uses yet.
-NOT_OF_THE_PROGRAM = {"station_page"}
 
 
 def output_of(*command, **more):
@@ -33,9 +32,17 @@ def libraries():
     return re.findall(r"(/\S+) \(0x", output_of("ldd", PROGRAM))
 
 
-def dist(folder, page):
-    """What is made, by names, in a folder, with a page beside it where there is one."""
-    names = [f"PROGRAM={PROGRAM}", f"DIST={folder}", f"PAGE={page}"]
+def crates_of(name):
+    """The crates of the repository that one of them stands on, however far."""
+    lines = re.findall(r"^(\w+)[^:\n]*:(.*)$", (ROOT / "crates.txt").read_text(), re.MULTILINE)
+    named = {crate: libraries.split() for crate, libraries in lines}
+    below = {crate for crate in named[name] if crate in named}
+    return below.union(*map(crates_of, below))
+
+
+def dist(folder, page="no page", library="no library"):
+    """What is made, by names, in a folder, with a page beside it and a library in it where there are such."""
+    names = [f"PROGRAM={PROGRAM}", f"DIST={folder}", f"PAGE={page}", f"LIBRARY={library}"]
     output_of("make", "-s", "-o", PROGRAM, *names, "dist", cwd=ROOT)
     output_of("sha256sum", "--check", "SHA256SUMS", cwd=folder)
     return {path.name: path for path in folder.iterdir()}
@@ -48,7 +55,7 @@ class DistTest(ProgramTest):
         folder = tempfile.TemporaryDirectory()
         cls.addClassCleanup(folder.cleanup)
         top = Path(folder.name)
-        cls.made = dist(top / "made", top / "no page")
+        cls.made = dist(top / "made")
         version = answer_of(["--version"])[1].decode().split()[1]
         cls.name = f"station_check-{version}-linux-x86_64"
 
@@ -90,7 +97,7 @@ class DistTest(ProgramTest):
         self.check_in_root(root, f"/{self.name}/bin/station_check", f"/{self.name}/{EXAMPLES}")
 
     def test_the_same_files_give_the_same_archive(self):
-        second = dist(self.folder / "second", self.folder / "no page")
+        second = dist(self.folder / "second")
         self.assertEqual(sorted(self.made), sorted(second))
         for name, path in self.made.items():
             self.assertEqual(path.read_bytes(), second[name].read_bytes(), name)
@@ -103,18 +110,42 @@ class DistTest(ProgramTest):
         self.assertEqual("the page", made[name].read_text())
         self.assertIn(name, made["SHA256SUMS"].read_text())
 
+    @unittest.skipUnless(LIBRARY.exists(), "the library is not made: make library")
+    def test_a_library_that_was_made_lies_in_the_archive_and_in_the_package(self):
+        made, place = dist(self.folder / "with", library=LIBRARY), self.folder / self.name
+        with tarfile.open(made[f"{self.name}.tar.gz"]) as archive:
+            archive.extractall(self.folder)
+        self.check_module(place / "share/station_check", {})
+        self.assertEqual("libstation_check.so.1", os.readlink(place / "lib/libstation_check.so"))
+        self.assertTrue((place / "include/station_check.h").exists())
+        self.assertRegex((place / "share/doc/station_check/PROVED").read_text(), r"\nSHA-256 of the library.*: [0-9a-f]{64}\n")
+        packages = [path for name, path in made.items() if name.endswith(".deb")]
+        for package in packages:
+            root = self.folder / "deb"
+            output_of("dpkg-deb", "--raw-extract", package, root)
+            self.check_module(root / "usr/lib/python3/dist-packages", {"LD_LIBRARY_PATH": str(root / "usr/lib")})
+            self.assertEqual("activate-noawait ldconfig\n", (root / "DEBIAN/triggers").read_text())
+            if shutil.which("lintian"):
+                self.check_by_lintian(package)
+
+    def check_module(self, folder, more):
+        """The module for Python answers, where it lies, and where nothing says where its library is."""
+        text = "import station_check; print(station_check.__file__, station_check.digest(b'', ''))"
+        environment = {"PATH": os.environ["PATH"], "PYTHONPATH": str(folder), **more}
+        said = output_of(sys.executable, "-c", text, env=environment)
+        self.assertEqual(f"{folder / 'station_check.py'} {hashlib.sha256(b'').hexdigest()}  \n", said)
+
     def test_the_note_says_what_the_program_was_proved_with(self):
         with self.archive() as archive:
             note = archive.extractfile(f"{self.name}/share/doc/station_check/PROVED").read()
             program = archive.extractfile(f"{self.name}/bin/station_check").read()
-        crates = re.findall(r"^(\w+):", (ROOT / "crates.txt").read_text(), re.MULTILINE)
-        crates = {name for name in crates if not name.endswith("_tests")} - NOT_OF_THE_PROGRAM
+        crates = crates_of("station_program")
         for word in ["commit: ", "toolchain: ", "needs: Linux on x86-64"]:
             self.assertIn(f"\n{word}", note.decode())
         # Of each crate its log says something, or it is said that there is none.
         line = r"^(\w+)\n  (?:axioms |logic=|no log of make is here)"
         said = re.findall(line, note.decode(), re.MULTILINE)
-        self.assertEqual(sorted(crates), sorted(said))
+        self.assertEqual(sorted({"station_program", *crates}), sorted(said))
         self.assertIn(hashlib.sha256(program).hexdigest(), note.decode())
 
     def test_the_packed_program_is_the_built_one_without_its_symbols(self):
@@ -148,7 +179,10 @@ class DistTest(ProgramTest):
     def test_lintian_has_no_error_and_no_warning(self):
         if not shutil.which("lintian"):
             self.skipTest("no lintian is found")
-        words = ["lintian", "--allow-root", "--fail-on", "error,warning", self.package()]
+        self.check_by_lintian(self.package())
+
+    def check_by_lintian(self, package):
+        words = ["lintian", "--allow-root", "--fail-on", "error,warning", package]
         done = subprocess.run(words, capture_output=True, text=True, timeout=TIME)
         self.assertEqual((0, ""), (done.returncode, done.stdout))
 

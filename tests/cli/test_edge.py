@@ -23,14 +23,22 @@ TABLE_OFF = edited(TABLE, (b"50.000030", b"50.000060"))
 
 WITHIN_15 = b"agrees S1: 2 targets, within 15\n"
 
+DIFFERENCES_15 = b"""\
+target,stated,least squares,difference
+A,0.000000,0.000000,-0.015
+B,50.000060,50.000030,0.015
+"""
+
 
 class Option(NamedTuple):
-    """An option, with a value that changes nothing and one that is answered so."""
+    """An option, with a value that changes nothing and one that is answered so; and these in mgon,
+    where it states a limit."""
 
     name: str
     kept: str
     changed: str
     answer: tuple
+    in_mgon: tuple = ()
 
 
 def refusal(fault):
@@ -39,13 +47,13 @@ def refusal(fault):
 
 # In the order in which their faults are looked for.
 LIMITS = [
-    Option("--two-c", "10", "9", refusal("block 5: TwoC")),
-    Option("--two-i", "2", "1", refusal("block 6: TwoI")),
+    Option("--two-c", "10", "9", refusal("block 5: TwoC"), (".1mgon", "0.09mgon")),
+    Option("--two-i", "2", "1", refusal("block 6: TwoI"), ("0,02mgon", "0.010mgon")),
 ]
 
-RESIDUAL = Option("--residual", "1", "0", refusal("kernel: Residual 1"))
+RESIDUAL = Option("--residual", "1", "0", refusal("kernel: Residual 1"), ("0.0050mgon", "0.mgon"))
 
-WITHIN = Option("--within", "15", "14", refusal("compare: Apart 15"))
+WITHIN = Option("--within", "15", "14", refusal("compare: Apart 15"), ("0.015mgon", "00.014mgon"))
 
 DECIMALS = Option("--decimals", "6", "4", (0, b"A,0.0000\nB,50.0000\n", b""))
 
@@ -59,6 +67,7 @@ RECORDED = ["check", "compare"]
 COMMANDS = {
     "check": ([str(EXAMPLE), str(EXAMPLE_SHEET)], [*LIMITS, RESIDUAL], ACCEPTED),
     "compare": ([str(EXAMPLE), "S1", "{table}"], [*LIMITS, WITHIN], WITHIN_15),
+    "differences": ([str(EXAMPLE), "S1", "{table}"], LIMITS, DIFFERENCES_15),
     "directions": ([str(EXAMPLE), "S1"], [*LIMITS, DECIMALS], TABLE),
     "residuals": ([str(EXAMPLE), "S1"], LIMITS, RESIDUALS),
     "means": ([str(EXAMPLE), "S1"], LIMITS, SHEET),
@@ -67,6 +76,24 @@ COMMANDS = {
 
 # What a number may be written as.
 SPELLINGS = [str, "+{}".format, "000{}".format]
+
+# What a limit of 0 may be written as, and what is none: each is a text of an option's value. The
+# last two are of 2^32 and 2^64 units.
+NOUGHTS = ["0", "+0", "-0", "-000", "0mgon", ".0mgon", "0.mgon", "0,0mgon", "0.0000mgon", "000000000mgon"]
+NO_LIMITS = [
+    "", "mgon", ".mgon", ",mgon", "1 mgon", " 1mgon", "1mgon ", "-1mgon", "-0mgon", "+1mgon", "1e3", "1e1mgon", "0x1",
+    "2.5", "0.3", "1.0", "-1", "--1", "1gon", "1Mgon", "1MGON", "1mgo", "mgon1", "1mgonmgon", "0.0001mgon", "0.0000001mgon",
+    "0.1.1mgon", "0.1,1mgon", "1_0mgon", "\u0661mgon", "1\u00a0mgon", "0000000000mgon", "1000000000mgon", "9" * 40 + "mgon",
+    "4294967296", "18446744073709551616",
+]  # fmt: skip
+
+# Of each option some texts of no whole number of its unit, its largest limit, and one unit more.
+BOUNDS = {
+    "--two-c": (["0.305mgon", "0.001mgon"], ["1000000", "10000mgon", "10000.00mgon"], ["1000001", "10000.01mgon"]),
+    "--two-i": (["0.305mgon", "0.001mgon"], ["1000000", "10000mgon", "10000.00mgon"], ["1000001", "10000.01mgon"]),
+    "--residual": (["0.303mgon", "0.001mgon"], ["2000", "10mgon", "9.995mgon"], ["2001", "10.005mgon"]),
+    "--within": (["0.3001mgon", "0.0005mgon"], ["1000000", "1000mgon", "0.305mgon"], ["1000001", "1000.001mgon"]),
+}
 
 # The ends of names of files, and whole names.
 ENDINGS = ["", ".gsi", ".GSI", ".csv", ".txt", ".bak", ".gsi.bak", ".gz", "~", ".1", " ", ".tmp"]
@@ -218,6 +245,49 @@ class EdgeTest(ProgramTest):
                         number = spelled(value)
                         lines = [[option.name, number, *words], [*words, f"{option.name}={number}"]]
                         self.assert_answers([([command, *line], expected) for line in lines])
+
+    def test_a_limit_counts_in_mgon_in_each_order_and_form(self):
+        table = self.folder / "table.csv"
+        table.write_bytes(TABLE_OFF)
+        for command, (words, options, stdout) in COMMANDS.items():
+            words = [word.format(table=table) for word in words]
+            stated = [option for option in options if option.in_mgon]
+            for changed in [None, *stated]:
+                expected = changed.answer if changed else (0, stdout, b"")
+                given = [(o.name, o.in_mgon[o is changed]) for o in stated]
+                runs = [([command, *line], expected) for line in orders(words, given)]
+                self.assert_answers(runs if SWEEP else runs[::7])
+
+    def test_a_limit_is_a_whole_number_of_its_unit_up_to_the_largest(self):
+        table = self.folder / "table.csv"
+        table.write_bytes(TABLE_OFF)
+        for command, (words, options, stdout) in COMMANDS.items():
+            words = [word.format(table=table) for word in words]
+            for option in options:
+                if not option.in_mgon:
+                    continue
+                no_unit, most, more = BOUNDS[option.name]
+                near = [] if option == WITHIN else [f"{WITHIN.name}={WITHIN.kept}"] * (WITHIN in options)
+                self.assert_answers([
+                    *[([command, f"{option.name}={n}", *words], option.answer) for n in NOUGHTS],
+                    *[([command, f"{option.name}={n}", *near, *words], (0, stdout, b"")) for n in most],
+                ])  # fmt: skip
+                for text in [*NO_LIMITS, *no_unit, *more]:
+                    with self.subTest(command=command, option=option.name, text=text):
+                        status, out, err = answer_of([command, f"{option.name}={text}", *words])
+                        self.assertEqual((2, b""), (status, out))
+                        begin = f"error: invalid value '{text}' for '{option.name} <LIMIT>': state mgon, as 0.".encode()
+                        self.assertTrue(err.startswith(begin), err)
+
+    def test_of_two_limits_that_are_none_the_first_is_named(self):
+        for line, named in [
+            (["--two-i=x", "--two-c=y"], b"'y' for '--two-c "),
+            (["--residual=x", "--two-i=y"], b"'y' for '--two-i "),
+            (["--residual=x"], b"'x' for '--residual "),
+        ]:
+            status, out, err = answer_of(["check", *line, str(EXAMPLE), str(EXAMPLE_SHEET)])
+            self.assertEqual((2, b""), (status, out))
+            self.assertIn(named, err)
 
     def test_each_number_of_words_is_read_to_its_last(self):
         explained = answer_of(["explain", "TwoC"])

@@ -37,11 +37,14 @@ class EndsTest(ProgramTest):
         self.runs = [
             ["words", self.field],
             ["list", self.field],
+            ["list", "--csv", self.field],
             ["means", self.field, "S1"],
             ["check", self.field, self.sheet],
             ["directions", self.field, "S1"],
             ["residuals", self.field, "S1"],
+            ["report", self.field, "S1"],
             ["compare", self.field, "S1", self.table],
+            ["differences", self.field, "S1", self.table],
             ["mark", "--station=S1", self.file("job.gsi", JOB)],
         ]
 
@@ -77,8 +80,9 @@ class StreamsTest(EndsTest):
         folder = str(self.folder)
         read = [["words", folder], ["list", folder], ["means", folder, "S1"]]
         read += [["mark", folder]]
-        of_two = [["check", self.field, folder], ["compare", self.field, "S1", folder]]
-        named = [[command, self.field, "S2"] for command in ["directions", "residuals"]]
+        of_two = [["check", self.field, folder]]
+        of_two += [[command, self.field, "S1", folder] for command in ["compare", "differences"]]
+        named = [[command, self.field, "S2"] for command in ["directions", "residuals", "report"]]
         for args in [*read, *of_two, *named]:
             for err in ["2> /dev/full", "2>&-"]:
                 with self.subTest(args[0], err=err):
@@ -116,9 +120,13 @@ class FilesTest(EndsTest):
             (["check", folder, folder], "block 1: Read"),
             (["directions", folder, "S1"], "block 1: Read"),
             (["residuals", folder, "S1"], "block 1: Read"),
+            (["report", folder, "S1"], "block 1: Read"),
             (["compare", folder, "S1", self.table], "block 1: Read"),
             (["compare", self.field, "S1", folder], "table: Read"),
             (["compare", self.field, "S2", folder], "no station"),
+            (["differences", folder, "S1", self.table], "block 1: Read"),
+            (["differences", self.field, "S1", folder], "table: Read"),
+            (["differences", self.field, "S2", folder], "no station"),
             (["mark", folder], "block 1: Read"),
             (["mark", "--station=S1", folder], "block 1: Read"),
         ]:
@@ -136,6 +144,8 @@ class FilesTest(EndsTest):
             (["check", missing, self.sheet], missing),
             (["compare", faulty, "S1", missing], missing),
             (["compare", missing, "S1", self.folder / "too"], missing),
+            (["differences", faulty, "S1", missing], missing),
+            (["differences", missing, "S1", self.folder / "too"], missing),
             (["list", missing], missing),
             (["means", missing, "S1"], missing),
             (["list", self.folder / "socket"], self.folder / "socket"),
@@ -160,9 +170,13 @@ class FilesTest(EndsTest):
             (["check", "/dev/zero", "/dev/zero"], refused("block 1: LineTooLong")),
             (["directions", "/dev/null", "S1"], refused("no station")),
             (["residuals", "/dev/null", "S1"], refused("no station")),
+            (["report", "/dev/null", "S1"], refused("no station")),
             (["compare", "/dev/null", "S1", "/dev/zero"], refused("no station")),
             (["compare", self.field, "S1", "/dev/null"], refused("table: Missing 1")),
             (["compare", self.field, "S1", "/dev/zero"], refused("table: TooLong")),
+            (["differences", "/dev/null", "S1", "/dev/zero"], refused("no station")),
+            (["differences", self.field, "S1", "/dev/null"], refused("table: Missing 1")),
+            (["differences", self.field, "S1", "/dev/zero"], refused("table: TooLong")),
         ]:
             with self.subTest(args):
                 self.assertEqual(answer, answer_of(args))
@@ -176,6 +190,7 @@ class FilesTest(EndsTest):
         for args, reason in [
             (["check", self.field, self.field], "sheet row 1: Fields"),
             (["compare", self.field, "S1", self.field], "table row 2: Number"),
+            (["differences", self.field, "S1", self.field], "table row 2: Number"),
         ]:
             self.assertEqual(refused(reason), answer_of(args))
 
@@ -242,8 +257,8 @@ class SignalsTest(EndsTest):
     def test_a_fault_is_refused_while_more_may_come(self):
         """What comes after the first fault is not waited for."""
         refused = b"refused: block 1: SetOutside\n"
-        named = [[command, "S1"] for command in ["means", "directions", "residuals"]]
-        for args in [["list"], *named, ["check", self.sheet]]:
+        named = [[command, "S1"] for command in ["means", "directions", "residuals", "report"]]
+        for args in [["list"], ["list", "--csv"], *named, ["check", self.sheet]]:
             with self.subTest(args):
                 run = self.started(args[0], "/dev/stdin", *args[1:])
                 run.stdin.write(b"410001+00000020 42....+00000001\r\n")

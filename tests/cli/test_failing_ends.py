@@ -15,16 +15,20 @@ from against_model import FIELD, SHEET, TABLE, sample
 from program import PROGRAM, SWEEP, ProgramTest, answer_to, side_by_side
 from worked import JOB
 
-# The words of each command; without words the field file is standard input.
+# The words of each command; without words the field file is standard input. The report has the name
+# of the field file in it, which stands in the folder of the run.
 COMMANDS = {
     "": [],
     "words": ["words", "{field}"],
     "list": ["list", "{field}"],
+    "list --csv": ["list", "--csv", "{field}"],
     "means": ["means", "{field}", "S1"],
     "check": ["check", "{field}", "{sheet}"],
     "directions": ["directions", "{field}", "S1"],
     "residuals": ["residuals", "{field}", "S1"],
+    "report": ["report", "field.gsi", "S1"],
     "compare": ["compare", "{field}", "S1", "{table}"],
+    "differences": ["differences", "{field}", "S1", "{table}"],
 }
 
 # The command whose field file has no codes.
@@ -34,11 +38,14 @@ WHOLE = {
     "": model.words(FIELD),
     "words": model.words(FIELD),
     "list": model.listed(FIELD),
+    "list --csv": model.listed_rows(FIELD),
     "means": model.means(FIELD, b"S1"),
     "check": model.check(FIELD, SHEET),
     "directions": model.directions(FIELD, b"S1"),
     "residuals": model.residuals(FIELD, b"S1"),
+    "report": model.reported(FIELD, b"field.gsi", b"S1"),
     "compare": model.compared(FIELD, b"S1", TABLE),
+    "differences": model.differences(FIELD, b"S1", TABLE),
     "mark": model.marked(JOB, b"S1"),
 }
 
@@ -53,11 +60,14 @@ def expected_of_field(command, room, field=FIELD, fails=True):
         "": lambda: model.words(given, fails=fails),
         "words": lambda: model.words(given, fails=fails),
         "list": lambda: model.listed(given, fails=fails),
+        "list --csv": lambda: model.listed_rows(given, fails=fails),
         "means": lambda: model.means(given, b"S1", fails=fails),
         "check": lambda: model.check(given, SHEET, fails=(fails, False)),
         "directions": lambda: model.directions(given, b"S1", fails=fails),
         "residuals": lambda: model.residuals(given, b"S1", fails=fails),
+        "report": lambda: model.reported(given, b"field.gsi", b"S1", fails=fails),
         "compare": lambda: model.compared(given, b"S1", TABLE, fails=(fails, False)),
+        "differences": lambda: model.differences(given, b"S1", TABLE, fails=(fails, False)),
     }[command]()
 
 
@@ -96,7 +106,7 @@ class FailingEndsTest(ProgramTest):
         env = {name: str(value) for name, value in limits.items()}
         with open(self.field, "rb") as field:
             env["LD_PRELOAD"] = str(self.library)
-            return answer_to([PROGRAM, *args], stdin=field, env=env)
+            return answer_to([PROGRAM, *args], stdin=field, env=env, cwd=self.folder)
 
     def failing_field(self, room, **more):
         return {"READ_PATH": self.field, "READ_ROOM": room, **more}
@@ -146,7 +156,8 @@ class FailingEndsTest(ProgramTest):
     def test_a_table_that_fails_after_each_byte(self):
         refused = (1, b"", b"refused: table: Read\n")
         self.check_all(
-            ("compare", {"READ_PATH": self.table, "READ_ROOM": room}, refused)
+            (command, {"READ_PATH": self.table, "READ_ROOM": room}, refused)
+            for command in ["compare", "differences"]
             for room in range(len(TABLE) + 1)
         )
 
@@ -158,8 +169,9 @@ class FailingEndsTest(ProgramTest):
         ]:
             with self.subTest(expected):
                 self.field.write_bytes(field)
-                compare = self.answer("compare", READ_PATH=self.table, READ_ROOM=0)
-                self.assertEqual((1, b"", expected), compare)
+                for command in ["compare", "differences"]:
+                    answer = self.answer(command, READ_PATH=self.table, READ_ROOM=0)
+                    self.assertEqual((1, b"", expected), answer)
 
     def test_a_sheet_that_fails_is_looked_at_after_the_field_file(self):
         for field, expected in [
@@ -221,8 +233,9 @@ class FailingEndsTest(ProgramTest):
         """Two runs over a table of directions of which one read fails, or one ends."""
         limits = {"READ_PATH": self.table, "READ_ROOM": room, "READ_MOST": most, "READ_STOPS": 1}
         for error in [errno.EIO, 0]:
-            expected = model.compared(FIELD, b"S1", table[:room], fails=(False, error != 0))
-            yield "compare", {"READ_ERROR": error, **limits}, expected
+            for command, answer in [("compare", model.compared), ("differences", model.differences)]:
+                expected = answer(FIELD, b"S1", table[:room], fails=(False, error != 0))
+                yield command, {"READ_ERROR": error, **limits}, expected
 
     def test_a_sheet_of_which_one_read_fails_or_ends(self):
         runs = (
@@ -306,6 +319,8 @@ class FailingEndsTest(ProgramTest):
             ("check", self.sheet, model.LONGEST_SHEET, b"refused: sheet: Read\n"),
             ("compare", self.table, model.LONGEST_TABLE + 1, b"refused: table: TooLong\n"),
             ("compare", self.table, model.LONGEST_TABLE, b"refused: table: Read\n"),
+            ("differences", self.table, model.LONGEST_TABLE + 1, b"refused: table: TooLong\n"),
+            ("differences", self.table, model.LONGEST_TABLE, b"refused: table: Read\n"),
         ]:
             with self.subTest(expected):
                 path.write_bytes(b" " * (model.LONGEST_SHEET + 2))

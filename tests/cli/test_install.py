@@ -6,7 +6,9 @@ import shutil
 import subprocess
 import sys
 import unittest
+from pathlib import Path
 
+import worked
 from program import PROGRAM, ROOT, ProgramTest, answer_of, answer_to
 
 sys.path.insert(0, str(ROOT / "tools"))
@@ -17,7 +19,7 @@ MAN_PAGES = "share/man/man1"
 DOCUMENT_FOLDER = "share/doc/station_check"
 
 DOCUMENTS = [
-    *["README.md", "CHANGELOG.md"],
+    *["README.md", "CHANGELOG.md", "capi/example.c"],
     *[f"docs/{path.name}" for kind in ("md", "png") for path in (ROOT / "docs").glob(f"*.{kind}")],
     *[f"examples/{path.name}" for path in (ROOT / "examples").glob("*.*")],
 ]
@@ -45,6 +47,13 @@ SOURCES |= {f"bin/{name}": f"examples/{script}" for script, name in TOOLS.items(
 
 INSTALLED = ["bin/station_check", *SOURCES]
 
+# What is installed beside it where the library was made: from where, and the link to it.
+LIBRARY_SOURCES = {
+    "include/station_check.h": "capi/station_check.h",
+    "share/station_check/station_check.py": "capi/station_check.py",
+}
+LIBRARY_NAME, LIBRARY_LINK = "lib/libstation_check.so.1", "lib/libstation_check.so"
+
 # A link to a file of the sources, which are not installed.
 TO_SOURCES = re.compile(r"\[([^][]*)\]\((?:\.\./)*(?:(?:crates|conformance|page|tests)/[^)]*|HANDLES)\)")
 LINK = re.compile(r"\]\(([^)#:]+)(?:#[^)]*)?\)")
@@ -53,9 +62,10 @@ OPTIONS = re.compile(r"--[a-z-]+")
 
 
 class InstallTest(ProgramTest):
-    def make(self, target, *settings):
-        """Runs make for the built program, and doesn't build it anew."""
-        command = ["make", "-s", "-o", PROGRAM, f"PROGRAM={PROGRAM}", target, *settings]
+    def make(self, target, *settings, library="no library"):
+        """Runs make for the built program and a library, and doesn't build them anew."""
+        paths = [f"PROGRAM={PROGRAM}", f"LIBRARY={library}"]
+        command = ["make", "-s", "-o", PROGRAM, *paths, target, *settings]
         subprocess.run(command, cwd=ROOT, check=True, capture_output=True, timeout=60)
 
     def files(self):
@@ -87,6 +97,18 @@ class InstallTest(ProgramTest):
                 self.assertFalse((self.folder / prefix / DOCUMENT_FOLDER).exists())
                 other.unlink()
 
+
+    def test_a_library_that_was_made_is_installed_and_removed(self):
+        library, prefix = self.folder / "made" / Path(LIBRARY_NAME).name, self.folder / "here"
+        library.parent.mkdir()
+        library.write_text("the library")
+        self.make("install", f"PREFIX={prefix}", library=library)
+        self.assertEqual("the library", (prefix / LIBRARY_NAME).read_text())
+        self.assertEqual(library.name, os.readlink(prefix / LIBRARY_LINK))
+        for name, source in LIBRARY_SOURCES.items():
+            self.assertEqual((ROOT / source).read_bytes(), (prefix / name).read_bytes())
+        self.make("uninstall", f"PREFIX={prefix}", library=library)
+        self.assertEqual([], [path for path in prefix.rglob("*") if path.is_file() or path.is_symlink()])
 
     def test_each_link_of_an_installed_page_leads_to_a_file_that_is_there(self):
         self.make("install", f"PREFIX={self.folder}")
@@ -153,6 +175,7 @@ class ManPageTest(ProgramTest):
     def test_the_version_is_that_of_the_first_heading_of_the_changes(self):
         version, _ = manuals.release()
         self.assertEqual(f"station_check {version}\n", answer_of(["--version"])[1].decode())
+        self.assertTrue(worked.REPORT.startswith(f"station_check {version}: ".encode()))
 
     def test_it_has_each_command_and_option_of_the_help(self):
         page = manuals.MAN_PAGE.read_text().replace("\\-", "-")

@@ -1,9 +1,17 @@
-"""The lists of field files."""
+"""The lists of field files, as lines and as rows."""
 
-from program import ProgramTest, Run, answer_of
-from worked import LIST, STATION, edited, field_file, refused, widened
+import csv
+import io
+import itertools
+
+from program import EXAMPLE, ProgramTest, Run, answer_of
+from worked import JOB, LIST, LIST_ROWS, STATION, edited, field_file, refused, widened
 
 LISTING = ["list", "{file}"]
+
+LISTING_ROWS = ["list", "--csv", "{file}"]
+
+TITLES = b"station,set,target,direction,2c,2i\n"
 
 # The first direction of the example, its zenith angle, and the number of its first set.
 DIRECTION = b"0A 21.102+00000000"
@@ -148,6 +156,29 @@ CUTS = [
 ]
 
 
+# Each is a field file, and its rows after the titles.
+ROWS = [
+    ("the example", STATION, LIST_ROWS.removeprefix(TITLES)),
+    ("GSI-16", widened(STATION), LIST_ROWS.removeprefix(TITLES)),
+    ("no bytes", b"", b""),
+    ("2c of the limit", field_file({1: [("A", 0, 20_002_000)]}), b"S1,1,A,0.010000,20.00,0.00\n"),
+    ("2c below 0", field_file({1: [("A", 0, 19_998_000)]}), b"S1,1,A,399.990000,-20.00,0.00\n"),
+    ("half a unit", field_file({1: [("A", 0, 20_000_001)]}), b"S1,1,A,0.000005,0.01,0.00\n"),
+    ("half a unit below 0", field_file({1: [("A", 0, 19_999_999)]}), b"S1,1,A,399.999995,-0.01,0.00\n"),
+    (
+        "2i of both signs",
+        field_file({1: [("A", 0, 20_000_000, 10_000_000, 30_000_001), ("B", 1, 20_000_001, 10_000_000, 29_999_901)]}),
+        b"S1,1,A,0.000000,0.00,0.01\nS1,1,B,0.000010,0.00,-0.99\n",
+    ),
+    ("names in quotes", field_file({1: [('A,"1', 7, 20_000_007)]}), b'S1,1,"A,""1",0.000070,0.00,0.00\n'),
+    (
+        "two sets and two stations",
+        edited(STATION, (b"00000020 42....+00000002", b"00000010 42....+000000S2\n410007+00000020 42....+00000007")),
+        edited(LIST_ROWS.removeprefix(TITLES), (b"S1,2,", b"S2,7,")),
+    ),
+]
+
+
 def refusal(name, file, fault):
     return Run(name, LISTING, file=file, stderr=refused(fault), status=1)
 
@@ -155,6 +186,41 @@ def refusal(name, file, fault):
 class ListTest(ProgramTest):
     def test_a_fault_of_a_block_is_named(self):
         self.check([refusal(*row) for row in FAULTS])
+
+    def test_rows_are_printed_as_other_programs_read_them(self):
+        self.check([Run(name, LISTING_ROWS, file=file, stdout=TITLES + rows) for name, file, rows in ROWS])
+
+    def test_rows_have_the_faults_of_the_list(self):
+        for name, file, fault in FAULTS:
+            self.check([Run(name, LISTING_ROWS, file=file, stderr=refused(fault), status=1)])
+
+    def test_readings_in_no_set_are_noted_beside_rows(self):
+        for file in [JOB, JOB.splitlines(keepends=True)[0], b"410001+00000010 42....+000000S1\n"]:
+            path = self.folder / "field.gsi"
+            path.write_bytes(file)
+            status, stdout, stderr = answer_of(["list", path])
+            self.assertEqual((0, b""), (status, stdout))
+            self.assertEqual((0, TITLES, stderr), answer_of(["list", "--csv", path]))
+
+    def test_the_flag_stands_anywhere_and_once(self):
+        words = ["--two-c=10", "--csv", str(EXAMPLE)]
+        for line in itertools.permutations(words):
+            self.assertEqual((0, LIST_ROWS, b""), answer_of(["list", *line]))
+            self.assertEqual((0, LIST, b""), answer_of(["list", *(word for word in line if word != "--csv")]))
+        self.assertEqual((0, LIST_ROWS, b""), answer_of(["list", "--csv", "--", str(EXAMPLE)]))
+        for flags in [["--csv=true"], ["--csv="], ["--csv", "--csv"], ["--cs"], ["--CSV"]]:
+            self.assertEqual((2, b""), answer_of(["list", *flags, EXAMPLE])[:2], flags)
+        for line in [["check", EXAMPLE, EXAMPLE], ["means", EXAMPLE, "S1"], ["words", EXAMPLE], ["mark", EXAMPLE]]:
+            self.assertEqual((2, b""), answer_of([line[0], "--csv", *line[1:]])[:2], line)
+
+    def test_rows_say_what_the_lines_say(self):
+        rows = list(csv.reader(io.StringIO(LIST_ROWS.decode())))
+        lines = [line for line in LIST.decode().splitlines() if line.startswith("set ")]
+        self.assertEqual(len(lines), len(rows) - 1)
+        for line, (_, number, target, direction, two_c, two_i) in zip(lines, rows[1:]):
+            p = round(float(direction) * 200_000)
+            said = f"set {number}, target {target}: p {p}, 2c {round(float(two_c) * 100)}, 2i {round(float(two_i) * 100)}"
+            self.assertEqual(said, line)
 
     def test_what_is_not_read_changes_no_list(self):
         self.check([Run(name, LISTING, file=file, stdout=LIST) for name, file in SAME])

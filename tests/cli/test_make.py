@@ -14,7 +14,7 @@ from program import ROOT, ProgramTest, until
 CRATES = {
     "low": [],
     "other_low": [],
-    "low_tests": ["low"],
+    "tests_low": ["low"],
     "middle": ["low", "other_low"],
     "station_compare": ["middle"],
     "station_explain": ["low"],
@@ -59,6 +59,7 @@ for folder in folders:
     fcntl.flock(folder, fcntl.LOCK_EX)
 for name in under(crate) - {crate}:
     assert Path(f"../{name}/out/proved").exists(), f"{name} is not proved"
+(calls.parent / f"asked_{crate}").write_text(f"{os.nice(0)} {' '.join(sys.argv[1:])}")
 say(f"begin {crate} {verb}\\n")
 meet = os.environ.get("MEET", "").split()
 end = time.monotonic() + 10
@@ -95,7 +96,7 @@ class MakeTest(ProgramTest):
         super().setUp()
         for name in ("Makefile", "HANDLES", "README.md", "CHANGELOG.md"):
             shutil.copy(ROOT / name, self.folder / name)
-        for name in ("docs", "examples", "packaging"):
+        for name in ("capi", "docs", "examples", "packaging"):
             shutil.copytree(ROOT / name, self.folder / name, ignore=shutil.ignore_patterns("__pycache__"))
         lines = [f"{crate}: {' '.join(below)}\n" for crate, below in CRATES.items()]
         (self.folder / "crates.txt").write_text("".join(lines))
@@ -164,6 +165,14 @@ class MakeTest(ProgramTest):
         said = re.findall(r"(\w+) is proved, (\d+) of 6$", made.stderr, re.MULTILINE)
         self.assertEqual([str(n + 1) for n in range(6)], [n for _, n in said])
 
+    def test_the_page_is_made_after_the_crates_that_it_stands_on(self):
+        (self.folder / "page").mkdir()
+        for name in ("heap.c", "station_check.html"):
+            (self.folder / "page" / name).touch()
+        made = self.make("page", "PYTHON=true")
+        self.assertEqual(0, made.returncode, made.stderr)
+        self.assertEqual(["low", "middle", "other_low", "station_compare"], sorted(self.begun()))
+
     def test_crates_are_proved_side_by_side(self):
         for jobs, most in [("JOBS=4", 2), ("JOBS=1", 1)]:
             with self.subTest(jobs):
@@ -173,6 +182,26 @@ class MakeTest(ProgramTest):
                 for call in self.calls.read_text().splitlines():
                     running.append(running[-1] + (1 if call.startswith("begin") else -1))
                 self.assertEqual(most > 1, max(running) > 1)
+
+    def test_what_is_proved_beside_the_longest_chain_yields_to_it(self):
+        """It has one process, and a lower priority; where crates are proved one by one none has."""
+        here = os.nice(0)
+        beside, alone = f"{min(here + 10, 19)} lib --jobs 1", f"{here} lib"
+        for jobs, low in [("JOBS=4", beside), ("JOBS=1", alone)]:
+            with self.subTest(jobs):
+                self.make("clean")
+                self.make("run", jobs)
+                asked = {crate: (self.folder / f"asked_{crate}").read_text() for crate in PROVED}
+                self.assertEqual({alone}, {asked["station_compare"]})
+                self.assertEqual(f"{here} run", asked["station_program"])
+                self.assertEqual({low}, {asked[crate] for crate in ("low", "middle", "station_explain")})
+
+    def test_the_longest_chain_is_one_of_crates(self):
+        chain = re.findall(r"^CHAIN := (.*)$", (ROOT / "Makefile").read_text(), re.MULTILINE)[0].split()
+        lines = dict(re.findall(r"^(\w+)[^:]*:(.*)$", (ROOT / "crates.txt").read_text(), re.MULTILINE))
+        for low, crate in zip(chain, chain[1:]):
+            self.assertIn(low, lines[crate].split())
+        self.assertEqual("station_program", chain[-1])
 
     def test_crates_on_the_same_library_are_proved_side_by_side(self):
         made = self.make("run", "JOBS=4", MEET="middle station_explain")
@@ -185,7 +214,7 @@ class MakeTest(ProgramTest):
             (None, []),
             ("other_low", ["other_low", "middle", "station_compare", "station_program"]),
             ("station_explain", ["station_explain", "station_program"]),
-            ("low_tests", []),
+            ("tests_low", []),
         ]:
             with self.subTest(crate):
                 if crate:

@@ -95,7 +95,7 @@ class PagesTest(TimedTest):
         table = TESTS.read_text().partition("## Bodies that only tests refuse")[2].partition("\n## ")[0]
         names = set(re.findall(r"`(\w+)`", "".join(re.findall(r"^\|.*\| (.*) \|$", table, re.MULTILINE))))
         crates = {path.name for path in (ROOT / "crates").iterdir()}
-        files = [*ROOT.glob("tests/cli/test_*.py"), *ROOT.glob("crates/*_tests/src/**/*.rt")]
+        files = [*ROOT.glob("tests/cli/test_*.py"), *ROOT.glob("crates/tests_*/src/**/*.rt")]
         called = {name for path in files for name in re.findall(r"\b(?:def|fn) (\w+)", path.read_text())}
         self.assertGreater(len(names), 40)
         self.assertEqual(set(), names - crates - called)

@@ -8,7 +8,7 @@ import unittest
 
 from program import ROOT, TimedTest
 
-FOLDERS = ["bench", "conformance", "examples", "page", "tests", "tools"]
+FOLDERS = ["bench", "capi", "conformance", "examples", "page", "tests", "tools"]
 FILES = sorted(path for folder in FOLDERS for path in (ROOT / folder).rglob("*.py"))
 
 # More than either takes, in seconds.

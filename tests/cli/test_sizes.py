@@ -232,12 +232,12 @@ class SizesTest(ProgramTest):
                 sheet = model.means(field, asked.encode())[1]
                 table = model.directions(field, asked.encode())[1]
                 self.check_marked(asked, self.file("field.gsi", field), 2, 2)
-                for command in ["words", "list", "means", "check", "directions", "compare"]:
+                for command in ["words", "list", "means", "check", "directions", "report", "compare"]:
                     second = table if command == "compare" else sheet
                     paths = self.file("field.gsi", field), self.file("second.csv", second)
                     with self.subTest(command, name=name, asked=asked):
                         case = Case(name, command, field, second, asked)
-                        expected = case.expected()
+                        expected = case.expected(paths[0])
                         self.assertEqual((0, b""), (expected[0], expected[2]))
                         self.assertEqual(expected, answer_of(case.args(*paths)))
 

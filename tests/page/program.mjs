@@ -1,7 +1,6 @@
 // The program's command line over the calls of the page: node program.mjs PAGE WORD..
 //
 // The worker's script and the module are taken out of the page as it is. Beside the program's commands,
-// `sheet-residuals GSI SHEET` gives the residuals of an accepted sheet as fractions of a half unit,
 // `explain-bytes FILE` explains the bytes of a file, `digest FILE NAME` gives the line of its digest with
 // this name, and `time COMMAND WORD..` gives the milliseconds that the fastest of some runs takes. With
 // `--room=N` each text has room for so many bytes, and a call is not made again with more.
@@ -19,7 +18,7 @@ const part = id => text.match(new RegExp(`<script id="${id}"[^>]*>([^]*?)</scrip
 
 globalThis.onmessage = null; // what a worker hears by
 vm.runInThisContext(part('calls'));
-const [calls, residualsOf] = ['calls', 'residualsOf'].map(name => vm.runInThisContext(name));
+const calls = vm.runInThisContext('calls');
 const core = await WebAssembly.compile(Buffer.from(part('module'), 'base64'));
 
 const options = { ...DEFAULTS }, operands = [];
@@ -47,18 +46,16 @@ const answers = {
   words: (gsi = 0) => calls.words(core, bytesOf(gsi)),
   directions: (gsi, name) =>
     calls.directions(core, bytesOf(gsi), nameOf(name), ...faces, options['--decimals']),
+  residuals: (gsi, name) => calls.residuals(core, bytesOf(gsi), nameOf(name), ...faces),
+  report: (gsi, name) => calls.report(core, bytesOf(gsi), nameOf(gsi), nameOf(name), ...faces),
   compare: (gsi, name, table) =>
     calls.compare(core, bytesOf(gsi), bytesOf(table), nameOf(name), ...faces, options['--within']),
+  differences: (gsi, name, table) =>
+    calls.differences(core, bytesOf(gsi), bytesOf(table), nameOf(name), ...faces),
   mark: gsi => calls.mark(core, bytesOf(gsi), nameOf(station)),
   digest: (file, name) => calls.digest(core, bytesOf(file), nameOf(name)),
   explain: (line = '') => calls.explain(core, nameOf(line)),
   'explain-bytes': file => calls.explain(core, bytesOf(file)),
-  'sheet-residuals': async (gsi, sheet) => {
-    const { status, shown: [line] } = await answers.check(gsi, sheet);
-    const found = residualsOf(fs.readFileSync(sheet, 'utf8'), new TextDecoder().decode(line).trimEnd());
-    const rows = found.rows.map(({ set, target, size }) => `${set} ${size}/${found.scale} ${target}\n`);
-    return { status, shown: [nameOf(rows.join(''))] };
-  },
   time: async (command, ...rest) => {
     const took = [];
     for (let run = 0; run < RUNS; run++) {

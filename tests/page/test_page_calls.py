@@ -3,6 +3,8 @@
 import csv
 import fcntl
 import hashlib
+import io
+import math
 import os
 import random
 import shutil
@@ -27,8 +29,8 @@ JOB = ROOT / "examples" / "job.gsi"
 
 RT = os.environ.get("RT", "rt")
 
-# Half units of a full circle.
-TURN = 80_000_000
+# Half units of a full circle, and units of 0.001 mgon in one.
+TURN, HALF_UNIT = 80_000_000, 5
 
 # The smallest module whose memory has addresses of 64 bits.
 PROBE = "new WebAssembly.Module(new Uint8Array([0,97,115,109,1,0,0,0,5,3,1,4,1]))"
@@ -79,26 +81,27 @@ def node():
 
 def is_of_page(case):
     """Whether the files of a case can be handed in: they are there, and none is a folder. What the
-    program notes beside an empty list is its own, and so are the residuals of a field file."""
-    paths = [run.FOLDER / case.name / word for word in case.args if "." in word]
+    program notes beside an empty list is its own, and so are the rows of a list and limits in mgon."""
+    paths = [case.folder / word for word in case.args if "." in word]
     is_noted = case.args[:1] == ["list"] and case.expected[0] == 0 and case.expected[2]
-    is_own = is_noted or case.args[:1] == ["residuals"]
+    is_own = is_noted or "--csv" in case.args or any(word.endswith("mgon") for word in case.args)
     return not is_own and case.expected[0] < 2 and all(path.is_file() for path in paths)
 
 
 def sheet_residuals(path):
-    """The residuals of a sheet, by set and target, in half units: exact fractions."""
+    """The residuals of a sheet, by set and target, in units of 0.001 mgon, the middle of two upwards."""
     with open(path, encoding="utf-8", newline="") as file:
         rows = [row for row in csv.reader(file) if row]
     denominator = int(rows[0][3])
     directions = {row[2]: int(row[3]) for row in rows if row[0] == "target"}
     orientations = {row[1]: int(row[3]) for row in rows if row[0] == "set"}
-    return {
+    exact = {
         (number, target): Fraction(directions[target] - orientations[number], denominator)
         - (int(value) + TURN * int(turns))
         for kind, number, target, value, turns in rows
         if kind == "obs"
     }
+    return {place: math.floor(HALF_UNIT * residual + Fraction(1, 2)) for place, residual in exact.items()}
 
 
 def changed(data, chance):
@@ -159,6 +162,9 @@ class PageCallsTest(TimedTest):
             ["directions", "--two-c=1000001", gsi, "P7"],
             ["directions", "--decimals=0", gsi, "P7"],
             ["directions", "--decimals=9", gsi, "P7"],
+            ["residuals", "--two-i=1000001", gsi, "P7"],
+            ["report", "--two-i=1000001", gsi, "P7"],
+            ["differences", "--two-c=1000001", gsi, "P7", table],
             ["mark", "--station=SEVENTEEN LETTERS", gsi],
             ["mark", "--station=P\u00e47", gsi],
         ]:
@@ -200,7 +206,10 @@ class PageCallsTest(TimedTest):
             ["means", EXAMPLE, "S1"],
             ["words", gsi],
             ["directions", gsi, "P7"],
+            ["residuals", gsi, "P7"],
+            ["report", gsi, "P7"],
             ["compare", gsi, "P7", table],
+            ["differences", gsi, "P7", table],
             ["explain", "TwoC"],
             ["mark", job],
             ["digest", gsi, "two\\lines\n"],
@@ -210,7 +219,10 @@ class PageCallsTest(TimedTest):
             ["means", gsi, "P7"],
             ["words", sheet],
             ["directions", gsi, "P8"],
+            ["residuals", gsi, "P8"],
+            ["report", gsi, "P8"],
             ["compare", gsi, "P7", sheet],
+            ["differences", gsi, "P7", sheet],
             ["explain", "Elephant"],
             ["mark", gsi],
         ]:
@@ -237,15 +249,18 @@ class PageCallsTest(TimedTest):
                     answer = answer_to([*self.command(), "digest", path, name])
                     self.assertEqual((0, shown.stdout, b""), answer)
 
-    def test_the_residuals_that_are_drawn_are_those_of_the_sheet(self):
+    def test_the_residuals_of_a_station_are_those_of_its_accepted_sheet(self):
+        """Of a sheet that is accepted with the limit of residuals that the page states."""
         checks = [case for case in run.cases() if case.args[:1] == ["check"] and len(case.args) == 3]
-        accepted = [case for case in checks if case.expected[0] == 0]
+        pairs = [[case.folder / word for word in case.args[1:]] for case in checks if case.expected[0] == 0]
+        stated = [*self.command(), "check", "--residual=2000"]
+        accepted = [pair for pair in [EXAMPLES[:2], *pairs] if answer_to([*stated, *pair])[0] == 0]
         self.assertGreater(len(accepted), 15)
-        pairs = [[run.FOLDER / case.name / word for word in case.args[1:]] for case in accepted]
-        for gsi, sheet in [EXAMPLES[:2], *pairs]:
-            status, shown, _ = answer_to([*self.command(), "sheet-residuals", gsi, sheet])
-            rows = [row.split(" ", 2) for row in shown.decode().splitlines()]
-            ours = {(number, target): Fraction(size) for number, size, target in rows}
+        for gsi, sheet in accepted:
+            station = next(csv.reader(io.StringIO(sheet.read_text())))[2]
+            status, shown, _ = answer_to([*self.command(), "residuals", gsi, station])
+            rows = csv.DictReader(io.StringIO(shown.decode()))
+            ours = {(row["set"], row["target"]): int(1000 * Fraction(row["residual"])) for row in rows}
             with self.subTest(sheet):
                 self.assertEqual((0, sheet_residuals(sheet)), (status, ours))
 
@@ -265,6 +280,7 @@ class PageCallsTest(TimedTest):
                         ["list", gsi],
                         ["means", gsi, "P7"],
                         ["directions", gsi, "P7"],
+                        ["residuals", gsi, "P7"],
                         ["compare", gsi, "P7", table],
                         ["mark", job],
                     ]

@@ -4,6 +4,7 @@ import base64
 import csv
 import hashlib
 import json
+import math
 import re
 import shutil
 import subprocess
@@ -25,10 +26,10 @@ EXAMPLES = ROOT / "examples"
 FIELD, SHEET, TABLE = (EXAMPLES / f"station_s1{end}" for end in (".gsi", ".csv", "_directions.csv"))
 P7_FIELD, P7_SHEET, P7_TABLE = (EXAMPLES / f"station_p7{end}" for end in (".gsi", ".csv", "_directions.csv"))
 JOB = EXAMPLES / "job.gsi"
-CASES = ROOT / "conformance"
+CASES = ROOT / "conformance" / "answered"
 
 P7_LINE = "accepted P7: 4 sets, 6 targets, 22 directions, greatest residual 85967/1344"
-P7_HEADLINE = "Accepted. Greatest residual 0.32 mgon, set 4, TOWER."
+P7_HEADLINE = "Accepted. Greatest residual 0.320 mgon, set 4, TOWER."
 NOTHING_CHECKED = "Nothing was checked: no code 20 opens a set in this file."
 NOTHING_NAMED = "Nothing was checked yet: the station needs a name."
 NOTHING_RECOGNIZED = "Nothing was checked: the sets of this job are not recognized."
@@ -248,29 +249,52 @@ class PageInBrowserTest(TimedTest):
             ".map(row => [...row.cells].map(cell => cell.textContent)))"
         )
         directions, residuals, two_c, two_i = rows
-        self.assertEqual(["Target", "Direction", "Observed in"], directions[0])
-        self.assertEqual(["MAST", "139.404538", "3 of 4 sets"], directions[3])
+        self.assertEqual(["Target", "Direction", "Sets"], directions[0])
+        self.assertEqual(["MAST", "139.404538", "3 of 4"], directions[3])
         self.assertEqual(["Target", "Set 1", "Set 2", "Set 3", "Set 4"], residuals[0])
-        self.assertEqual(["TOWER", "\u22120.13", "\u22120.17", "\u22120.02", "+0.32"], residuals[1])
-        self.assertEqual(["CHURCH", "\u22120.11", "\u00d7", "\u22120.16", "+0.27"], residuals[5])
+        self.assertEqual(["TOWER", "\u22120.134", "\u22120.170", "\u22120.016", "+0.320"], residuals[1])
+        self.assertEqual(["CHURCH", "\u22120.113", "\u00d7", "\u22120.159", "+0.272"], residuals[5])
         self.assertEqual(["MAST", "+1.25", "+0.91", "\u00d7", "+2.16"], two_c[3])
         self.assertEqual(["CHURCH", "+1.08", "\u00d7", "+0.93", "0.00"], two_i[5])
-        self.assertEqual(["+0.32", "+2.16", "+1.67"], page.texts("td.greatest"))
+        self.assertEqual(["+0.320", "+2.16", "+1.67"], page.texts("td.greatest"))
         # The longest bar is that of the greatest residual.
         parts = page.js("[...document.querySelectorAll('.bar')].map(bar => Number(bar.style.getPropertyValue('--part')))")
         self.assertEqual((22, 1, 1), (len(parts), max(parts), parts.count(1)))
-        # The sheet is named that they rest on.
-        self.assertIn(f"Of station_p7.csv: {P7_LINE}", page.texts(".results .quiet"))
 
-    def test_residuals_of_a_complete_station_need_no_sheet(self):
-        page = self.page(FIELD)
-        self.assertEqual(["open", "Station S1"], self.cards(page)[0][:2])
+    def test_residuals_need_no_sheet(self):
+        """Whether every set has every target or not."""
+        page = self.page(P7_FIELD)
+        self.assertEqual(["read", "Station P7"], self.cards(page)[0][:2])
         self.assertIn("No results of your program were given yet", page.text(".card"))
-        line = "accepted S1: 2 sets, 2 targets, 4 directions, greatest residual 4/4"
-        self.assertTrue(any(said.endswith(line) for said in page.texts(".results .quiet")))
-        page.empty()
-        page.give(P7_FIELD)
-        self.assertIn("This station has gaps", page.text(".results"))
+        self.assertEqual(["+0.320"], page.texts(".bars td.greatest"))
+        alone = page.texts(".bars td")
+        page.give(P7_SHEET)
+        self.assertEqual(alone, page.texts(".bars td"))
+
+    def test_the_standard_deviation_is_shown_with_its_degrees_of_freedom(self):
+        rows = [row.split(",") for row in P7_SHEET.read_text().splitlines()]
+        targets, sets = ({row[at]: int(row[3]) for row in rows if row[0] == kind} for kind, at in (("target", 2), ("set", 1)))
+        seen = [row for row in rows if row[0] == "obs"]
+        turned = [int(value) + 80_000_000 * int(turns) for _, _, _, value, turns in seen]
+        residuals = [
+            (Fraction(targets[row[2]] - sets[row[1]], int(rows[0][3])) - value) / 200 for row, value in zip(seen, turned)
+        ]
+        degrees = len(seen) - len(targets) - len(sets) + 1
+        deviation = math.sqrt(sum(one**2 for one in residuals) / degrees)
+        page = self.page(P7_FIELD)
+        said = f"Standard deviation of one two-face direction: {deviation:.3f} mgon, {degrees} degrees of freedom."
+        self.assertIn(said, page.texts(".results .quiet"))
+        report = page.saved("Save report (TXT)", "P7_report.txt").decode()
+        self.assertIn("Field file            station_p7.gsi\n", report)
+        self.assertTrue(report.endswith(f"Standard deviation    {deviation:.3f} mgon, of one two-face direction\n"))
+
+    def test_where_there_is_no_adjustment_it_is_said_once(self):
+        case = ROOT / "conformance" / "refused" / "adjustment" / "fault_adjust_residual_for_residuals"
+        line = (case / "stderr").read_text().rstrip("\n")
+        page = self.page(case / "field.gsi")
+        self.assertEqual([line], page.texts(".results samp"))
+        self.assertEqual(["Adjusted directions", "Face differences"], page.texts(".results h3"))
+        self.assertNotIn("Save residuals (CSV)", page.texts("button"))
 
     # ------------------------------------------------------------ jobs without codes
 
@@ -291,7 +315,7 @@ class PageInBrowserTest(TimedTest):
         page = self.page(self.plain())
         self.assertIn("no line of it names the station", page.text(".card"))
         self.state_name(page, "P7")
-        self.assertEqual(["open", "Station P7"], self.cards(page)[0][:2])
+        self.assertEqual(["read", "Station P7"], self.cards(page)[0][:2])
         recognized = "Station P7: 4 sets, 6 targets. 1 reading before the sets and 0 after them stay outside."
         self.assertEqual(recognized, page.text(".marked p:nth-child(2)"))
         # What was recognized stands before the answer.
@@ -312,13 +336,13 @@ class PageInBrowserTest(TimedTest):
             self.assertIn(said, facts)
         # Another name may be stated.
         self.state_name(page, "P8")
-        self.assertEqual(["open", "Station P8"], self.cards(page)[0][:2])
+        self.assertEqual(["read", "Station P8"], self.cards(page)[0][:2])
 
     def test_each_station_of_a_job_is_recognized_by_its_set_up_line(self):
         detail = b"*110062+00000000000000P8 88..10+0000000000001500\n*110063+00000000000000P7 21.322"
         detail += b"+0000000000000023 22.322+0000000009987405\n"
         page = self.page(self.file("job.gsi", JOB.read_bytes() + detail))
-        self.assertEqual([("open", "Station P7"), ("open", "Station P9")], [tuple(card[:2]) for card in self.cards(page)])
+        self.assertEqual([("read", "Station P7"), ("read", "Station P9")], [tuple(card[:2]) for card in self.cards(page)])
         self.assertEqual([[
             "Station P7: 4 sets, 6 targets. 1 reading before the sets and 3 after them stay outside.",
             "Station P8: no sets. Its 1 reading stays outside, and nothing of it was checked.",
@@ -328,7 +352,7 @@ class PageInBrowserTest(TimedTest):
             "[...document.querySelectorAll('.marked')].map(part => [...part.querySelectorAll('p')]"
             ".map(p => p.textContent).slice(1, -1))"
         ))
-        self.assertEqual("2 answers: 0 in order, 0 refused, 2 with something to do", page.text("#verdict"))
+        self.assertEqual("2 read, not compared", page.text("#verdict"))
 
     def test_a_job_whose_sets_are_not_recognized_shows_where_and_what_to_do(self):
         page = self.page(self.file("rain.gsi", b"".join(JOB.read_bytes().splitlines(True)[:43])))
@@ -346,7 +370,7 @@ class PageInBrowserTest(TimedTest):
             self.assertIn("A station cannot have this name", page.text(".card"))
             self.assertEqual("open", self.cards(page)[0][0])
         self.state_name(page, "P7")
-        self.assertEqual(["open", "Station P7"], self.cards(page)[0][:2])
+        self.assertEqual(["read", "Station P7"], self.cards(page)[0][:2])
 
     def test_what_was_not_checked_is_never_green(self):
         page = self.page(self.plain())
@@ -364,7 +388,7 @@ class PageInBrowserTest(TimedTest):
         for unsure in ("plain.gsi", "level.gsi"):
             page.empty()
             page.give(self.folder / unsure, FIELD, SHEET)
-            self.assertEqual("2 answers: 1 in order, 0 refused, 1 with something to do", page.text("#verdict"))
+            self.assertEqual("1 to do; 1 in order", page.text("#verdict"))
             self.assertEqual("open", page.js("$('verdict').className"))
 
     def test_a_refusal_shows_the_place_that_it_names(self):
@@ -408,7 +432,7 @@ class PageInBrowserTest(TimedTest):
         middle = (max(apart.values()) + min(apart.values())) / 2
         expected = {name: float((one - middle) * 1000) for name, one in apart.items()}
         saved = page.saved("Save differences (CSV)", "one_differences.csv").decode().splitlines()
-        self.assertEqual("target,stated,least squares,difference mgon", saved[0])
+        self.assertEqual("target,stated,least squares,difference", saved[0])
         shown = {row[0]: float(row[3]) for row in csv.reader(saved[1:])}
         self.assertEqual(list(expected), list(shown))
         for name, value in expected.items():
@@ -441,7 +465,7 @@ class PageInBrowserTest(TimedTest):
         self.assertEqual([("good", "Station P7", 4), ("good", "Station S1", 4)], [
             (mood, title, 2 + len(said)) for mood, title, *said in self.cards(page)
         ])
-        self.assertEqual("2 answers: 2 in order, 0 refused, 0 with something to do", page.text("#verdict"))
+        self.assertEqual("2 in order", page.text("#verdict"))
         # Both stations in one file, with names that say nothing: the station of a sheet, the targets of a table.
         page.empty()
         both = self.file("job.gsi", P7_FIELD.read_bytes() + FIELD.read_bytes())
@@ -461,7 +485,7 @@ class PageInBrowserTest(TimedTest):
         fields = [self.file(name, FIELD.read_bytes()) for name in ("2026.gsi", "2026.11.GSI")]
         page = self.page(*fields, self.file("2026.11.csv", SHEET.read_bytes()), self.file("week.csv", SHEET.read_bytes()))
         moods = [(card[0], card[1]) for card in self.cards(page)]
-        self.assertEqual([("open", "Station S1"), ("good", "Station S1"), ("open", "week.csv")], moods)
+        self.assertEqual([("read", "Station S1"), ("good", "Station S1"), ("open", "week.csv")], moods)
         self.assertEqual(["2026.gsi", "2026.11.GSI"], page.texts(".card header .name"))
 
     def test_cancel_empties_nothing_and_a_file_can_be_taken_away(self):
@@ -472,7 +496,7 @@ class PageInBrowserTest(TimedTest):
         self.assertEqual("good", self.cards(page)[0][0])
         with page.answered():
             page.js("document.querySelectorAll('#inputs button')[1].click()")
-        self.assertEqual("open", self.cards(page)[0][0])
+        self.assertEqual("read", self.cards(page)[0][0])
         # One of the same name takes the place of the older.
         page.give(self.file(FIELD.name, P7_FIELD.read_bytes()))
         self.assertEqual([FIELD.name], page.texts("#inputs .name"))
@@ -533,13 +557,12 @@ class PageInBrowserTest(TimedTest):
     def test_what_is_saved_is_what_the_program_prints(self):
         page = self.page(FIELD)
         for button, name, case in [
-            ("Save sheet of means", "S1.csv", "means_of_the_example"),
-            ("Save directions (CSV)", "S1_directions.csv", "directions_of_the_example"),
+            ("Save sheet of means", "S1.csv", "means/means_of_the_example"),
+            ("Save directions (CSV)", "S1_directions.csv", "directions/directions_of_the_example"),
+            ("Save residuals (CSV)", "S1_residuals.csv", "residuals/residuals_of_the_example"),
         ]:
             with self.subTest(name):
                 self.assertEqual((CASES / case / "stdout").read_bytes(), page.saved(button, name))
-        residuals = "set,target,residual mgon\n1,A,-0.005\n1,B,0.005\n2,A,0.005\n2,B,-0.005\n"
-        self.assertEqual(residuals.encode(), page.saved("Save residuals (CSV)", "S1_residuals.csv"))
         faces = "set,target,2c mgon,2i mgon\n1,A,0.06,-0.02\n1,B,0.10,0.00\n"
         self.assertTrue(page.saved("Save 2c and 2i (CSV)", "S1_faces.csv").decode().startswith(faces))
         page.empty()
@@ -580,7 +603,7 @@ class PageInBrowserTest(TimedTest):
         text = subprocess.run(["pdftotext", "-layout", path, "-"], capture_output=True, text=True).stdout
         pages = text.split("\f")[:-1]
         shown = page.texts(".results td > span:first-child")
-        counts = Counter(re.findall(r"(?<![\d.])[+\u2212]\d+\.\d\d(?!\d)", text))
+        counts = Counter(re.findall(r"(?<![\d.])[+\u2212]\d+\.\d\d\d?(?!\d)", text))
         self.assertEqual(Counter(value for value in shown if value[0] in "+\u2212"), counts)
         for number, one in enumerate(pages, 1):
             self.assertIn(f"{number} / {len(pages)}", one)
@@ -699,8 +722,8 @@ class PageInBrowserTest(TimedTest):
     def test_the_language_is_chosen_by_hand(self):
         page = self.page(P7_FIELD, P7_SHEET)
         for code, headline in [
-            ("de", "Angenommen. Größte Verbesserung 0.32 mgon, Satz 4, TOWER."),
-            ("fr", "Accepté. Plus grand résidu 0.32 mgon, série 4, TOWER."),
+            ("de", "Angenommen. Größte Verbesserung 0.320 mgon, Satz 4, TOWER."),
+            ("fr", "Accepté. Plus grand résidu 0.320 mgon, série 4, TOWER."),
             ("en", P7_HEADLINE),
         ]:
             page.js(f"languages.value = '{code}'; languages.onchange()")

@@ -7,7 +7,7 @@ import firefox
 from program import EXAMPLE, EXAMPLE_SHEET, EXAMPLE_TABLE, TimedTest
 from test_page_calls import EXAMPLES, JOB, PAGE, RT, make_page
 
-P7 = "Station P7: Accepted. Greatest residual 0.32 mgon, set 4, TOWER."
+P7 = "Station P7: Accepted. Greatest residual 0.320 mgon, set 4, TOWER."
 S1 = "Station S1: Accepted. Greatest residual 0.005 mgon, set 1, A."
 WRONG = "\u201cResiduals of a sheet at most, in mgon\u201d: a number from 0 to 10, in steps of 0.005"
 
@@ -25,10 +25,10 @@ STEPS = [
     (("fill", "residual", 11), WRONG),
     (("fill", "residual", "0.005"), S1),
     (("give", EXAMPLE_TABLE), "Station S1: Agrees. 2 targets within 0 mgon of the least-squares directions."),
-    (("give", EXAMPLES[0]), "2 answers: 1 in order, 0 refused, 1 with something to do"),
-    (("give", EXAMPLES[2]), "2 answers: 2 in order, 0 refused, 0 with something to do"),
+    (("give", EXAMPLES[0]), "1 read, not compared; 1 in order"),
+    (("give", EXAMPLES[2]), "2 in order"),
     (("press", "#remove-all"), "Ready for your files."),
-    (("give", JOB), "2 answers: 0 in order, 0 refused, 2 with something to do"),
+    (("give", JOB), "2 read, not compared"),
 ]
 
 

@@ -3,6 +3,7 @@
 With SWEEP in the environment whole sweeps are run, not samples of them.
 """
 
+from fractions import Fraction
 from pathlib import Path
 from typing import Iterable, NamedTuple, Optional
 
@@ -28,8 +29,8 @@ class Case(NamedTuple):
     decimals: int = model.USUAL_DECIMALS
     within: Optional[int] = None
 
-    def expected(self) -> Answer:
-        """What the model answers."""
+    def expected(self, gsi: Path = Path("field.gsi")) -> Answer:
+        """What the model answers, of a field file at this path."""
         name = None if self.station is None else self.station.encode()
         if self.command == "mark":
             return model.marked(self.gsi, name)
@@ -37,36 +38,54 @@ class Case(NamedTuple):
             return model.words(self.gsi)
         if self.command == "list":
             return model.listed(self.gsi, self.limits)
+        if self.command == "list --csv":
+            return model.listed_rows(self.gsi, self.limits)
         if self.command == "means":
             return model.means(self.gsi, name, self.limits)
         if self.command == "directions":
             return model.directions(self.gsi, name, self.limits, self.decimals)
         if self.command == "residuals":
             return model.residuals(self.gsi, name, self.limits)
+        if self.command == "differences":
+            return model.differences(self.gsi, name, self.sheet, self.limits)
+        if self.command == "report":
+            return model.reported(self.gsi, bytes(gsi), name, self.limits)
         if self.command == "compare":
             return model.compared(self.gsi, name, self.sheet, self.limits, self.within)
         return model.check(self.gsi, self.sheet, self.limits, self.residual)
 
     def args(self, gsi: Path, sheet: Path) -> list:
         """The words of its command line, over these paths."""
-        options = [f"--two-c={self.limits.two_c}", f"--two-i={self.limits.two_i}"]
+        options = [
+            f"--two-c={self.limits.two_c}",
+            f"--two-i={in_mgon(self.limits.two_i, model.FACE_UNIT)}",
+        ]
         if self.residual is not None:
-            options.append(f"--residual={self.residual}")
+            options.append(f"--residual={in_mgon(self.residual, model.RESIDUAL_UNIT)}")
         if self.within is not None:
-            options.append(f"--within={self.within}")
+            options.append(f"--within={in_mgon(self.within, model.TABLE_UNIT)}")
         if self.command == "mark":
             return ["mark", *([] if self.station is None else [f"--station={self.station}"]), gsi]
         return {
             "words": ["words", gsi],
             "list": ["list", *options, gsi],
+            "list --csv": ["list", "--csv", *options, gsi],
             "means": ["means", *options, "--", gsi, self.station],
             "directions": [
                 *["directions", *options, f"--decimals={self.decimals}", "--", gsi, self.station]
             ],
             "residuals": ["residuals", *options, "--", gsi, self.station],
+            "differences": ["differences", *options, "--", gsi, self.station, sheet],
+            "report": ["report", *options, "--", gsi, self.station],
             "compare": ["compare", *options, "--", gsi, self.station, sheet],
             "check": ["check", *options, gsi, sheet],
         }[self.command]
+
+
+def in_mgon(limit: int, unit: Fraction) -> str:
+    """A limit as people state it, with as many decimals as it needs."""
+    thousandths = int(limit * unit * 1000)
+    return f"{thousandths // 1000}.{thousandths % 1000:03}".rstrip("0").rstrip(".") + "mgon"
 
 
 def sample(cases: Iterable[Case], step: int) -> list[Case]:
@@ -76,9 +95,13 @@ def sample(cases: Iterable[Case], step: int) -> list[Case]:
 
 
 class AgainstModel(ProgramTest):
+    def field(self, place: int) -> Path:
+        """The path of the field file of a case."""
+        return self.folder / f"{place}.gsi"
+
     def answer(self, place: int, case: Case) -> Answer:
         """What the program answers, over files of this run alone."""
-        gsi, sheet = self.folder / f"{place}.gsi", self.folder / f"{place}.csv"
+        gsi, sheet = self.field(place), self.folder / f"{place}.csv"
         gsi.write_bytes(case.gsi)
         sheet.write_bytes(case.sheet)
         answer = answer_of(case.args(gsi, sheet))
@@ -90,8 +113,9 @@ class AgainstModel(ProgramTest):
         """Runs all cases and gives the program's answers; fails where the model has another."""
         cases, found = list(cases), list[Answer]()
         self.assertTrue(cases)
-        for case, answer in zip(cases, side_by_side(self.answer, range(len(cases)), cases)):
+        answers = side_by_side(self.answer, range(len(cases)), cases)
+        for place, (case, answer) in enumerate(zip(cases, answers)):
             found.append(answer)
             with self.subTest(case.name, gsi=case.gsi[:2000], sheet=case.sheet[:2000]):
-                self.assertEqual(case.expected(), answer)
+                self.assertEqual(case.expected(self.field(place)), answer)
         return found

@@ -1,7 +1,7 @@
 """Field files, sheets and tables of directions of a fixed seed: right ones, and ones with every
 kind of fault.
 
-`python3 tests/cli/generated.py [COUNT]` prints how often the model answers what over so many files.
+`python3 tests/support/generated.py [COUNT]` prints how often the model answers what over so many files.
 """
 
 import math
@@ -524,6 +524,7 @@ def cases_of(place):
     field, limits = field_file(random)
     yield Case(f"{place}: words", "words", field)
     yield Case(f"{place}: list", "list", field, limits=limits)
+    yield Case(f"{place}: rows of the list", "list --csv", field, limits=limits)
     try:
         stations = model.survey_of(field, limits)
     except model.Refusal:
@@ -538,12 +539,15 @@ def cases_of(place):
     decimals = random.randint(1, 8)
     yield Case(f"{place}: directions", "directions", field, decimals=decimals, **of_station)
     yield Case(f"{place}: residuals", "residuals", field, **of_station)
+    yield Case(f"{place}: report", "report", field, **of_station)
     for nth in range(2):
         compared = random.choice(stations)
         within = random.choice([None, None, None, 10, 0, 1, 100, 1_000_000])
         of_table = {"station": compared.name.decode(), "limits": limits, "within": within}
         table = changed_table(random, compared)
         yield Case(f"{place}: table {nth}", "compare", field, table, **of_table)
+        del of_table["within"]
+        yield Case(f"{place}: differences {nth}", "differences", field, table, **of_table)
     for nth in range(3):
         residual = random.choice([None, None, 0, 1, 20, 2_000])
         sheet = sheet_text(random, stations)

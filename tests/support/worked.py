@@ -16,6 +16,14 @@ set 2, target A: p 20000004, 2c 4, 2i 0
 set 2, target B: p 30000012, 2c 4, 2i 0
 """
 
+LIST_ROWS = b"""\
+station,set,target,direction,2c,2i
+S1,1,A,0.000030,0.06,-0.02
+S1,1,B,50.000050,0.10,0.00
+S1,2,A,100.000020,0.04,0.00
+S1,2,B,150.000060,0.04,0.00
+"""
+
 # The readings of the example without its codes; with codes as `mark` puts them in; and what it tells.
 READINGS = [line for line in STATION.splitlines(keepends=True) if line.startswith(b"11")]
 
@@ -37,12 +45,59 @@ ACCEPTED = b"accepted S1: 2 sets, 2 targets, 4 directions, greatest residual 4/4
 
 AGREES = b"agrees S1: 2 targets, within 0\n"
 
+DIFFERENCES = b"""\
+target,stated,least squares,difference
+A,0.000000,0.000000,0.000
+B,50.000030,50.000030,0.000
+"""
+
 RESIDUALS = b"""\
 set,target,direction,adjusted,residual
 1,A,0.000030,0.000025,-0.005
 1,B,50.000050,50.000055,0.005
 2,A,100.000020,100.000025,0.005
 2,B,150.000060,150.000055,-0.005
+"""
+
+# The report of the example is made of the name of its file.
+REPORT = b"""\
+station_check 1.0.0: report of the sets of a station
+
+Field file            %s
+Station               S1
+Sets                  2
+Targets               2
+Two-face directions   4
+Limit of 2c           20.00 mgon
+Limit of 2i           20.00 mgon
+
+Readings in gon, mean of both faces counted from the first row of the set, 2c and 2i in mgon
+
+  Set  Target                Face I     Face II         Mean         2c         2i
+
+    1  A                    0.00000   200.00006     0.000000       0.06      -0.02
+    1  B                   50.00000   250.00010    50.000020       0.10       0.00
+
+    2  A                  100.00000   300.00004     0.000000       0.04       0.00
+    2  B                  150.00004   350.00008    50.000040       0.04       0.00
+
+Adjusted directions in gon, by least squares, counted from the first target
+
+  Target              Direction
+
+  A                    0.000000
+  B                   50.000030
+
+Residuals in mgon: adjusted direction less two-face direction
+
+  Target      Set        1       2
+
+  A                 -0.005   0.005
+  B                  0.005  -0.005
+
+Greatest residual     -0.005 mgon, set 1, target A
+Degrees of freedom    1
+Standard deviation    0.010 mgon, of one two-face direction
 """
 
 # The zenith angles of a reading in face I and in face II where nothing else is said.

@@ -4,7 +4,7 @@ A fenced block `console` has commands, each after `$ `, and under each what it p
 output and standard error; a line `..` stands for any number of lines. A backslash at the end of a
 line continues a command. The commands of a page are run one after the other by one shell.
 
-`python3 tests/cli/pages.py PAGE` writes what the commands print now into a page, where it differs.
+`python3 tests/support/pages.py PAGE` writes what the commands print now into a page, where it differs.
 """
 
 import os
