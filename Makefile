@@ -7,12 +7,13 @@ PYTHON ?= python3
 PROGRAM := build/station_check
 PROGRAM_CRATE := station_program
 PAGE := build/station_check.html
+LIBRARY := build/libstation_check.so.1
 EXAMPLE := examples/station_s1.gsi
 SHEET := examples/station_s1.csv
 TABLE := examples/station_s1_directions.csv
 
 # All that the program and the page are made of. Tests and wrong bodies are no part of it.
-SOURCES := $(shell find crates \( -name out -o -name '*_tests' -o -name must-fail \) -prune \
+SOURCES := $(shell find crates \( -name out -o -path 'crates/test*' -o -name must-fail \) -prune \
   -o -type f \( -name '*.rt' -o -name '*.antt' \) -print)
 
 # The manual page and the completions, below packaging/.
@@ -20,7 +21,7 @@ SHARED := $(sort $(shell cd packaging && find share -type f))
 
 # The documents and the examples, as they lie in the repository, so that their links hold; those to
 # sources, which are not installed, become plain text.
-DOCUMENTS := README.md CHANGELOG.md $(sort $(wildcard docs/*.md docs/*.png)) \
+DOCUMENTS := README.md CHANGELOG.md capi/example.c $(sort $(wildcard docs/*.md docs/*.png)) \
   $(sort $(wildcard examples/*.md examples/*.gsi examples/*.csv examples/*.txt examples/*.svg examples/*.py))
 DOCUMENT_FOLDER := share/doc/station_check
 UNLINKED = sed -E 's/\[([^][]*)\]\((\.\.\/)*((crates|conformance|page|tests)\/[^)]*|HANDLES)\)/\1/g'
@@ -30,14 +31,19 @@ TOOLS := adjust check_folder prepare residuals
 TOOL_FILES := $(sort $(notdir $(wildcard examples/*.py)))
 TOOL_FOLDER := share/station_check
 
+# What is installed of the library, where it was made: it, the name by which a linker finds it, its
+# header, and the module for Python.
+LIBRARY_LINK := lib/libstation_check.so
+LIBRARY_FILES := lib/$(notdir $(LIBRARY)) $(LIBRARY_LINK) include/station_check.h $(TOOL_FOLDER)/station_check.py
+
 # Where `make dist` puts what it makes.
 DIST ?= build/dist
 
 # The crates of the repository, lowest first, as crates.txt lists them, without the tests; and those
 # that each of them stands on, directly and however far.
-EVERY := $(filter-out %_tests,$(shell sed -n 's/^\([a-z_]*\)[ :].*/\1/p' crates.txt))
+EVERY := $(filter-out test%,$(shell sed -n 's/^\([a-z_]*\)[ :].*/\1/p' crates.txt))
 $(foreach crate,$(EVERY),$(eval below_$(crate) := $(filter $(EVERY), \
-  $(shell sed -n 's/^$(crate):\(.*\)/\1/p' crates.txt))))
+  $(shell sed -n 's/^$(crate)\( staticlib\)*:\(.*\)/\2/p' crates.txt))))
 $(foreach crate,$(EVERY),$(eval under_$(crate) := \
   $(sort $(below_$(crate)) $(foreach low,$(below_$(crate)),$(under_$(low))))))
 
@@ -59,12 +65,18 @@ JOBS ?= $(shell most=$$(( $(or $(KIBIBYTES),0) / 4194304 )); here=$$(nproc); \
   [ $$most -ge $$here ] && echo $$here || echo $$(( most > 1 ? most : 1 )))
 MAKEFLAGS += --jobs=$(JOBS)
 
+# The longest chain of proofs, in which each crate stands on the one before: the whole takes as long
+# as they do. So each of them is proved by as many processes as `rt` finds room for, and what is
+# proved beside them by one, which takes less processor time in all, and yields to them.
+CHAIN := adjust_kernel station_book station_check station_compare station_residuals station_report station_program
+IS_BESIDE = $(if $(filter $*,$(CHAIN))$(filter 1,$(JOBS)),,yes)
+
 # What each recipe that proves begins with.
 NEED_TOOLCHAIN = command -v $(RT) > /dev/null || { \
   echo "make: the Rattle toolchain is missing: no command '$(RT)' is found; put it on PATH, or name it as RT=/path/to/rt" >&2; \
   exit 1; }
 
-.PHONY: run page test sweep check bench install uninstall dist clean
+.PHONY: run page library test sweep check bench install uninstall dist clean
 
 # Builds the proved program and runs it on an example.
 run: $(PROGRAM)
@@ -84,10 +96,17 @@ run: $(PROGRAM)
 # Makes the page that checks in a browser, one file, of the proved calls.
 page: $(PAGE)
 
-$(PAGE): $(PROVED)/station_compare $(PROVED)/station_mark $(PROVED)/station_explain $(PROVED)/byte_digests \
+$(PAGE): $(foreach crate,$(filter $(under_station_page),$(CRATES)),$(PROVED)/$(crate)) \
   $(SOURCES) $(wildcard page/*.py page/*.js page/*.css) page/heap.c page/station_check.html
 	@$(NEED_TOOLCHAIN)
 	@RT='$(RT)' $(PYTHON) page/build.py $@
+
+# Makes the library for C and Python, of the same build of the proved calls as the page. Needs a C compiler.
+library: $(LIBRARY)
+
+$(LIBRARY): $(PAGE) capi/link.sh capi/names.ld
+	@$(NEED_TOOLCHAIN)
+	@RT='$(RT)' CC='$(CC)' sh capi/link.sh build/page/lib.a $@
 
 # The gate: every proof from nothing, the wrong bodies, the tests, the stored run; then the tests of the command line.
 test:
@@ -109,7 +128,8 @@ bench: $(PROGRAM)
 
 # Copies the proved program to $(PREFIX)/bin, its manual pages and completions to $(PREFIX)/share, as they lie in
 # packaging/share, and documents and examples to $(PREFIX)/share/doc. The tools are links to scripts of their
-# own, so that they work where documents are left out. After a build it needs no toolchain.
+# own, so that they work where documents are left out. After a build it needs no toolchain. Where the library
+# was made, it goes to $(PREFIX)/lib, its header to $(PREFIX)/include, and its Python module beside the scripts.
 install: $(PROGRAM)
 	install -d '$(DESTDIR)$(PREFIX)/bin'
 	install -m 755 $(PROGRAM) '$(DESTDIR)$(PREFIX)/bin/station_check'
@@ -126,22 +146,29 @@ install: $(PROGRAM)
 	  copy="$(DESTDIR)$(PREFIX)/$(DOCUMENT_FOLDER)/$$file"; \
 	  put 644 "$$file" "$$copy" || exit 1; \
 	  case $$file in *.md) $(UNLINKED) "$$file" > "$$copy" || exit 1 ;; esac; \
-	done
+	done; \
+	if [ -f '$(LIBRARY)' ]; then \
+	  put 644 '$(LIBRARY)' "$(DESTDIR)$(PREFIX)/lib/$(notdir $(LIBRARY))" && \
+	  ln -sf '$(notdir $(LIBRARY))' "$(DESTDIR)$(PREFIX)/$(LIBRARY_LINK)" && \
+	  put 644 capi/station_check.h "$(DESTDIR)$(PREFIX)/include/station_check.h" && \
+	  put 644 capi/station_check.py "$(DESTDIR)$(PREFIX)/$(TOOL_FOLDER)/station_check.py"; \
+	fi
 
 # Removes what `make install` put there, and its own folders where nothing else is left in them.
 uninstall:
 	rm -f '$(DESTDIR)$(PREFIX)/bin/station_check' $(SHARED:%='$(DESTDIR)$(PREFIX)/%')
 	rm -f $(foreach tool,$(TOOLS:check_%=%),'$(DESTDIR)$(PREFIX)/bin/station_check_$(tool)')
+	rm -f $(LIBRARY_FILES:%='$(DESTDIR)$(PREFIX)/%')
 	rm -rf $(TOOL_FILES:%='$(DESTDIR)$(PREFIX)/$(TOOL_FOLDER)/%') '$(DESTDIR)$(PREFIX)/$(TOOL_FOLDER)/__pycache__'
 	rm -f $(DOCUMENTS:%='$(DESTDIR)$(PREFIX)/$(DOCUMENT_FOLDER)/%')
-	@for folder in $(DOCUMENT_FOLDER)/docs $(DOCUMENT_FOLDER)/examples $(DOCUMENT_FOLDER) $(TOOL_FOLDER); do \
+	@for folder in $(DOCUMENT_FOLDER)/capi $(DOCUMENT_FOLDER)/docs $(DOCUMENT_FOLDER)/examples $(DOCUMENT_FOLDER) $(TOOL_FOLDER); do \
 	  rmdir "$(DESTDIR)$(PREFIX)/$$folder" 2> /dev/null || true; \
 	done
 
 # An archive of what is installed, a Debian package where dpkg-deb is found, the page where it was made, and their
-# checksums, in $(DIST).
+# checksums, in $(DIST). Where the library was made, both have it.
 dist: $(PROGRAM)
-	@RT='$(RT)' CRATES='$(CRATES)' sh packaging/dist.sh '$(PROGRAM)' '$(DIST)' '$(PAGE)'
+	@RT='$(RT)' CRATES='$(CRATES)' sh packaging/dist.sh '$(PROGRAM)' '$(DIST)' '$(PAGE)' '$(LIBRARY)'
 
 clean:
 	rm -rf crates/*/out build
@@ -169,7 +196,8 @@ $(CRATES:%=$(PROVED)/%): $(PROVED)/%: crates.txt HANDLES | $(PROVED)
 	@rm -rf $(foreach crate,$(under_$*),$(ROOM)/crates/$(crate)/out/incremental) $(ROOM)/crates/$*/out
 	@mv crates/$*/out $(ROOM)/crates/$*
 	@(cd $(ROOM)/crates/$* && log=out/build.log && \
-	$(RT) $(if $(filter $*,$(PROGRAM_CRATE)),run,lib) < /dev/null > $$log.new 2>&1 && { \
+	$(if $(IS_BESIDE),nice )$(RT) $(if $(filter $*,$(PROGRAM_CRATE)),run,lib)$(if $(IS_BESIDE), --jobs 1) \
+	  < /dev/null > $$log.new 2>&1 && { \
 	  [ -s $$log.new ] || { [ -s $$log ] && [ -z "$$(find . -name out -prune -o -type f -newer $$log \
 	  \( -name '*.rt' -o -name '*.antt' \) -print)" ]; } || $(RT) check > $$log.new 2>&1; }); \
 	status=$$?; mv $(ROOM)/crates/$*/out crates/$* || exit 1; \

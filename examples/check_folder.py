@@ -313,7 +313,7 @@ def command_line() -> argparse.ArgumentParser:
         ("--within", "compare"),
     ]:
         text = f"as of 'station_check {command} {option}'"
-        parser.add_argument(option, metavar="N", action="append", default=[], help=text)
+        parser.add_argument(option, metavar="LIMIT", action="append", default=[], help=text)
     parser.add_argument("--jobs", metavar="N", type=int, help="so many at a time")
     return parser
 

@@ -1,8 +1,9 @@
 #!/bin/sh
 # Makes what is handed on of a built program: an archive, a Debian package where dpkg-deb is found,
-# the page where it was made, and their checksums. `make dist` calls it at the root of the repository:
+# the page where it was made, and their checksums. Archive and package have the library where it was
+# made. `make dist` calls it at the root of the repository:
 #
-#     sh packaging/dist.sh PROGRAM FOLDER PAGE
+#     sh packaging/dist.sh PROGRAM FOLDER PAGE LIBRARY
 #
 # CRATES names those that the program is made of, lowest first; MAINTAINER, as 'Name <address>',
 # stands in the Debian package, where it is not whoever made the last commit.
@@ -11,6 +12,7 @@ umask 022
 
 program=$1
 page=$3
+library=$4
 mkdir -p "$2"
 dist=$(cd "$2" && pwd)
 version=$("$program" --version | sed 's/.* //')
@@ -20,19 +22,24 @@ commit=$(git rev-parse HEAD 2> /dev/null || echo 'not known')
 [ -z "$(git status --porcelain 2> /dev/null)" ] || commit="$commit, with changes"
 # All files have the time of the last commit, so that the same files give the same archive.
 time=${SOURCE_DATE_EPOCH:-$(git log -1 --format=%ct 2> /dev/null || echo 0)}
-glibc=$(grep -a -o 'GLIBC_[0-9.]*' "$program" | sed 's/GLIBC_//' |
+glibc=$(grep -a -h -s -o 'GLIBC_[0-9.]*' "$program" "$library" | sed 's/GLIBC_//' |
   sort -t. -k1,1n -k2,2n | tail -n 1)
 
 # The address of those who make the package: the last commit's, where none is stated.
 maintainer=${MAINTAINER:-$(git log -1 --format='%an <%ae>' 2> /dev/null || echo 'unknown <unknown@localhost>')}
 
-# What a packed program was proved with, by the logs of its build.
+# What the packed program was proved with, by the logs of its build; the packed library is named too.
 proved() {
+  of_library=''
+  if [ -f "$2" ]; then
+    of_library="SHA-256 of the library, which has the exports of station_page: $(sha256sum "$2" | cut -d ' ' -f 1)
+"
+  fi
   cat << END
 station_check $version for $platform
 commit: $commit
 SHA-256 of the program: $(sha256sum "$1" | cut -d ' ' -f 1)
-toolchain: $("${RT:-rt}" --version 2> /dev/null || echo 'not at hand when this was packed')
+${of_library}toolchain: $("${RT:-rt}" --version 2> /dev/null || echo 'not at hand when this was packed')
 needs: Linux on x86-64 (x86-64-v2) with glibc $glibc or later
 
 The build proves each function of these crates against its contract, lowest crate first; where a
@@ -56,13 +63,16 @@ END
 fill() {
   root=$1 prefix=$2
   rm -rf "$root"
-  MAKEFLAGS='' make -s -o "$program" PROGRAM="$program" DESTDIR="$root" PREFIX="$prefix" install
+  MAKEFLAGS='' make -s -o "$program" PROGRAM="$program" LIBRARY="$library" DESTDIR="$root" PREFIX="$prefix" install
   packed=$root$prefix/bin/station_check
-  if command -v strip > /dev/null && [ "$(head -c 4 "$packed" | tail -c 3)" = ELF ]; then
-    strip -R .comment "$packed"
-  fi
+  packed_library=$root$prefix/lib/$(basename "$library")
+  for file in "$packed" "$packed_library"; do
+    if command -v strip > /dev/null && [ -f "$file" ] && [ "$(head -c 4 "$file" | tail -c 3)" = ELF ]; then
+      strip -R .comment "$file"
+    fi
+  done
   cp packaging/copyright "$root$prefix/share/doc/station_check"
-  proved "$packed" > "$root$prefix/share/doc/station_check/PROVED"
+  proved "$packed" "$packed_library" > "$root$prefix/share/doc/station_check/PROVED"
 }
 
 fill "$dist/$name" ''
@@ -79,6 +89,12 @@ if command -v dpkg-deb > /dev/null; then
   # Debian has documents below the name of the package.
   mv "$root/usr/share/doc/station_check" "$root/usr/share/doc/station-check"
   ln -s station-check "$root/usr/share/doc/station_check"
+  if [ -f "$library" ]; then
+    # Debian has modules where its Python looks for them.
+    mkdir -p "$root/usr/lib/python3/dist-packages" "$root/usr/share/lintian/overrides"
+    mv "$root/usr/share/station_check/station_check.py" "$root/usr/lib/python3/dist-packages"
+    cp packaging/lintian-overrides "$root/usr/share/lintian/overrides/station-check"
+  fi
   gzip -9 -n > "$root/usr/share/doc/station-check/changelog.gz" << END
 station-check ($version) unstable; urgency=medium
 
@@ -87,6 +103,10 @@ station-check ($version) unstable; urgency=medium
  -- $maintainer  $(LC_ALL=C date -u -R -d "@$time")
 END
   mkdir "$root/DEBIAN"
+  if [ -f "$library" ]; then
+    echo 'activate-noawait ldconfig' > "$root/DEBIAN/triggers"
+    echo "libstation_check ${library##*.} station-check (>= $version)" > "$root/DEBIAN/shlibs"
+  fi
   cat > "$root/DEBIAN/control" << END
 Package: station-check
 Version: $version

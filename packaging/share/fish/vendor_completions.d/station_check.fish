@@ -11,23 +11,26 @@ complete -c station_check -s h -l help -d 'Print help'
 
 # The commands, made by tools/commands.py.
 complete -c station_check -n __fish_use_subcommand -a compare -d "Compares a table of directions with a field file, whatever program printed it"
+complete -c station_check -n __fish_use_subcommand -a differences -d "Prints by how much a table of directions differs, target by target"
 complete -c station_check -n __fish_use_subcommand -a directions -d "Prints the least-squares directions of a station as a table"
 complete -c station_check -n __fish_use_subcommand -a residuals -d "Prints the adjusted directions and the residuals of a station, row by row"
+complete -c station_check -n __fish_use_subcommand -a report -d "Prints the protocol of the sets of a station, with readings and residuals"
 complete -c station_check -n __fish_use_subcommand -a check -d "Checks a sheet against a field file"
 complete -c station_check -n __fish_use_subcommand -a means -d "Prints the adjusted sheet of a station whose sets are complete"
 complete -c station_check -n __fish_use_subcommand -a mark -d "Prints a copy of a job without codes, in which codes begin and end the sets"
 complete -c station_check -n __fish_use_subcommand -a list -d "Lists the stations of a field file and their two-face directions"
 complete -c station_check -n __fish_use_subcommand -a words -d "Prints the words of a field file"
 complete -c station_check -n __fish_use_subcommand -a explain -d "Explains a fault that a refusal names"
-complete -c station_check -n '__fish_seen_subcommand_from compare directions residuals check means mark list words' -F
-complete -c station_check -n '__fish_seen_subcommand_from compare directions residuals check means list' -l two-c -x -d "The limit of 2c, in units of 0.01 mgon: 0 to 1000000"
-complete -c station_check -n '__fish_seen_subcommand_from compare directions residuals check means list' -l two-i -x -d "The limit of 2i, in units of 0.01 mgon: 0 to 1000000"
-complete -c station_check -n '__fish_seen_subcommand_from compare' -l within -x -d "How near the directions must be, in units of 0.001 mgon: 0 to 1000000"
+complete -c station_check -n '__fish_seen_subcommand_from compare differences directions residuals report check means mark list words' -F
+complete -c station_check -n '__fish_seen_subcommand_from compare differences directions residuals report check means list' -l two-c -x -d "The limit of 2c, as 0.3mgon: to 10000mgon, by 0.01; or in units of 0.01 mgon: 0 to 1000000"
+complete -c station_check -n '__fish_seen_subcommand_from compare differences directions residuals report check means list' -l two-i -x -d "The limit of 2i, as 0.3mgon: to 10000mgon, by 0.01; or in units of 0.01 mgon: 0 to 1000000"
+complete -c station_check -n '__fish_seen_subcommand_from compare' -l within -x -d "How near the directions must be, as 0.05mgon: to 1000mgon, by 0.001; or in units of 0.001 mgon: 0 to 1000000"
 complete -c station_check -n '__fish_seen_subcommand_from compare check' -l sha256 -d "Print the SHA-256 digests of both files after the line of the answer"
 complete -c station_check -n '__fish_seen_subcommand_from directions' -l decimals -x -d "How many decimals of a gon a direction is written with: 1 to 8"
-complete -c station_check -n '__fish_seen_subcommand_from check' -l residual -x -d "The limit of residuals, in half units of 0.005 mgon: 0 to 2000"
+complete -c station_check -n '__fish_seen_subcommand_from check' -l residual -x -d "The limit of residuals, as 0.3mgon: to 10mgon, by 0.005; or in half units of 0.005 mgon: 0 to 2000"
 complete -c station_check -n '__fish_seen_subcommand_from mark' -l station -x -d "The name of the station, of a file without set-up lines: 1 to 16 characters of ASCII, from the blank to '~'"
-complete -c station_check -n '__fish_seen_subcommand_from help' -a 'compare directions residuals check means mark list words explain'
+complete -c station_check -n '__fish_seen_subcommand_from list' -l csv -d "Print rows for other programs, as CSV with a row of titles: station, set, target, the direction in gon with 6 decimals, 2c and 2i in mgon with 2"
+complete -c station_check -n '__fish_seen_subcommand_from help' -a 'compare differences directions residuals report check means mark list words explain'
 # The end of the commands.
 
 complete -c station_check -n __fish_use_subcommand -a help -d 'Prints the help of a command'
