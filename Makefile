@@ -63,7 +63,9 @@ comma := ,
 KIBIBYTES := $(shell sed -n 's/^MemAvailable: *\([0-9]*\).*/\1/p' /proc/meminfo)
 JOBS ?= $(shell most=$$(( $(or $(KIBIBYTES),0) / 4194304 )); here=$$(nproc); \
   [ $$most -ge $$here ] && echo $$here || echo $$(( most > 1 ? most : 1 )))
+ifndef IS_WITHIN
 MAKEFLAGS += --jobs=$(JOBS)
+endif
 
 # The longest chain of proofs, in which each crate stands on the one before: the whole takes as long
 # as they do. So each of them is proved by as many processes as `rt` finds room for, and what is
@@ -93,12 +95,14 @@ run: $(PROGRAM)
 	@echo '$$ station_check words $(EXAMPLE)'
 	@$(PROGRAM) words $(EXAMPLE)
 
-# Makes the page that checks in a browser, one file, of the proved calls.
+# Makes the page that checks in a browser, one file, of the proved calls. The crates that it stands on
+# are proved only where it is older than its sources: so the gate, which makes it of what it has proved
+# itself, leaves nothing to prove again.
 page: $(PAGE)
 
-$(PAGE): $(foreach crate,$(filter $(under_station_page),$(CRATES)),$(PROVED)/$(crate)) \
-  $(SOURCES) $(wildcard page/*.py page/*.js page/*.css) page/heap.c page/station_check.html
+$(PAGE): $(SOURCES) $(wildcard page/*.py page/*.js page/*.css) page/heap.c page/station_check.html
 	@$(NEED_TOOLCHAIN)
+	@$(MAKE) --no-print-directory IS_WITHIN=page $(filter $(under_station_page:%=$(PROVED)/%),$(CRATES:%=$(PROVED)/%))
 	@RT='$(RT)' $(PYTHON) page/build.py $@
 
 # Makes the library for C and Python, of the same build of the proved calls as the page. Needs a C compiler.

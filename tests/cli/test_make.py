@@ -172,6 +172,15 @@ class MakeTest(ProgramTest):
         made = self.make("page", "PYTHON=true")
         self.assertEqual(0, made.returncode, made.stderr)
         self.assertEqual(["low", "middle", "other_low", "station_compare"], sorted(self.begun()))
+        self.assertNotIn("warning", made.stderr)
+
+    def test_a_page_that_is_newer_than_its_sources_asks_for_no_proof(self):
+        (self.folder / "page").mkdir()
+        for name in ("page/heap.c", "page/station_check.html", "build/station_check.html"):
+            (self.folder / name).parent.mkdir(exist_ok=True)
+            (self.folder / name).touch()
+        made = self.make("page", "PYTHON=false")
+        self.assertEqual((0, []), (made.returncode, self.begun()), made.stderr)
 
     def test_crates_are_proved_side_by_side(self):
         for jobs, most in [("JOBS=4", 2), ("JOBS=1", 1)]:
