@@ -44,8 +44,9 @@ SCRIPTS = {
 IMPORT = re.compile(r"^import \{[^}]*\} from '\./(\w+\.js)';\n", re.MULTILINE)
 EXPORT = re.compile(r"^export (?=(?:async )?(?:const|let|class|function)\b)", re.MULTILINE)
 
-# A name that a module declares for all of itself.
-NAME = re.compile(r"^(?:export )?(?:async )?(?:const|let|class|function) (\$|\w+)", re.MULTILINE)
+# What a module declares for all of itself: a name, and constants that stand after another on its line.
+DECLARED = re.compile(r"^(?:export )?(?:async )?(?:const|let|class|function) (.*)", re.MULTILINE)
+NAME = re.compile(r"^[$\w]+|(?<=, )[A-Z_]+(?= = )")
 
 # Where what is made on the way stays: the tests link it again with another heap.
 ROOM = ROOT / "build" / "page"
@@ -172,7 +173,7 @@ def version():
 def joined(modules):
     """The modules of a script in one text; stops where a name stands for two things in it."""
     texts = [(HERE / name).read_text() for name in modules]
-    counts = Counter(name for text in texts for name in {*NAME.findall(text)})
+    counts = Counter(name for text in texts for line in {*DECLARED.findall(text)} for name in NAME.findall(line))
     if twice := [name for name, count in counts.items() if count > 1]:
         sys.exit(f"page: these names stand in two modules of one script: {', '.join(twice)}")
     return "'use strict';\n\n" + "\n".join(EXPORT.sub("", IMPORT.sub("", text)) for text in texts)
