@@ -35,8 +35,8 @@ SCRIPTS = {
     "calls": ["calls.js", "numbers.js", "records.js", "worker.js"],
     "page": [
         "texts.js", "numbers.js", "records.js", "files.js", "work.js", "limits.js", "place.js",
-        "answers.js", "elements.js", "tables.js", "headlines.js", "results.js", "protocol.js",
-        "cards.js", "page.js",
+        "answers.js", "elements.js", "tables.js", "picture.js", "headlines.js", "results.js",
+        "protocol.js", "cards.js", "page.js",
     ],
 }
 

@@ -3,9 +3,10 @@ import { ACCEPTED, OUT_OF_RANGE, REFUSED, filesOf, meansOf } from './answers.js'
 import { button, element, ofProgram, save } from './elements.js';
 import { stemOf } from './files.js';
 import { apartIn, headlineOf, headlineOfCard, isWithoutName, meaningOf, recognizedText } from './headlines.js';
+import { pictureFile } from './picture.js';
 import { placeOf } from './place.js';
 import { protocolFile } from './protocol.js';
-import { isComplete } from './records.js';
+import { isComplete, residualsIn } from './records.js';
 import { showResults } from './results.js';
 import { facesFile } from './tables.js';
 import { text } from './texts.js';
@@ -113,8 +114,11 @@ function showButtons(/** @type {Card} */ card, desk, parent) {
   offer('saveProtocol', protocol, () => protocolFile(card, desk.limits), 'text/html');
   if (results.directions.status === ACCEPTED)
     offer('saveDirections', `${name}_directions.csv`, () => `${results.directions.line}\n`);
-  if (results.residuals.status === ACCEPTED)
-    offer('saveResiduals', `${name}_residuals.csv`, () => `${results.residuals.line}\n`);
+  if (results.residuals.status === ACCEPTED) {
+    const { line } = results.residuals;
+    offer('saveResiduals', `${name}_residuals.csv`, () => `${line}\n`);
+    offer('savePicture', `${name}_residuals.svg`, () => pictureFile(station, residualsIn(line)), 'image/svg+xml');
+  }
   if (results.report.status === ACCEPTED)
     offer('saveReport', `${name}_report.txt`, () => `${results.report.line}\n`, 'text/plain');
   for (const { differences, other } of card.answers)

@@ -131,7 +131,7 @@ export function residualsIn(/** @type {string} */ text) {
 export const sizeOf = (/** @type {string} */ number) => Math.abs(Number(number));
 
 /** The first of the residuals of the greatest size. */
-export const greatestOf = (/** @type {Residuals} */ { rows }) =>
+export const greatestOf = (/** @type {{ rows: Residual[] }} */ { rows }) =>
   rows.reduce((a, b) => sizeOf(b.residual) > sizeOf(a.residual) ? b : a);
 
 /**

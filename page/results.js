@@ -2,6 +2,7 @@
 import { ACCEPTED } from './answers.js';
 import { element, ofProgram } from './elements.js';
 import { meaningOf } from './headlines.js';
+import { showPicture } from './picture.js';
 import { accuracyIn, differencesIn, residualsIn } from './records.js';
 import { accuracyNote, differencesTable, directionsTable, facesTables, residualsTable } from './tables.js';
 import { text } from './texts.js';
@@ -15,8 +16,8 @@ function showRefused(/** @type {import('./answers.js').Answer} */ answer, parent
 /** The results of a station, on the page and in the protocol. */
 export function showResults(/** @type {import('./answers.js').Card} */ { station, results, answers }, parent) {
   const around = element('div', '', parent, { className: 'beside' });
-  const section = title => {
-    const part = element('section', '', around);
+  const section = (title, className = '') => {
+    const part = element('section', '', around, { className });
     element('h3', title, part);
     return part;
   };
@@ -30,9 +31,10 @@ export function showResults(/** @type {import('./answers.js').Card} */ { station
   if (results.directions.status === ACCEPTED) directionsTable(results.directions.line, station, directions);
   else showRefused(results.directions, directions);
   if (results.residuals.status === ACCEPTED) {
-    const part = section(text('residuals'));
-    residualsTable(residualsIn(results.residuals.line), part);
+    const residuals = residualsIn(results.residuals.line), part = section(text('residuals'));
+    residualsTable(residuals, part);
     if (results.report.status === ACCEPTED) accuracyNote(accuracyIn(results.report.line), part);
+    showPicture(residuals, section(text('picture'), 'across'));
   }
   facesTables(station, section(text('faces')));
 }

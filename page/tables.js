@@ -72,7 +72,7 @@ export function residualsTable(/** @type {import('./records.js').Residuals} */ r
     const residual = byPlace.get(`${set} ${target}`);
     return residual === undefined ? undefined : cellWithBar(residual, greatest);
   };
-  bySets(text('residualsCaption'), targets, sets, cell, parent, 'numbers bars');
+  bySets(text('residualsCaption'), targets, sets, cell, parent, 'numbers bars pictured');
 }
 
 /** The standard deviation, as the report has it. */

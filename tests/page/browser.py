@@ -36,9 +36,9 @@ class Part(NamedTuple):
 
 
 class Page:
-    """A page that is open in a browser of its own."""
+    """A page that is open in a browser of its own; what is no page of ours has nothing to settle."""
 
-    def __init__(self, path, width=1000, height=1400, scheme="light"):
+    def __init__(self, path, width=1000, height=1400, scheme="light", settled=True):
         self.folder = tempfile.TemporaryDirectory(prefix="page-browser-", ignore_cleanup_errors=True)
         self.downloads = os.path.join(self.folder.name, "downloads")
         self.count, self.events, self.rest, self.session = 0, [], b"", None
@@ -53,7 +53,8 @@ class Page:
         self.call("Emulation.setEmulatedMedia", features=[{"name": "prefers-color-scheme", "value": scheme}])
         self.call("Page.navigate", url=path.as_uri())
         self.wait("document.readyState === 'complete'")
-        self.settle()
+        if settled:
+            self.settle()
 
     def start(self):
         (asked, self.asks), (self.hears, told) = os.pipe(), os.pipe()

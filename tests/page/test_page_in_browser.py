@@ -14,6 +14,7 @@ import unittest
 from collections import Counter
 from fractions import Fraction
 from pathlib import Path
+from xml.etree import ElementTree
 
 import browser
 from program import ROOT, TimedTest
@@ -54,6 +55,7 @@ WIDE = (1, 40, 30)
 FILES = {"field": FIELD, "sheet": SHEET, "table": TABLE}
 LAST_LINE = "410012+00000030\r\n"
 TAB = "\N{SYMBOL FOR HORIZONTAL TABULATION}"
+MINUS = "\N{MINUS SIGN}"
 
 # A fault of a file: of which kind it is, the old and the new text; and what is then shown: the refusal,
 # the place that it names, and what is marked there.
@@ -160,6 +162,18 @@ PLAIN_LABELS = (
     "[...document.querySelectorAll('[aria-label]')].map(one => one.getAttribute('aria-label'))"
     r".filter(label => !/\u27e6/.test(label))"
 )
+
+# Of the nth panel of the picture: the numbers of its axis, each with its place, and the places of its dots and
+# of its diamonds, strip after strip.
+PLACES = """(() => {
+  const svg = document.querySelectorAll('.results .picture svg')[%d];
+  const all = selector => [...svg.querySelectorAll(selector)];
+  return [
+    all('text[text-anchor=middle]').map(e => [e.textContent, Number(e.getAttribute('x'))]),
+    all('path').flatMap(e => [...e.getAttribute('d').matchAll(/M([\\d.]+)/g)].map(found => Number(found[1]))),
+    all('polygon').map(e => (e.points[0].x + e.points[2].x) / 2),
+  ];
+})()"""
 
 # The time for which the window did not answer at the longest.
 WATCH = """{
@@ -294,7 +308,112 @@ class PageInBrowserTest(TimedTest):
         page = self.page(case / "field.gsi")
         self.assertEqual([line], page.texts(".results samp"))
         self.assertEqual(["Adjusted directions", "Face differences"], page.texts(".results h3"))
-        self.assertNotIn("Save residuals (CSV)", page.texts("button"))
+        self.assertEqual([], page.texts(".picture"))
+        for button in ("Save residuals (CSV)", "Save picture (SVG)"):
+            self.assertNotIn(button, page.texts("button"))
+
+    # ------------------------------------------------------------ the picture of residuals
+
+    def strips(self, page):
+        """Of each panel of the picture its name, and of each strip its name and its greatest residual."""
+        return page.js(
+            "[...document.querySelectorAll('.results .picture svg')].map(svg => [svg.querySelector('title').textContent,"
+            " Object.fromEntries([...svg.querySelectorAll('.name')].map(name => [name.textContent,"
+            " name.nextElementSibling.textContent]))])"
+        )
+
+    def test_the_picture_has_a_strip_for_each_target_and_each_set(self):
+        page = self.page(P7_FIELD)
+        saved = page.saved("Save residuals (CSV)", "P7_residuals.csv").decode().splitlines()
+        rows = [(number, target, residual) for number, target, _, _, residual in csv.reader(saved[1:])]
+        panels = self.strips(page)
+        self.assertEqual(["Residuals by target", "Residuals by set"], [title for title, _ in panels])
+        said = "The diamond is the greatest: +0.320 mgon, set 4, TOWER."
+        self.assertTrue(page.text(".across .caption").endswith(said))
+        for nth, (_, shown) in enumerate(panels):
+            with self.subTest(panels[nth][0]):
+                key = 1 - nth
+                names = list(dict.fromkeys(row[key] for row in rows))
+                greatest = [max((row[2] for row in rows if row[key] == name), key=lambda one: abs(float(one))) for name in names]
+                signed = [one.replace("-", MINUS) if one[0] == "-" else f"+{one}" for one in greatest]
+                self.assertEqual(dict(zip(names, signed)), shown)
+                # The axis has round steps, the same below 0 and above it.
+                axis, dots, diamonds = page.js(PLACES % nth)
+                self.assertEqual([f"{MINUS}0.4", f"{MINUS}0.2", "0", "+0.2", "+0.4"], [label for label, _ in axis])
+                # Each residual has its place on it.
+                (_, zero), (_, end) = axis[2], axis[4]
+                ordered = sorted(rows, key=lambda row: names.index(row[key]))
+                others, marked = ([row for row in ordered if (row[2] == "0.320") == is_marked] for is_marked in (False, True))
+                for drawn, expected in ((dots, others), (diamonds, marked)):
+                    self.assertEqual(len(expected), len(drawn))
+                    for place, (_, _, residual) in zip(drawn, expected):
+                        self.assertAlmostEqual(zero + float(residual) / 0.4 * (end - zero), place, delta=0.02)
+
+    def test_an_axis_has_round_steps_up_to_the_greatest_residual(self):
+        page = self.page()
+        for greatest, most, step, end in [
+            (320, 4, 100, 400), (320, 2, 200, 400), (320, 1, 500, 500), (0, 5, 1, 1), (1, 1, 1, 1), (10_000, 5, 2_000, 10_000),
+            (9_999, 1, 10_000, 10_000), (201, 2, 200, 400), (51, 5, 20, 60),
+        ]:
+            self.assertEqual({"step": step, "end": end}, page.js(f"stepsTo({greatest}, {most})"))
+
+    def test_the_picture_is_told_to_those_who_cannot_see_it(self):
+        page = self.page(P7_FIELD)
+        nodes = page.call("Accessibility.getFullAXTree")["nodes"]
+        images = [node for node in nodes if node.get("role", {}).get("value") == "image"]
+        self.assertEqual(["Residuals by target", "Residuals by set"], [node["name"]["value"] for node in images])
+        for node in images:
+            self.assertEqual(page.text(".across .caption"), node["description"]["value"])
+
+    def test_the_picture_is_drawn_for_the_room_that_there_is(self):
+        page = self.page(P7_FIELD)
+        widths = "[...document.querySelectorAll('.results .picture svg')].map(e => [e.viewBox.baseVal.width, e.getBoundingClientRect().width])"
+        wide = page.js(widths)
+        page.call("Emulation.setDeviceMetricsOverride", width=PHONE[0], height=PHONE[1], deviceScaleFactor=1, mobile=False)
+        page.wait(f"{widths}.every(([drawn]) => drawn < {PHONE[0]})")
+        narrow = page.js(widths)
+        self.assertTrue(all(drawn > PHONE[0] for drawn, _ in wide), wide)
+        # It isn't scaled, so its letters are as large as they say.
+        self.assertEqual([], [one for one in wide + narrow if abs(one[0] - one[1]) > 1])
+
+    def test_many_strips_are_divided_so_that_each_axis_is_near(self):
+        page = self.page(self.file("wide.gsi", bench.field_file(bench.Shape("wide", *WIDE)).encode()))
+        titles = [(title, len(strips)) for title, strips in self.strips(page)]
+        by_set = [("Residuals by set, 1 – 20", 20), ("Residuals by set, 21 – 40", 20)]
+        self.assertEqual([("Residuals by target", WIDE[2]), *by_set], titles)
+
+    def test_where_all_residuals_are_0_the_picture_says_so(self):
+        lines = FIELD.read_bytes().splitlines(True)
+        one_set = lines[: [nth for nth, line in enumerate(lines) if b"42....+00000002" in line][0]]
+        page = self.page(self.file("one.gsi", b"".join([*one_set, lines[-1]])))
+        self.assertTrue(page.text(".across .caption").endswith(" All are 0."), page.text(".across .caption"))
+        self.assertEqual(0, page.js("document.querySelectorAll('.results .picture polygon').length"))
+
+    def test_the_saved_picture_stands_alone_and_is_light(self):
+        saved = [
+            self.page(P7_FIELD, scheme=scheme).saved("Save picture (SVG)", "P7_residuals.svg").decode()
+            for scheme in ("light", "dark")
+        ]
+        self.assertEqual(*saved)
+        svg = ElementTree.fromstring(saved[0].encode())
+        parts = list(svg.iter())
+        self.assertEqual({"svg", "title", "desc", "rect", "text", "g", "line", "path", "polygon"}, {one.tag.rpartition("}")[2] for one in parts})
+        # All its colours and fonts are in it.
+        self.assertEqual([], [one for one in re.findall(r'="([^"]*)"', saved[0]) if re.search(r"var\(|url\(|light-dark", one)])
+        self.assertEqual({"rgb"}, {value.partition("(")[0] for one in parts for name, value in one.items() if name in ("fill", "stroke") and value != "none"})
+        self.assertEqual("system-ui, sans-serif", svg.get("font-family"))
+        texts = [one.text for one in parts if one.tag.endswith("}text")]
+        digest = hashlib.sha256(P7_FIELD.read_bytes()).hexdigest()
+        for said in ("Station P7: Residuals", P7_FIELD.name, f"SHA-256 {digest}", "MAST", "+0.320"):
+            self.assertIn(said, texts)
+        # Nothing stands outside of it.
+        page = browser.Page(self.file("saved.svg", saved[0].encode()), settled=False)
+        self.addCleanup(page.close)
+        self.assertEqual([], page.js(
+            "[...document.querySelectorAll('text')].filter(e => { const box = e.getBoundingClientRect(), all = document"
+            ".documentElement.getBoundingClientRect(); return box.left < all.left || box.right > all.right ||"
+            " box.bottom > all.bottom }).map(e => e.textContent)"
+        ))
 
     # ------------------------------------------------------------ jobs without codes
 
@@ -594,6 +713,10 @@ class PageInBrowserTest(TimedTest):
         heads = page.texts("#protocol .bars thead th:not(:first-child)")
         self.assertEqual([f"Set {nth + 1}" for nth in range(WIDE[1])], heads)
         self.assertEqual(WIDE[1] * WIDE[2], page.js("document.querySelectorAll('#protocol .bars tbody td').length"))
+        # No panel of the picture is higher than a page, or cut by its end.
+        panels = page.js("[...document.querySelectorAll('#protocol .picture svg')].map(e => [e.getBoundingClientRect().height, getComputedStyle(e).breakInside])")
+        self.assertEqual(3, len(panels))
+        self.assertTrue(all(height < 265 / 25.4 * 96 and inside == "avoid" for height, inside in panels), panels)
         self.assertEqual("none", page.js("getComputedStyle($('main')).display"))
 
     @unittest.skipUnless(shutil.which("pdftotext"), "no pdftotext is found")
@@ -602,9 +725,9 @@ class PageInBrowserTest(TimedTest):
         path = self.file("printed.pdf", page.printed())
         text = subprocess.run(["pdftotext", "-layout", path, "-"], capture_output=True, text=True).stdout
         pages = text.split("\f")[:-1]
-        shown = page.texts(".results td > span:first-child")
-        counts = Counter(re.findall(r"(?<![\d.])[+\u2212]\d+\.\d\d\d?(?!\d)", text))
-        self.assertEqual(Counter(value for value in shown if value[0] in "+\u2212"), counts)
+        shown = " ".join(page.texts(".results td > span:first-child, #protocol .across .caption, #protocol .picture text"))
+        number = re.compile(r"(?<![\d.])[+\u2212]\d+\.\d\d\d?(?!\d)")
+        self.assertEqual(Counter(number.findall(shown)), Counter(number.findall(text)))
         for number, one in enumerate(pages, 1):
             self.assertIn(f"{number} / {len(pages)}", one)
             if re.search(r"^ *P\d+ +[+\u2212]", one, re.MULTILINE):
@@ -660,6 +783,9 @@ class PageInBrowserTest(TimedTest):
         # A bar has the colour of the text.
         bar = page.js(style.format("td:not(.greatest) .bar", ", '::before'", "backgroundColor"))
         self.assertEqual(page.js(style.format("td:not(.greatest)", "", "color")), bar)
+        # So have dots and diamonds, which differ in form.
+        for selector, name in (("path", "stroke"), ("polygon", "fill"), ("text", "fill")):
+            self.assertEqual(bar, page.js(style.format(f".picture {selector}", "", name)))
 
     def test_all_is_reached_by_keyboard(self):
         page = self.page(FIELD, P7_FIELD, SHEET)
@@ -799,7 +925,10 @@ CONTRASTS = """(() => {
   for (const e of document.querySelectorAll('body *')) {
     if (!e.checkVisibility() || e.closest('#release')) continue;
     if (![...e.childNodes].some(node => node.nodeType === 3 && node.data.trim())) continue;
-    const [a, b] = [light(rgba(getComputedStyle(e).color)), light(behind(e))];
+    // (letters of the picture have a stripe behind them at the worst)
+    const stripe = e.closest('svg')?.querySelector('rect');
+    const [a, b] = stripe ? [light(rgba(getComputedStyle(e).fill)), light(rgba(getComputedStyle(stripe).fill))]
+      : [light(rgba(getComputedStyle(e).color)), light(behind(e))];
     const contrast = (Math.max(a, b) + 0.05) / (Math.min(a, b) + 0.05);
     if (contrast < 4.5) weak.push(`${e.tagName} ${e.className}: ${contrast.toFixed(2)}: ${e.textContent.slice(0, 40)}`);
   }

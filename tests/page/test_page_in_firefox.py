@@ -42,14 +42,31 @@ class PageInFirefoxTest(TimedTest):
             raise unittest.SkipTest("the toolchain that makes the page is missing")
         make_page()
 
-    def test_each_step_has_its_verdict(self):
+    def page(self):
+        """The page in a browser of its own."""
         page = firefox.Page(PAGE)
         self.addCleanup(page.close)
         if int(page.version.split(".")[0]) < firefox.FIRST:
             self.skipTest(f"Firefox {page.version} has no WebAssembly with 64-bit memory")
+        return page
+
+    def test_each_step_has_its_verdict(self):
+        page = self.page()
         for (do, *words), verdict in STEPS:
             getattr(page, do)(*words)
             self.assertEqual(verdict, page.wait_text("#verdict", verdict), words)
+
+    def test_the_picture_has_the_colours_of_the_style(self):
+        page = self.page()
+        page.give(EXAMPLES[0])
+        firefox.until(lambda: page.text(".picture svg"))
+        for selector, name, token in (("path", "stroke", "bar"), ("polygon", "fill", "greatest"), ("rect", "fill", "sunk")):
+            shown, expected = page.js(
+                f"const part = document.querySelector('.picture {selector}'), probe = document.createElement('i');"
+                f"probe.style.color = 'var(--{token})'; document.body.append(probe);"
+                f"return [getComputedStyle(part).{name}, getComputedStyle(probe).color]"
+            )
+            self.assertEqual(expected, shown)
 
 
 if __name__ == "__main__":

@@ -1,0 +1,293 @@
+// The picture of a station's residuals: a strip for each target and one for each set, over an axis
+// in mgon.
+//
+// Its numbers stand as the call wrote them; what is computed here says where they stand. It is
+// drawn for the room that there is and never scaled, so that its letters are as large on a phone as
+// on a screen. Its colours are the tokens of the style; in a file of its own they are those of light.
+import { element } from './elements.js';
+import { APART, mgonOf, signed } from './numbers.js';
+import { greatestOf, sizeOf } from './records.js';
+import { text } from './texts.js';
+
+/**
+ * @typedef {import('./records.js').Residual} Residual
+ * @typedef {import('./records.js').Residuals} Residuals
+ * A strip: its name, and its residuals.
+ * @typedef {{ name: string, rows: Residual[] }} Strip
+ * Strips below one axis, and how high in its strip a residual stands, from -1 at the top to 1: the
+ * same set, or target, stands at one height in all strips.
+ * @typedef {{ title: string, heading: string, strips: Strip[],
+ *   levelOf: (row: Residual) => number }} Panel
+ * An axis: its step and its end, in 0.001 mgon, and where so many of these stand.
+ * @typedef {{ step: number, end: number, x: (units: number) => number }} Axis
+ */
+
+// Lengths in pixels.
+/** The height of a strip, what is above the first one, and how far from its middle a dot may be. */
+const STRIP = 22;
+const ABOVE = 24;
+const SPREAD = 6;
+/** The size of letters, and the width of one where all are as wide. */
+const LETTER = 12;
+const ADVANCE = 7.3;
+/** How far below the middle of a strip its letters stand, and a line of text below another. */
+const BELOW = 4.3;
+const LINE_HEIGHT = 18;
+/** What is free at both sides of a panel, and at both ends of the axis for the numbers there. */
+const GAP = 4;
+const EDGE = 24;
+/** The width of a strip's greatest residual, and the least of a step of the axis. */
+const NUMBER = 54;
+const STEP = 44;
+/** The width of a dot, in a strip of few residuals and in others, and half that of a diamond. */
+const LARGE_DOT = 7;
+const SMALL_DOT = 5;
+const DIAMOND = 6;
+/** The width of a panel on paper, where the style makes it smaller. */
+const PRINTED = 400;
+/** The width of a file of its own, what is free around its panels, and the size of its title. */
+const FILED = 720;
+const MARGIN = 24;
+const TITLE = 16;
+
+/** So many strips at most stand below one axis: a panel has room on a page of paper. */
+const MOST_STRIPS = 30;
+/** So many residuals of a strip are few. */
+const SPARSE = 12;
+
+const INK = 'var(--ink)';
+const QUIET = 'var(--quiet)';
+const LINE = 'var(--line)';
+const STRIPE = 'var(--sunk)';
+const DOT = 'var(--bar)';
+const GREATEST = 'var(--greatest)';
+const PAPER = 'var(--card)';
+
+const FONT = 'system-ui, sans-serif';
+const ONE_WIDTH = 'ui-monospace, monospace';
+
+const SVG = 'http://www.w3.org/2000/svg';
+
+/**
+ * Makes a part of a picture at the end of another.
+ * @param {string} tag
+ * @param {Record<string, string | number>} attributes
+ * @param {Element} parent
+ */
+function shape(tag, attributes, parent, content = '') {
+  const made = document.createElementNS(SVG, tag);
+  for (const [name, value] of Object.entries(attributes)) made.setAttribute(name, written(value));
+  made.textContent = content;
+  return parent.appendChild(made);
+}
+
+/** The text of a length, of which no more than two decimals are seen. */
+const written = (/** @type {string | number} */ value) =>
+  typeof value === 'number' ? String(Number(value.toFixed(2))) : value;
+
+// ---------------------------------------------------------------- what is drawn
+
+/** Strips in groups, as even as can be, of which each has room below one axis. */
+function grouped(/** @type {Strip[]} */ strips) {
+  const groups = Math.ceil(strips.length / MOST_STRIPS), size = Math.ceil(strips.length / groups);
+  return Array.from({ length: groups }, (_, nth) => strips.slice(nth * size, (nth + 1) * size));
+}
+
+/**
+ * The panels of a station: its targets, and then its sets.
+ * @returns {Panel[]}
+ */
+function panelsOf(/** @type {Residuals} */ { rows, sets, targets }) {
+  const names = { target: targets, set: sets };
+  const panelsBy = (key, other, title) => {
+    const levelOf = row => (2 * names[other].indexOf(row[other]) + 1) / names[other].length - 1;
+    const all = names[key].map(name => ({ name, rows: rows.filter(row => row[key] === name) }));
+    return grouped(all).map((strips, _, groups) => {
+      const part = groups.length > 1 ? `, ${strips[0].name} – ${strips.at(-1).name}` : '';
+      return { title: title + part, heading: text(key), strips, levelOf };
+    });
+  };
+  return [
+    ...panelsBy('target', 'set', text('pictureByTarget')),
+    ...panelsBy('set', 'target', text('pictureBySet')),
+  ];
+}
+
+/** The greatest size of a residual, in 0.001 mgon. */
+const greatestUnits = (/** @type {Residuals} */ residuals) =>
+  Math.abs(unitsOf(greatestOf(residuals)));
+
+/** What the picture shows, in two sentences. */
+function pictureTexts(/** @type {Residuals} */ residuals) {
+  const { set, target, residual } = greatestOf(residuals);
+  const greatest = sizeOf(residual) === 0 ? text('pictureZero')
+    : text('pictureGreatest', { size: signed(residual), set, target });
+  return [text('pictureHow'), greatest];
+}
+
+// ---------------------------------------------------------------- where it stands
+
+/** A residual in 0.001 mgon, as its three decimals say. */
+const unitsOf = (/** @type {Residual} */ { residual }) => Number(residual.replace('.', ''));
+
+/** The round step and the end of an axis, in 0.001 mgon, with at most so many steps to the end. */
+function stepsTo(/** @type {number} */ greatest, /** @type {number} */ most) {
+  for (let ten = 1; ; ten *= 10) {
+    for (const step of [ten, 2 * ten, 5 * ten]) {
+      const steps = Math.max(1, Math.ceil(greatest / step));
+      if (steps <= most) return { step, end: steps * step };
+    }
+  }
+}
+
+/**
+ * The axis of a panel of this width, between the names and the numbers of its strips.
+ * @param {Panel} panel
+ * @param {number} greatest
+ * @param {number} width
+ * @returns {Axis}
+ */
+function axisOf({ heading, strips }, greatest, width) {
+  const longest = Math.max(heading.length, ...strips.map(({ name }) => name.length));
+  const left = GAP + longest * ADVANCE + EDGE, right = width - GAP - NUMBER - EDGE;
+  const middle = (left + right) / 2, reach = (right - left) / 2;
+  const { step, end } = stepsTo(greatest, Math.max(1, Math.floor(reach / STEP)));
+  return { step, end, x: units => middle + units / end * reach };
+}
+
+// ---------------------------------------------------------------- drawing
+
+/** What stands above the strips, and the lines of the axis through them. */
+function drawAxis(/** @type {Axis} */ { step, end, x }, heading, width, bottom, parent) {
+  const letters = { y: ABOVE - 2 * GAP, fill: QUIET }, bold = { ...letters, 'font-weight': 600 };
+  shape('text', { x: GAP, ...bold }, parent, heading);
+  shape('text', { x: width - GAP, 'text-anchor': 'end', ...bold }, parent, text('greatest'));
+  for (let units = -end; units <= end; units += step) {
+    const at = x(units), stroke = units === 0 ? QUIET : LINE;
+    shape('line', { x1: at, x2: at, y1: ABOVE - GAP, y2: bottom, stroke }, parent);
+    const size = mgonOf(Math.abs(units), APART), number = signed(units < 0 ? `-${size}` : size);
+    shape('text', { x: at, 'text-anchor': 'middle', ...letters }, parent, number);
+  }
+}
+
+/** Dots at these places: lines that are too short to be seen, with round ends. */
+function drawDots(/** @type {number[][]} */ places, /** @type {number} */ size, parent) {
+  const d = places.map(([x, y]) => `M${written(x)} ${written(y)}h.01`).join('');
+  const round = { 'stroke-width': size, 'stroke-linecap': 'round' };
+  shape('path', { d, fill: 'none', stroke: DOT, ...round }, parent);
+}
+
+function drawDiamond(/** @type {number[]} */ [x, y], parent) {
+  const corners = [[x - DIAMOND, y], [x, y - DIAMOND], [x + DIAMOND, y], [x, y + DIAMOND]];
+  shape('polygon', { points: corners.flat().map(written).join(' '), fill: GREATEST }, parent);
+}
+
+/**
+ * Draws a panel.
+ * @param {Panel} panel
+ * @param {number} greatest the greatest size of all residuals, in 0.001 mgon
+ * @param {number} width
+ * @param {Element} parent
+ * @returns {number} how high it is
+ */
+function drawPanel(panel, greatest, width, parent) {
+  const { heading, strips, levelOf } = panel, axis = axisOf(panel, greatest, width);
+  const isGreatest = row => greatest > 0 && Math.abs(unitsOf(row)) === greatest;
+  const topOf = nth => ABOVE + nth * STRIP, bottom = topOf(strips.length);
+  for (let nth = 0; nth < strips.length; nth += 2)
+    shape('rect', { x: 0, y: topOf(nth), width, height: STRIP, fill: STRIPE }, parent);
+  drawAxis(axis, heading, width, bottom, parent);
+  strips.forEach(({ name, rows }, nth) => {
+    const middle = topOf(nth) + STRIP / 2, most = greatestOf({ rows });
+    const placeOf = row => [axis.x(unitsOf(row)), middle + levelOf(row) * SPREAD];
+    const others = rows.filter(row => !isGreatest(row)), isSparse = rows.length <= SPARSE;
+    const look = isGreatest(most) ? { fill: GREATEST, 'font-weight': 700 } : { fill: INK };
+    const letters = { y: middle + BELOW, ...look }, number = signed(most.residual);
+    shape('text', { x: GAP, 'font-family': ONE_WIDTH, class: 'name', ...letters }, parent, name);
+    shape('text', { x: width - GAP, 'text-anchor': 'end', ...letters }, parent, number);
+    drawDots(others.map(placeOf), isSparse ? LARGE_DOT : SMALL_DOT, parent);
+    for (const row of rows.filter(isGreatest)) drawDiamond(placeOf(row), parent);
+  });
+  return bottom;
+}
+
+/**
+ * A picture of this width and height, with a title and a description for those who can't see it.
+ * @param {(svg: Element) => number} draw what draws in it, and answers how high that is
+ */
+function pictureOf(title, description, width, draw) {
+  const svg = document.createElementNS(SVG, 'svg');
+  const looks = { role: 'img', 'font-family': FONT, 'font-size': LETTER, width };
+  for (const [name, value] of Object.entries(looks)) svg.setAttribute(name, written(value));
+  shape('title', {}, svg, title);
+  shape('desc', {}, svg, description);
+  const height = draw(svg);
+  svg.setAttribute('height', String(height));
+  svg.setAttribute('viewBox', `0 0 ${width} ${height}`);
+  return svg;
+}
+
+// ---------------------------------------------------------------- on the page
+
+/** How wide the style has a panel, which is a column; where nothing is shown, as on paper. */
+const widthOf = (/** @type {Element} */ around) =>
+  Math.floor(parseFloat(getComputedStyle(around).gridTemplateColumns)) || PRINTED;
+
+/** Shows the panels of the picture, and draws them anew where there is more room or less. */
+export function showPicture(/** @type {Residuals} */ residuals, /** @type {Element} */ parent) {
+  const panels = panelsOf(residuals), greatest = greatestUnits(residuals);
+  const said = pictureTexts(residuals).join(' ');
+  element('p', said, parent, { className: 'caption' });
+  const around = element('div', '', parent, { className: 'picture' });
+  let drawn = 0;
+  const draw = () => {
+    const width = widthOf(around);
+    if (width === drawn) return;
+    drawn = width;
+    around.replaceChildren(...panels.map(panel =>
+      pictureOf(panel.title, said, width, svg => drawPanel(panel, greatest, width, svg))));
+  };
+  draw();
+  new ResizeObserver(draw).observe(around);
+}
+
+// ---------------------------------------------------------------- as a file
+
+/** Writes the colours of light in the place of the tokens, which a file of its own has not. */
+function inLight(/** @type {Element} */ svg) {
+  const probe = element('span', '', document.body, { hidden: true });
+  probe.style.colorScheme = 'light';
+  for (const name of ['fill', 'stroke']) {
+    for (const part of svg.querySelectorAll(`[${name}^=var]`)) {
+      probe.style.color = part.getAttribute(name);
+      part.setAttribute(name, getComputedStyle(probe).color);
+    }
+  }
+  probe.remove();
+}
+
+/**
+ * The picture as a file: the station and the field file with its digest, and all panels below each
+ * other.
+ * @param {import('./files.js').Station} station
+ * @param {Residuals} residuals
+ */
+export function pictureFile({ field, listed }, residuals) {
+  const texts = pictureTexts(residuals), greatest = greatestUnits(residuals);
+  const title = `${text('station', { name: listed.name })}: ${text('residuals')}`;
+  const svg = pictureOf(title, texts.join(' '), FILED, whole => {
+    let y = MARGIN + LETTER;
+    const large = { y, fill: INK, 'font-size': TITLE, 'font-weight': 700 };
+    shape('rect', { width: '100%', height: '100%', fill: PAPER }, whole);
+    shape('text', { x: MARGIN, ...large }, whole, title);
+    for (const line of [...texts, field.name, text('digest', { digest: field.digest })])
+      shape('text', { x: MARGIN, y: y += LINE_HEIGHT, fill: QUIET }, whole, line);
+    for (const panel of panelsOf(residuals)) {
+      const part = shape('g', { transform: `translate(${MARGIN} ${y += MARGIN})` }, whole);
+      y += drawPanel(panel, greatest, FILED - 2 * MARGIN, part);
+    }
+    return y + MARGIN;
+  });
+  inLight(svg);
+  return `<?xml version="1.0" encoding="utf-8"?>\n${new XMLSerializer().serializeToString(svg)}\n`;
+}
