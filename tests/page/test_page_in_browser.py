@@ -734,6 +734,16 @@ class PageInBrowserTest(TimedTest):
                 first = re.search(r"^ *(Target|P\d+) ", one, re.MULTILINE)
                 self.assertEqual("Target", first[1], one[:300])
 
+    @unittest.skipUnless(shutil.which("pdftotext"), "no pdftotext is found")
+    def test_what_has_no_protocol_is_printed_as_it_is_shown(self):
+        text = FIELD.read_text().replace("25000010", "2500001X", 1)
+        page = self.page(self.file("fault.gsi", text.encode()))
+        path = self.file("printed.pdf", page.printed())
+        printed = subprocess.run(["pdftotext", "-layout", path, "-"], capture_output=True, text=True).stdout
+        for said in ("Refused.", "refused: block 5: Hz Digits", "Line 5 of fault.gsi, block 5:", "What to do: "):
+            self.assertIn(said, printed)
+        self.assertNotIn("Add files", printed)
+
     # ------------------------------------------------------------ everyone
 
     def test_what_is_hidden_is_not_shown(self):
