@@ -3,7 +3,7 @@
 //
 // Its numbers stand as the call wrote them; what is computed here says where they stand. It is
 // drawn for the room that there is and never scaled, so that its letters are as large on a phone as
-// on a screen. Its colours are the tokens of the style; in a file of its own they are those of light.
+// on a screen. Its colours are the tokens of the style; in a file of its own they are of light.
 import { element } from './elements.js';
 import { APART, mgonOf, signed } from './numbers.js';
 import { greatestOf, sizeOf } from './records.js';
@@ -37,7 +37,7 @@ const LINE_HEIGHT = 18;
 const GAP = 4;
 const EDGE = 24;
 /** The width of a strip's greatest residual, and the least of a step of the axis. */
-const NUMBER = 54;
+const NUMBER = 62;
 const STEP = 44;
 /** The width of a dot, in a strip of few residuals and in others, and half that of a diamond. */
 const LARGE_DOT = 7;
@@ -52,6 +52,8 @@ const TITLE = 16;
 
 /** So many strips at most stand below one axis: a panel has room on a page of paper. */
 const MOST_STRIPS = 30;
+/** The least step of an axis, in 0.001 mgon: smaller ones have numbers wider than their room. */
+const LEAST_STEP = 10;
 /** So many residuals of a strip are few. */
 const SPARSE = 12;
 
@@ -119,9 +121,9 @@ const greatestUnits = (/** @type {Residuals} */ residuals) =>
 
 /** What the picture shows, in two sentences. */
 function pictureTexts(/** @type {Residuals} */ residuals) {
-  const { set, target, residual } = greatestOf(residuals);
-  const greatest = sizeOf(residual) === 0 ? text('pictureZero')
-    : text('pictureGreatest', { size: signed(residual), set, target });
+  const { set, target, residual } = greatestOf(residuals), size = signed(residual);
+  const greatest = sizeOf(residual) === 0
+    ? text('pictureZero', { size }) : text('pictureGreatest', { size, set, target });
   return [text('pictureHow'), greatest];
 }
 
@@ -132,7 +134,7 @@ const unitsOf = (/** @type {Residual} */ { residual }) => Number(residual.replac
 
 /** The round step and the end of an axis, in 0.001 mgon, with at most so many steps to the end. */
 function stepsTo(/** @type {number} */ greatest, /** @type {number} */ most) {
-  for (let ten = 1; ; ten *= 10) {
+  for (let ten = LEAST_STEP; ; ten *= 10) {
     for (const step of [ten, 2 * ten, 5 * ten]) {
       const steps = Math.max(1, Math.ceil(greatest / step));
       if (steps <= most) return { step, end: steps * step };

@@ -343,7 +343,7 @@ export const TEXTS = {
     de: 'Die Raute ist die größte: {size} mgon, Satz {set}, {target}.',
     fr: 'Le losange est le plus grand : {size} mgon, série {set}, {target}.',
   },
-  pictureZero: { en: 'All are 0.', de: 'Alle sind 0.', fr: 'Tous sont nuls.' },
+  pictureZero: { en: 'All are {size} mgon.', de: 'Alle sind {size} mgon.', fr: 'Tous sont {size} mgon.' },
   deviation: {
     en: 'Standard deviation of one two-face direction: {size} mgon, {n} degree of freedom.|Standard deviation of one two-face direction: {size} mgon, {n} degrees of freedom.',
     de: 'Standardabweichung einer Richtung aus beiden Lagen: {size} mgon, {n} Freiheitsgrad.|Standardabweichung einer Richtung aus beiden Lagen: {size} mgon, {n} Freiheitsgrade.',

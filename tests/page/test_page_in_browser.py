@@ -175,6 +175,14 @@ PLACES = """(() => {
   ];
 })()"""
 
+# The texts of a panel of the picture that stand in each other, or outside of it.
+OVERLAPS = """[...document.querySelectorAll('.results .picture svg')].flatMap(svg => {
+  const all = [...svg.querySelectorAll('text')].map(e => [e.textContent, e.getBoundingClientRect()]);
+  const { left, right } = svg.getBoundingClientRect();
+  return all.filter(([, a], nth) => a.left < left || a.right > right || all.slice(nth + 1).some(([, b]) =>
+    a.left < b.right && b.left < a.right && a.top + 3 < b.bottom && b.top + 3 < a.bottom)).map(([text]) => text);
+})"""
+
 # The time for which the window did not answer at the longest.
 WATCH = """{
   let last = performance.now();
@@ -352,8 +360,8 @@ class PageInBrowserTest(TimedTest):
     def test_an_axis_has_round_steps_up_to_the_greatest_residual(self):
         page = self.page()
         for greatest, most, step, end in [
-            (320, 4, 100, 400), (320, 2, 200, 400), (320, 1, 500, 500), (0, 5, 1, 1), (1, 1, 1, 1), (10_000, 5, 2_000, 10_000),
-            (9_999, 1, 10_000, 10_000), (201, 2, 200, 400), (51, 5, 20, 60),
+            (320, 4, 100, 400), (320, 2, 200, 400), (320, 1, 500, 500), (201, 2, 200, 400), (51, 5, 20, 60),
+            (0, 5, 10, 10), (1, 1, 10, 10), (10_000, 5, 2_000, 10_000), (9_999, 1, 10_000, 10_000),
         ]:
             self.assertEqual({"step": step, "end": end}, page.js(f"stepsTo({greatest}, {most})"))
 
@@ -376,6 +384,18 @@ class PageInBrowserTest(TimedTest):
         # It isn't scaled, so its letters are as large as they say.
         self.assertEqual([], [one for one in wide + narrow if abs(one[0] - one[1]) > 1])
 
+    def test_no_letters_of_the_picture_stand_in_each_other(self):
+        """Of the shortest names and the longest, with the longest numbers of an axis, in each language."""
+        long = P7_FIELD.read_bytes().replace(b"00000000000TOWER", b"TOWER_OF_16_LETT")
+        for size in (SCREEN, PHONE):
+            page = self.page(FIELD, self.file("long.gsi", long), size=size)
+            for code in page.js("Object.keys(LANGUAGES)"):
+                page.js(f"languages.value = '{code}'; languages.onchange()")
+                page.settle()
+                page.wait("document.querySelectorAll('.results .picture svg').length === 4")
+                with self.subTest(size=size, language=code):
+                    self.assertEqual([], page.js(OVERLAPS))
+
     def test_many_strips_are_divided_so_that_each_axis_is_near(self):
         page = self.page(self.file("wide.gsi", bench.field_file(bench.Shape("wide", *WIDE)).encode()))
         titles = [(title, len(strips)) for title, strips in self.strips(page)]
@@ -386,7 +406,7 @@ class PageInBrowserTest(TimedTest):
         lines = FIELD.read_bytes().splitlines(True)
         one_set = lines[: [nth for nth, line in enumerate(lines) if b"42....+00000002" in line][0]]
         page = self.page(self.file("one.gsi", b"".join([*one_set, lines[-1]])))
-        self.assertTrue(page.text(".across .caption").endswith(" All are 0."), page.text(".across .caption"))
+        self.assertTrue(page.text(".across .caption").endswith(" All are 0.000 mgon."), page.text(".across .caption"))
         self.assertEqual(0, page.js("document.querySelectorAll('.results .picture polygon').length"))
 
     def test_the_saved_picture_stands_alone_and_is_light(self):
