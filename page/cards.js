@@ -7,7 +7,7 @@ import { pictureFile } from './picture.js';
 import { placeOf } from './place.js';
 import { protocolFile } from './protocol.js';
 import { isComplete, residualsIn } from './records.js';
-import { showResults } from './results.js';
+import { showResultsInTurn } from './results.js';
 import { facesFile } from './tables.js';
 import { text } from './texts.js';
 
@@ -141,11 +141,12 @@ function showOpening(/** @type {Card} */ card, desk, isOpen, parent) {
     if (!part.open || isFilled) return;
     isFilled = true;
     await desk.load(card);
-    part.classList.add('filled');
     isFilled = card.results !== undefined;
-    if (!isFilled) return;
-    showButtons(card, desk, part);
-    showResults(card, part);
+    if (isFilled) {
+      showButtons(card, desk, part);
+      await showResultsInTurn(card, part);
+    }
+    part.classList.add('filled');
   };
   part.open = isOpen;
 }

@@ -7,34 +7,73 @@ import { accuracyIn, differencesIn, residualsIn } from './records.js';
 import { accuracyNote, differencesTable, directionsTable, facesTables, residualsTable } from './tables.js';
 import { text } from './texts.js';
 
+/** @typedef {import('./answers.js').Card} Card */
+
 /** Why there are no adjusted directions, and so no residuals. */
 function showRefused(/** @type {import('./answers.js').Answer} */ answer, parent) {
   ofProgram('samp', answer.line, element('p', '', parent));
   ofProgram('p', meaningOf(answer), parent);
 }
 
-/** The results of a station, on the page and in the protocol. */
-export function showResults(/** @type {import('./answers.js').Card} */ { station, results, answers }, parent) {
+/**
+ * A section of the results: its title, what fills it, and how it is laid out.
+ * @typedef {{ title: string, fill: (part: Element) => void, className?: string }} Section
+ */
+
+/**
+ * The results of a station, section by section.
+ * @param {Card} card
+ * @returns {Section[]}
+ */
+function sectionsOf({ station, results, answers }) {
+  const { directions, residuals, report } = results;
+  /** @type {Section[]} */
+  const sections = answers.filter(({ differences }) => differences).map(({ differences, other }) => ({
+    title: text('differences', { name: other.name }),
+    fill(part) {
+      differencesTable(differencesIn(differences), part);
+      element('p', text('differencesNote'), part, { className: 'quiet' });
+    },
+  }));
+  sections.push({
+    title: text('directions'),
+    fill(part) {
+      if (directions.status === ACCEPTED) directionsTable(directions.line, station, part);
+      else showRefused(directions, part);
+    },
+  });
+  if (residuals.status === ACCEPTED) {
+    const read = residualsIn(residuals.line);
+    sections.push({
+      title: text('residuals'),
+      fill(part) {
+        residualsTable(read, part);
+        if (report.status === ACCEPTED) accuracyNote(accuracyIn(report.line), part);
+      },
+    });
+    sections.push({ title: text('picture'), className: 'across', fill: part => showPicture(read, part) });
+  }
+  sections.push({ title: text('faces'), fill: part => facesTables(station, part) });
+  return sections;
+}
+
+function showSection(/** @type {Section} */ { title, fill, className = '' }, parent) {
+  const part = element('section', '', parent, { className });
+  element('h3', title, part);
+  fill(part);
+}
+
+/** Shows the results of a station. */
+export function showResults(/** @type {Card} */ card, parent) {
   const around = element('div', '', parent, { className: 'beside' });
-  const section = (title, className = '') => {
-    const part = element('section', '', around, { className });
-    element('h3', title, part);
-    return part;
-  };
-  for (const { differences, other } of answers) {
-    if (!differences) continue;
-    const part = section(text('differences', { name: other.name }));
-    differencesTable(differencesIn(differences), part);
-    element('p', text('differencesNote'), part, { className: 'quiet' });
+  for (const section of sectionsOf(card)) showSection(section, around);
+}
+
+/** Shows them one after the other, so that no large station holds the window. */
+export async function showResultsInTurn(/** @type {Card} */ card, parent) {
+  const around = element('div', '', parent, { className: 'beside' });
+  for (const section of sectionsOf(card)) {
+    showSection(section, around);
+    await new Promise(done => setTimeout(done));
   }
-  const directions = section(text('directions'));
-  if (results.directions.status === ACCEPTED) directionsTable(results.directions.line, station, directions);
-  else showRefused(results.directions, directions);
-  if (results.residuals.status === ACCEPTED) {
-    const residuals = residualsIn(results.residuals.line), part = section(text('residuals'));
-    residualsTable(residuals, part);
-    if (results.report.status === ACCEPTED) accuracyNote(accuracyIn(results.report.line), part);
-    showPicture(residuals, section(text('picture'), 'across'));
-  }
-  facesTables(station, section(text('faces')));
 }

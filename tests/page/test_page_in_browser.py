@@ -348,6 +348,8 @@ class PageInBrowserTest(TimedTest):
                 # The axis has round steps, the same below 0 and above it.
                 axis, dots, diamonds = page.js(PLACES % nth)
                 self.assertEqual([f"{MINUS}0.4", f"{MINUS}0.2", "0", "+0.2", "+0.4"], [label for label, _ in axis])
+                steps = [right - left for (_, left), (_, right) in zip(axis, axis[1:])]
+                self.assertTrue(all(step > 0 and abs(step - steps[0]) < 0.05 for step in steps), axis)
                 # Each residual has its place on it.
                 (_, zero), (_, end) = axis[2], axis[4]
                 ordered = sorted(rows, key=lambda row: names.index(row[key]))
