@@ -30,7 +30,7 @@ export const rowsOf = (/** @type {{ bytes: Uint8Array }} */ file) =>
 
 /**
  * What a file is. Field files have GSI words in their lines, sheets begin with 'sheet', tables have a
- * number at the end of a line.
+ * number at the end of a line. One with its unit makes a table too, which is then refused at that row.
  * @returns {Kind}
  */
 export function kindOf(/** @type {string} */ name, /** @type {Uint8Array} */ bytes) {
@@ -41,7 +41,7 @@ export function kindOf(/** @type {string} */ name, /** @type {Uint8Array} */ byt
   if (head.startsWith('PK') || /\.(xlsx?|ods)$/i.test(name)) return 'spreadsheet';
   if (/[\0-\x08\x0e-\x1f]/.test(head)) return 'other';
   if (/^"?sheet"?,/.test(head)) return 'sheet';
-  if (lines.some(line => /[,;\t ]\s*"?[+-]?\d[\d.,'"°-]*"?[,;\s]*$/.test(line))) return 'table';
+  if (lines.some(line => /[,;\t ]\s*"?[+-]?\d[\d.,'"°-]*( ?gon)?"?[,;\s]*$/i.test(line))) return 'table';
   return 'other';
 }
 

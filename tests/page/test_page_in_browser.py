@@ -601,6 +601,15 @@ class PageInBrowserTest(TimedTest):
         agrees = "Agrees. 6 targets within 0.004 mgon of the least-squares directions."
         self.assertEqual([["good", "Station P7", P7_HEADLINE, agrees]], self.cards(page))
 
+    def test_a_table_of_any_writing_is_known_as_one(self):
+        """So that what is wrong in it is said by row, and not that it isn't used."""
+        page = self.page()
+        for text in ("A,0.5", "A;0,5", "A\t0.5", '"A","0.5"', "A   0.5", "A,0.5,", "A,0.5 gon", '"A","0.5gon"', "Ziel;Richtung\nA;0,5\n"):
+            self.assertEqual("table", page.js(f"kindOf('a.txt', new TextEncoder().encode({json.dumps(text)}))"), text)
+        page.give(P7_FIELD, self.file("gon.csv", FOUR_DECIMALS.replace(b"\n", b" gon\n")))
+        self.assertEqual("refused: table row 1: Number", page.text(".exact samp"))
+        self.assertIn("leave out the unit", page.text(".explanation"))
+
     def test_what_belongs_together_is_found_by_name_and_by_station(self):
         page = self.page(P7_FIELD, FIELD, P7_TABLE, TABLE, P7_SHEET, SHEET)
         self.assertEqual([("good", "Station P7", 4), ("good", "Station S1", 4)], [
