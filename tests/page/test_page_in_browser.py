@@ -330,34 +330,43 @@ class PageInBrowserTest(TimedTest):
             " name.nextElementSibling.textContent]))])"
         )
 
-    def test_the_picture_has_a_strip_for_each_target_and_each_set(self):
-        page = self.page(P7_FIELD)
+    def residuals(self, page):
+        """The residuals that are saved: of each its set, its target and its size, as it is written."""
         saved = page.saved("Save residuals (CSV)", "P7_residuals.csv").decode().splitlines()
-        rows = [(number, target, residual) for number, target, _, _, residual in csv.reader(saved[1:])]
-        panels = self.strips(page)
-        self.assertEqual(["Residuals by target", "Residuals by set"], [title for title, _ in panels])
+        return [(number, target, residual) for number, target, _, _, residual in csv.reader(saved[1:])]
+
+    def test_the_picture_has_a_strip_for_each_target_and_each_set(self):
+        page = self.page()
+        page.drop(P7_FIELD)
+        rows, expected = self.residuals(page), []
+        for title, key in (("Residuals by target", 1), ("Residuals by set", 0)):
+            strips = {}
+            for row in rows:
+                strips[row[key]] = max(strips.get(row[key], "0"), row[2], key=lambda one: abs(float(one)))
+            signed = {name: one.replace("-", MINUS) if one[0] == "-" else f"+{one}" for name, one in strips.items()}
+            expected.append([title, signed])
+        self.assertEqual(expected, self.strips(page))
         said = "The diamond is the greatest: +0.320 mgon, set 4, TOWER."
         self.assertTrue(page.text(".across .caption").endswith(said))
-        for nth, (_, shown) in enumerate(panels):
-            with self.subTest(panels[nth][0]):
-                key = 1 - nth
-                names = list(dict.fromkeys(row[key] for row in rows))
-                greatest = [max((row[2] for row in rows if row[key] == name), key=lambda one: abs(float(one))) for name in names]
-                signed = [one.replace("-", MINUS) if one[0] == "-" else f"+{one}" for one in greatest]
-                self.assertEqual(dict(zip(names, signed)), shown)
-                # The axis has round steps, the same below 0 and above it.
+
+    def test_each_residual_of_the_picture_has_its_place_on_the_axis(self):
+        page = self.page(P7_FIELD)
+        rows = self.residuals(page)
+        for nth, (title, strips) in enumerate(self.strips(page)):
+            with self.subTest(title):
                 axis, dots, diamonds = page.js(PLACES % nth)
                 self.assertEqual([f"{MINUS}0.4", f"{MINUS}0.2", "0", "+0.2", "+0.4"], [label for label, _ in axis])
-                steps = [right - left for (_, left), (_, right) in zip(axis, axis[1:])]
-                self.assertTrue(all(step > 0 and abs(step - steps[0]) < 0.05 for step in steps), axis)
-                # Each residual has its place on it.
                 (_, zero), (_, end) = axis[2], axis[4]
-                ordered = sorted(rows, key=lambda row: names.index(row[key]))
-                others, marked = ([row for row in ordered if (row[2] == "0.320") == is_marked] for is_marked in (False, True))
-                for drawn, expected in ((dots, others), (diamonds, marked)):
+                for place, (_, x) in zip((-2, -1, 0, 1, 2), axis):
+                    self.assertAlmostEqual(zero + place * (end - zero) / 2, x, delta=0.02)
+                self.assertGreater(end, zero)
+                ordered = sorted(rows, key=lambda row: list(strips).index(row[1 - nth]))
+                places = [(residual, zero + float(residual) / 0.4 * (end - zero)) for _, _, residual in ordered]
+                for is_greatest, drawn in ((False, dots), (True, diamonds)):
+                    expected = [x for residual, x in places if (residual == "0.320") == is_greatest]
                     self.assertEqual(len(expected), len(drawn))
-                    for place, (_, _, residual) in zip(drawn, expected):
-                        self.assertAlmostEqual(zero + float(residual) / 0.4 * (end - zero), place, delta=0.02)
+                    for x, found in zip(expected, drawn):
+                        self.assertAlmostEqual(x, found, delta=0.02)
 
     def test_an_axis_has_round_steps_up_to_the_greatest_residual(self):
         page = self.page()
