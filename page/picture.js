@@ -52,8 +52,8 @@ const TITLE = 16;
 
 /** So many strips at most stand below one axis: a panel has room on a page of paper. */
 const MOST_STRIPS = 30;
-/** The least step of an axis, in 0.001 mgon: smaller ones have numbers wider than their room. */
-const LEAST_STEP = 10;
+/** Ends of an axis, in 0.001 mgon, times 1, 10 and so on. */
+const ROUND_ENDS = [10, 15, 20, 30, 40, 50, 60, 80];
 /** So many residuals of a strip are few. */
 const SPARSE = 12;
 
@@ -132,14 +132,19 @@ function pictureTexts(/** @type {Residuals} */ residuals) {
 /** A residual in 0.001 mgon, as its three decimals say. */
 const unitsOf = (/** @type {Residual} */ { residual }) => Number(residual.replace('.', ''));
 
-/** The round step and the end of an axis, in 0.001 mgon, with at most so many steps to the end. */
-function stepsTo(/** @type {number} */ greatest, /** @type {number} */ most) {
-  for (let ten = LEAST_STEP; ; ten *= 10) {
-    for (const step of [ten, 2 * ten, 5 * ten]) {
-      const steps = Math.max(1, Math.ceil(greatest / step));
-      if (steps <= most) return { step, end: steps * step };
-    }
+/** The end of the axis, in 0.001 mgon: the least round number that is not below the greatest. */
+function endOf(/** @type {number} */ greatest) {
+  for (let ten = 1; ; ten *= 10) {
+    const end = ROUND_ENDS.find(one => one * ten >= greatest);
+    if (end !== undefined) return end * ten;
   }
+}
+
+/** The least round step of which at most so many lead to the end, or the end where none does. */
+function stepTo(/** @type {number} */ end, /** @type {number} */ most) {
+  for (let steps = most; steps > 1; steps--)
+    if (end % steps === 0 && /^[125]0*$/.test(String(end / steps))) return end / steps;
+  return end;
 }
 
 /**
@@ -153,7 +158,7 @@ function axisOf({ heading, strips }, greatest, width) {
   const longest = Math.max(heading.length, ...strips.map(({ name }) => name.length));
   const left = GAP + longest * ADVANCE + EDGE, right = width - GAP - NUMBER - EDGE;
   const middle = (left + right) / 2, reach = (right - left) / 2;
-  const { step, end } = stepsTo(greatest, Math.max(1, Math.floor(reach / STEP)));
+  const end = endOf(greatest), step = stepTo(end, Math.floor(reach / STEP));
   return { step, end, x: units => middle + units / end * reach };
 }
 

@@ -368,13 +368,16 @@ class PageInBrowserTest(TimedTest):
                     for x, found in zip(expected, drawn):
                         self.assertAlmostEqual(x, found, delta=0.02)
 
-    def test_an_axis_has_round_steps_up_to_the_greatest_residual(self):
+    def test_an_axis_has_round_steps_up_to_a_round_end(self):
+        """The end is the same in each panel, the steps are as many as there is room for."""
         page = self.page()
-        for greatest, most, step, end in [
-            (320, 4, 100, 400), (320, 2, 200, 400), (320, 1, 500, 500), (201, 2, 200, 400), (51, 5, 20, 60),
-            (0, 5, 10, 10), (1, 1, 10, 10), (10_000, 5, 2_000, 10_000), (9_999, 1, 10_000, 10_000),
+        for greatest, end, steps in [
+            (0, 10, {1: 10, 2: 5, 9: 2}), (11, 15, {1: 15, 2: 15, 3: 5}), (320, 400, {0: 400, 1: 400, 3: 200, 4: 100}),
+            (544, 600, {2: 600, 3: 200, 5: 200, 6: 100}), (801, 1_000, {2: 500, 4: 500, 5: 200}), (10_000, 10_000, {5: 2_000}),
         ]:
-            self.assertEqual({"step": step, "end": end}, page.js(f"stepsTo({greatest}, {most})"))
+            self.assertEqual(end, page.js(f"endOf({greatest})"))
+            for most, step in steps.items():
+                self.assertEqual(step, page.js(f"stepTo({end}, {most})"), (end, most))
 
     def test_the_picture_is_told_to_those_who_cannot_see_it(self):
         page = self.page(P7_FIELD)
