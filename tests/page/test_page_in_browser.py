@@ -765,24 +765,32 @@ class PageInBrowserTest(TimedTest):
     @unittest.skipUnless(shutil.which("pdftotext"), "no pdftotext is found")
     def test_the_printed_pages_repeat_the_heads_of_tables_and_lose_nothing(self):
         page = self.page(self.file("wide.gsi", bench.field_file(bench.Shape("wide", *WIDE)).encode()))
-        path = self.file("printed.pdf", page.printed())
-        text = subprocess.run(["pdftotext", "-layout", path, "-"], capture_output=True, text=True).stdout
-        pages = text.split("\f")[:-1]
+        pages = self.printed(page)
+        text = "".join(pages)
         shown = " ".join(page.texts(".results td > span:first-child, #protocol .across .caption, #protocol .picture text"))
-        number = re.compile(r"(?<![\d.])[+\u2212]\d+\.\d\d\d?(?!\d)")
-        self.assertEqual(Counter(number.findall(shown)), Counter(number.findall(text)))
+        values = re.compile(r"(?<![\d.])[+\u2212]\d+\.\d\d\d?(?!\d)")
+        self.assertEqual(Counter(values.findall(shown)), Counter(values.findall(text)))
         for number, one in enumerate(pages, 1):
             self.assertIn(f"{number} / {len(pages)}", one)
             if re.search(r"^ *P\d+ +[+\u2212]", one, re.MULTILINE):
                 first = re.search(r"^ *(Target|P\d+) ", one, re.MULTILINE)
                 self.assertEqual("Target", first[1], one[:300])
 
+    def printed(self, page):
+        """The text of each page of paper."""
+        path = self.file("printed.pdf", page.printed())
+        return subprocess.run(["pdftotext", "-layout", path, "-"], capture_output=True, text=True).stdout.split("\f")[:-1]
+
+    @unittest.skipUnless(shutil.which("pdftotext"), "no pdftotext is found")
+    def test_the_protocol_of_a_usual_station_has_one_page(self):
+        (text,) = self.printed(self.page(P7_FIELD, P7_SHEET))
+        self.assertIn("Residuals as a picture", text)
+        self.assertIn("SHA-256 of the module inside", text)
+
     @unittest.skipUnless(shutil.which("pdftotext"), "no pdftotext is found")
     def test_what_has_no_protocol_is_printed_as_it_is_shown(self):
         text = FIELD.read_text().replace("25000010", "2500001X", 1)
-        page = self.page(self.file("fault.gsi", text.encode()))
-        path = self.file("printed.pdf", page.printed())
-        printed = subprocess.run(["pdftotext", "-layout", path, "-"], capture_output=True, text=True).stdout
+        (printed,) = self.printed(self.page(self.file("fault.gsi", text.encode())))
         for said in ("Refused.", "refused: block 5: Hz Digits", "Line 5 of fault.gsi, block 5:", "What to do: "):
             self.assertIn(said, printed)
         self.assertNotIn("Add files", printed)
