@@ -16,6 +16,16 @@ use std::process::Abort;
 use std::test::Fail;
 use test_support::{Recovers, Resumes};
 
+/// A field file that is read in pieces.
+fn in_pieces(gsi: &[u8]) -> Script<'_> {
+    Script::new(gsi, 100, false)
+}
+
+/// A field file whose read fails after these bytes.
+fn broken_off(gsi: &[u8]) -> Script<'_> {
+    Script::new(gsi, 10, true)
+}
+
 #[test]
 fn a_field_file_that_breaks_off_is_refused_and_nothing_is_written(
     rt: HostRuntime,
@@ -28,13 +38,13 @@ fn a_field_file_that_breaks_off_is_refused_and_nothing_is_written(
             number = number.saturating_add(1);
         }
         let fault = Fault::Gsi(FileFault::At(number, FileKind::Read));
-        let gsi = || Script::new(&STATION[..given], 10, true);
+        let begin = &STATION[..given];
         let mut sheet = Script::new(SHEET, 10, false);
-        let verdict = check_bytes(rt.alloc(), gsi(), &mut sheet, limits, None);
+        let verdict = check_bytes(rt.alloc(), broken_off(begin), &mut sheet, limits, None);
         assert_eq!(rt; verdict, Err(fault), "check after {given} bytes");
-        let listed = write_list(rt.alloc(), gsi(), limits, &mut out);
+        let listed = write_list(rt.alloc(), broken_off(begin), limits, &mut out);
         assert_eq!(rt; listed, Err(fault), "list after {given} bytes");
-        let written = write_means(rt.alloc(), gsi(), b"S1", limits, &mut out);
+        let written = write_means(rt.alloc(), broken_off(begin), b"S1", limits, &mut out);
         assert_eq!(rt; written, Err(fault), "means after {given} bytes");
     }
     assert!(rt; out.bytes().is_empty());
@@ -52,48 +62,62 @@ fn a_sheet_that_breaks_off_is_refused(rt: HostRuntime) -> Result<(), Fail> {
     Ok(())
 }
 
+/// Checks the station with such a sheet, whose reader is not asked after an end or a failure.
+fn checks_no_further(
+    rt: &impl Abort,
+    alloc: Global,
+    text: &[u8],
+    fails: bool,
+    fault: Option<Fault>,
+) -> Result<(), Fail> {
+    let mut reader = Recovers::new(text, fails);
+    let mut sheet = OfRead::new(&mut reader);
+    let gsi = Script::new(STATION, AMPLE, false);
+    let verdict = check_bytes(alloc, gsi, &mut sheet, usual_limits()?, None);
+    drop(sheet);
+    assert_eq!(rt; verdict.err(), fault, "{} bytes", text.len());
+    assert_eq!(rt; reader.asked_on, 0, "{} bytes", text.len());
+    Ok(())
+}
+
+/// The same of the command, which prints this or refuses with this line.
+fn runs_no_further(
+    rt: &impl Abort,
+    alloc: Global,
+    text: &[u8],
+    fails: bool,
+    printed: &[u8],
+    refused: &[u8],
+) -> Result<(), Fail> {
+    let mut reader = Recovers::new(text, fails);
+    let mut sheet = OfRead::new(&mut reader);
+    let gsi = Script::new(STATION, AMPLE, false);
+    let mut out = Held::new(alloc, AMPLE, AMPLE, false)?;
+    let mut err = Held::new(alloc, AMPLE, AMPLE, false)?;
+    let status = Command::Check.run(alloc, gsi, &mut sheet, &mut out, &mut err)?;
+    drop(sheet);
+    assert_eq!(rt; out.bytes(), printed, "run over {} bytes", text.len());
+    assert_eq!(rt; err.bytes(), refused, "run over {} bytes", text.len());
+    assert_eq!(rt; status, u8::from(printed.is_empty()));
+    assert_eq!(rt; reader.asked_on, 0, "run over {} bytes", text.len());
+    Ok(())
+}
+
 #[test]
 fn a_sheet_that_broke_off_or_ended_is_not_read_on(rt: HostRuntime) -> Result<(), Fail> {
+    let alloc = rt.alloc();
     let fields = Fault::Sheet(SheetFault::Row(1, RowKind::Fields));
-    let long = with_blank_lines(rt.alloc(), SHEET)?;
-    let rows: [(&[u8], Option<Fault>); 3] = [
-        (b"5", Some(fields)),
-        (SHEET, None),
-        (long.as_slice(), None),
+    let long = with_blank_lines(alloc, SHEET)?;
+    let rows: [(&[u8], Option<Fault>, &[u8], &[u8]); 3] = [
+        (b"5", Some(fields), b"", b"refused: sheet row 1: Fields\n"),
+        (SHEET, None, ACCEPTED, b""),
+        (long.as_slice(), None, ACCEPTED, b""),
     ];
-    for (text, of_text) in rows {
-        for fails in [false, true] {
-            let mut reader = Recovers::new(text, fails);
-            let mut sheet = OfRead::new(&mut reader);
-            let gsi = Script::new(STATION, AMPLE, false);
-            let verdict = check_bytes(rt.alloc(), gsi, &mut sheet, usual_limits()?, None);
-            drop(sheet);
-            let fault = if fails {
-                Some(Fault::SheetRead)
-            } else {
-                of_text
-            };
-            assert_eq!(rt; verdict.err(), fault, "{} bytes", text.len());
-            assert_eq!(rt; reader.asked_on, 0, "{} bytes", text.len());
-
-            let mut reader = Recovers::new(text, fails);
-            let mut sheet = OfRead::new(&mut reader);
-            let gsi = Script::new(STATION, AMPLE, false);
-            let mut out = Held::new(rt.alloc(), AMPLE, AMPLE, false)?;
-            let mut err = Held::new(rt.alloc(), AMPLE, AMPLE, false)?;
-            let status = Command::Check.run(rt.alloc(), gsi, &mut sheet, &mut out, &mut err)?;
-            drop(sheet);
-            let printed: &[u8] = if fault.is_none() { ACCEPTED } else { b"" };
-            let refused: &[u8] = match (fails, of_text) {
-                (true, _) => b"refused: sheet: Read\n",
-                (false, Some(_)) => b"refused: sheet row 1: Fields\n",
-                (false, None) => b"",
-            };
-            assert_eq!(rt; out.bytes(), printed, "run over {} bytes", text.len());
-            assert_eq!(rt; err.bytes(), refused, "run over {} bytes", text.len());
-            assert_eq!(rt; status, u8::from(fault.is_some()));
-            assert_eq!(rt; reader.asked_on, 0, "run over {} bytes", text.len());
-        }
+    for (text, fault, printed, refused) in rows {
+        checks_no_further(&rt, alloc, text, false, fault)?;
+        runs_no_further(&rt, alloc, text, false, printed, refused)?;
+        checks_no_further(&rt, alloc, text, true, Some(Fault::SheetRead))?;
+        runs_no_further(&rt, alloc, text, true, b"", b"refused: sheet: Read\n")?;
     }
     Ok(())
 }
@@ -154,18 +178,22 @@ struct Run {
     refused: &'static [u8],
 }
 
-fn runs() -> [Run; 4] {
-    let of_all = |command, text| Run {
+/// A command that writes nothing before it has read the whole field file.
+fn run_of_all(command: Command, text: &'static [u8]) -> Run {
+    Run {
         command,
         gsi: STATION,
         text,
         written: b"",
         refused: b"refused: block 13: Read\n",
-    };
+    }
+}
+
+fn runs() -> [Run; 4] {
     [
-        of_all(Command::Check, ACCEPTED),
-        of_all(Command::Means, SHEET),
-        of_all(Command::List, LIST),
+        run_of_all(Command::Check, ACCEPTED),
+        run_of_all(Command::Means, SHEET),
+        run_of_all(Command::List, LIST),
         Run {
             command: Command::Words,
             gsi: &STATION[..THREE_LINES],
@@ -262,8 +290,7 @@ fn stops(
     let mut sheet = Script::new(SHEET, AMPLE, false);
     let mut out = OfWrite::new(&mut *writer);
     let mut err = Held::new(alloc, AMPLE, AMPLE, false)?;
-    let gsi = Script::new(gsi, 100, false);
-    let status = command.run(alloc, gsi, &mut sheet, &mut out, &mut err)?;
+    let status = command.run(alloc, in_pieces(gsi), &mut sheet, &mut out, &mut err)?;
     drop(out);
     assert_eq!(rt; status, 1, "{command:?}");
     assert_eq!(rt;
@@ -305,18 +332,17 @@ fn a_sheet_has_so_many_bytes(rt: HostRuntime) -> Result<(), Fail> {
 #[test]
 fn a_writer_that_fails_has_got_the_first_bytes(rt: HostRuntime) -> Result<(), Fail> {
     let limits = usual_limits()?;
-    let gsi = || Script::new(STATION, 100, false);
     for room in 0..LIST.len() {
         for step in [1, AMPLE] {
             let mut out = Held::new(rt.alloc(), room, step, false)?;
-            let answer = write_list(rt.alloc(), gsi(), limits, &mut out);
+            let answer = write_list(rt.alloc(), in_pieces(STATION), limits, &mut out);
             assert_eq!(rt; answer, Err(Fault::Write), "room for {room} bytes");
             assert_eq!(rt; out.bytes(), &LIST[..room]);
         }
     }
     for room in 0..SHEET.len() {
         let mut out = Held::new(rt.alloc(), room, 7, false)?;
-        let answer = write_means(rt.alloc(), gsi(), b"S1", limits, &mut out);
+        let answer = write_means(rt.alloc(), in_pieces(STATION), b"S1", limits, &mut out);
         assert_eq!(rt; answer, Err(Fault::Write), "room for {room} bytes");
         assert_eq!(rt; out.bytes(), &SHEET[..room]);
     }
@@ -326,7 +352,7 @@ fn a_writer_that_fails_has_got_the_first_bytes(rt: HostRuntime) -> Result<(), Fa
         let mut sheet = Script::new(SHEET, 1, false);
         let status = run_check(
             rt.alloc(),
-            gsi(),
+            in_pieces(STATION),
             &mut sheet,
             limits,
             None,
@@ -345,16 +371,15 @@ fn a_flush_that_fails_is_a_write_fault_with_the_whole_text_gone_out(
     rt: HostRuntime,
 ) -> Result<(), Fail> {
     let limits = usual_limits()?;
-    let gsi = || Script::new(STATION, 100, false);
     let mut out = Held::new(rt.alloc(), AMPLE, AMPLE, true)?;
     assert_eq!(rt;
-        write_list(rt.alloc(), gsi(), limits, &mut out),
+        write_list(rt.alloc(), in_pieces(STATION), limits, &mut out),
         Err(Fault::Write)
     );
     assert_eq!(rt; out.bytes(), LIST);
     let mut out = Held::new(rt.alloc(), AMPLE, AMPLE, true)?;
     assert_eq!(rt;
-        write_means(rt.alloc(), gsi(), b"S1", limits, &mut out),
+        write_means(rt.alloc(), in_pieces(STATION), b"S1", limits, &mut out),
         Err(Fault::Write)
     );
     assert_eq!(rt; out.bytes(), SHEET);
@@ -363,7 +388,7 @@ fn a_flush_that_fails_is_a_write_fault_with_the_whole_text_gone_out(
     let mut sheet = Script::new(SHEET, 100, false);
     let status = run_check(
         rt.alloc(),
-        gsi(),
+        in_pieces(STATION),
         &mut sheet,
         limits,
         None,

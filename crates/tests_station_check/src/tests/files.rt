@@ -85,10 +85,11 @@ impl Read for Endless {
 
 /// A text, and after it so many blank lines that it fills several buffers.
 pub fn with_blank_lines(alloc: Global, text: &[u8]) -> Result<Vec<u8>, Fail> {
-    let blank_lines = "\n".repeat(alloc, 9_000)?;
     let mut long = Vec::new(alloc);
     long.extend_from_slice(text)?;
-    long.extend_from_slice(blank_lines.as_bytes())?;
+    for _ in 0..9_000 {
+        long.push(b'\n')?;
+    }
     Ok(long)
 }
 

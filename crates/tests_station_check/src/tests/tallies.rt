@@ -5,25 +5,16 @@ use super::files::{SHEET, STATION, edited};
 use super::readings::{APART, APART_SHEET, ROUND, ROUND_SHEET, field_file};
 use adjust_kernel::{KernelFault, Running, Scan, check, check_with};
 use byte_ends::Script;
-use gsi_file::Lines;
-use station_book::{Book, Stations};
+use station_book::Stations;
+use station_check::stations_of_file;
 use std::alloc::Global;
 use std::test::Fail;
 
-/// Blocks that no field file of these tests has.
-const MANY: u32 = 100;
-
-/// The stations of a field file of few blocks.
+/// The stations of a field file.
 fn stations_of(alloc: Global, gsi: &str) -> Result<Stations, Fail> {
-    let mut lines = Lines::new(alloc, Script::new(gsi.as_bytes(), AMPLE, false))?;
-    let mut book = Book::new(alloc, usual_limits()?);
-    for _ in 0..MANY {
-        match lines.next()? {
-            Some(line) if book.taken() < MANY => book.take(&line.block)?,
-            _ => break,
-        }
-    }
-    Ok(book.finish()?)
+    let gsi = Script::new(gsi.as_bytes(), AMPLE, false);
+    let (surveyed, _) = stations_of_file(alloc, gsi, usual_limits()?);
+    Ok(surveyed?)
 }
 
 #[test]
