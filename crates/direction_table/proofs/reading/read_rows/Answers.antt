@@ -1,12 +1,13 @@
-use Rattle.std.proofs.Common.{◌≡◌, ◌∙◌, ◌+◌, ◌∷◌, List, ℕ, None, refl, rules, ap, arith, inl, length}
+use Rattle.std.proofs.Common.{◌∙◌, ◌+◌, List, ℕ, None, refl, rules, ap, arith, inl, length}
 use Rattle.std.proofs.Common.{subst, sym}
 use Rattle.std.proofs.lemmas.List.{length-replicate}
 use Rattle.csv.specs.Records.{fields_of}
 use Rattle.direction_table.specs.FieldForms.{tidy}
 use Rattle.direction_table.specs.Separators.{rows_of}
 use Rattle.direction_table.proofs.RowsRead.{HasRead, all-left, ended, nothing-stated}
-use Rattle.direction_table.proofs.RowsRead.{read-begin, read-clean, read-fault, read-more, row-first}
-use Rattle.direction_table.proofs.RowsRead.{read-titles, rows_left, strip-short, written-back}
+use Rattle.direction_table.proofs.RowsRead.{read-begin, read-clean, read-fault, read-more}
+use Rattle.direction_table.proofs.RowsRead.{read-titles, row-first, rows_left, strip-short}
+use Rattle.direction_table.proofs.RowsRead.{written-back}
 use Rattle.direction_table.proofs.reading.read_rows.Goals as goal
 
 pub rows-init : goal.rows-init
@@ -58,7 +59,8 @@ rows-preserved-then-begins_with_titles c =
     let fields = fields_of c.in_ok-row.row.now in
     let here = row-first s targets c.rows.records.separator c.next.new.self.separator
     c.rows.records.unread.now after (fields_of c.next.new.row) fields all
-    c.rows.directions.items c.rows.decimals c.rows.number own same c.in_ok-row.ensures next read in (
+    c.rows.directions.items c.rows.decimals c.rows.number own same c.in_ok-row.ensures next
+    read in (
       same ∙ own,
       read-titles targets all c.rows.directions.items c.rows.decimals c.rows.number
           (tidy targets fields) (rows_left s targets after) here

@@ -1,8 +1,9 @@
-use Rattle.std.proofs.Common.{◌≡◌, ◌∙◌, ◌-◌, ap, arith, drop, length, take, sym, length-drop}
+use Rattle.std.proofs.Common.{◌∙◌, ◌-◌, arith, drop, length, sym, length-drop}
 use Rattle.std.proofs.lemmas.List.{take_all}
 use Rattle.direction_table.proofs.BytesRead.{mark-dropped, no-mark, short-text}
 use Rattle.direction_table.proofs.records.without_mark.Goals as goal
-use Rattle.direction_table.proofs.records.without_mark.Goals.{else-text-ge-MARK_LENGTH-via-then-text-ge-MARK_LENGTH+else-is_mark, else-text-ge-MARK_LENGTH-via-else-text-ge-MARK_LENGTH}
+use Rattle.direction_table.proofs.records.without_mark.Goals.{else-text-ge-MARK_LENGTH-via-then-text-ge-MARK_LENGTH+else-is_mark}
+use Rattle.direction_table.proofs.records.without_mark.Goals.{else-text-ge-MARK_LENGTH-via-else-text-ge-MARK_LENGTH}
 
 pub returns-then-is_mark : goal.returns-then-is_mark
 returns-then-is_mark c =

@@ -1,4 +1,4 @@
-use Rattle.std.proofs.Common.{◌≡◌, ◌∙◌, List, ℕ, ap, sym}
+use Rattle.std.proofs.Common.{◌∙◌, List, ℕ, ap, sym}
 use Rattle.std.specs.Prelude.{nat_le}
 use Rattle.csv.specs.Records.{fields_of}
 use Rattle.direction_table.specs.ByteSteps.{records_left}

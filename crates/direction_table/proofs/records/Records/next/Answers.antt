@@ -1,4 +1,4 @@
-use Rattle.std.proofs.Common.{◌≡◌, ◌∙◌, ◌∷◌, ◌++◌, ◌+◌, ◌-◌, ◌<◌, [], Bor, List, ℕ, ap, arith}
+use Rattle.std.proofs.Common.{◌≡◌, ◌∙◌, ◌∷◌, ◌+◌, ◌-◌, ◌<◌, [], Bor, List, ℕ, ap, arith}
 use Rattle.std.proofs.Common.{drop, length, length-drop, subst, sym, take}
 use Rattle.std.proofs.lemmas.List.{take_all}
 use Rattle.csv.specs.Machine.{next_record}
@@ -9,7 +9,9 @@ use Rattle.direction_table.specs.ByteSteps.{config_with, state_of}
 use Rattle.direction_table.proofs.BytesRead.{field-ended, kept, last-record, no-record, none-left}
 use Rattle.direction_table.proofs.BytesRead.{record-ended, skipped, taken}
 use Rattle.direction_table.proofs.records.Records.next.Goals as goal
-use Rattle.direction_table.proofs.records.Records.next.Goals.{in-Skip, in-Keep+in_ok-push-in-Keep, in-EndField+in_ok-end_field-in-EndField}
+use Rattle.direction_table.proofs.records.Records.next.Goals.{in-Skip}
+use Rattle.direction_table.proofs.records.Records.next.Goals.{in-Keep+in_ok-push-in-Keep}
+use Rattle.direction_table.proofs.records.Records.next.Goals.{in-EndField+in_ok-end_field-in-EndField}
 
 pub returns-in-EndRecord-clause-next : goal.returns-in-EndRecord-clause-next
 returns-in-EndRecord-clause-next c =
