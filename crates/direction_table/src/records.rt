@@ -159,7 +159,7 @@ impl<'a> Records<'a> {
         }
     }
 
-    /// Reads the next record in place of another one, if there is one.
+    /// Reads the next record in place of another one, and answers whether there was one.
     pub(crate) fn next(&mut self, row: &mut ByteRecord) -> Result<bool, AllocError>
         ensures next { IfOk result (λ found. spec.IsNextRecord (spec.records_left self.old) found
             (fields_of row.new) (spec.records_left self.new)) }
