@@ -6,11 +6,11 @@ ghost use Rattle.station_program.specs.Answering.{IsAnswered, IsOpened, IsRun, N
 ghost use Rattle.station_program.specs.Answering.{ChecksFiles, ComparesFiles};
 ghost use Rattle.station_program.specs.Hosts.{IsUnread, known_of, readers};
 
-use crate::command_line::{Digests, ListForm, Request};
 use crate::host::Host;
 use crate::unopened::Unopened;
 use adjust_kernel::ResidualLimit;
 use byte_ends::{Failed, Sink, Source};
+use command_line::{Digests, ListForm, Request};
 use list_rows::run_list_rows;
 use station_book::Limits;
 use station_check::{run_check, run_list, run_means, run_words};
