@@ -125,10 +125,10 @@ pub data Lacks (name : Text) (found : Found) : Type 0 where
   of_list : name ≡ codes "list" → LacksForList found → Lacks name found
   of_words : name ≡ codes "words" → IsMissing found (codes "GSI") → Lacks name found
   -- No subcommand of another name can be done.
-  of_other_name : (name ≢ codes "compare") × (name ≢ codes "differences") × (name ≢ codes "directions")
-      × (name ≢ codes "residuals") × (name ≢ codes "report") × (name ≢ codes "check")
-      × (name ≢ codes "means") × (name ≢ codes "mark") × (name ≢ codes "list")
-      × (name ≢ codes "words")
+  of_other_name : (name ≢ codes "compare") × (name ≢ codes "differences")
+      × (name ≢ codes "directions") × (name ≢ codes "residuals") × (name ≢ codes "report")
+      × (name ≢ codes "check") × (name ≢ codes "means") × (name ≢ codes "mark")
+      × (name ≢ codes "list") × (name ≢ codes "words")
       → Lacks name found
 
 -- The words of `explain` have this name of a fault: they make one line, with a blank between each

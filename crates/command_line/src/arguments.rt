@@ -6,8 +6,8 @@ ghost use Rattle.command_line.specs.Commands.{csv_rule, decimals_rule, digests_r
 ghost use Rattle.command_line.specs.Commands.{face_limit_rule, fault_rule, field_file_rule};
 ghost use Rattle.command_line.specs.Commands.{flag_rule, given_rule, limited, number_rule};
 ghost use Rattle.command_line.specs.Commands.{of_station, residual_rule, sheet_rule};
-ghost use Rattle.command_line.specs.Commands.{stated_name_rule, station_rule, table_rule, text_rule};
-ghost use Rattle.command_line.specs.Commands.{two_c_rule, two_i_rule, within_rule};
+ghost use Rattle.command_line.specs.Commands.{stated_name_rule, station_rule, table_rule};
+ghost use Rattle.command_line.specs.Commands.{text_rule, two_c_rule, two_i_rule, within_rule};
 
 use crate::help;
 use clap::error::ErrorKind;

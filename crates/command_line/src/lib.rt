@@ -4,8 +4,8 @@
 //! |---|---|
 //! | `asked` | `asked_for`: the request of a command line, or why there is none |
 //! | `request` | the types of a request |
-//! | `commands`, `arguments`, `help` | the grammar of the command line as `clap` builds it, and its help |
-//! | `subcommands`, `found` | the request of each subcommand, and what is read of the words after its name |
+//! | `commands`, `arguments`, `help` | the grammar as `clap` builds it, and its help |
+//! | `subcommands`, `found` | the request of each subcommand, by the words after its name |
 //! | `mistakes` | the mistakes of words that the grammar takes |
 #![tactic(auto)]
 

@@ -2,9 +2,9 @@
 
 ghost use Rattle.std.specs.Prelude.{◌≡◌, IfSome, IfNone, codes};
 ghost use Rattle.clap.specs.Words.{found_of};
-ghost use Rattle.command_line.specs.CommandLine.{AsksFor, Lacks, LacksForDifferences, LacksForDirections};
-ghost use Rattle.command_line.specs.CommandLine.{LacksForList, LacksStation, LacksToCheck};
-ghost use Rattle.command_line.specs.CommandLine.{LacksToCompare, LacksToMark};
+ghost use Rattle.command_line.specs.CommandLine.{AsksFor, Lacks, LacksForDifferences};
+ghost use Rattle.command_line.specs.CommandLine.{LacksForDirections, LacksForList, LacksStation};
+ghost use Rattle.command_line.specs.CommandLine.{LacksToCheck, LacksToCompare, LacksToMark};
 ghost use Rattle.command_line.specs.Stated.{IsMissing};
 
 use crate::arguments::{GSI, SHEET, STATION, TABLE};

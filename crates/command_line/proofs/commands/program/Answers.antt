@@ -20,7 +20,8 @@ returns-clause-commands c =
     let versioned =
     ap (λ (f : Command-F Command).
     app_of_fields (record f { propagate_version = true })) c.version.ensures in
-    let named : app_of c.after_help-program.result ≡ bare = ap app_of_fields c.after_help-program.ensures
+    let named : app_of c.after_help-program.result ≡ bare =
+    ap app_of_fields c.after_help-program.ensures
     ∙ (ap app_of_fields c.long_about.ensures ∙ (ap app_of_fields c.about.ensures
     ∙ (ap app_of_fields c.propagate_version.ensures
     ∙ (versioned ∙ ap with_version c.new.ensures.app)))) in

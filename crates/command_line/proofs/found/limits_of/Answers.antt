@@ -7,13 +7,15 @@ pub returns-in_err-two_c-clause-none : goal.returns-in_err-two_c-clause-none
 returns-in_err-two_c-clause-none c =
     rw c.from_residual.ensures
     (λ limits states are.
-    let far = c.in_err-two_c.ensures.none limits.two_c states.two_c in omega (arith, far, are.two_c))
+    let far = c.in_err-two_c.ensures.none limits.two_c states.two_c in
+    omega (arith, far, are.two_c))
 
 pub returns-in_err-two_i-clause-none : goal.returns-in_err-two_i-clause-none
 returns-in_err-two_i-clause-none c =
     rw c.from_residual-in_err-two_i.ensures
     (λ limits states are.
-    let far = c.in_err-two_i.ensures.none limits.two_i states.two_i in omega (arith, far, are.two_i))
+    let far = c.in_err-two_i.ensures.none limits.two_i states.two_i in
+    omega (arith, far, are.two_i))
 
 pub returns-clause-none : goal.returns-clause-none
 returns-clause-none c =
