@@ -7,6 +7,7 @@ skipped.
 
 import itertools
 import resource
+import signal
 import subprocess
 import unittest
 
@@ -18,6 +19,9 @@ from program import SWEEP, ProgramTest, answer_of, side_by_side
 from worked import JOB
 
 NO_MEMORY = (1, b"", b"refused: out of memory\n")
+
+# The status of the loader where it finds no room for the program.
+NOT_LOADED = 127
 
 # No run makes more allocations than this: what is kept grows by doubling.
 MOST_CALLS = 10_000
@@ -208,7 +212,7 @@ class RefusedMemoryTest(ProgramTest):
 
     def test_room_that_grows_for_the_largest_station(self):
         """The room of the process grows until the run has all that it wants. What comes before the
-        last failure of the loader, which ends with status 127, is none of the program's answers."""
+        last failure of the system is none of the program's answers."""
         step = resource.getpagesize() * (1 if SWEEP else 8)
         for run in LARGE_RUNS:
             with self.subTest(run):
@@ -222,12 +226,13 @@ class RefusedMemoryTest(ProgramTest):
                 self.assertLessEqual(answers, {NO_MEMORY})
 
     def answer_in(self, room, run):
-        """The answer in so much address space; none where the program couldn't be loaded."""
+        """The answer in so much address space; none where the system ended the process: where the
+        loader found no room, or the stack could not grow by a page."""
         try:
             answer = answer_of(self.words_of(run), preexec_fn=in_room(room))
         except (OSError, subprocess.SubprocessError):
             return None
-        return None if answer[0] == 127 else answer
+        return None if answer[0] in (NOT_LOADED, -signal.SIGSEGV) else answer
 
 
 if __name__ == "__main__":
