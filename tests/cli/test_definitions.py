@@ -36,6 +36,11 @@ class DefinitionsTest(unittest.TestCase):
                 with self.subTest(crate, file=spec.path.name):
                     self.assertTrue(spec.head())
 
+    def test_each_row_of_the_page_is_a_sentence(self):
+        for row in re.findall(r"^ *- `\w+`: (.*)$", definitions.PAGE.read_text(), re.MULTILINE):
+            with self.subTest(row):
+                self.assertRegex(row, r"^([A-Z0-9]|[b-z]\b).*[.:]$")
+
     def test_no_definition_of_the_promise_is_left_out(self):
         """What the promise cites is in files that the list of its crate's definitions names."""
         for spec in promised():
