@@ -77,12 +77,20 @@ class PagesTest(TimedTest):
 
     def test_the_house_stands_as_it_is_drawn(self):
         lines = re.findall(r"^(\w+)[^:]*:(.*)$", (ROOT / "crates.txt").read_text(), re.MULTILINE)
-        rows = re.findall(r"^\| `(\w+)` \| [^|]* \| ([^|]*) \|", ARCHITECTURE.read_text(), re.MULTILINE)
+        rows = re.findall(r"^\| \[?`(\w+)`[^|]* \| ([^|]*) \|$", ARCHITECTURE.read_text(), re.MULTILINE)
         drawn = {crate: re.findall(r"`(\w+)`", libraries) for crate, libraries in rows}
         self.assertGreater(len(lines), 10)
         for crate, libraries in lines:
             with self.subTest(crate):
                 self.assertEqual(libraries.split(), drawn[crate])
+
+    def test_the_picture_of_the_house_has_each_crate_once(self):
+        picture = ARCHITECTURE.read_text().partition("```\n")[2].partition("```\n")[0]
+        crates = re.findall(r"^(\w+)[^:]*:", (ROOT / "crates.txt").read_text(), re.MULTILINE)
+        for crate in crates:
+            if not crate.startswith("test"):
+                with self.subTest(crate):
+                    self.assertEqual(1, len(re.findall(rf"^.{{15}}{crate} ", picture, re.MULTILINE)))
 
     def test_the_table_of_tests_names_each_of_them(self):
         rows = re.findall(r"^\| (`test_.*?) \|", TESTS.read_text(), re.MULTILINE)
