@@ -11,7 +11,7 @@ longest counts. Extensions may be in capitals too.
 A field file is done where `station_check list` names stations in it, and each of them has an
 accepted sheet or a table that agrees. The answer to each sheet and table is printed, and kept in
 NAME.answer beside NAME.csv. A table that belongs to no field file, or to one of its stations by no
-name, is said to be passed over, which is no mistake.
+name, is said to be skipped, which is no mistake.
 
 Exit status: 0 where there are field files, each is done, and nothing was refused; 1 where not;
 2 where nothing could be checked: a mistake on the command line, no such folder, one that takes no
@@ -71,7 +71,7 @@ class Result(Enum):
     GOOD = "accepted"
     REFUSED = "refused"
     NOT_CHECKED = "not checked"
-    PASSED_OVER = "passed over"
+    SKIPPED = "skipped"
 
 
 # ---------------------------------------------------------------- names
@@ -244,8 +244,8 @@ class Folder:
         runs, claims = [], {claim.name: claim for claim in self.claims}
         for claim in self.claims:
             if said := self.why_not(claim):
-                passed_over = Result.PASSED_OVER if claim.is_table else Result.NOT_CHECKED
-                self.results[claim.name] = passed_over, said
+                not_compared = Result.SKIPPED if claim.is_table else Result.NOT_CHECKED
+                self.results[claim.name] = not_compared, said
             else:
                 runs.append(Run(claim.name, self.arguments(claim), claim.name + ANSWER))
         for run, status in finished(runs, self.options.jobs):
@@ -285,7 +285,7 @@ class Folder:
         each = [f"{sheets[result]} {result.value}" for result in list(Result)[:3]]
         line = f"{done} of {files} field files done; of the sheets {', '.join(each)}"
         if tables:
-            others = tables[Result.NOT_CHECKED] + tables[Result.PASSED_OVER]
+            others = tables[Result.NOT_CHECKED] + tables[Result.SKIPPED]
             line += f"; of the tables {tables[Result.GOOD]} agreed, {tables[Result.REFUSED]} refused, "
             line += f"{others} not compared"
         print(line)
