@@ -47,7 +47,7 @@ MARKED = f'{BOLD} fill="{GREATEST}"'
 NOT_SEEN = "\N{MULTIPLICATION SIGN}"
 
 
-class CannotDraw(Exception):
+class Refused(Exception):
     """Why there is no picture."""
 
 
@@ -91,10 +91,10 @@ def read_station(name: str, lines: Iterable[str]) -> Station:
     """The station of this name, of which these lines are what station_check printed."""
     titles, *rows = [row for row in csv.reader(lines) if row] or [[]]
     if not rows:
-        raise CannotDraw("standard input has no residuals: nothing is drawn")
+        raise Refused("standard input has no residuals: nothing is drawn")
     residuals = {(row[0], row[1]): Fraction(row[-1]) for row in rows if is_observation(row)}
     if titles != TITLES or len(residuals) < len(rows):
-        raise CannotDraw("standard input is not what 'station_check residuals' prints")
+        raise Refused("standard input is not what 'station_check residuals' prints")
     sets, targets = (list(dict.fromkeys(part)) for part in zip(*residuals))
     return Station(name, targets, sets, residuals)
 
@@ -336,7 +336,7 @@ def main() -> None:
         sys.stdin.reconfigure(encoding="utf-8", errors="replace", newline="")
     try:
         station = read_station(asked.station, sys.stdin)
-    except (CannotDraw, csv.Error) as why:
+    except (Refused, csv.Error) as why:
         sys.exit(f"{SCRIPT}: {why}")
     if isinstance(sys.stdout, io.TextIOWrapper):
         sys.stdout.reconfigure(encoding="utf-8")
