@@ -12,8 +12,8 @@ job without codes, a last set that was not ended; with --without-codes the block
 42. --plain writes plain ASCII letters for others, a blank for a tab, and drops a byte order mark and
 a final byte 1A.
 
-COPY.gsi.log has each line that was left out or changed. The script prints a command by which
-anybody sees that nothing else was changed.
+COPY.gsi.log has each line that was left out or changed. The script prints the command
+that shows that nothing else was changed.
 
 Exit status: 0 the copy was written, 1 it was not (standard error says why), 2 a mistake on the
 command line. Python 3.10 or later is all it needs.
