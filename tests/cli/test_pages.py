@@ -4,7 +4,7 @@ import re
 import unittest
 
 from pages import checked, page_steps
-from program import ROOT, TimedTest
+from program import ROOT, TimedTest, answer_of
 
 GUIDE = ROOT / "docs" / "GUIDE.md"
 ARCHITECTURE = ROOT / "docs" / "ARCHITECTURE.md"
@@ -61,8 +61,12 @@ class PagesTest(TimedTest):
 
     def test_the_guide_runs_each_command_of_the_program(self):
         commands = " ".join(step.command for step in page_steps(GUIDE.read_text()))
-        for command in ["mark", "words", "list", "means", "check", "check --residual", "directions", "compare"]:
-            self.assertIn(f"station_check {command} ", commands)
+        listed = re.search(r"^Commands:\n(.*?)\n\n", answer_of(["--help"])[1].decode(), re.DOTALL | re.MULTILINE)
+        names = re.findall(r"^  (\w+)", listed[1], re.MULTILINE)
+        self.assertIn("explain", names)
+        for command in [*names, "list --csv", "check --residual"]:
+            if command != "help":
+                self.assertRegex(commands, rf"station_check {command} ")
 
     def test_links_lead_to_files_and_headings_that_are_there(self):
         for page in LINKED:
