@@ -32,9 +32,41 @@ pub record HasBroken (reader : ReaderChange) : Type 0 where
 abbrev pub NoReadFailed : ReaderChange → Type 0
 NoReadFailed reader = reader.failed' ≡ reader.failed
 
--- How a source is left: it has ended where its bytes were had; a read of it failed, and it has
--- broken off, exactly where that is answered.
-abbrev pub LeavesSource : {A : Type 0} → Result A InputFault → ReaderChange → Type 0
-LeavesSource (Ok bytes) reader = IsReadOut reader
-LeavesSource (Err Read) reader = HasBroken reader
-LeavesSource (Err fault) reader = NoReadFailed reader
+-- The source was not asked: it is as it was.
+pub record IsUnasked (reader : ReaderChange) : Type 0 where
+  pub same : reader.is_unasked
+  pub unfailed : NoReadFailed reader
+
+-- How a source may be left.
+pub data Leaving : Type 0 where
+  -- It was not asked.
+  Unasked : Leaving
+  -- It has ended.
+  ReadOut : Leaving
+  -- A read of it failed, and it has broken off.
+  BrokenOff : Leaving
+  -- No read of it failed.
+  Unfailed : Leaving
+  -- Nothing is known of it.
+  Unknown : Leaving
+
+-- A source is left so.
+abbrev pub IsLeftAs : Leaving → ReaderChange → Type 0
+IsLeftAs Unasked reader = IsUnasked reader
+IsLeftAs ReadOut reader = IsReadOut reader
+IsLeftAs BrokenOff reader = HasBroken reader
+IsLeftAs Unfailed reader = NoReadFailed reader
+IsLeftAs Unknown reader = ⊤
+
+-- How an answer leaves a source: it has ended where there is no fault, and else it is left as each
+-- fault leaves it.
+abbrev pub Leaves : {A F : Type 0} → (F → Leaving) → Result A F → ReaderChange → Type 0
+Leaves left_at (Ok x) reader = IsReadOut reader
+Leaves left_at (Err fault) reader = IsLeftAs (left_at fault) reader
+
+-- How a source is left whose bytes aren't had whole: where a read failed it has broken off, and no
+-- read failed elsewhere.
+abbrev pub input_left : InputFault → Leaving
+input_left Read = BrokenOff
+input_left TooLong = Unfailed
+input_left Memory = Unfailed

@@ -1,7 +1,7 @@
 //! All bytes of a source.
 
 ghost use Rattle.std.specs.Prelude.{◌≡◌, MatchResult};
-ghost use Rattle.byte_ends.specs.Came.{BytesCame, ExplainsInput, LeavesSource};
+ghost use Rattle.byte_ends.specs.Came.{BytesCame, ExplainsInput, Leaves, input_left};
 ghost use Rattle.byte_ends.specs.Input.{input_within, Ended};
 ghost use Rattle.byte_ends.specs.Source.{reader_change};
 
@@ -44,7 +44,7 @@ pub fn read_whole<S: Source>(
         (λ gives. MatchResult result
         (λ bytes. input_within most gives ≡ Ended bytes.items)
         (ExplainsInput (input_within most gives))) }
-    ensures left { LeavesSource result
+    ensures left { Leaves input_left result
         (reader_change S.told S.failed S.gave source.old source.new) }
 {
     let mut bytes = Vec::new(alloc);

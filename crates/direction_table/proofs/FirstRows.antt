@@ -1,46 +1,31 @@
 -- The first row of a text by a separator, and the separator that first rows choose.
-use Rattle.std.proofs.Common.{◌≡◌, ◌∙◌, ℕ, ◌+◌, Bool, true, false, List, [], ◌∷◌, map, length}
-use Rattle.std.proofs.Common.{Option, Some, refl, ap, sym, arith}
+use Rattle.std.proofs.Common.{◌≡◌, ◌∙◌, ℕ, Bool, true, false, List, [], ◌∷◌, map, refl, ap}
+use Rattle.std.proofs.Common.{sym}
 use Rattle.std.specs.Prelude.{find, unwrap_or}
-use Rattle.csv.specs.Machine.{ends_at_end}
-use Rattle.csv.specs.Reading.{ReadRecord, records_from, source_of, strip_bom}
-use Rattle.csv.specs.declared.parser.State.{State}
-use Rattle.csv.specs.declared.parser.State.TheVariants as st
-use Rattle.csv.specs.declared.reader.Reader.{Reader}
-use Rattle.csv.proofs.ReadFacts.{rows-end}
-use Rattle.direction_table.specs.Separators.{begins_with_target, byte_of, config_of, first_of}
-use Rattle.direction_table.specs.Separators.{is_wide}
+use Rattle.csv.specs.Reading.{records, strip_bom}
+use Rattle.direction_table.specs.ByteSteps.{config_with}
+use Rattle.direction_table.specs.Separators.{begins_with_target, byte_of, first_of, is_wide}
 use Rattle.direction_table.specs.Separators.{kept, rows_by, separator_of}
 use Rattle.direction_table.specs.declared.separator.Separator.{Separator}
 use Rattle.direction_table.specs.declared.separator.Separator.TheVariants.{Comma, Semicolon, Tab}
 use Rattle.direction_table.specs.declared.separator.Separator.TheVariants.{Blanks}
-use Rattle.direction_table.proofs.NextRows.{next-row}
-use Rattle.direction_table.proofs.RecordSteps.{records-end}
 
--- The first record that is read is the first row.
-pub first-record : {R : Type 0} (s : Separator) (rem : R → Option (List ℕ)) (a b : Reader R)
-    (fields : List (List ℕ)) (bytes : List ℕ) → a.config ≡ config_of s
-    → a.state ≡ st.StartRecord → source_of rem a ≡ Some (strip_bom bytes)
-    → ReadRecord rem a b true fields → first_of (rows_by s bytes) ≡ kept s fields
-first-record s rem a b fields bytes config state source got =
-    let y = strip_bom bytes in
-    let next = next-row (byte_of s) rem a b fields y (length y + 1) config source got
-    (ap ends_at_end state) (omega arith) in
+-- The first record is the first row.
+pub first-record : (s : Separator) (d : ℕ) (text bytes : List ℕ) (fields : List (List ℕ))
+    (others : List (List (List ℕ))) → d ≡ byte_of s → text ≡ strip_bom bytes
+    → records (config_with d) text ≡ fields ∷ others → first_of (rows_by s bytes) ≡ kept s fields
+first-record s d text bytes fields others own is e =
     ap (λ (rows : List (List (List ℕ))). first_of (map (kept s) rows))
-    (ap (λ (from : State). records_from (config_of s) (length y + 1) from y) (sym state)
-    ∙ next.rows)
+    (ap (λ (b : ℕ). records (config_with b) (strip_bom bytes)) (sym own)
+    ∙ ap (records (config_with d)) (sym is) ∙ e)
 
--- Where no record is read there is no row.
-pub no-record : {R : Type 0} (s : Separator) (rem : R → Option (List ℕ)) (a b : Reader R)
-    (fields : List (List ℕ)) (bytes : List ℕ) → a.config ≡ config_of s
-    → a.state ≡ st.StartRecord → source_of rem a ≡ Some (strip_bom bytes)
-    → ReadRecord rem a b false fields → rows_by s bytes ≡ []
-no-record s rem a b fields bytes config state source got =
-    let y = strip_bom bytes in
-    let end = rows-end rem a b fields (config_of s) y config source got in
+-- Where there is no record there is no row.
+pub no-record : (s : Separator) (d : ℕ) (text bytes : List ℕ) → d ≡ byte_of s
+    → text ≡ strip_bom bytes → records (config_with d) text ≡ [] → rows_by s bytes ≡ []
+no-record s d text bytes own is e =
     ap (λ (rows : List (List (List ℕ))). map (kept s) rows)
-    (ap (λ (from : State). records_from (config_of s) (length y + 1) from y) (sym state)
-    ∙ records-end (byte_of s) (length y + 1) a.state y end)
+    (ap (λ (b : ℕ). records (config_with b) (strip_bom bytes)) (sym own)
+    ∙ ap (records (config_with d)) (sym is) ∙ e)
 
 -- What is asked of the first row by a separator.
 abbrev pub named_by : List (List ℕ) → List ℕ → Separator → Bool

@@ -5,8 +5,8 @@ pub mod TwoColumns
 pub mod NamedTargets
 pub mod RowsTaken
 pub mod RecordSteps
+pub mod BytesRead
 pub mod RowsRead
-pub mod NextRows
 pub mod FirstRows
 pub mod StatedDirections
 pub mod OneAnswer

@@ -14,9 +14,8 @@ use Rattle.std.proofs.lemmas.List.Elements.{All-head, All-tail}
 use Rattle.std.proofs.lemmas.List.Folds.{list_any_at}
 use Rattle.std.proofs.lemmas.Slice.Eq.{bytes_eq-Decides}
 use Rattle.std.proofs.lemmas.List.{append-nil, drop_all, take_all}
-use Rattle.csv.specs.Reading.{is_bom, records_from, strip_bom}
-use Rattle.csv.specs.declared.parser.State.{State}
-use Rattle.csv.specs.declared.parser.State.TheVariants as st
+use Rattle.csv.specs.Reading.{is_bom, records, strip_bom}
+use Rattle.direction_table.specs.ByteSteps.{config_with}
 use Rattle.direction_table.specs.Faults.{HasNoFault, IsFirstFaultOfTable, NoFaultBefore, fault_at}
 use Rattle.direction_table.specs.Faults.{are_titles, fault_between, is_first, row_fault}
 use Rattle.direction_table.specs.Faults.{stating_fault}
@@ -24,8 +23,6 @@ use Rattle.direction_table.specs.FewestDecimals.{counted, fewer, fewest_decimals
 use Rattle.direction_table.specs.FieldForms.{has_name, tidy}
 use Rattle.direction_table.specs.Gons.{count_of_decimals}
 use Rattle.direction_table.specs.Rows.{beside_name, name_of}
-use Rattle.direction_table.proofs.RecordSteps.{records-end}
-use Rattle.csv.specs.Machine.{next_record}
 use Rattle.direction_table.specs.Separators.{byte_of, config_of, kept, rows_by, rows_of}
 use Rattle.direction_table.specs.Separators.{separator_of}
 use Rattle.direction_table.specs.Tables.{stated_by}
@@ -53,32 +50,32 @@ clean-more targets all before rest row whole none here earlier below =
           omega (arith, not, below, length-append before (row ∷ [])))
     ]
 
--- The rows that are left of a text, tidied, where so many records are read at most from a state.
-abbrev pub rows_left : Separator → List (List ℕ) → ℕ → State → List ℕ → List (List (List ℕ))
-rows_left s targets n state y =
-    map (tidy targets) (map (kept s) (records_from (config_of s) n state y))
+-- The rows that are left of a text, tidied.
+abbrev pub rows_left : Separator → List (List ℕ) → List ℕ → List (List (List ℕ))
+rows_left s targets left = map (tidy targets) (map (kept s) (records (config_of s) left))
 
 -- At the start all rows of the table are left.
 pub all-left : (s : Separator) (targets : List (List ℕ)) (bytes : List ℕ)
-    → s ≡ separator_of targets bytes → rows_of targets bytes
-    ≡ rows_left s targets (length (strip_bom bytes) + 1) st.StartRecord (strip_bom bytes)
+    → s ≡ separator_of targets bytes → rows_of targets bytes ≡ rows_left s targets (strip_bom bytes)
 unfolding rows_of
 all-left s targets bytes e = ap (λ (t : Separator). map (tidy targets) (rows_by t bytes)) (sym e)
 
--- One more record is one more row.
-pub left-more : (s : Separator) (targets : List (List ℕ)) (n m : ℕ) (from to : State)
-    (y z : List ℕ) (fields : List (List ℕ))
-    → records_from (config_of s) n from y ≡ fields ∷ records_from (config_of s) m to z
-    → rows_left s targets n from y ≡ tidy targets (kept s fields) ∷ rows_left s targets m to z
-left-more s targets n m from to y z fields e =
-    ap (λ (rows : List (List (List ℕ))). map (tidy targets) (map (kept s) rows)) e
-
--- Where no record can be read, no row is left.
-pub ended : (s : Separator) (targets : List (List ℕ)) (n : ℕ) (from : State) (y : List ℕ)
-    → next_record (config_of s) from [] [] y ≡ None → rows_left s targets n from y ≡ []
-ended s targets n from y e =
+-- The next record is the next row.
+pub left-more : (s : Separator) (targets : List (List ℕ)) (d e : ℕ) (before after : List ℕ)
+    (fields : List (List ℕ)) → d ≡ byte_of s → e ≡ d
+    → records (config_with d) before ≡ fields ∷ records (config_with e) after
+    → rows_left s targets before ≡ tidy targets (kept s fields) ∷ rows_left s targets after
+left-more s targets d e before after fields own same next =
     ap (λ (rows : List (List (List ℕ))). map (tidy targets) (map (kept s) rows))
-    (records-end (byte_of s) n from y e)
+    (ap (λ (b : ℕ). records (config_with b) before) (sym own) ∙ next
+    ∙ ap (λ (b : ℕ). fields ∷ records (config_with b) after) (same ∙ own))
+
+-- Where no record is left, no row is.
+pub ended : (s : Separator) (targets : List (List ℕ)) (d : ℕ) (left : List ℕ) → d ≡ byte_of s
+    → records (config_with d) left ≡ [] → rows_left s targets left ≡ []
+ended s targets d left own none =
+    ap (λ (rows : List (List (List ℕ))). map (tidy targets) (map (kept s) rows))
+    (ap (λ (b : ℕ). records (config_with b) left) (sym own) ∙ none)
 
 -- The fewer of two numbers, where the second is none.
 fewer-none : (a : Option ℕ) → fewer a None ≡ a
@@ -109,6 +106,18 @@ pub record HasRead (targets : List (List ℕ)) (all : List (List (List ℕ)))
   pub clean : NoFaultBefore targets all (length before)
   pub each : stated ≡ stated_by before targets
   pub fewest : decimals ≡ fewest_decimals before
+
+-- The next record is the row that stands first of those that are left.
+pub row-first : (s : Separator) (targets : List (List ℕ)) (d e : ℕ) (before after : List ℕ)
+    (raw fields : List (List ℕ)) (all : List (List (List ℕ))) (stated : List (Option ℤ))
+    (decimals : Option ℕ) (number : ℕ) → d ≡ byte_of s → e ≡ d → fields ≡ kept s raw
+    → records (config_with d) before ≡ raw ∷ records (config_with e) after
+    → HasRead targets all stated decimals number (rows_left s targets before)
+    → HasRead targets all stated decimals number (tidy targets fields ∷ rows_left s targets after)
+row-first s targets d e before after raw fields all stated decimals number own same counts next =
+    subst (HasRead targets all stated decimals number)
+    (left-more s targets d e before after raw own same next
+    ∙ ap (λ (fs : List (List ℕ)). tidy targets fs ∷ rows_left s targets after) (sym counts))
 
 -- Before the first row none was read, and all are left.
 pub read-begin : (targets : List (List ℕ)) (all : List (List (List ℕ))) (stated : List (Option ℤ))

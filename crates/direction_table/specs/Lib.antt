@@ -11,3 +11,5 @@ pub mod PlainTables
 pub mod FewestDecimals
 pub mod Texts
 pub mod TableTexts
+-- The inside: what each byte does while rows are read.
+pub mod ByteSteps

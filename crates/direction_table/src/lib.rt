@@ -15,6 +15,7 @@ mod gon;
 pub mod laws;
 mod limit;
 mod reading;
+mod records;
 mod separator;
 mod table;
 mod text;

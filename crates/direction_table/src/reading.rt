@@ -18,9 +18,10 @@ ghost use Rattle.direction_table.specs.declared.fault.TableFault.TheVariants.{Me
 use crate::columns::are_titles;
 use crate::draft::take_row;
 use crate::fault::TableFault;
+use crate::records::Records;
 use crate::separator::{kept_row, separator_of};
 use adjust_kernel::{MOST_TARGETS, Name};
-use csv::{ByteRecord, ReaderBuilder};
+use csv::ByteRecord;
 use std::alloc::{AllocError, Global};
 
 /// The most bytes of a table.
@@ -88,8 +89,6 @@ struct StatedRows {
 }
 
 /// What the rows of bytes that are not too many state of each target, or their first fault.
-// Out of line, so that what comes after needs no room for its reader on the stack.
-#[inline(never)]
 fn read_rows(alloc: Global, targets: &[Name], bytes: &[u8]) -> Result<StatedRows, TableFault>
     requires targets { AreTargets targets.now }
     requires short { length bytes.now ≤ LONGEST_TABLE }
@@ -102,24 +101,14 @@ fn read_rows(alloc: Global, targets: &[Name], bytes: &[u8]) -> Result<StatedRows
     ensures fault { IfErr result (IsFaultOrMemory targets.now bytes.now) }
 {
     let separator = separator_of(alloc, targets, bytes)?;
-    let mut unread = bytes;
-    // By reference, so that this reader has a type of its own: with one type for tables and sheets,
-    // a call for each row is left in the loop of a sheet's rows.
-    let mut reader = ReaderBuilder::new()
-        .delimiter(separator.byte())
-        .has_headers(false)
-        .flexible(true)
-        .from_reader(alloc, &mut unread);
+    let mut records = Records::of(alloc, separator, bytes);
     let mut directions = vec![in alloc; None; targets.len()]?;
     let mut decimals = None;
     let mut record = ByteRecord::new(alloc);
     let mut kept = ByteRecord::new(alloc);
     let mut number: u32 = 0;
     'rows: loop {
-        // Bytes in memory fail only where memory does.
-        let Ok(found) = reader.read_byte_record(&mut record) else {
-            return Err(TableFault::Memory);
-        };
+        let found = records.next(&mut record)?;
         if !found {
             return Ok(StatedRows {
                 directions,

@@ -6,8 +6,9 @@ ghost use Rattle.direction_table.specs.Separators as spec;
 
 use crate::columns::COLUMNS;
 use crate::field::{field, has_target, named};
+use crate::records::Records;
 use adjust_kernel::Name;
-use csv::{ByteRecord, ReaderBuilder};
+use csv::ByteRecord;
 use std::alloc::{AllocError, Global};
 
 /// By what the fields of a row are separated.
@@ -80,8 +81,6 @@ struct FirstRow {
 }
 
 /// The first row of a text by a separator.
-// Out of line, so that the readers that are made in turn have one place on the stack.
-#[inline(never)]
 fn first_row(
     alloc: Global,
     targets: &[Name],
@@ -93,17 +92,9 @@ fn first_row(
     ensures wide { IfOk result (λ first. first.is_wide
         ≡ spec.is_wide (spec.first_of (spec.rows_by separator bytes.now))) }
 {
-    let mut unread = bytes;
-    let mut reader = ReaderBuilder::new()
-        .delimiter(separator.byte())
-        .has_headers(false)
-        .flexible(true)
-        .from_reader(alloc, &mut unread);
+    let mut records = Records::of(alloc, separator, bytes);
     let mut raw = ByteRecord::new(alloc);
-    // Bytes in memory fail only where memory does.
-    let Ok(found) = reader.read_byte_record(&mut raw) else {
-        return Err(AllocError);
-    };
+    let found = records.next(&mut raw)?;
     if !found {
         return Ok(FirstRow {
             begins_with_target: false,

@@ -12,8 +12,7 @@ use Rattle.station_book.specs.Blocks.{target}
 use Rattle.station_book.specs.Places.{History}
 use Rattle.station_book.proofs.lists.Elements.{all_in, in_reverse, all_from}
 use Rattle.set_marks.specs.declared.sight.Sight.{Sight}
-use Rattle.set_marks.specs.declared.sight.SetUp.{SetUp}
-use Rattle.set_marks.specs.Stations.{Occupation, sets_up, set_up_in, set_ups_of, sights_of, occupations, begun, stations_of}
+use Rattle.set_marks.specs.Stations.{SetUp, Occupation, sets_up, set_up_in, set_ups_of, sights_of, occupations, begun, stations_of}
 use Rattle.set_marks.proofs.Bare.{is_rest}
 
 -- A name that a content gives which holds it.

@@ -10,7 +10,7 @@ use Rattle.memchr.specs.Find.{IsFirstByte, is_byte2}
 use Rattle.std.proofs.lemmas.List.Splits.{slice_split_first, slice_split_none}
 use Rattle.gsi_word.specs.Words.{IsLineByte}
 use Rattle.gsi_file.specs.Parts.{is_line_end, parts}
-use Rattle.set_marks.specs.Placing.{IsFirstEnd}
+use Rattle.set_marks.specs.Placing.{IsEmptyPart, IsFirstEnd}
 
 abbrev place : List ℕ → ℕ
 place bytes = position_or_len is_line_end bytes
@@ -86,3 +86,9 @@ printable_position bytes at printable inside e = is_position bytes (Some at) (
   },
   e,
 )
+
+-- A line feed at the front ends an empty part.
+pub feed_first : (bytes : List ℕ) → 0 < length bytes → slice_index bytes 0 ≡ 10 → IsEmptyPart bytes 1
+feed_first bytes lt e =
+    let end : is_line_end (slice_index bytes 0) ≡ true = rw e refl in
+    inr (refl, some_end bytes 0 (printable_position bytes 0 (λ k lt. absurd (omega arith)) lt end))

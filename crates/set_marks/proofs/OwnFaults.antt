@@ -18,8 +18,7 @@ use Rattle.station_book.specs.Faults.{first_of}
 use Rattle.station_book.specs.Readings.{own_faults, face_of}
 use Rattle.station_book.proofs.readings.CleanBlocks.{all_none, none_when}
 use Rattle.set_marks.specs.declared.fault.MarkFault.TheVariants.{Reading}
-use Rattle.set_marks.specs.declared.sight.SetUp.{SetUp}
-use Rattle.set_marks.specs.Stations.{begun, is_stated, reading_fault, fault_as, own_fault, fault_of_blocks}
+use Rattle.set_marks.specs.Stations.{SetUp, begun, is_stated, reading_fault, fault_as, own_fault, fault_of_blocks}
 use Rattle.set_marks.proofs.ReadingBlocks.{IsClean}
 use Rattle.set_marks.proofs.StationReadings.{HasStation, HaveStations}
 

@@ -8,8 +8,7 @@ use Rattle.gsi_word.specs.Blocks.{GsiBlock}
 use Rattle.station_book.specs.Blocks.{has_direction, target}
 use Rattle.station_book.specs.Places.{History, is_empty}
 use Rattle.set_marks.specs.declared.sight.Sight.{Sight}
-use Rattle.set_marks.specs.declared.sight.SetUp.{SetUp}
-use Rattle.set_marks.specs.Stations.{sets_up, sight_in, sights_of, set_up_in, set_ups_of, occupations, begun, stations_of}
+use Rattle.set_marks.specs.Stations.{SetUp, sets_up, sight_in, sights_of, set_up_in, set_ups_of, occupations, begun, stations_of}
 use Rattle.set_marks.proofs.MarkedStations.{all_sights}
 
 -- each begins no later than the next
@@ -19,7 +18,7 @@ AreAscending (s ∷ []) = ⊤
 AreAscending (s ∷ t ∷ later) = (s.from ≤ t.from) × AreAscending (t ∷ later)
 
 -- each begins after so many readings at most
-abbrev BeginBy : ℕ → List SetUp → Type 0
+abbrev pub BeginBy : ℕ → List SetUp → Type 0
 BeginBy n ss = AllByRecursion (λ s. s.from ≤ n) ss
 
 -- The first begins with the first reading; without one there is no reading.
@@ -33,11 +32,11 @@ one_more [] t up by = tt
 one_more (s ∷ []) t up by = (by.0, tt)
 one_more (s ∷ u ∷ ss) t up by = (up.0, one_more (u ∷ ss) t up.1 by.1)
 
-by_more : (n m : ℕ) (ss : List SetUp) → n ≤ m → BeginBy n ss → BeginBy m ss
+pub by_more : (n m : ℕ) (ss : List SetUp) → n ≤ m → BeginBy n ss → BeginBy m ss
 by_more n m [] le by = tt
 by_more n m (s ∷ ss) le by = ((let l = by.0 in omega arith), by_more n m ss le by.1)
 
-by_both : (n : ℕ) (ss ts : List SetUp) → BeginBy n ss → BeginBy n ts → BeginBy n (ss ++ ts)
+pub by_both : (n : ℕ) (ss ts : List SetUp) → BeginBy n ss → BeginBy n ts → BeginBy n (ss ++ ts)
 by_both n [] ts a b = b
 by_both n (s ∷ ss) ts a b = (a.0, by_both n ss ts a.1 b)
 

@@ -15,16 +15,16 @@ use Rattle.station_book.specs.declared.role.Role.{Role}
 use Rattle.station_book.specs.declared.role.Role.TheVariants.{Station, Set, Close, Measurement, Other}
 use Rattle.station_book.specs.Blocks.{role_of, lacks}
 use Rattle.station_book.specs.Faults.{first_of}
-use Rattle.station_book.specs.Places.{History}
+use Rattle.station_book.specs.Places.{History, is_empty}
 use Rattle.station_book.specs.Readings.{own_faults}
 use Rattle.set_marks.specs.declared.fault.MarkFault.{MarkFault}
 use Rattle.set_marks.specs.declared.fault.MarkFault.TheVariants.{File, Reading, At, Memory}
 use Rattle.set_marks.specs.declared.fault.MarkKind.TheVariants as kinds
 use Rattle.set_marks.specs.declared.readings.Readings.{Readings}
-use Rattle.set_marks.specs.declared.sight.SetUp.{SetUp}
-use Rattle.set_marks.specs.Stations.{begun, is_stated, fault_as, reading_fault, fault_of_blocks, own_fault, tells_set_up}
-use Rattle.set_marks.specs.Keeping.{Adds, Keeps, AreReadings, AnswersReadings}
+use Rattle.set_marks.specs.Stations.{SetUp, begun, is_stated, fault_as, reading_fault, fault_of_blocks, own_fault, tells_set_up}
+use Rattle.set_marks.specs.Keeping.{Adds, Keeps, AreReadings, AnswersReadings, begun_in}
 use Rattle.set_marks.specs.Markings.{AreBlocks, IsFileFault}
+use Rattle.set_marks.proofs.EndedStations.{keeps_next}
 
 -- The lines of a file up to some place are blocks, and this is kept of them, or is the fault of the
 -- first that has one by itself.
@@ -62,31 +62,39 @@ after_line : (left : FileAnswers) (o : Option FileAnswers) (line : List ℕ)
 after_line left None line e = absurd e
 after_line left (Some next) line e = (next, refl, e)
 
+-- Only whether a station has begun counts for the fault of a reading.
+same_reading_fault : (ss ts : List SetUp) (number : ℕ) (b : GsiBlock) → is_empty ss ≡ is_empty ts
+    → reading_fault ss number b ≡ reading_fault ts number b
+same_reading_fault [] [] number b e = refl
+same_reading_fault [] (t ∷ ts) number b e = cc
+same_reading_fault (s ∷ ss) [] number b e = cc
+same_reading_fault (s ∷ ss) (t ∷ ts) number b e = refl
+
+same_fault : (role : Role) (stated : Bool) (ss ts : List SetUp) (number : ℕ) (b : GsiBlock)
+    → is_empty ss ≡ is_empty ts → fault_as role stated ss number b ≡ fault_as role stated ts number b
+same_fault Station stated ss ts number b e = refl
+same_fault Set stated ss ts number b e = refl
+same_fault Close stated ss ts number b e = refl
+same_fault Other stated ss ts number b e = refl
+same_fault Measurement stated ss ts number b e =
+    ap (λ (o : Option MarkFault). if lacks 21 b
+    then (if tells_set_up b && stated then Some (At number kinds.HasSetUp) else None) else o)
+    (same_reading_fault ss ts number b e)
+
 -- The fault, whatever was kept where there was one already.
 next_fault : (station : Option (List ℕ)) (h : History) (r : Readings) (b : GsiBlock) (number : ℕ)
     (f : Option MarkFault) → f ≡ fault_of_blocks station h → (f ≡ None → Keeps station h r)
     → number ≡ length h + 1
-    → first_of (f ∷ fault_as (role_of b) (is_stated station) r.set_ups.items number b ∷ [])
+    → first_of (f ∷ fault_as (role_of b) (is_stated station) (begun_in r.station) number b ∷ [])
     ≡ fault_of_blocks station (b ∷ h)
 next_fault station h r b number (Some e) is kept counted =
     ap (λ o. first_of (o ∷ own_fault station h b ∷ [])) is
 next_fault station h r b number None is kept counted =
-    let k = (kept refl).set_ups in
-    rw (k, counted) (ap (λ o. first_of (o ∷ own_fault station h b ∷ [])) is)
-
--- What is kept with one block more.
-keeps_next : (station : Option (List ℕ)) (h : History) (b : GsiBlock) (r r' : Readings)
-    → Keeps station h r → Adds (is_stated station) b (length h + 1) r r' → Keeps station (b ∷ h) r'
-keeps_next None h b r r' kept adds = record {
-  set_ups = adds.set_ups ∙ rw (kept.set_ups, kept.sights) refl;
-  sights = adds.sights ∙ rw kept.sights refl;
-  blocks = adds.blocks ∙ omega arith;
-}
-keeps_next (Some name) h b r r' kept adds = record {
-  set_ups = adds.set_ups ∙ kept.set_ups;
-  sights = adds.sights ∙ rw kept.sights refl;
-  blocks = adds.blocks ∙ omega arith;
-}
+    let k = (kept refl).begun in
+    rw (
+      same_fault (role_of b) (is_stated station) (begun_in r.station) (begun station h) number b k,
+      counted,
+    ) (ap (λ o. first_of (o ∷ own_fault station h b ∷ [])) is)
 
 -- The fault before is none, where there is none after it.
 none_before : (f g : Option MarkFault) → first_of (f ∷ g ∷ []) ≡ None → f ≡ None
@@ -108,7 +116,7 @@ one_more R (a ∷ xs) (b ∷ ys) x y h r = (h.0, one_more R xs ys x y h.1 r)
 pub line_taken : (station : Option (List ℕ)) (first : FileAnswers) (t t' : ToCome) (r r' : Readings)
     (f f' : Option MarkFault) (number : ℕ) (b : GsiBlock)
     → AreTaken station first t r f → GivesLine t t' number b
-    → f' ≡ first_of (f ∷ fault_as (role_of b) (is_stated station) r.set_ups.items number b ∷ [])
+    → f' ≡ first_of (f ∷ fault_as (role_of b) (is_stated station) (begun_in r.station) number b ∷ [])
     → (f' ≡ None → Adds (is_stated station) b number r r')
     → AreTaken station first t' r' f'
 line_taken station first t t' r r' f f' number b taken gives is adds =

@@ -1,12 +1,12 @@
 -- From one line of a file to the next.
-use Rattle.std.proofs.Common.{◌≡◌, ℕ, suc, ◌+◌, ◌-◌, ◌<◌, Bool, true, false, List, [], ◌∷◌, ◌++◌, length, take, drop, map, sym, ap, subst, ◌∙◌, append_assoc, arith, get_or, inr}
+use Rattle.std.proofs.Common.{◌≡◌, ℕ, suc, ◌+◌, ◌-◌, ◌<◌, ◌≤◌, Bool, true, false, List, [], ◌∷◌, ◌++◌, length, take, drop, map, sym, ap, subst, ◌∙◌, append_assoc, arith, get_or, inl, inr, refl}
 use Rattle.std.specs.Prelude.{slice_index, not, if◌then◌else◌}
 use Rattle.std.proofs.lemmas.List.{append-nil, drop-drop, get_or-drop, length-take}
 use Rattle.gsi_file.specs.Parts.{parts, is_blank, is_line_end}
 use Rattle.set_marks.specs.declared.mark.BlockMark.{BlockMark}
 use Rattle.set_marks.specs.declared.mark.Mark.{Mark}
 use Rattle.set_marks.specs.Copies.{BeginsAt}
-use Rattle.set_marks.specs.Placing.{placed_at, placed_from, marks_of_block, marks_after}
+use Rattle.set_marks.specs.Placing.{IsEmptyPart, placed_at, placed_from, marks_of_block, marks_after}
 
 -- A line begins after a byte that ends one.
 pub next_begins : (bytes rest : List ℕ) (at n : ℕ) → rest ≡ drop at bytes
@@ -99,3 +99,37 @@ pub last_value : (bytes rest : List ℕ) (at number number' : ℕ) (ms ms' : Lis
 last_value bytes rest at number number' ms ms' old new whole split f value =
     sym (append-nil new) ∙ sym (f [])
     ∙ ap (λ (p : List (List ℕ)). old ++ placed_from bytes at number ms p) (sym split) ∙ value
+
+-- Over an empty part.
+pub over_empty : (bytes rest : List ℕ) (at number n : ℕ) (ms : List BlockMark) (old whole : List Mark)
+    → IsEmptyPart rest n → old ++ placed_from bytes at number ms (parts rest) ≡ whole
+    → old ++ placed_from bytes (at + n) number ms (parts (drop n rest)) ≡ whole
+over_empty bytes rest at number n ms old whole (inl none) value =
+    subst (λ (k : ℕ). old ++ placed_from bytes (at + k) number ms (parts (drop k rest)) ≡ whole)
+    (sym none)
+    (subst (λ (k : ℕ). old ++ placed_from bytes k number ms (parts rest) ≡ whole) (omega arith) value)
+over_empty bytes rest at number n ms old whole (inr one) value =
+    subst (λ (k : ℕ). old ++ placed_from bytes (at + k) number ms (parts (drop k rest)) ≡ whole)
+    (sym one.0)
+    (next_value bytes rest at number number 0 ms ms old old whole one.1.inside one.1.some
+    (λ tail. part_blank bytes [] at number ms tail old refl) value)
+
+-- It stands among them.
+pub empty_inside : (rest : List ℕ) (n : ℕ) → IsEmptyPart rest n → n ≤ length rest
+empty_inside rest n (inl none) = omega (arith, none)
+empty_inside rest n (inr one) = let l = one.1.inside in let e = one.0 in omega (arith, l, e)
+
+-- What is left after it.
+pub rest_of_empty : (bytes rest : List ℕ) (at n : ℕ) → rest ≡ drop at bytes
+    → drop n rest ≡ drop (at + n) bytes
+rest_of_empty bytes rest at n is = ap (λ (l : List ℕ). drop n l) is ∙ drop-drop n at bytes
+    ∙ ap (λ (k : ℕ). drop k bytes) (omega arith)
+
+-- A line begins after it, too.
+pub begins_after_empty : (bytes rest : List ℕ) (at n : ℕ) → rest ≡ drop at bytes
+    → IsEmptyPart rest n → BeginsAt bytes at → BeginsAt bytes (at + n)
+begins_after_empty bytes rest at n is (inl none) begins =
+    subst (λ (k : ℕ). BeginsAt bytes k) (omega (arith, none)) begins
+begins_after_empty bytes rest at n is (inr one) begins =
+    subst (λ (k : ℕ). BeginsAt bytes (at + k)) (sym one.0)
+    (next_begins bytes rest at 0 is one.1.end)

@@ -1,21 +1,22 @@
 -- What the code keeps of the blocks of a file, and what it answers on the way.
-use Rattle.std.specs.Prelude.{◌≡◌, ℕ, List, ◌++◌, length, Bool, true, false, Option, Some, None, Result}
-use Rattle.std.specs.Prelude.{Ok, Err, ⊤}
+use Rattle.std.specs.Prelude.{◌≡◌, ℕ, List, [], ◌∷◌, ◌++◌, length, Bool, true, false, not, ◌&&◌}
+use Rattle.std.specs.Prelude.{Option, Some, None, Result, Ok, Err, ⊤}
 use Rattle.gsi_word.specs.Blocks.{GsiBlock}
 use Rattle.gsi_file.specs.FileAnswers.{FileAnswers}
 use Rattle.gsi_file.specs.declared.file_fault.FileFault.TheVariants as file
-use Rattle.station_book.specs.Places.{History}
+use Rattle.station_book.specs.Blocks.{target}
+use Rattle.station_book.specs.Places.{History, is_empty}
 use Rattle.set_marks.specs.declared.fault.MarkFault.{MarkFault}
 use Rattle.set_marks.specs.declared.fault.MarkFault.TheVariants.{File, Reading, At, Memory}
+use Rattle.set_marks.specs.declared.flaw.Flaw.{Flaw}
 use Rattle.set_marks.specs.declared.readings.Readings.{Readings}
 use Rattle.set_marks.specs.declared.marking.Marking.{Marking}
 use Rattle.set_marks.specs.declared.division.Divided.{Divided}
-use Rattle.set_marks.specs.declared.sight.SetUp.{SetUp}
 use Rattle.set_marks.specs.declared.sight.Sight.{Sight}
-use Rattle.set_marks.specs.Stations.{begun, sights_of, fault_of_blocks, sight_in, set_up_in}
-use Rattle.set_marks.specs.Stations.{Occupation, occupations}
+use Rattle.set_marks.specs.Stations.{SetUp, Occupation, begun, sets_up, sight_in, fault_of_blocks}
+use Rattle.set_marks.specs.Stations.{stations_of}
 use Rattle.set_marks.specs.Marking.{marks_from, recognized_from, names_after, station_marks}
-use Rattle.set_marks.specs.Marking.{is_open_after, told_of}
+use Rattle.set_marks.specs.Marking.{is_open_after, told_of, fault_of_stations}
 use Rattle.set_marks.specs.Markings.{AreBlocks, IsFileFault}
 
 -- There was no memory; or this is the fault.
@@ -25,22 +26,69 @@ IsMemoryOr fault (File e) = ⊥
 IsMemoryOr fault (Reading number kind) = fault ≡ Some (Reading number kind)
 IsMemoryOr fault (At number kind) = fault ≡ Some (At number kind)
 
--- The stations that have begun after a block, where so many readings stand before it.
-abbrev pub begun_after : Bool → List SetUp → ℕ → GsiBlock → List SetUp
-begun_after true ss from b = ss
-begun_after false ss from b = ss ++ set_up_in from b
+-- The station of this name, where one is open, with its readings.
+abbrev pub open_one : Option (List ℕ) → List Sight → List Occupation
+open_one None rs = []
+open_one (Some name) rs = record { name = name; sights = rs } ∷ []
 
--- A block more is kept: the station that it sets up, unless one is stated, and its reading.
-pub record Adds (stated : Bool) (b : GsiBlock) (number : ℕ) (old new : Readings) : Type 0 where
-  pub set_ups : new.set_ups.items
-      ≡ begun_after stated old.set_ups.items (length old.sights.items) b
+-- the station that is open, with its readings so far
+abbrev pub open_in : Readings → List Occupation
+open_in r = open_one r.station r.sights.items
+
+-- the begin of a station, where one is open
+abbrev pub begun_in : Option (List ℕ) → List SetUp
+begun_in None = []
+begun_in (Some name) = record { name = name; from = 0 } ∷ []
+
+-- These stations, of which none has a flaw, are marked and told, whichever come after them.
+pub record AreMarkedFirst (ended : List Occupation) (m : Marking) : Type 0 where
+  pub clean : (end : ℕ) (later : List Occupation)
+      → fault_of_stations end [] (ended ++ later) ≡ fault_of_stations end m.names later
+  pub marks : (later : List Occupation)
+      → marks_from false (ended ++ later) ≡ m.marks.items ++ marks_from m.in_set later
+  pub told : (later : List Occupation)
+      → recognized_from (ended ++ later) ≡ m.stations.items ++ recognized_from later
+
+-- The same; or this is the flaw of the first of them that has one, whichever come after them.
+abbrev pub AreEnded : List Occupation → Marking → Option Flaw → Type 0
+AreEnded ended m None = AreMarkedFirst ended m
+AreEnded ended m (Some flaw) = (end : ℕ) (later : List Occupation)
+    → fault_of_stations end [] (ended ++ later) ≡ Some flaw
+
+-- The station that is open has ended too.
+abbrev pub Ends : Readings → Readings → Type 0
+Ends old new = (ended : List Occupation) → AreEnded ended old.marking old.flaw
+    → AreEnded (ended ++ open_in old) new.marking new.flaw
+
+-- A block begins a station, and ends the one that was open.
+pub record BeginsStation (b : GsiBlock) (old new : Readings) : Type 0 where
+  pub station : new.station ≡ Some (target b)
+  pub sights : new.sights.items ≡ []
+  pub ends : Ends old new
+
+-- A block begins none, and is one more reading, if it is one.
+pub record AddsReading (b : GsiBlock) (number : ℕ) (old new : Readings) : Type 0 where
+  pub station : new.station ≡ old.station
   pub sights : new.sights.items ≡ old.sights.items ++ sight_in number b
+  pub marking : new.marking ≡ old.marking
+  pub flaw : new.flaw ≡ old.flaw
+
+-- the one or the other
+abbrev pub AddsTo : Bool → GsiBlock → ℕ → Readings → Readings → Type 0
+AddsTo true b number old new = BeginsStation b old new
+AddsTo false b number old new = AddsReading b number old new
+
+-- A block more is kept: the station that it sets up, unless one is stated, or its reading.
+pub record Adds (stated : Bool) (b : GsiBlock) (number : ℕ) (old new : Readings) : Type 0 where
+  pub adds : AddsTo (not stated && sets_up b) b number old new
   pub blocks : new.blocks ≡ number
 
--- These blocks are kept.
+-- These blocks are kept: the stations that have ended, and the one that is open.
 pub record Keeps (station : Option (List ℕ)) (h : History) (r : Readings) : Type 0 where
-  pub set_ups : r.set_ups.items ≡ begun station h
-  pub sights : r.sights.items ≡ sights_of h
+  pub ended : List Occupation
+  pub stations : stations_of station h ≡ ended ++ open_in r
+  pub are_ended : AreEnded ended r.marking r.flaw
+  pub begun : is_empty (begun_in r.station) ≡ is_empty (begun station h)
   pub blocks : r.blocks ≡ length h
 
 -- The blocks of the file are kept, and none has a fault by itself.
@@ -77,7 +125,7 @@ pub record TakesStation (s : Occupation) (d : Divided) (old new : Marking) : Typ
   pub names : new.names ≡ names_after old.names s d
   pub in_set : new.in_set ≡ is_open_after old.in_set s d
 
--- The stations that begin so, with these readings, are marked and told.
-pub record AreMarked (set_ups : List SetUp) (sights : List Sight) (m : Marking) : Type 0 where
-  pub marks : m.marks.items ≡ marks_from false (occupations set_ups sights)
-  pub stations : m.stations.items ≡ recognized_from (occupations set_ups sights)
+-- These stations are marked and told.
+pub record AreMarked (stations : List Occupation) (m : Marking) : Type 0 where
+  pub marks : m.marks.items ≡ marks_from false stations
+  pub told : m.stations.items ≡ recognized_from stations

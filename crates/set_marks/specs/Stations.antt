@@ -22,7 +22,6 @@ use Rattle.set_marks.specs.declared.fault.MarkFault.{MarkFault}
 use Rattle.set_marks.specs.declared.fault.MarkFault.TheVariants.{At, Reading}
 use Rattle.set_marks.specs.declared.fault.MarkKind.TheVariants as kinds
 use Rattle.set_marks.specs.declared.sight.Sight.{Sight}
-use Rattle.set_marks.specs.declared.sight.SetUp.{SetUp}
 
 -- The words of a set-up line: east, north and height of the station, height of the instrument. Word
 -- 87, the height of a target, is none of them: it stands at points that are no stations too.
@@ -56,6 +55,11 @@ sight_in number b = if has_direction b then record {
 abbrev pub sights_of : History → List Sight
 sights_of [] = []
 sights_of (b ∷ past) = sights_of past ++ sight_in (length past + 1) b
+
+-- how a station begins: its name, and how many of the file's readings stand before it
+pub record SetUp : Type 0 where
+  pub name : List ℕ
+  pub from : ℕ
 
 -- the station that a block sets up, if it does, after so many readings
 abbrev pub set_up_in : ℕ → GsiBlock → List SetUp

@@ -9,7 +9,7 @@ ghost use Rattle.set_marks.specs.Lines.{end_bytes, end_from, end_before, end_bes
 use gsi_word::steps::{LANES, printable_run};
 use memchr::memchr2;
 
-const LINE_FEED: u8 = 10;
+pub(crate) const LINE_FEED: u8 = 10;
 
 const CARRIAGE_RETURN: u8 = 13;
 
@@ -86,10 +86,11 @@ fn pass_printable(bytes: &[u8]) -> usize
     let mut at = 0;
     'loads: while bytes.len() - at >= LANES {
         let run = printable_run(bytes, at);
-        at += run;
         if run < LANES {
-            return at;
+            return at + run;
         }
+        // By this number and not by the run, so that the next load need not wait for this one.
+        at += LANES;
     }
     at
 }

@@ -5,7 +5,6 @@ ghost use Rattle.set_marks.specs.Markings.{AnswersMark};
 
 use crate::fault::MarkFault;
 use crate::mark::Mark;
-use crate::marking::marking_of;
 use crate::placing::placed;
 use crate::reading::readings_of;
 use crate::recognized::Recognized;
@@ -43,7 +42,7 @@ pub fn mark_file(
         (file_answers (record { bytes = bytes.now; fails = fails })) result }
 {
     let readings = readings_of(alloc, bytes, fails, station)?;
-    let marking = marking_of(alloc, &readings)?;
+    let marking = readings.finish(alloc)?;
     let marks = placed(alloc, bytes, &marking.marks)?;
     Ok(Marked {
         marks,

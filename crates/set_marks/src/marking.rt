@@ -1,25 +1,23 @@
 //! The code lines of a file's stations, and what is told of them.
 
-ghost use Rattle.std.specs.Prelude.{◌≡◌, ◌<◌, ◌≤◌, ◌+◌, ◌++◌, ◌∷◌, [], All, IfErr, IfOk, IfSome, OnOk, None, length, drop, false, option_map, slice_get, nat_lt, ◌&&◌};
+ghost use Rattle.std.specs.Prelude.{◌≡◌, ◌<◌, ◌≤◌, ◌+◌, ◌++◌, ◌∷◌, [], All, IfNone, IfOk, IfSome, OnOk, length, drop, false, option_map, slice_get, nat_lt, ◌&&◌};
 ghost use Rattle.set_marks.specs.declared.bounds.TheConstants.{MOST_SETS};
 ghost use Rattle.set_marks.specs.declared.division.Divided.TheVariants.{NoSets, Sets};
 ghost use Rattle.set_marks.specs.Divisions.{divided, starts_of, end_in};
 ghost use Rattle.station_book.specs.Places.{is_among};
 ghost use Rattle.set_marks.specs.Marks.{HasRoom, IsRoomy};
-ghost use Rattle.set_marks.specs.Stations.{occupations};
-ghost use Rattle.set_marks.specs.Marking.{as_fault, is_too_long, station_fault, mark_at, set_marks, close_mark, sets_marks, fault_of_stations};
-ghost use Rattle.set_marks.specs.Keeping.{TakesStation, AreMarked, IsMemoryOr};
+ghost use Rattle.set_marks.specs.Marking.{is_too_long, station_fault, mark_at, set_marks, close_mark, sets_marks};
+ghost use Rattle.set_marks.specs.Keeping.{TakesStation};
 
 use crate::division::{Divided, behind, divide, end_by, part};
-use crate::fault::{MarkFault, MarkKind};
+use crate::fault::MarkKind;
 use crate::flaw::{Flaw, first_flaw, flaw_when};
 use crate::known::count_targets;
 use crate::mark::{BlockMark, Code, width};
 use crate::names::Names;
-use crate::readings::Readings;
 use crate::recognized::Recognized;
 use crate::set::sight_at;
-use crate::sight::{SetUp, Sight};
+use crate::sight::Sight;
 use crate::starts::starts_of;
 use adjust_kernel::Name;
 use station_book::MOST_STATIONS;
@@ -83,7 +81,7 @@ fn sets_fault(names: &mut Names, name: &Name, sights: &[Sight], leading: usize) 
 fn put(marks: &mut Vec<BlockMark>, sight: Option<&Sight>, code: Code) -> Result<(), AllocError>
     requires here { IfSome sight (λ s. HasRoom s.now.wide code) }
     requires room { All IsRoomy marks.old.items }
-    ensures room { OnOk result (All IsRoomy marks.new.items) }
+    ensures room { All IsRoomy marks.new.items }
     ensures put { OnOk result (marks.new.items
         ≡ marks.old.items ++ mark_at (option_map (λ s. s.now) sight.entry) code) }
 {
@@ -106,7 +104,7 @@ fn put_sets(
 ) -> Result<(), AllocError>
     requires few { length starts.now ≤ MOST_SETS }
     requires room { All IsRoomy marks.old.items }
-    ensures room { OnOk result (All IsRoomy marks.new.items) }
+    ensures room { All IsRoomy marks.new.items }
     ensures put { OnOk result (marks.new.items
         ≡ marks.old.items ++ set_marks 1 starts.now sights.now) }
 {
@@ -124,7 +122,7 @@ fn put_sets(
 /// Puts code 30 before the first of these readings, where a set is open.
 fn put_close(marks: &mut Vec<BlockMark>, in_set: bool, sights: &[Sight]) -> Result<(), AllocError>
     requires room { All IsRoomy marks.old.items }
-    ensures room { OnOk result (All IsRoomy marks.new.items) }
+    ensures room { All IsRoomy marks.new.items }
     ensures put { OnOk result (marks.new.items ≡ marks.old.items ++ close_mark in_set sights.now) }
 {
     if in_set {
@@ -156,7 +154,7 @@ fn put_station(
     requires end { end ≡ end_in (drop leading sights.now) }
     requires here { is_too_long name.now (slice_get sights.now leading) ≡ false }
     requires room { All IsRoomy marks.old.items }
-    ensures room { OnOk result (All IsRoomy marks.new.items) }
+    ensures room { All IsRoomy marks.new.items }
     ensures put { OnOk result (marks.new.items ≡ marks.old.items
         ++ sets_marks in_set (record { name = name.now; sights = sights.now }) leading) }
 {
@@ -172,7 +170,8 @@ fn put_station(
 }
 
 impl Marking {
-    fn new(alloc: Global) -> Marking
+    /// No code lines.
+    pub(crate) fn new(alloc: Global) -> Marking
         ensures marks { result.marks.items ≡ [] }
         ensures stations { result.stations.items ≡ [] }
         ensures names { result.names ≡ [] }
@@ -189,7 +188,7 @@ impl Marking {
     /// Takes a station that has no sets.
     fn take_without_sets(&mut self, name: &Name, sights: &[Sight]) -> Result<(), AllocError>
         requires room { All IsRoomy self.old.marks.items }
-        ensures room { OnOk result (All IsRoomy self.new.marks.items) }
+        ensures room { All IsRoomy self.new.marks.items }
         ensures takes { OnOk result (TakesStation (record { name = name.now; sights = sights.now })
             NoSets self.old self.new) }
     {
@@ -222,7 +221,7 @@ impl Marking {
         requires new { is_among self.old.names name.now ≡ false }
         requires here { is_too_long name.now (slice_get sights.now leading) ≡ false }
         requires room { All IsRoomy self.old.marks.items }
-        ensures room { OnOk result (All IsRoomy self.new.marks.items) }
+        ensures room { All IsRoomy self.new.marks.items }
         ensures takes { OnOk result (TakesStation (record { name = name.now; sights = sights.now })
             (Sets leading) self.old self.new) }
     {
@@ -251,61 +250,30 @@ impl Marking {
         Ok(())
     }
 
-    /// Takes a station, or answers its fault.
+    /// Takes a station, or answers its flaw.
     #[tactic(auto, using(crate::proofs::Few::few_sets, crate::proofs::Few::some_reading, crate::proofs::Few::has_room))]
-    fn take(&mut self, alloc: Global, name: &Name, sights: &[Sight]) -> Result<(), MarkFault>
+    pub(crate) fn take(
+        &mut self,
+        alloc: Global,
+        name: &Name,
+        sights: &[Sight],
+    ) -> Result<Option<Flaw>, AllocError>
         requires room { All IsRoomy self.old.marks.items }
-        ensures room { OnOk result (All IsRoomy self.new.marks.items) }
-        ensures clean { OnOk result (station_fault self.old.names
-            (record { name = name.now; sights = sights.now }) (divided sights.now) ≡ None) }
-        ensures takes { OnOk result (TakesStation (record { name = name.now; sights = sights.now })
-            (divided sights.now) self.old self.new) }
-        ensures fault { IfErr result (IsMemoryOr (as_fault (station_fault self.old.names
-            (record { name = name.now; sights = sights.now }) (divided sights.now)))) }
+        ensures room { All IsRoomy self.new.marks.items }
+        ensures flaw { IfOk result (λ flaw. flaw ≡ station_fault self.old.names
+            (record { name = name.now; sights = sights.now }) (divided sights.now)) }
+        ensures takes { IfOk result (λ flaw. IfNone flaw
+            (TakesStation (record { name = name.now; sights = sights.now }) (divided sights.now)
+            self.old self.new)) }
     {
         let divided = divide(alloc, sights)?;
         if let Some(flaw) = station_fault(&mut self.names, name, sights, divided) {
-            return Err(MarkFault::At(flaw.block, flaw.kind));
+            return Ok(Some(flaw));
         }
         match divided {
             Divided::Sets(leading) => self.take_sets(alloc, name, sights, leading)?,
             _ => self.take_without_sets(name, sights)?,
         }
-        Ok(())
+        Ok(None)
     }
-}
-
-/// The readings of a station that begins so: those up to the next.
-fn sights_before<'a>(set_up: &SetUp, later: &[SetUp], sights: &'a [Sight]) -> &'a [Sight]
-    ensures { occupations (set_up.now ∷ later.now) sights.now
-        ≡ record { name = set_up.now.name; sights = result.now } ∷ occupations later.now sights.now }
-{
-    match later {
-        [] => behind(set_up.from, sights),
-        [next, ..] => part(set_up.from, next.from, sights),
-    }
-}
-
-/// The code lines of a file's stations, and what is told of them.
-#[tactic(auto, using(crate::proofs::Making::as_first))]
-pub(crate) fn marking_of(alloc: Global, readings: &Readings) -> Result<Marking, MarkFault>
-    ensures clean { OnOk result (fault_of_stations (readings.now.blocks + 1) []
-        (occupations readings.now.set_ups.items readings.now.sights.items) ≡ None) }
-    ensures room { IfOk result (λ m. All IsRoomy m.marks.items) }
-    ensures marked { IfOk result
-        (AreMarked readings.now.set_ups.items readings.now.sights.items) }
-    ensures fault { IfErr result (IsMemoryOr (as_fault (fault_of_stations (readings.now.blocks + 1)
-        [] (occupations readings.now.set_ups.items readings.now.sights.items)))) }
-{
-    let mut marking = Marking::new(alloc);
-    let mut left = readings.set_ups.as_slice();
-    'stations: while let Some((set_up, rest)) = left.split_first() {
-        let sights = sights_before(set_up, rest, &readings.sights);
-        marking.take(alloc, &set_up.name, sights)?;
-        left = rest;
-    }
-    if marking.names.len() == 0 {
-        return Err(MarkFault::At(readings.blocks + 1, MarkKind::NoSets));
-    }
-    Ok(marking)
 }

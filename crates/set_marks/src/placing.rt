@@ -4,11 +4,11 @@ ghost use Rattle.std.specs.Prelude.{◌≡◌, ◌≤◌, ◌+◌, ◌++◌, ◌
 ghost use Rattle.std.specs.Bool.{OnFalse};
 ghost use Rattle.gsi_file.specs.Parts.{parts};
 ghost use Rattle.set_marks.specs.Marks.{IsRoomy};
-ghost use Rattle.set_marks.specs.Placing.{IsFirstEnd, placed, placed_from, placed_at, marks_of_block, marks_after};
+ghost use Rattle.set_marks.specs.Placing.{IsEmptyPart, IsFirstEnd, placed, placed_from, placed_at, marks_of_block, marks_after};
 ghost use Rattle.set_marks.specs.Searching.{HasNoMark};
 ghost use Rattle.set_marks.specs.Copies.{AreOrdered, BeginsAt, BeginsLine};
 
-use crate::line_end::{end_beside, is_blank, place_of_end};
+use crate::line_end::{LINE_FEED, end_beside, is_blank, place_of_end};
 use crate::mark::{BlockMark, Mark};
 use std::alloc::{AllocError, Global};
 
@@ -108,6 +108,20 @@ fn place_part<'a>(
     Ok((number + 1, left))
 }
 
+/// How many bytes an empty part takes that these begin with: the line feed after a carriage return
+/// that ends a line.
+#[inline(always)]
+#[tactic(auto, using(crate::proofs::Breaks::feed_first))]
+fn empty_part(bytes: &[u8]) -> usize
+    ensures { IsEmptyPart bytes.now result }
+{
+    if !bytes.is_empty() && bytes[0] == LINE_FEED {
+        1
+    } else {
+        0
+    }
+}
+
 /// The bytes after the first so many.
 fn after(count: usize, bytes: &[u8]) -> &[u8]
     requires { count ≤ length bytes.now }
@@ -139,6 +153,10 @@ pub(crate) fn placed(
         left = next.1;
         at += length + 1;
         rest = after(length + 1, rest);
+        // Between the two bytes of an end is nothing, so no search is begun for its end.
+        let empty = empty_part(rest);
+        at += empty;
+        rest = after(empty, rest);
     }
     place_part(&mut found, bytes, at, number, rest, left)?;
     Ok(found)

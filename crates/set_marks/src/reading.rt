@@ -1,6 +1,6 @@
 //! How the blocks of a field file are read.
 
-ghost use Rattle.std.specs.Prelude.{◌≡◌, ◌≤◌, ◌++◌, ◌∷◌, [], IfErr, IfOk, IfNone, IfSome, OnOk, None, Some, length, not, nat_lt, ◌&&◌};
+ghost use Rattle.std.specs.Prelude.{◌≡◌, ◌≤◌, ◌++◌, ◌∷◌, [], All, IfErr, IfOk, OnOk, None, Some, not, nat_lt, ◌&&◌};
 ghost use Rattle.station_book.specs.declared.bounds.TheConstants.{CIRCLE, HALF_CIRCLE};
 ghost use Rattle.gsi_word.specs.BlockViews.{block_of};
 ghost use Rattle.gsi_file.specs.FileAnswers.{file_answers};
@@ -14,12 +14,13 @@ ghost use Rattle.station_book.specs.declared.role.Role.TheVariants.{Measurement}
 ghost use Rattle.station_book.specs.Faults.{first_of};
 ghost use Rattle.adjust_kernel.specs.Names.{IsName};
 ghost use Rattle.gsi_word.specs.Names.{name_of};
+ghost use Rattle.set_marks.specs.Marks.{IsRoomy};
 ghost use Rattle.set_marks.specs.Stations.{fault_as, has_set_up_word, tells_set_up};
-ghost use Rattle.set_marks.specs.Keeping.{Adds, AnswersReadings, IsMemoryOr, Keeps};
+ghost use Rattle.set_marks.specs.Keeping.{Adds, AnswersReadings, Ends, IsMemoryOr, Keeps, begun_in};
 
 use crate::fault::{MarkFault, MarkKind};
 use crate::readings::Readings;
-use crate::sight::{SetUp, Sight};
+use crate::sight::Sight;
 use adjust_kernel::Name;
 use byte_ends::{Script, Source};
 use gsi_file::Lines;
@@ -85,34 +86,33 @@ fn bare(name: &Name) -> Name
     bare_of(name.bytes())
 }
 
-impl Readings {
-    /// No readings: of a station, where its name is stated.
-    fn new(alloc: Global, station: Option<Name>) -> Result<Readings, AllocError>
-        ensures { IfOk result (Keeps station []) }
-    {
-        let mut set_ups = Vec::new(alloc);
-        if let Some(name) = station {
-            let name = bare(&name);
-            set_ups.push(SetUp { name, from: 0 })?;
-        }
-        Ok(Readings {
-            set_ups,
-            sights: Vec::new(alloc),
-            blocks: 0,
-        })
+/// No readings: of a station, where its name is stated.
+#[tactic(auto, using(crate::proofs::EndedStations::none_kept))]
+fn no_readings(alloc: Global, station: Option<Name>) -> Readings
+    ensures keeps { Keeps station [] result }
+    ensures room { All IsRoomy result.marking.marks.items }
+{
+    match station {
+        Some(name) => Readings::new(alloc, Some(bare(&name))),
+        None => Readings::new(alloc, None),
     }
+}
 
+impl Readings {
     /// Takes the block of this number, unless there is a fault already, or notes its fault.
     fn take_unless(
         &mut self,
+        alloc: Global,
         fault: &mut Option<MarkFault>,
         number: u32,
         block: &Block<'_>,
         stated: bool,
     ) -> Result<(), MarkFault>
-        requires { number ≤ LONGEST_FILE }
+        requires few { number ≤ LONGEST_FILE }
+        requires room { All IsRoomy self.old.marking.marks.items }
+        ensures room { All IsRoomy self.new.marking.marks.items }
         ensures fault { OnOk result (fault.new ≡ first_of (fault.old
-            ∷ fault_as (role_of (block_of block.now)) stated self.old.set_ups.items number
+            ∷ fault_as (role_of (block_of block.now)) stated (begun_in self.old.station) number
             (block_of block.now) ∷ [])) }
         ensures adds { OnOk result
             (fault.new ≡ None → Adds stated (block_of block.now) number self.old self.new) }
@@ -121,7 +121,7 @@ impl Readings {
         if fault.is_some() {
             return Ok(());
         }
-        match self.take(number, block, stated) {
+        match self.take(alloc, number, block, stated) {
             Ok(()) => Ok(()),
             Err(MarkFault::Memory) => Err(MarkFault::Memory),
             Err(first) => {
@@ -133,19 +133,27 @@ impl Readings {
 
     /// Takes the block of this number.
     #[tactic(auto, unfolding(station_book::specs::Blocks::role_of))]
-    fn take(&mut self, number: u32, block: &Block<'_>, stated: bool) -> Result<(), MarkFault>
-        requires { number ≤ LONGEST_FILE }
+    fn take(
+        &mut self,
+        alloc: Global,
+        number: u32,
+        block: &Block<'_>,
+        stated: bool,
+    ) -> Result<(), MarkFault>
+        requires few { number ≤ LONGEST_FILE }
+        requires room { All IsRoomy self.old.marking.marks.items }
+        ensures room { All IsRoomy self.new.marking.marks.items }
         ensures clean { OnOk result (fault_as (role_of (block_of block.now)) stated
-            self.old.set_ups.items number (block_of block.now) ≡ None) }
+            (begun_in self.old.station) number (block_of block.now) ≡ None) }
         ensures adds { OnOk result (Adds stated (block_of block.now) number self.old self.new) }
         ensures fault { IfErr result (IsMemoryOr (fault_as (role_of (block_of block.now)) stated
-            self.old.set_ups.items number (block_of block.now))) }
+            (begun_in self.old.station) number (block_of block.now))) }
     {
         match role_of(block) {
             Role::Station | Role::Set | Role::Close => {
                 Err(MarkFault::At(number, MarkKind::HasCodes))
             }
-            Role::Measurement => self.take_measurement(number, block, stated),
+            Role::Measurement => self.take_measurement(alloc, number, block, stated),
             Role::Other => {
                 self.blocks = number;
                 Ok(())
@@ -156,17 +164,20 @@ impl Readings {
     /// Takes a measurement.
     fn take_measurement(
         &mut self,
+        alloc: Global,
         number: u32,
         block: &Block<'_>,
         stated: bool,
     ) -> Result<(), MarkFault>
         requires few { number ≤ LONGEST_FILE }
         requires measurement { role_of (block_of block.now) ≡ Measurement }
+        requires room { All IsRoomy self.old.marking.marks.items }
+        ensures room { All IsRoomy self.new.marking.marks.items }
         ensures clean { OnOk result (fault_as Measurement stated
-            self.old.set_ups.items number (block_of block.now) ≡ None) }
+            (begun_in self.old.station) number (block_of block.now) ≡ None) }
         ensures adds { OnOk result (Adds stated (block_of block.now) number self.old self.new) }
         ensures fault { IfErr result (IsMemoryOr (fault_as Measurement stated
-            self.old.set_ups.items number (block_of block.now))) }
+            (begun_in self.old.station) number (block_of block.now))) }
     {
         match read(block) {
             Ok(None) => {
@@ -177,18 +188,18 @@ impl Readings {
                 if stated {
                     return Err(MarkFault::At(number, MarkKind::HasSetUp));
                 }
-                self.add_set_up(number, target(block))?;
+                self.begin_station(alloc, number, target(block))?;
                 Ok(())
             }
             Ok(Some(reading)) => {
-                if self.set_ups.is_empty() {
+                if self.station.is_none() {
                     return Err(MarkFault::At(number, MarkKind::NoSetUp));
                 }
                 self.add_sight(number, block.width() == 16, &reading)?;
                 Ok(())
             }
             Err(kind) => {
-                if self.set_ups.is_empty() {
+                if self.station.is_none() {
                     return Err(MarkFault::At(number, MarkKind::NoSetUp));
                 }
                 Err(MarkFault::Reading(number, kind))
@@ -196,26 +207,28 @@ impl Readings {
         }
     }
 
-    /// Adds a station, which begins with the next reading.
-    fn add_set_up(&mut self, number: u32, name: Name) -> Result<(), AllocError>
-        requires { number ≤ LONGEST_FILE }
-        ensures set_ups { OnOk result (self.new.set_ups.items ≡ self.old.set_ups.items
-            ++ record { name = name; from = length self.old.sights.items } ∷ []) }
-        ensures sights { OnOk result (self.new.sights.items ≡ self.old.sights.items) }
+    /// Begins a station, and ends the one that was open.
+    fn begin_station(&mut self, alloc: Global, number: u32, name: Name) -> Result<(), AllocError>
+        requires few { number ≤ LONGEST_FILE }
+        requires room { All IsRoomy self.old.marking.marks.items }
+        ensures room { All IsRoomy self.new.marking.marks.items }
+        ensures station { OnOk result (self.new.station ≡ Some name) }
+        ensures sights { OnOk result (self.new.sights.items ≡ []) }
+        ensures ends { OnOk result (Ends self.old self.new) }
         ensures blocks { OnOk result (self.new.blocks ≡ number) }
     {
+        self.end_station(alloc)?;
+        self.station = Some(name);
         self.blocks = number;
-        self.set_ups.push(SetUp {
-            name,
-            from: self.sights.len(),
-        })?;
         Ok(())
     }
 
     /// Adds a reading.
     fn add_sight(&mut self, number: u32, wide: bool, reading: &Reading) -> Result<(), AllocError>
         requires { number ≤ LONGEST_FILE }
-        ensures set_ups { OnOk result (self.new.set_ups.items ≡ self.old.set_ups.items) }
+        ensures station { OnOk result (self.new.station ≡ self.old.station) }
+        ensures marking { self.new.marking ≡ self.old.marking }
+        ensures flaw { OnOk result (self.new.flaw ≡ self.old.flaw) }
         ensures sights { OnOk result (self.new.sights.items ≡ self.old.sights.items ++ record {
           block = number;
           wide = wide;
@@ -243,8 +256,9 @@ pub(crate) fn readings_of(
     fails: bool,
     station: Option<Name>,
 ) -> Result<Readings, MarkFault>
-    ensures { AnswersReadings station
+    ensures answers { AnswersReadings station
         (file_answers (record { bytes = bytes.now; fails = fails })) result }
+    ensures room { IfOk result (λ r. All IsRoomy r.marking.marks.items) }
 {
     let mut lines = Lines::new(alloc, Script::new(bytes, PIECE, fails))?;
     read_lines(alloc, &mut lines, station)
@@ -258,14 +272,21 @@ fn read_lines<R: Source>(
 ) -> Result<Readings, MarkFault>
     requires { (told : Told) → to_come (gives told) lines.old
         ≡ record { number = 0; answers = Some (file_answers told) } }
-    ensures { BytesCame
+    ensures answers { BytesCame
         (reader_change R.told R.failed R.gave (reader_of lines.old) (reader_of lines.new))
         (λ came. AnswersReadings station (file_answers came) result) }
+    ensures room { IfOk result (λ r. All IsRoomy r.marking.marks.items) }
 {
-    let mut readings = Readings::new(alloc, station)?;
+    let mut readings = no_readings(alloc, station);
     let mut fault = None;
     'lines: while let Some(line) = lines.next()? {
-        readings.take_unless(&mut fault, line.number, &line.block, station.is_some())?;
+        readings.take_unless(
+            alloc,
+            &mut fault,
+            line.number,
+            &line.block,
+            station.is_some(),
+        )?;
     }
     match fault {
         Some(fault) => Err(fault),

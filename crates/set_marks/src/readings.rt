@@ -3,16 +3,23 @@
 ghost use Rattle.std.specs.Prelude.{◌≤◌};
 ghost use Rattle.gsi_file.specs.declared.bounds.TheConstants.{LONGEST_FILE};
 
-use crate::sight::{SetUp, Sight};
+use crate::flaw::Flaw;
+use crate::marking::Marking;
+use crate::sight::Sight;
+use adjust_kernel::Name;
 
-/// The stations and the readings of a field file, in its order.
+/// The stations of a field file, in its order: those that have ended, and the one that is open.
 #[derive(Drop)]
 pub(crate) struct Readings {
-    /// How its stations begin.
-    pub(crate) set_ups: Vec<SetUp>,
+    /// The name of the station that is open, where one has begun.
+    pub(crate) station: Option<Name>,
     /// Its readings.
     pub(crate) sights: Vec<Sight>,
-    /// How many blocks it has.
+    /// The code lines of the stations before it.
+    pub(crate) marking: Marking,
+    /// The flaw of the first of these that has one. No station after it is marked.
+    pub(crate) flaw: Option<Flaw>,
+    /// How many blocks came.
     pub(crate) blocks: u32,
     // no more than a file has bytes
     ghost few: { blocks ≤ LONGEST_FILE },

@@ -1,4 +1,4 @@
-//! A reading of a station, as the division into sets sees it, and the begin of a station.
+//! A reading of a station, as the division into sets sees it.
 
 use adjust_kernel::Name;
 
@@ -13,13 +13,4 @@ pub struct Sight {
     pub target: Name,
     /// Whether it is read in face II.
     pub second: bool,
-}
-
-/// How a station begins.
-#[derive(Clone, Copy, Debug, Drop)]
-pub struct SetUp {
-    /// The name of the station.
-    pub name: Name,
-    /// How many of the file's readings stand before it.
-    pub from: usize,
 }

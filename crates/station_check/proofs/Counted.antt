@@ -6,7 +6,6 @@ use Rattle.byte_ends.specs.Sink.{WriterChange}
 use Rattle.byte_ends.specs.Source.{ReaderChange}
 use Rattle.gsi_file.specs.FileAnswers.{FileAnswers, file_answers}
 use Rattle.station_book.specs.Limits.{FaceLimits}
-use Rattle.station_check.proofs.Leaving.{left_with}
 use Rattle.station_check.specs.Answerable.{FailsAtWrite, IsUnwritten, HandsOn}
 use Rattle.station_check.specs.Counting.{Counts}
 use Rattle.station_check.specs.Listing.{WritesList}
@@ -108,7 +107,7 @@ refusal_alone limits gsi fault out h = record {
   list = record {
     came = came_so gsi _ _ h.list.came
         (λ t w. same_list limits (file_answers t) fault out w);
-    left = left_with ℕ ⊤ fault gsi h.list.left;
+    left = h.list.left;
   };
   of_list = h.of_list;
   fails = same_failure fault out h.fails;

@@ -1,5 +1,6 @@
 -- No failed read of a field file is passed over.
 use Rattle.std.proofs.Common.{◌≡◌, ◌∙◌, ap, refl, Option, Some}
+use Rattle.byte_ends.specs.Came.{Leaves}
 use Rattle.byte_ends.specs.Source.{Told, ReaderChange, ended}
 use Rattle.std.specs.Prelude.{Bool, true, false, Result, Ok, Err}
 use Rattle.gsi_file.specs.Standing.{IsOverWith}
@@ -10,7 +11,7 @@ use Rattle.gsi_file.specs.declared.file_fault.FileKind.TheVariants.{Byte, Word, 
 use Rattle.gsi_file.specs.ToCome.{ToCome, Answers}
 use Rattle.station_check.specs.declared.fault.Fault.{Fault}
 use Rattle.station_check.specs.declared.fault.Fault.TheVariants as run
-use Rattle.station_check.specs.Answerable.{of_lines, LeavesFile, LeavesWords}
+use Rattle.station_check.specs.Answerable.{of_lines, file_left, words_left}
 use Rattle.gsi_file.specs.Failing.{failed_in}
 
 -- No read failed in a call that gave a line or the end.
@@ -40,7 +41,7 @@ pub left_at : (A : Type 0) (fault : FileFault) (settled is now : Bool) (reader :
     → (settled ≡ true → ⊥)
     → (settled ≡ false → IsOverWith {A = A} (Err fault) is reader.told')
     → reader.failed' ≡ failed_in {A = A} settled now (Err fault) → now ≡ reader.failed
-    → LeavesFile {A = A} (Err (of_lines fault)) reader
+    → Leaves {A = A} file_left (Err (of_lines fault)) reader
 left_at A fault true is now reader never over failed kept = absurd (never refl)
 left_at A (At number Read) false is now reader never over failed kept =
     record { broken = over refl tt; failed = failed }
@@ -56,7 +57,7 @@ pub words_left_at : (A : Type 0) (fault : FileFault) (settled is now : Bool)
     (reader : ReaderChange) → (settled ≡ true → ⊥)
     → (settled ≡ false → IsOverWith {A = A} (Err fault) is reader.told')
     → reader.failed' ≡ failed_in {A = A} settled now (Err fault) → now ≡ reader.failed
-    → LeavesWords {A = A} (Err (of_lines fault)) reader
+    → Leaves {A = A} words_left (Err (of_lines fault)) reader
 words_left_at A (At number kind) settled is now reader never over failed kept =
     left_at A (At number kind) settled is now reader never over failed kept
 words_left_at A Memory settled is now reader never over failed kept =

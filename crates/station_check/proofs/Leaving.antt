@@ -1,7 +1,7 @@
 -- How an answer leaves the two readers.
 use Rattle.std.proofs.Common.{◌≡◌, ℕ, Result, Ok, Err, true, refl, subst, sym, ◌⊎◌, inl, inr}
 use Rattle.std.specs.Prelude.{IfErr, ◌≢◌}
-use Rattle.byte_ends.specs.Came.{IsReadOut}
+use Rattle.byte_ends.specs.Came.{IsReadOut, IsUnasked, Leaves}
 use Rattle.byte_ends.specs.Sink.{WriterChange}
 use Rattle.byte_ends.specs.Source.{ReaderChange}
 use Rattle.station_check.specs.declared.fault.Fault.{Fault}
@@ -13,55 +13,27 @@ use Rattle.sheet_format.specs.declared.fault.WriteFault.{WriteFault}
 use Rattle.sheet_format.specs.declared.fault.WriteFault.TheVariants as writing
 use Rattle.sheet_means.specs.declared.fault.MeansFault.{MeansFault}
 use Rattle.sheet_means.specs.declared.fault.MeansFault.TheVariants as means
-use Rattle.station_check.specs.Answerable.{IsOfFile, IsOfSheet, IsByStation, LeavesFile, LeavesWords}
+use Rattle.station_check.specs.Answerable.{IsOfFile, IsOfSheet, IsByStation, file_left, words_left}
 use Rattle.station_check.specs.Words.{MemoryWritesNothing}
 use Rattle.station_check.specs.Answerable.{of_means, of_write, FailsAtWrite, IsUnwritten, IsOfList, IsOfMeans}
-use Rattle.station_check.specs.Refused.{IsUnreadAtFileFault}
-use Rattle.station_check.specs.SheetInput.{LeavesReader}
+use Rattle.station_check.specs.SheetInput.{sheet_left}
 
 -- A fault of the field file leaves the sheet's reader as it was.
 pub left_alone : (A : Type 0) (fault : Fault) (sheet : ReaderChange) → IsOfFile fault
-    → sheet.failed' ≡ sheet.failed → LeavesReader {A = A} (Err fault) sheet
-left_alone A (Gsi fault) sheet o e = e
-left_alone A (Book fault) sheet o e = e
-left_alone A SheetRead sheet o e = absurd o
-left_alone A (Sheet fault) sheet o e = absurd o
-left_alone A NoStation sheet o e = absurd o
-left_alone A (Means fault) sheet o e = absurd o
-left_alone A (Kernel fault) sheet o e = absurd o
-left_alone A Write sheet o e = absurd o
-left_alone A Memory sheet o e = e
-
--- At a fault of the field file the sheet's reader was not asked, where it is as it was.
-pub unasked : (A : Type 0) (fault : Fault) (sheet : ReaderChange) → sheet.is_unasked
-    → IsUnreadAtFileFault {A = A} (Err fault) sheet
-unasked A (Gsi fault) sheet e = e
-unasked A (Book fault) sheet e = e
-unasked A SheetRead sheet e = tt
-unasked A (Sheet fault) sheet e = tt
-unasked A NoStation sheet e = tt
-unasked A (Means fault) sheet e = tt
-unasked A (Kernel fault) sheet e = tt
-unasked A Write sheet e = tt
-unasked A Memory sheet e = tt
-
--- What comes from the sheet on is no fault of the field file.
-pub asked : (A : Type 0) (r : Result A Fault) (sheet : ReaderChange) → IfErr r IsOfSheet
-    → IsUnreadAtFileFault r sheet
-asked A (Ok a) sheet o = tt
-asked A (Err (Gsi fault)) sheet o = absurd o
-asked A (Err (Book fault)) sheet o = absurd o
-asked A (Err SheetRead) sheet o = tt
-asked A (Err (Sheet fault)) sheet o = tt
-asked A (Err NoStation) sheet o = tt
-asked A (Err (Means fault)) sheet o = tt
-asked A (Err (Kernel fault)) sheet o = tt
-asked A (Err Write) sheet o = tt
-asked A (Err Memory) sheet o = tt
+    → IsUnasked sheet → Leaves {A = A} sheet_left (Err fault) sheet
+left_alone A (Gsi fault) sheet o h = h
+left_alone A (Book fault) sheet o h = h
+left_alone A SheetRead sheet o h = absurd o
+left_alone A (Sheet fault) sheet o h = absurd o
+left_alone A NoStation sheet o h = absurd o
+left_alone A (Means fault) sheet o h = absurd o
+left_alone A (Kernel fault) sheet o h = absurd o
+left_alone A Write sheet o h = absurd o
+left_alone A Memory sheet o h = h.unfailed
 
 -- An answer from the sheet on leaves the field file's reader read to its end.
 pub left_by_sheet : (A : Type 0) (r : Result A Fault) (gsi : ReaderChange)
-    → IfErr r IsOfSheet → IsReadOut gsi → LeavesFile r gsi
+    → IfErr r IsOfSheet → IsReadOut gsi → Leaves file_left r gsi
 left_by_sheet A (Ok a) gsi o h = h
 left_by_sheet A (Err (Gsi fault)) gsi o h = absurd o
 left_by_sheet A (Err (Book fault)) gsi o h = absurd o
@@ -73,34 +45,19 @@ left_by_sheet A (Err (Kernel fault)) gsi o h = h
 left_by_sheet A (Err Write) gsi o h = absurd o
 left_by_sheet A (Err Memory) gsi o h = h.unfailed
 
--- The same fault with another answer beside it.
-pub left_with : (A B : Type 0) (fault : Fault) (gsi : ReaderChange)
-    → LeavesFile {A = A} (Err fault) gsi → LeavesFile {A = B} (Err fault) gsi
-left_with A B (Gsi (file.At number what)) gsi h = h
-left_with A B (Gsi file.Memory) gsi h = h
-left_with A B (Book fault) gsi h = h
-left_with A B SheetRead gsi h = h
-left_with A B (Sheet fault) gsi h = h
-left_with A B NoStation gsi h = h
-left_with A B (Means fault) gsi h = h
-left_with A B (Kernel fault) gsi h = h
-left_with A B Write gsi h = h
-left_with A B Memory gsi h = h
-
 -- A fault of the field file leaves its reader so, whatever else might be answered.
 pub left_by : {A : Type 0} (B : Type 0) (r : Result A Fault) (fault : Fault) (gsi : ReaderChange)
-    → r ≡ Err fault → LeavesFile r gsi → LeavesFile {A = B} (Err fault) gsi
-left_by {A} B r fault gsi e h =
-    left_with A B fault gsi (subst (λ (x : Result A Fault). LeavesFile x gsi) e h)
+    → r ≡ Err fault → Leaves file_left r gsi → Leaves {A = B} file_left (Err fault) gsi
+left_by {A} B r fault gsi e h = subst (λ (x : Result A Fault). Leaves file_left x gsi) e h
 
 -- Whatever stops a sheet of means leaves the field file read to its end, unless memory ran out.
 pub left_by_means : (A : Type 0) (fault : MeansFault) (gsi : ReaderChange) → IsReadOut gsi
-    → LeavesFile {A = A} (Err (of_means fault)) gsi
+    → Leaves {A = A} file_left (Err (of_means fault)) gsi
 left_by_means A means.Incomplete gsi h = h
 left_by_means A means.Memory gsi h = h.unfailed
 
 pub left_by_write : (A : Type 0) (fault : WriteFault) (gsi : ReaderChange) → IsReadOut gsi
-    → LeavesFile {A = A} (Err (of_write fault)) gsi
+    → Leaves {A = A} file_left (Err (of_write fault)) gsi
 left_by_write A writing.Write gsi h = h
 left_by_write A writing.Memory gsi h = h.unfailed
 
@@ -183,7 +140,7 @@ unwritten_as A writing.Memory writer m = m refl
 
 -- An answer by a station leaves the sheet's reader read to its end.
 pub left_by_station : (A : Type 0) (r : Result A Fault) (sheet : ReaderChange)
-    → IfErr r IsByStation → IsReadOut sheet → LeavesReader r sheet
+    → IfErr r IsByStation → IsReadOut sheet → Leaves sheet_left r sheet
 left_by_station A (Ok a) sheet o h = h
 left_by_station A (Err (Gsi fault)) sheet o h = absurd o
 left_by_station A (Err (Book fault)) sheet o h = absurd o
@@ -198,10 +155,11 @@ left_by_station A (Err Memory) sheet o h = absurd o
 -- An answer after words were printed leaves the field file's reader as the words did, unless the
 -- writer failed.
 pub left_as : (r answer : Result ℕ Fault) (gsi : ReaderChange)
-    → (r ≡ answer) ⊎ (r ≡ Err Write) → LeavesWords answer gsi → LeavesWords r gsi
-left_as r answer gsi (inl e) h = subst (λ (x : Result ℕ Fault). LeavesWords x gsi) (sym e) h
+    → (r ≡ answer) ⊎ (r ≡ Err Write) → Leaves words_left answer gsi → Leaves words_left r gsi
+left_as r answer gsi (inl e) h =
+    subst (λ (x : Result ℕ Fault). Leaves words_left x gsi) (sym e) h
 left_as r answer gsi (inr e) h =
-    subst (λ (x : Result ℕ Fault). LeavesWords x gsi) (sym e) tt
+    subst (λ (x : Result ℕ Fault). Leaves words_left x gsi) (sym e) tt
 
 -- Where memory did not run out nothing is said of it.
 pub not_memory : (r : Result ℕ Fault) (writer : WriterChange) → r ≢ Err Memory

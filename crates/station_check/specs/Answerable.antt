@@ -1,9 +1,8 @@
 -- Which faults a call may answer, whatever its readers and writers tell. That memory ran out is
 -- answered as `Memory`, whichever part it was, and `Write` only where a call of the writer failed.
 use Rattle.std.specs.Prelude.{◌≡◌, Bool, true, Result, Ok, Err, ⊤}
-use Rattle.byte_ends.specs.Came.{IsReadOut, HasBroken, NoReadFailed}
+use Rattle.byte_ends.specs.Came.{Leaving, ReadOut, BrokenOff, Unfailed, Unknown}
 use Rattle.byte_ends.specs.Sink.{WriterChange}
-use Rattle.byte_ends.specs.Source.{ReaderChange}
 use Rattle.byte_ends.specs.declared.input.InputFault.{InputFault}
 use Rattle.byte_ends.specs.declared.input.InputFault.TheVariants as input
 use Rattle.gsi_file.specs.declared.file_fault.FileFault.{FileFault}
@@ -131,25 +130,20 @@ HandsWordsOn (Err fault) is_handed_on = ⊤
 
 -- How a fault of the lines leaves their reader: at `Read` a read failed, and it has broken off; no
 -- read failed at any other.
-abbrev pub LeavesAtKind : FileKind → ReaderChange → Type 0
-LeavesAtKind kind.Read reader = HasBroken reader
-LeavesAtKind other reader = NoReadFailed reader
+abbrev pub lines_left : FileKind → Leaving
+lines_left kind.Read = BrokenOff
+lines_left other = Unfailed
 
--- How an answer leaves the reader of the field file, whatever that tells: at a failed read it has
--- broken off; with Ok, and at each fault that comes after the file's, it has ended; and no read
--- failed at any other answer.
-abbrev pub LeavesFile : {A : Type 0} → Result A Fault → ReaderChange → Type 0
-LeavesFile (Ok x) reader = IsReadOut reader
-LeavesFile (Err (Gsi (file.At number what))) reader = LeavesAtKind what reader
-LeavesFile (Err SheetRead) reader = IsReadOut reader
-LeavesFile (Err (Sheet fault)) reader = IsReadOut reader
-LeavesFile (Err NoStation) reader = IsReadOut reader
-LeavesFile (Err (Means fault)) reader = IsReadOut reader
-LeavesFile (Err (Kernel fault)) reader = IsReadOut reader
-LeavesFile (Err Write) reader = IsReadOut reader
-LeavesFile (Err fault) reader = NoReadFailed reader
+-- How a fault leaves the reader of the field file: as a fault of its lines says; no read failed at
+-- one of its blocks, or where memory ran out; and at each that comes after these it has ended.
+abbrev pub file_left : Fault → Leaving
+file_left (Gsi (file.At number what)) = lines_left what
+file_left (Gsi file.Memory) = Unfailed
+file_left (Book fault) = Unfailed
+file_left Memory = Unfailed
+file_left fault = ReadOut
 
 -- The same of words, which are written while the file is read: at `Write` nothing is known of it.
-abbrev pub LeavesWords : {A : Type 0} → Result A Fault → ReaderChange → Type 0
-LeavesWords (Err Write) reader = ⊤
-LeavesWords r reader = LeavesFile r reader
+abbrev pub words_left : Fault → Leaving
+words_left Write = Unknown
+words_left fault = file_left fault

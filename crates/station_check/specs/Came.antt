@@ -1,9 +1,9 @@
 -- What came of the reader of a field file.
 use Rattle.std.specs.Prelude.{ℕ, false, List, Result}
-use Rattle.byte_ends.specs.Came.{BytesCame}
+use Rattle.byte_ends.specs.Came.{BytesCame, Leaves}
 use Rattle.byte_ends.specs.Source.{Told, ReaderChange}
 use Rattle.gsi_file.specs.FileAnswers.{FileAnswers, file_answers}
-use Rattle.station_check.specs.Answerable.{LeavesFile}
+use Rattle.station_check.specs.Answerable.{file_left}
 use Rattle.station_check.specs.declared.fault.Fault.{Fault}
 
 -- These lines came of a field file: those of the bytes that its reader gave and of what is left.
@@ -15,7 +15,7 @@ LinesCame reader So = BytesCame reader (λ gsi. So (file_answers gsi))
 pub record ReadsFile {A : Type 0} (reader : ReaderChange) (r : Result A Fault)
     (So : FileAnswers → Type 0) : Type 0 where
   pub came : LinesCame reader So
-  pub left : LeavesFile r reader
+  pub left : Leaves file_left r reader
 
 -- the bytes that are passed whole: all of them came, and then the end
 abbrev pub handed_in : List ℕ → Told

@@ -1,14 +1,15 @@
 -- What a check promises of its answer.
 use Rattle.std.specs.Prelude.{ℕ, List, Option, Result, IfOk, IfErr}
+use Rattle.byte_ends.specs.Came.{Leaves}
 use Rattle.byte_ends.specs.Source.{Told, ReaderChange, MayGive, HasGiven, given_then}
 use Rattle.gsi_file.specs.FileAnswers.{FileAnswers, file_answers}
 use Rattle.adjust_kernel.specs.declared.accepted.Accepted.{Accepted}
 use Rattle.station_book.specs.Limits.{FaceLimits}
 use Rattle.station_check.specs.declared.fault.Fault.{Fault}
 use Rattle.station_check.specs.Accepted.{IsAccepted}
-use Rattle.station_check.specs.Answerable.{IsOfCheck, LeavesFile}
-use Rattle.station_check.specs.Refused.{TellsOfRefusal, IsFileFirst, IsUnreadAtFileFault}
-use Rattle.station_check.specs.SheetInput.{LeavesReader}
+use Rattle.station_check.specs.Answerable.{IsOfCheck, file_left}
+use Rattle.station_check.specs.Refused.{TellsOfRefusal, IsFileFirst}
+use Rattle.station_check.specs.SheetInput.{sheet_left}
 use Rattle.station_check.specs.Verdicts.{AnswersVerdict, IsOnlyVerdict}
 
 -- The answer on a field file of these lines, and a sheet of these bytes. `most` is the residual
@@ -39,9 +40,8 @@ pub record IsAnswer (limits : FaceLimits) (most : Option ℕ) (gsi sheet : Reade
       (given_then sheet_bytes sheet_left) r
   -- The kernel is never given a sheet for another station.
   pub of_check : IfErr r IsOfCheck
-  -- The sheet's reader is not asked where the field file has a fault.
-  pub unread : IsUnreadAtFileFault r sheet
-  -- A failed read is never passed over; and at an acceptance both readers have ended, so that
-  -- nothing is left of them and the bytes that they gave are all.
-  pub gsi_reader : LeavesFile r gsi
-  pub sheet_reader : LeavesReader r sheet
+  -- A failed read is never passed over; the sheet's reader is not asked where the field file has a
+  -- fault; and at an acceptance both readers have ended, so that nothing is left of them and the
+  -- bytes that they gave are all.
+  pub gsi_reader : Leaves file_left r gsi
+  pub sheet_reader : Leaves sheet_left r sheet

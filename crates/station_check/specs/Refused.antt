@@ -1,7 +1,7 @@
 -- What the refusal of a sheet says.
 use Rattle.std.specs.Prelude.{◌≡◌, ◌≢◌, ◌⊎◌, ℕ, List, Option, Some, Result, Err, ⊤}
 use Rattle.std.specs.List.{Contains}
-use Rattle.byte_ends.specs.Source.{Told, ReaderChange}
+use Rattle.byte_ends.specs.Source.{Told}
 use Rattle.byte_ends.specs.Input.{Input, input_within, Ended, BrokeOff, RanPast}
 use Rattle.gsi_file.specs.FileAnswers.{FileAnswers}
 use Rattle.adjust_kernel.specs.Promises.{TellsOfSquares}
@@ -35,12 +35,6 @@ abbrev pub IsFileFirst : FaceLimits → FileAnswers → Result Accepted Fault �
 IsFileFirst limits file r =
     (fault : Fault) → FileComesTo limits file (Err fault)
     → (r ≡ Err Memory) ⊎ (r ≡ Err fault)
-
--- The sheet's reader is not asked where the field file has a fault.
-abbrev pub IsUnreadAtFileFault : {A : Type 0} → Result A Fault → ReaderChange → Type 0
-IsUnreadAtFileFault (Err (Gsi fault)) sheet = sheet.is_unasked
-IsUnreadAtFileFault (Err (Book fault)) sheet = sheet.is_unasked
-IsUnreadAtFileFault r sheet = ⊤
 
 -- The sheet's reader gave these bytes, no more than a sheet may have, and then failed.
 abbrev pub SheetBreaksOff : Told → Type 0

@@ -3,7 +3,7 @@ use Rattle.std.proofs.Common.{◌≡◌, ℕ, ℤ, List, Result, Ok, Err, refl, 
 use Rattle.std.specs.Prelude.{MatchResult}
 use Rattle.adjust_kernel.specs.Stations.{StationValue}
 use Rattle.byte_ends.specs.Input.{Input, Ended, BrokeOff, RanPast, input_within}
-use Rattle.byte_ends.specs.Came.{IsReadOut}
+use Rattle.byte_ends.specs.Came.{IsLeftAs, IsReadOut, IsUnasked, Leaves}
 use Rattle.byte_ends.proofs.Coming.{given_as_told, some_left}
 use Rattle.byte_ends.specs.Source.{Told, ReaderChange, given_then}
 use Rattle.direction_table.specs.Tables.{IsTableText}
@@ -13,14 +13,13 @@ use Rattle.gsi_file.specs.FileAnswers.{FileAnswers, file_answers}
 use Rattle.least_directions.specs.LeastDirections.{AreApart}
 use Rattle.station_book.specs.Limits.{FaceLimits}
 use Rattle.station_book.specs.Stations.{SurveyedStation}
-use Rattle.station_check.specs.Answerable.{IsOfFile, LeavesFile}
-use Rattle.station_check.proofs.Leaving.{left_by}
+use Rattle.station_check.specs.Answerable.{IsOfFile, file_left}
 use Rattle.station_check.specs.StationOfFile.{IsStationOfFile}
 use Rattle.station_check.specs.Surveys.{Surveys}
 use Rattle.station_check.specs.declared.fault.Fault.{Fault}
 use Rattle.station_check.specs.declared.fault.Fault.TheVariants as file
 use Rattle.station_compare.specs.Agreeing.{Agrees}
-use Rattle.station_compare.specs.Answers.{Compares, IsComparison, IsUnreadAtFileFault, LeavesFieldFile, LeavesTable}
+use Rattle.station_compare.specs.Answers.{Compares, IsComparison, field_file_left, table_left}
 use Rattle.station_compare.specs.Comparing.{ByInput, IsAgreement, IsComparedWith}
 use Rattle.station_compare.specs.Directions.{HasNoTable, IsDirectionsText}
 use Rattle.station_compare.specs.Faults.{of_file}
@@ -119,23 +118,10 @@ compared station bytes targets directions stated apart same_targets same states 
   are_apart = subst (λ s. AreApart station (stated_by s) apart) same are_apart;
 }
 
--- What comes of the table is no fault of the field file, which has ended before.
-pub asked : (its : SurveyedStation) (within : Option ℕ) (r : Result Agreement CompareFault)
-    (input : Input) (table : ReaderChange) → ByInput its.station within input r
-    → IsUnreadAtFileFault r table
-asked its within (Ok a) input table h = tt
-asked its within (Err (File fault)) input table h =
-    absurd (no_file_fault its within fault input h)
-asked its within (Err TableRead) input table h = tt
-asked its within (Err (Table fault)) input table h = tt
-asked its within (Err (Adjust fault)) input table h = tt
-asked its within (Err (Apart apart)) input table h = tt
-asked its within (Err Write) input table h = tt
-asked its within (Err Memory) input table h = tt
-
+-- An answer from the table on leaves the field file's reader read to its end.
 pub left_by_table : (its : SurveyedStation) (within : Option ℕ) (r : Result Agreement CompareFault)
     (input : Input) (gsi : ReaderChange) → ByInput its.station within input r → IsReadOut gsi
-    → LeavesFieldFile r gsi
+    → Leaves field_file_left r gsi
 left_by_table its within (Ok a) input gsi h out = out
 left_by_table its within (Err (File fault)) input gsi h out =
     absurd (no_file_fault its within fault input h)
@@ -147,55 +133,42 @@ left_by_table its within (Err Write) input gsi h out = out
 left_by_table its within (Err Memory) input gsi h out = out.unfailed
 
 -- A fault of the field file leaves the table's reader as it was, and its own as it says.
-pub unasked : (A : Type 0) (fault : Fault) (table : ReaderChange) → table.is_unasked
-    → IsUnreadAtFileFault {A = A} (Err (of_file fault)) table
-unasked A (file.Gsi fault) table e = e
-unasked A (file.Book fault) table e = e
-unasked A file.SheetRead table e = e
-unasked A (file.Sheet fault) table e = e
-unasked A file.NoStation table e = e
-unasked A (file.Means fault) table e = e
-unasked A (file.Kernel fault) table e = e
-unasked A file.Write table e = e
-unasked A file.Memory table e = tt
+pub left_alone : (A : Type 0) (fault : Fault) (table : ReaderChange) → IsUnasked table
+    → Leaves {A = A} table_left (Err (of_file fault)) table
+left_alone A (file.Gsi fault) table h = h
+left_alone A (file.Book fault) table h = h
+left_alone A file.SheetRead table h = h
+left_alone A (file.Sheet fault) table h = h
+left_alone A file.NoStation table h = h
+left_alone A (file.Means fault) table h = h
+left_alone A (file.Kernel fault) table h = h
+left_alone A file.Write table h = h
+left_alone A file.Memory table h = h.unfailed
 
-pub left_alone : (A : Type 0) (fault : Fault) (table : ReaderChange)
-    → table.failed' ≡ table.failed → LeavesTable {A = A} (Err (of_file fault)) table
-left_alone A (file.Gsi fault) table e = e
-left_alone A (file.Book fault) table e = e
-left_alone A file.SheetRead table e = e
-left_alone A (file.Sheet fault) table e = e
-left_alone A file.NoStation table e = e
-left_alone A (file.Means fault) table e = e
-left_alone A (file.Kernel fault) table e = e
-left_alone A file.Write table e = e
-left_alone A file.Memory table e = e
-
-left_with : (A B : Type 0) (fault : Fault) (gsi : ReaderChange)
-    → LeavesFile {A = A} (Err fault) gsi → LeavesFieldFile {A = B} (Err (of_file fault)) gsi
-left_with A B (file.Gsi fault) gsi h =
-    left_by {A = A} B (Err (file.Gsi fault)) (file.Gsi fault) gsi refl h
-left_with A B (file.Book fault) gsi h = h
-left_with A B file.SheetRead gsi h = h
-left_with A B (file.Sheet fault) gsi h = h
-left_with A B file.NoStation gsi h = h
-left_with A B (file.Means fault) gsi h = h
-left_with A B (file.Kernel fault) gsi h = h
-left_with A B file.Write gsi h = h
-left_with A B file.Memory gsi h = h
+left_with : (fault : Fault) (gsi : ReaderChange) → IsLeftAs (file_left fault) gsi
+    → IsLeftAs (field_file_left (of_file fault)) gsi
+left_with (file.Gsi fault) gsi h = h
+left_with (file.Book fault) gsi h = h
+left_with file.SheetRead gsi h = h
+left_with (file.Sheet fault) gsi h = h
+left_with file.NoStation gsi h = h
+left_with (file.Means fault) gsi h = h
+left_with (file.Kernel fault) gsi h = h
+left_with file.Write gsi h = h
+left_with file.Memory gsi h = h
 
 pub left_by_file : {A B : Type 0} (s : Result A Fault) (fault : Fault) (r : Result B CompareFault)
-    (gsi : ReaderChange) → s ≡ Err fault → r ≡ Err (of_file fault) → LeavesFile s gsi
-    → LeavesFieldFile r gsi
+    (gsi : ReaderChange) → s ≡ Err fault → r ≡ Err (of_file fault) → Leaves file_left s gsi
+    → Leaves field_file_left r gsi
 left_by_file {A} {B} s fault r gsi e f h =
-    subst (λ (x : Result B CompareFault). LeavesFieldFile x gsi) (sym f)
-    (left_with A B fault gsi (subst (λ (x : Result A Fault). LeavesFile x gsi) e h))
+    subst (λ (x : Result B CompareFault). Leaves field_file_left x gsi) (sym f)
+    (left_with fault gsi (subst (λ (x : Result A Fault). Leaves file_left x gsi) e h))
 
 -- So does a station that has no table.
 pub left_by_no_table : {T : Type 0} (items : T → List ℕ) (its : SurveyedStation) (count : ℕ)
     (r : Result T CompareFault) (gsi : ReaderChange)
     → MatchResult r (λ t. IsDirectionsText its.station count (items t)) (HasNoTable its.station)
-    → IsReadOut gsi → LeavesFieldFile r gsi
+    → IsReadOut gsi → Leaves field_file_left r gsi
 left_by_no_table items its count (Ok text) gsi h out = out
 left_by_no_table items its count (Err (File fault)) gsi h out = absurd h
 left_by_no_table items its count (Err TableRead) gsi h out = absurd h

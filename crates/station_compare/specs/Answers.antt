@@ -1,6 +1,6 @@
 -- What is answered of a field file and of a table of directions, and how their readers are left.
 use Rattle.std.specs.Prelude.{ℕ, List, Option, Result, Ok, Err, ⊤}
-use Rattle.byte_ends.specs.Came.{IsReadOut, HasBroken, NoReadFailed}
+use Rattle.byte_ends.specs.Came.{Leaves, Leaving, Unasked, ReadOut, BrokenOff, Unfailed}
 use Rattle.byte_ends.specs.Input.{input_within}
 use Rattle.byte_ends.specs.Source.{Told, ReaderChange, MayGive, HasGiven, given_then}
 use Rattle.direction_table.specs.declared.fault.TableFault.TheVariants as table
@@ -8,7 +8,7 @@ use Rattle.direction_table.specs.declared.reading.TheConstants.{LONGEST_TABLE}
 use Rattle.gsi_file.specs.FileAnswers.{FileAnswers, file_answers}
 use Rattle.station_book.specs.Limits.{FaceLimits}
 use Rattle.station_book.specs.Stations.{SurveyedStation}
-use Rattle.station_check.specs.Answerable.{LeavesFile}
+use Rattle.station_check.specs.Answerable.{file_left}
 use Rattle.station_check.specs.Means.{HasNoStation}
 use Rattle.station_check.specs.Outcomes.{FileComesTo}
 use Rattle.station_check.specs.StationOfFile.{IsStationOfFile}
@@ -39,29 +39,25 @@ Compares limits file stated name within (Err Memory) = ⊤
 Compares limits file stated name within (Err fault) =
     IsRefusedByTable limits file stated name within fault
 
--- The table's reader is not asked where the field file has a fault, or no station of the name.
-abbrev pub IsUnreadAtFileFault : {A : Type 0} → Result A CompareFault → ReaderChange → Type 0
-IsUnreadAtFileFault (Err (File fault)) table = table.is_unasked
-IsUnreadAtFileFault result table = ⊤
+-- How a fault leaves the table's reader: at one of the field file, or where that has no station of
+-- the name, it was not asked; at `TableRead` a read of it failed, and it has broken off; at a fault
+-- of its bytes, but that there are too many, and at each that comes after, it has ended; and no
+-- read failed at any other.
+abbrev pub table_left : CompareFault → Leaving
+table_left (File fault) = Unasked
+table_left TableRead = BrokenOff
+table_left (Table (table.Row number kind)) = ReadOut
+table_left (Table (table.Missing target)) = ReadOut
+table_left (Adjust fault) = ReadOut
+table_left (Apart apart) = ReadOut
+table_left fault = Unfailed
 
--- How an answer leaves the table's reader: at `TableRead` a read of it failed, and it has broken
--- off. At a fault of its bytes, but that there are too many, and at each answer that comes after,
--- it has ended; and no read failed at any other.
-abbrev pub LeavesTable : {A : Type 0} → Result A CompareFault → ReaderChange → Type 0
-LeavesTable (Ok a) reader = IsReadOut reader
-LeavesTable (Err TableRead) reader = HasBroken reader
-LeavesTable (Err (Table (table.Row number kind))) reader = IsReadOut reader
-LeavesTable (Err (Table (table.Missing target))) reader = IsReadOut reader
-LeavesTable (Err (Adjust fault)) reader = IsReadOut reader
-LeavesTable (Err (Apart apart)) reader = IsReadOut reader
-LeavesTable (Err fault) reader = NoReadFailed reader
-
--- How an answer leaves the field file's reader: as its own fault says; where memory ran out no read
+-- How a fault leaves the field file's reader: as its own fault says; where memory ran out no read
 -- failed; and else it has ended.
-abbrev pub LeavesFieldFile : {A : Type 0} → Result A CompareFault → ReaderChange → Type 0
-LeavesFieldFile {A} (Err (File fault)) reader = LeavesFile {A = A} (Err fault) reader
-LeavesFieldFile (Err Memory) reader = NoReadFailed reader
-LeavesFieldFile r reader = IsReadOut reader
+abbrev pub field_file_left : CompareFault → Leaving
+field_file_left (File fault) = file_left fault
+field_file_left Memory = Unfailed
+field_file_left fault = ReadOut
 
 -- The answer on what two readers gave, whatever they are, and how both are left.
 pub record IsComparison (limits : FaceLimits) (within : Option ℕ) (gsi table : ReaderChange)
@@ -76,9 +72,8 @@ pub record IsComparison (limits : FaceLimits) (within : Option ℕ) (gsi table :
       → MayGive table.told' table_left
       → Compares limits (file_answers (given_then gsi_bytes gsi_left))
       (given_then table_bytes table_left) name within r
-  -- The table's reader is not asked where the field file has a fault or no such station.
-  pub unread : IsUnreadAtFileFault r table
-  -- A failed read is never passed over; and where a table agrees both readers have ended, so that
-  -- nothing is left of them and the bytes that they gave are all.
-  pub gsi_reader : LeavesFieldFile r gsi
-  pub table_reader : LeavesTable r table
+  -- A failed read is never passed over; the table's reader is not asked where the field file has a
+  -- fault or no such station; and where a table agrees both readers have ended, so that nothing is
+  -- left of them and the bytes that they gave are all.
+  pub gsi_reader : Leaves field_file_left r gsi
+  pub table_reader : Leaves table_left r table

@@ -1,12 +1,13 @@
 -- What the answer of each run says, and what `out` got.
 use Rattle.std.specs.Prelude.{ℕ, List, Option, Result}
+use Rattle.byte_ends.specs.Came.{Leaves}
 use Rattle.byte_ends.specs.Sink.{WriterChange}
 use Rattle.byte_ends.specs.Source.{ReaderChange}
 use Rattle.gsi_file.specs.FileAnswers.{FileAnswers}
 use Rattle.station_book.specs.Limits.{FaceLimits}
 use Rattle.station_check.specs.Came.{LinesCame}
 use Rattle.station_check.specs.RunEndings.{PrintsAnswer}
-use Rattle.station_compare.specs.Answers.{IsComparison, LeavesFieldFile}
+use Rattle.station_compare.specs.Answers.{IsComparison, field_file_left}
 use Rattle.station_compare.specs.Directions.{TellsDirections}
 use Rattle.station_compare.specs.FaultTexts.{agreement_line}
 use Rattle.station_compare.specs.declared.agreement.Agreement.{Agreement}
@@ -18,7 +19,7 @@ use Rattle.station_compare.specs.declared.fault.CompareFault.TheVariants.{Write}
 pub record ReadsFieldFile {A : Type 0} (gsi : ReaderChange) (r : Result A CompareFault)
     (So : FileAnswers → Type 0) : Type 0 where
   pub came : LinesCame gsi So
-  pub left : LeavesFieldFile r gsi
+  pub left : Leaves field_file_left r gsi
 
 -- A run of the comparison: all that it promises of its answer, and how that was printed.
 pub record IsCompareRun {A : Type 0} (limits : FaceLimits) (within : Option ℕ)

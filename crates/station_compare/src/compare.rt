@@ -1,10 +1,10 @@
 //! A field file and a table of directions, compared.
 ghost use Rattle.std.specs.Prelude.{◌≡◌};
-ghost use Rattle.byte_ends.specs.Came.{BytesCame};
+ghost use Rattle.byte_ends.specs.Came.{BytesCame, Leaves};
 ghost use Rattle.byte_ends.specs.Input.{input_within};
 ghost use Rattle.byte_ends.specs.Source.{reader_change, UntilDropped};
 ghost use Rattle.direction_table.specs.declared.reading.TheConstants.{LONGEST_TABLE};
-ghost use Rattle.station_compare.specs.Answers.{IsComparison, LeavesTable};
+ghost use Rattle.station_compare.specs.Answers.{IsComparison, table_left};
 ghost use Rattle.station_compare.specs.Comparing.{ByInput, ByTable};
 
 use crate::agreement::Agreement;
@@ -82,7 +82,7 @@ fn compare_station<Q: Source>(
 ) -> Result<Agreement, CompareFault>
     ensures compares { BytesCame (reader_change Q.told Q.failed Q.gave table.old table.new)
         (λ stated. ByInput station.now within (input_within LONGEST_TABLE stated) result) }
-    ensures reader { LeavesTable result
+    ensures reader { Leaves table_left result
         (reader_change Q.told Q.failed Q.gave table.old table.new) }
 {
     let bytes = read_whole(alloc, table, LONGEST_TABLE)?;

@@ -3,7 +3,7 @@ use Rattle.std.proofs.Common.{◌≡◌, inl, inr, ℕ, List, Some, None, Result
 use Rattle.std.proofs.Common.{ap, arith, length, refl, sym, subst, ◌∙◌}
 use Rattle.std.specs.Prelude.{MatchResult}
 use Rattle.adjust_kernel.specs.Stations.{StationValue}
-use Rattle.byte_ends.specs.Came.{IsReadOut}
+use Rattle.byte_ends.specs.Came.{IsReadOut, Leaves}
 use Rattle.byte_ends.specs.Input.{Input, Ended, BrokeOff, RanPast, input_within}
 use Rattle.byte_ends.specs.Source.{ReaderChange, Told}
 use Rattle.direction_table.proofs.LawLemmas.{one_table}
@@ -22,7 +22,7 @@ use Rattle.station_compare.proofs.Comparisons.{compares_by_table}
 use Rattle.station_compare.proofs.OneAnswer.{one_answer as one_comparison}
 use Rattle.station_compare.proofs.OneStation.{same_station}
 use Rattle.station_compare.specs.Agreeing.{Agrees}
-use Rattle.station_compare.specs.Answers.{IsUnreadAtFileFault, LeavesFieldFile, LeavesTable}
+use Rattle.station_compare.specs.Answers.{field_file_left, table_left}
 use Rattle.station_compare.specs.Comparing.{ByInput}
 use Rattle.station_compare.specs.OneAnswer.{IsSettled}
 use Rattle.station_compare.specs.declared.agreement.Agreement.{Agreement}
@@ -81,7 +81,7 @@ module _ {T : Type 0} (items : T → List ℕ) (station : StationValue) (input :
 
   -- How it leaves the field file's reader, which has ended before.
   pub left_by_input : (r : Result T CompareFault) (gsi : ReaderChange) → Comes r → IsReadOut gsi
-      → LeavesFieldFile r gsi
+      → Leaves field_file_left r gsi
   left_by_input (Ok text) gsi h out = out
   left_by_input (Err (File fault)) gsi h out = absurd (no_file_fault station fault input (h None))
   left_by_input (Err TableRead) gsi h out = out
@@ -91,22 +91,11 @@ module _ {T : Type 0} (items : T → List ℕ) (station : StationValue) (input :
   left_by_input (Err Write) gsi h out = out
   left_by_input (Err Memory) gsi h out = out.unfailed
 
-  pub asked : (r : Result T CompareFault) (table : ReaderChange) → Comes r
-      → IsUnreadAtFileFault r table
-  asked (Ok text) table h = tt
-  asked (Err (File fault)) table h = absurd (no_file_fault station fault input (h None))
-  asked (Err TableRead) table h = tt
-  asked (Err (Table fault)) table h = tt
-  asked (Err (Adjust fault)) table h = tt
-  asked (Err (Apart apart)) table h = tt
-  asked (Err Write) table h = tt
-  asked (Err Memory) table h = tt
-
 -- How what is answered of a table's bytes leaves its reader, which has ended.
 pub left_by_bytes : {T : Type 0} (items : T → List ℕ) (station : StationValue) (bytes : List ℕ)
     (r : Result T CompareFault) (reader : ReaderChange)
     → MatchResult r (λ t. IsDifferencesText station bytes (items t)) (HasNoneOf station bytes)
-    → IsReadOut reader → LeavesTable r reader
+    → IsReadOut reader → Leaves table_left r reader
 left_by_bytes items station bytes (Ok text) reader h out = out
 left_by_bytes items station bytes (Err (File fault)) reader h out = absurd (h None)
 left_by_bytes items station bytes (Err TableRead) reader h out = absurd (h None)

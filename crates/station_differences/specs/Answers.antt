@@ -1,11 +1,11 @@
 -- What is answered of a field file and of a table of directions, and how their readers are left. The
 -- faults are those of their comparison, one for one.
 use Rattle.std.specs.Prelude.{ℕ, List, Option, Result, Ok, Err}
+use Rattle.byte_ends.specs.Came.{Leaves}
 use Rattle.byte_ends.specs.Source.{Told, ReaderChange, MayGive, HasGiven, given_then}
 use Rattle.gsi_file.specs.FileAnswers.{FileAnswers, file_answers}
 use Rattle.station_book.specs.Limits.{FaceLimits}
-use Rattle.station_compare.specs.Answers.{Compares, IsUnreadAtFileFault, LeavesFieldFile}
-use Rattle.station_compare.specs.Answers.{LeavesTable}
+use Rattle.station_compare.specs.Answers.{Compares, field_file_left, table_left}
 use Rattle.station_compare.specs.declared.fault.CompareFault.{CompareFault}
 use Rattle.station_differences.specs.Stating.{StatesDifferences}
 
@@ -36,9 +36,8 @@ pub record ReadsBoth {A : Type 0} (gsi table : ReaderChange) (r : Result A Compa
   pub so : (gsi_left table_left : Told) → MayGive gsi.told' gsi_left
       → MayGive table.told' table_left
       → So (file_answers (given_then gsi_bytes gsi_left)) (given_then table_bytes table_left)
-  -- The table's reader is not asked where the field file has a fault or no such station.
-  pub unread : IsUnreadAtFileFault r table
-  -- A failed read is never passed over; and where differences are answered both readers have ended,
-  -- so that nothing is left of them and the bytes that they gave are all.
-  pub gsi_reader : LeavesFieldFile r gsi
-  pub table_reader : LeavesTable r table
+  -- A failed read is never passed over; the table's reader is not asked where the field file has a
+  -- fault or no such station; and where differences are answered both readers have ended, so that
+  -- nothing is left of them and the bytes that they gave are all.
+  pub gsi_reader : Leaves field_file_left r gsi
+  pub table_reader : Leaves table_left r table

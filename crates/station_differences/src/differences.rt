@@ -1,11 +1,11 @@
 //! The differences of a table of directions from a station of a field file.
 ghost use Rattle.std.specs.Prelude.{MatchResult};
-ghost use Rattle.byte_ends.specs.Came.{BytesCame};
+ghost use Rattle.byte_ends.specs.Came.{BytesCame, Leaves};
 ghost use Rattle.byte_ends.specs.Input.{input_within};
 ghost use Rattle.byte_ends.specs.Sink.{writer_change};
 ghost use Rattle.byte_ends.specs.Source.{reader_change, UntilDropped};
 ghost use Rattle.direction_table.specs.declared.reading.TheConstants.{LONGEST_TABLE};
-ghost use Rattle.station_compare.specs.Answers.{LeavesTable};
+ghost use Rattle.station_compare.specs.Answers.{table_left};
 ghost use Rattle.station_differences.specs.Answers.{HasNoDifferences, ReadsBoth};
 ghost use Rattle.station_differences.specs.OfInput.{HasNoneOf, HasNoneOfInput, IsTextOf};
 ghost use Rattle.station_differences.specs.Runs.{IsDifferencesRun};
@@ -93,7 +93,7 @@ fn text_of_station<Q: Source>(
         (λ stated. MatchResult result
         (λ text. IsTextOf station.now (input_within LONGEST_TABLE stated) text.items)
         (HasNoneOfInput station.now (input_within LONGEST_TABLE stated))) }
-    ensures reader { LeavesTable result
+    ensures reader { Leaves table_left result
         (reader_change Q.told Q.failed Q.gave table.old table.new) }
 {
     let bytes = read_whole(alloc, table, LONGEST_TABLE)?;

@@ -4,7 +4,7 @@ use Rattle.std.proofs.Common.{Result, Ok, Err, ap, sym, subst, ◌∙◌, inl, i
 use Rattle.std.specs.Prelude.{IfOk}
 use Rattle.std.proofs.lemmas.List.{append-nil}
 use Rattle.byte_ends.proofs.Coming.{left_is}
-use Rattle.byte_ends.specs.Came.{IsReadOut, HasBroken, NoReadFailed}
+use Rattle.byte_ends.specs.Came.{IsReadOut, HasBroken, Leaves, NoReadFailed}
 use Rattle.byte_ends.specs.Source.{Told, ReaderChange, MayGive, HasGiven, given_then, ended, broken_off}
 use Rattle.gsi_file.specs.FileAnswers.{FileAnswers, file_answers, answers_within}
 use Rattle.gsi_file.specs.ToCome.{FaultIsNext, only}
@@ -18,7 +18,7 @@ use Rattle.set_marks.specs.declared.fault.MarkFault.{MarkFault}
 use Rattle.set_marks.specs.declared.fault.MarkFault.TheVariants.{File, Reading, At, Memory}
 use Rattle.station_mark.proofs.PastLimits.{past_limit, failed_at_end, past_at_end, no_read_at_end}
 use Rattle.station_mark.proofs.PastLimits.{IsFaultAtEnd, IsNoRead}
-use Rattle.station_mark.specs.Answers.{IsMarkAnswer, LeavesMarked, marking_in}
+use Rattle.station_mark.specs.Answers.{IsMarkAnswer, marked_left, marking_in}
 use Rattle.station_mark.specs.Giving.{IsAllGiven, IsLeft}
 use Rattle.station_mark.specs.declared.marked_file.MarkedFile.{MarkedFile}
 
@@ -74,7 +74,7 @@ read_is_last a number h = ap (λ (b : FileAnswers). b.last) h.split ∙ next h.l
 leaves : (reader : ReaderChange) (bytes : List ℕ) (fails : Bool) (station : Option (List ℕ))
     (r : Result MarkedFile MarkFault) → IsLeft LONGEST_FILE (length bytes) fails reader
     → AnswersMark station bytes (file_answers (told_of bytes fails)) (marking_in r)
-    → LeavesMarked r reader
+    → Leaves marked_left r reader
 leaves reader bytes fails station (Ok m) h a = ends reader bytes fails h a.are_blocks.ended
 leaves reader bytes fails station (Err (Reading number what)) h a =
     ends reader bytes fails h a.are_blocks.ended

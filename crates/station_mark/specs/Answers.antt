@@ -1,6 +1,6 @@
 -- What is answered of a field file into which codes are to be put, and how its reader is left.
-use Rattle.std.specs.Prelude.{◌≡◌, ℕ, List, Option, Result, Ok, Err, IfOk, ⊤}
-use Rattle.byte_ends.specs.Came.{IsReadOut, HasBroken}
+use Rattle.std.specs.Prelude.{◌≡◌, ℕ, List, Option, Result, Ok, Err, IfOk}
+use Rattle.byte_ends.specs.Came.{Leaves, Leaving, ReadOut, BrokenOff, Unknown}
 use Rattle.byte_ends.specs.Source.{Told, ReaderChange, MayGive, HasGiven, given_then}
 use Rattle.gsi_file.specs.FileAnswers.{file_answers}
 use Rattle.gsi_file.specs.declared.file_fault.FileFault.TheVariants as file
@@ -16,15 +16,14 @@ abbrev pub marking_in : Result MarkedFile MarkFault → Result Marked MarkFault
 marking_in (Ok file) = Ok file.marked
 marking_in (Err fault) = Err fault
 
--- How an answer leaves the reader, which is read to its end, to a failed read or past the limit of
--- a file before any line is judged: where the file is marked, and at each fault of its blocks and
--- its stations, it has ended; at a failed read it has broken off.
-abbrev pub LeavesMarked : {A : Type 0} → Result A MarkFault → ReaderChange → Type 0
-LeavesMarked (Ok m) reader = IsReadOut reader
-LeavesMarked (Err (Reading number what)) reader = IsReadOut reader
-LeavesMarked (Err (At number what)) reader = IsReadOut reader
-LeavesMarked (Err (File (file.At number kind.Read))) reader = HasBroken reader
-LeavesMarked (Err fault) reader = ⊤
+-- How a fault leaves the reader, which is read to its end, to a failed read or past the limit of a
+-- file before any line is judged: at each of the file's blocks and its stations it has ended, and
+-- at a failed read it has broken off.
+abbrev pub marked_left : MarkFault → Leaving
+marked_left (Reading number what) = ReadOut
+marked_left (At number what) = ReadOut
+marked_left (File (file.At number kind.Read)) = BrokenOff
+marked_left fault = Unknown
 
 -- The answer on what a reader gave, whatever it is, and how it is left. `station` is the name of
 -- the file's one station, where it is stated.
@@ -39,4 +38,4 @@ pub record IsMarkAnswer (station : Option (List ℕ)) (gsi : ReaderChange)
       → AnswersMark station bytes (file_answers (given_then bytes left)) (marking_in r)
   pub kept : IfOk r (λ file. file.bytes.items ≡ bytes)
   -- Where the file is marked, nothing is left: the bytes are all.
-  pub reader : LeavesMarked r gsi
+  pub reader : Leaves marked_left r gsi

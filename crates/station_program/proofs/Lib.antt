@@ -1,4 +1,1 @@
-pub mod CommandsLaws
-pub mod NamingLaws
 pub mod UnopenedLaws
-pub mod LimitLaws

@@ -8,6 +8,12 @@ use Rattle.clap.specs.declared.error.Error.{Error}
 use Rattle.clap.specs.declared.error.kind.ErrorKind.{ErrorKind}
 use Rattle.clap.specs.declared.error.kind.ErrorKind.TheVariants.{DisplayHelp, DisplayVersion}
 use Rattle.clap.specs.declared.error.kind.ErrorKind.TheVariants.{OutOfMemory}
+use Rattle.command_line.specs.CommandLine.{Asked, IsAskedForBy, IsMistakeIn}
+use Rattle.command_line.specs.declared.request.Digests.{Digests}
+use Rattle.command_line.specs.declared.request.Digests.TheVariants as digests
+use Rattle.command_line.specs.declared.request.ListForm.TheVariants as form
+use Rattle.command_line.specs.declared.request.Request.{Request}
+use Rattle.command_line.specs.declared.request.Request.TheVariants as request
 use Rattle.list_rows.specs.Runs.{IsRowsRun}
 use Rattle.station_book.specs.Limits.{FaceLimits}
 use Rattle.station_check.specs.ListNotes.{unchecked_note}
@@ -22,15 +28,9 @@ use Rattle.station_explain.specs.Explaining.{IsExplainRun}
 use Rattle.station_explain.specs.Table.{Explanation}
 use Rattle.station_mark.specs.FaultTexts.{refusal_line as mark_refusal_line}
 use Rattle.station_mark.specs.Runs.{IsMarkRun, notes_in}
-use Rattle.station_program.specs.CommandLine.{Asked, IsAskedForBy, IsMistakeIn}
 use Rattle.station_program.specs.Hosts.{Known, Readers, IsAsKnown, IsUnread, IsTakenIn}
 use Rattle.station_program.specs.Hosts.{change_of}
 use Rattle.station_program.specs.Unopened.{unopened_line}
-use Rattle.station_program.specs.declared.command_line.Digests.{Digests}
-use Rattle.station_program.specs.declared.command_line.Digests.TheVariants as digests
-use Rattle.station_program.specs.declared.command_line.ListForm.TheVariants as form
-use Rattle.station_program.specs.declared.command_line.Request.{Request}
-use Rattle.station_program.specs.declared.command_line.Request.TheVariants as request
 use Rattle.station_program.specs.declared.host.NoWords.{NoWords}
 use Rattle.station_program.specs.declared.host.NoWords.TheVariants as no_words
 use Rattle.station_program.specs.declared.run.TheConstants.{NOT_TEXT}

@@ -1,16 +1,16 @@
 //! How a request is answered: its files are opened, and its run is made over them.
 
-ghost use Rattle.std.specs.Prelude.{◌≡◌, ◌≤◌, IfOk, IfErr, OnErr, true, false};
+ghost use Rattle.std.specs.Prelude.{◌≡◌, ◌⊎◌, ◌≤◌, IfOk, IfErr, OnErr, true, false};
 ghost use Rattle.byte_ends.specs.Sink.{writer_change};
 ghost use Rattle.station_program.specs.Answering.{IsAnswered, IsOpened, IsRun, NamesFile};
 ghost use Rattle.station_program.specs.Answering.{ChecksFiles, ComparesFiles};
 ghost use Rattle.station_program.specs.Hosts.{IsUnread, known_of, readers};
 
-use crate::command_line::{Digests, ListForm, Request};
 use crate::host::Host;
 use crate::unopened::Unopened;
 use adjust_kernel::ResidualLimit;
 use byte_ends::{Failed, Sink, Source};
+use command_line::{Digests, ListForm, Request};
 use list_rows::run_list_rows;
 use station_book::Limits;
 use station_check::{run_check, run_list, run_means, run_words};
@@ -67,13 +67,16 @@ fn open_files<'a, H: Host>(
             limits,
             residual,
             digests,
-        } => Request::Check {
-            gsi: open(host, gsi)?,
-            sheet: open(host, sheet)?,
-            limits,
-            residual,
-            digests,
-        },
+        } => {
+            let (gsi, sheet) = open_two(host, gsi, sheet)?;
+            Request::Check {
+                gsi,
+                sheet,
+                limits,
+                residual,
+                digests,
+            }
+        }
         Request::Means {
             gsi,
             station,
@@ -119,25 +122,31 @@ fn open_files<'a, H: Host>(
             limits,
             within,
             digests,
-        } => Request::Compare {
-            gsi: open(host, gsi)?,
-            station,
-            table: open(host, table)?,
-            limits,
-            within,
-            digests,
-        },
+        } => {
+            let (gsi, table) = open_two(host, gsi, table)?;
+            Request::Compare {
+                gsi,
+                station,
+                table,
+                limits,
+                within,
+                digests,
+            }
+        }
         Request::Differences {
             gsi,
             station,
             table,
             limits,
-        } => Request::Differences {
-            gsi: open(host, gsi)?,
-            station,
-            table: open(host, table)?,
-            limits,
-        },
+        } => {
+            let (gsi, table) = open_two(host, gsi, table)?;
+            Request::Differences {
+                gsi,
+                station,
+                table,
+                limits,
+            }
+        }
         Request::Mark { gsi, station } => Request::Mark {
             gsi: open(host, gsi)?,
             station,
@@ -156,6 +165,26 @@ fn open_files<'a, H: Host>(
         }
         Request::Explain { fault } => Request::Explain { fault },
     })
+}
+
+/// The files of two paths, of which the first is opened first.
+fn open_two<'a, H: Host>(
+    host: &H,
+    first: &'a str,
+    second: &'a str,
+) -> Result<(NamedReader<'a, H::File>, NamedReader<'a, H::File>), Unopened<'a>>
+    ensures first { IfOk result (λ files. IsUnread
+        (readers H.File.told H.File.failed H.File.gave) (H.known_file host.now)
+        first.now files.0) }
+    ensures second { IfOk result (λ files. IsUnread
+        (readers H.File.told H.File.failed H.File.gave) (H.known_file host.now)
+        second.now files.1) }
+    ensures unopened { IfErr result (λ unopened.
+        (unopened.path.now ≡ first.now) ⊎ (unopened.path.now ≡ second.now)) }
+    ensures fails { IfErr result (λ unopened. H.may_not_open host.now unopened.path.now ≡ true) }
+{
+    let first = open(host, first)?;
+    Ok((first, open(host, second)?))
 }
 
 /// The file of a path, which has the path for its name.

@@ -12,8 +12,6 @@ ghost use Rattle.clap.specs.Words.{kind_of};
 ghost use Rattle.station_program.specs.Answering.{IsStatusOfKind};
 
 mod answering;
-mod command_line;
-mod help;
 mod host;
 mod run;
 mod unopened;

@@ -2,18 +2,18 @@
 
 ghost use Rattle.std.specs.Prelude.{◌≡◌, ◌≤◌, IfOk, IfErr, OnErr, map, string_bytes};
 ghost use Rattle.byte_ends.specs.Sink.{writer_change};
+ghost use Rattle.command_line.specs.CommandLine.{IsMistakeIn};
 ghost use Rattle.station_check.specs.RunEndings.{WritesOrFails};
 ghost use Rattle.station_program.specs.Answering.{IsStatusOfWords, IsStatusOfRun, IsMistakenRun};
 ghost use Rattle.station_program.specs.Answering.{NamesUnopened, LacksWords};
-ghost use Rattle.station_program.specs.CommandLine.{IsMistakeIn};
 ghost use Rattle.station_program.specs.Hosts.{known_of, readers};
 
 use crate::answering::answer;
-use crate::command_line::asked_for;
 use crate::host::{Host, NoWords};
 use crate::unopened::{Unopened, unopened_line};
 use byte_ends::Sink;
 use clap::Error;
+use command_line::asked_for;
 use station_check::{Fault, refuse};
 use station_explain::Explanation;
 use std::alloc::Global;

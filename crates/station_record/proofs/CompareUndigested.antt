@@ -1,63 +1,21 @@
 -- What the comparison promises of two digesting readers, of the readers that they ask.
-use Rattle.std.proofs.Common.{◌≡◌, ℕ, List, [], Option, Bool, Result, Ok, Err, ap, refl, subst}
+use Rattle.std.proofs.Common.{◌≡◌, ℕ, List, [], Option, Bool, Result, ap, refl, subst}
 use Rattle.byte_digests.proofs.Histories.{digested}
 use Rattle.byte_digests.specs.Digesting.{reader_of, hasher_of, histories}
 use Rattle.byte_digests.specs.declared.digesting.Digesting.{Digesting}
 use Rattle.byte_ends.specs.Sink.{WriterChange}
 use Rattle.byte_ends.specs.Source.{Told, ReaderChange, reader_change}
-use Rattle.direction_table.specs.declared.fault.TableFault.TheVariants as table
 use Rattle.sha2.specs.Hashers.{Holds256}
 use Rattle.sha2.specs.Sha256.{sha256}
 use Rattle.station_book.specs.Limits.{FaceLimits}
 use Rattle.station_check.specs.RunEndings.{PrintsAnswer}
-use Rattle.station_compare.specs.Answers.{IsComparison, IsUnreadAtFileFault, LeavesFieldFile}
-use Rattle.station_compare.specs.Answers.{LeavesTable}
+use Rattle.station_compare.specs.Answers.{IsComparison, field_file_left, table_left}
 use Rattle.station_compare.specs.FaultTexts.{agreement_line}
 use Rattle.station_compare.specs.declared.agreement.Agreement.{Agreement}
 use Rattle.station_compare.specs.declared.fault.CompareFault.{CompareFault}
-use Rattle.station_compare.specs.declared.fault.CompareFault.TheVariants.{File, TableRead, Table}
-use Rattle.station_compare.specs.declared.fault.CompareFault.TheVariants.{Adjust, Apart, Write}
-use Rattle.station_compare.specs.declared.fault.CompareFault.TheVariants.{Memory}
-use Rattle.station_record.proofs.Alike.{AreAlike, out_too, broken_too, none_too}
-use Rattle.station_record.proofs.CheckUndigested.{file_too}
+use Rattle.station_compare.specs.declared.fault.CompareFault.TheVariants.{Write}
+use Rattle.station_record.proofs.Alike.{leaves_too}
 use Rattle.station_record.specs.Recorded.{IsRecordedCompare, recorded_text}
-
--- An answer leaves a reader as it leaves one that is like it.
-pub field_file_too : {A : Type 0} (r : Result A CompareFault) (s t : ReaderChange) → AreAlike s t
-    → LeavesFieldFile r s → LeavesFieldFile r t
-field_file_too (Ok x) s t a h = out_too s t a h
-field_file_too {A} (Err (File fault)) s t a h = file_too {A = A} (Err fault) s t a h
-field_file_too (Err TableRead) s t a h = out_too s t a h
-field_file_too (Err (Table fault)) s t a h = out_too s t a h
-field_file_too (Err (Adjust fault)) s t a h = out_too s t a h
-field_file_too (Err (Apart apart)) s t a h = out_too s t a h
-field_file_too (Err Write) s t a h = out_too s t a h
-field_file_too (Err Memory) s t a h = none_too s t a h
-
-pub table_too : {A : Type 0} (r : Result A CompareFault) (s t : ReaderChange) → AreAlike s t
-    → LeavesTable r s → LeavesTable r t
-table_too (Ok x) s t a h = out_too s t a h
-table_too (Err (File fault)) s t a h = none_too s t a h
-table_too (Err TableRead) s t a h = broken_too s t a h
-table_too (Err (Table (table.Row number kind))) s t a h = out_too s t a h
-table_too (Err (Table (table.Missing target))) s t a h = out_too s t a h
-table_too (Err (Table table.TooLong)) s t a h = none_too s t a h
-table_too (Err (Table table.Memory)) s t a h = none_too s t a h
-table_too (Err (Adjust fault)) s t a h = out_too s t a h
-table_too (Err (Apart apart)) s t a h = out_too s t a h
-table_too (Err Write) s t a h = none_too s t a h
-table_too (Err Memory) s t a h = none_too s t a h
-
-pub unread_too : {A : Type 0} (r : Result A CompareFault) (s t : ReaderChange)
-    → (s.is_unasked → t.is_unasked) → IsUnreadAtFileFault r s → IsUnreadAtFileFault r t
-unread_too (Ok x) s t a h = tt
-unread_too (Err (File fault)) s t a h = a h
-unread_too (Err TableRead) s t a h = tt
-unread_too (Err (Table fault)) s t a h = tt
-unread_too (Err (Adjust fault)) s t a h = tt
-unread_too (Err (Apart apart)) s t a h = tt
-unread_too (Err Write) s t a h = tt
-unread_too (Err Memory) s t a h = tt
 
 -- The promise of two digesting readers is one of the readers that they ask, of the same bytes.
 abbrev pub comparison_of : {R Q : Type 0} (told : R → Option Told) (failed : R → Bool)
@@ -78,11 +36,18 @@ comparison_of told failed gave told_q failed_q gave_q limits within station d d'
       table_bytes = a.table_bytes;
       table_reads = (digested told_q failed_q gave_q e e' a.table_bytes none_q a.table_reads).0;
       compares = a.compares;
-      unread = unread_too r _ _ (λ same. ap reader_of same) a.unread;
-      gsi_reader = field_file_too r _ _ (record { told = refl; failed = refl; failed' = refl })
-          a.gsi_reader;
-      table_reader = table_too r _ _ (record { told = refl; failed = refl; failed' = refl })
-          a.table_reader;
+      gsi_reader = leaves_too field_file_left r _ _ (record {
+        told = refl;
+        failed = refl;
+        failed' = refl;
+        unasked = λ same. ap reader_of same;
+      }) a.gsi_reader;
+      table_reader = leaves_too table_left r _ _ (record {
+        told = refl;
+        failed = refl;
+        failed' = refl;
+        unasked = λ same. ap reader_of same;
+      }) a.table_reader;
     }
 
 -- What was printed with two digests, where they are those of the bytes that the promise speaks of.

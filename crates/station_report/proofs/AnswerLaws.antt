@@ -1,7 +1,7 @@
 -- From the report of a station to what is answered of it, and that the answer is one.
 use Rattle.std.proofs.Common.{◌≡◌, ℕ, List, Result, Ok, Err, ap, arith, sym, subst, ◌∙◌}
 use Rattle.std.specs.Prelude.{MatchResult}
-use Rattle.byte_ends.specs.Came.{IsReadOut}
+use Rattle.byte_ends.specs.Came.{IsReadOut, Leaves}
 use Rattle.byte_ends.specs.Source.{ReaderChange}
 use Rattle.exact_adjustment.proofs.LawLemmas.{never_both}
 use Rattle.exact_adjustment.specs.Faults.{IsAdjustFault, IsOfStation}
@@ -14,7 +14,7 @@ use Rattle.station_check.specs.declared.fault.Fault.{Fault}
 use Rattle.station_check.specs.declared.fault.Fault.TheVariants as lines
 use Rattle.station_compare.proofs.OneStation.{never_none, no_file_fault, same_station}
 use Rattle.station_compare.proofs.OneText.{one_text_of_file}
-use Rattle.station_compare.specs.Answers.{LeavesFieldFile}
+use Rattle.station_compare.specs.Answers.{field_file_left}
 use Rattle.station_compare.specs.Directions.{HasNoDirections, HasNoTable, IsWithoutTable}
 use Rattle.station_compare.specs.OneAnswer.{IsSettled}
 use Rattle.station_compare.specs.declared.fault.CompareFault.{CompareFault}
@@ -49,7 +49,7 @@ pub left_by_station : {T : Type 0} (items : T → List ℕ) (path : List ℕ) (l
     (its : SurveyedStation)
     (r : Result T CompareFault) (gsi : ReaderChange)
     → MatchResult r (λ t. IsReportText path limits its (items t)) (HasNoTable its.station)
-    → IsReadOut gsi → LeavesFieldFile r gsi
+    → IsReadOut gsi → Leaves field_file_left r gsi
 left_by_station items path limits its (Ok text) gsi h out = out
 left_by_station items path limits its (Err (File fault)) gsi h out = absurd h
 left_by_station items path limits its (Err TableRead) gsi h out = absurd h

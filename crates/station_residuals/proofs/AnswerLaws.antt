@@ -2,7 +2,7 @@
 use Rattle.std.proofs.Common.{◌≡◌, ℕ, List, Result, Ok, Err, ap, arith, sym, subst, ◌∙◌}
 use Rattle.std.specs.Prelude.{MatchResult}
 use Rattle.adjust_kernel.specs.Stations.{StationValue}
-use Rattle.byte_ends.specs.Came.{IsReadOut}
+use Rattle.byte_ends.specs.Came.{IsReadOut, Leaves}
 use Rattle.byte_ends.specs.Source.{ReaderChange}
 use Rattle.exact_adjustment.proofs.LawLemmas.{never_both}
 use Rattle.exact_adjustment.specs.Faults.{IsAdjustFault, IsOfStation}
@@ -15,7 +15,7 @@ use Rattle.station_check.specs.declared.fault.Fault.{Fault}
 use Rattle.station_check.specs.declared.fault.Fault.TheVariants as lines
 use Rattle.station_compare.proofs.OneStation.{never_none, no_file_fault, same_station}
 use Rattle.station_compare.proofs.OneText.{one_text_of_file}
-use Rattle.station_compare.specs.Answers.{LeavesFieldFile}
+use Rattle.station_compare.specs.Answers.{field_file_left}
 use Rattle.station_compare.specs.Directions.{HasNoDirections, HasNoTable, IsWithoutTable}
 use Rattle.station_compare.specs.OneAnswer.{IsSettled}
 use Rattle.station_compare.specs.declared.fault.CompareFault.{CompareFault}
@@ -49,7 +49,7 @@ tells_by_station items limits file name its (Err Memory) station h = tt
 pub left_by_station : {T : Type 0} (items : T → List ℕ) (its : SurveyedStation)
     (r : Result T CompareFault) (gsi : ReaderChange)
     → MatchResult r (λ t. IsResidualsText its.station (items t)) (HasNoTable its.station)
-    → IsReadOut gsi → LeavesFieldFile r gsi
+    → IsReadOut gsi → Leaves field_file_left r gsi
 left_by_station items its (Ok text) gsi h out = out
 left_by_station items its (Err (File fault)) gsi h out = absurd h
 left_by_station items its (Err TableRead) gsi h out = absurd h

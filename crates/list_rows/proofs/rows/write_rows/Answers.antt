@@ -1,10 +1,8 @@
-use Rattle.std.proofs.Common.{◌≡◌, ℕ, Err, Ok, refl, rules}
+use Rattle.std.proofs.Common.{◌≡◌, Err, Ok, refl, rules}
 use Rattle.byte_ends.proofs.Coming.{came_so}
 use Rattle.gsi_file.specs.FileAnswers.{file_answers, FileAnswers}
-use Rattle.list_rows.specs.Listing.{NotedText, TellsRows}
+use Rattle.list_rows.specs.Listing.{TellsRows}
 use Rattle.station_book.specs.Limits.{FaceLimits}
-use Rattle.station_book.specs.declared.stations.Stations.{Stations}
-use Rattle.station_check.proofs.Leaving.{left_with}
 use Rattle.station_check.specs.NotedSurveys.{NotesSurvey}
 use Rattle.station_check.specs.declared.fault.Fault.{Fault}
 use Rattle.station_check.specs.declared.fault.Fault.TheVariants.{Gsi, Book, SheetRead, Sheet}
@@ -38,7 +36,7 @@ returns-in_err-stations g c =
         tells = record {
           came = came_so _ _ _ read.came
               (λ gsi s. fault-told c.args.limits (file_answers gsi) fault s);
-          left = left_with (Stations × ℕ) NotedText fault _ read.left;
+          left = read.left;
         };
         of_file = of_file;
         printed = (refl, refl);

@@ -1,7 +1,7 @@
 use Rattle.std.proofs.Common.{[], refl}
 use Rattle.adjust_kernel.specs.declared.accepted.Accepted.{Accepted}
 use Rattle.byte_ends.proofs.Coming.{given_none}
-use Rattle.station_check.proofs.Leaving.{asked, left_alone, unasked, left_by, left_by_sheet}
+use Rattle.station_check.proofs.Leaving.{left_alone, left_by, left_by_sheet}
 use Rattle.station_check.proofs.Promises.{promise_by_sheet, promise_by_file}
 use Rattle.station_check.proofs.Refusals.{of_check, file_of_check}
 use Rattle.station_check.proofs.check.check_sources.Goals as goal
@@ -22,7 +22,6 @@ returns-in-Ok g c =
           promise_by_sheet c.args.limits c.recall.ensures c.args.residual _ _ c.in-Ok.stations
           answer (s.so gsi_left gsi_may) of_sheet (q.so sheet_left sheet_may);
       of_check = of_check answer of_sheet;
-      unread = asked Accepted answer _ of_sheet;
       gsi_reader = left_by_sheet Accepted answer _ of_sheet file.left;
       sheet_reader = c.check_sheet.ensures.reader;
     }
@@ -42,8 +41,7 @@ returns-in-Err g c =
           promise_by_file c.args.limits c.recall.ensures c.args.residual _ _ fault of_file
           (s.so gsi_left gsi_may);
       of_check = file_of_check fault of_file;
-      unread = unasked Accepted fault _ refl;
       gsi_reader = left_by Accepted c.stations_of_file-surveyed.result.0 fault _ c.in-Err.is
           c.stations_of_file-surveyed.ensures.surveys.left;
-      sheet_reader = left_alone Accepted fault _ of_file refl;
+      sheet_reader = left_alone Accepted fault _ of_file (record { same = refl; unfailed = refl });
     }

@@ -1,7 +1,6 @@
 use Rattle.byte_ends.proofs.Coming.{came_so}
 use Rattle.gsi_file.specs.FileAnswers.{file_answers}
-use Rattle.station_book.specs.declared.stations.Stations.{Stations}
-use Rattle.std.proofs.Common.{ℕ, Err}
+use Rattle.std.proofs.Common.{Err}
 use Rattle.gsi_file.specs.FileAnswers.{FileAnswers}
 use Rattle.station_book.specs.Limits.{FaceLimits}
 use Rattle.station_check.specs.Counting.{Counts}
@@ -10,8 +9,6 @@ use Rattle.station_check.specs.declared.fault.Fault.{Fault}
 use Rattle.station_check.specs.declared.fault.Fault.TheVariants.{Gsi, Book, SheetRead, Sheet}
 use Rattle.station_check.specs.declared.fault.Fault.TheVariants.{NoStation, Means, Kernel, Write}
 use Rattle.station_check.specs.declared.fault.Fault.TheVariants.{Memory}
-use Rattle.station_check.specs.declared.survey.Survey.{Survey}
-use Rattle.station_check.proofs.Leaving.{left_with}
 use Rattle.station_check.proofs.list.noted_stations_of_file.Goals as goal
 
 -- A fault is the same.
@@ -47,5 +44,5 @@ returns-in-Err-clause-surveys g c =
     record {
       came = came_so _ _ _ read.came
           (λ t h. fault_noted c.args.limits (file_answers t) c.in-Err.fault h);
-      left = left_with Survey (Stations × ℕ) c.in-Err.fault _ read.left;
+      left = read.left;
     }

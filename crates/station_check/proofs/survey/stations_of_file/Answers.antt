@@ -1,9 +1,6 @@
 use Rattle.byte_ends.proofs.Coming.{came_so}
 use Rattle.gsi_file.specs.FileAnswers.{file_answers}
-use Rattle.station_book.specs.declared.stations.Stations.{Stations}
-use Rattle.station_check.specs.declared.survey.Survey.{Survey}
 use Rattle.station_check.proofs.Counted.{stations_alone, fault_alone}
-use Rattle.station_check.proofs.Leaving.{left_with}
 use Rattle.station_check.proofs.survey.stations_of_file.Goals as goal
 
 pub returns-in-Ok-clause-surveys : goal.returns-in-Ok-clause-surveys
@@ -21,5 +18,5 @@ returns-in-Err-clause-surveys g c =
     record {
       came = came_so _ _ _ read.came
           (λ t h. fault_alone c.args.limits (file_answers t) c.in-Err.fault h);
-      left = left_with Survey Stations c.in-Err.fault _ read.left;
+      left = read.left;
     }

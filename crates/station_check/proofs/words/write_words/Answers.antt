@@ -1,11 +1,12 @@
 use Rattle.std.proofs.Common.{◌≡◌, Err, [], ap, refl, rules, subst}
 use Rattle.byte_ends.proofs.Coming.{came_so, anything_came}
+use Rattle.byte_ends.specs.Came.{Leaves}
 use Rattle.byte_ends.specs.Source.{Told, reader_change}
 use Rattle.gsi_file.specs.FileAnswers.{FileAnswers, file_answers}
 use Rattle.gsi_file.specs.ToCome.{ToCome}
 use Rattle.gsi_file.specs.Standing.{to_come, gives, reader_of}
 use Rattle.station_check.specs.declared.fault.Fault.TheVariants.{Memory}
-use Rattle.station_check.specs.Answerable.{LeavesWords}
+use Rattle.station_check.specs.Answerable.{words_left}
 use Rattle.station_check.specs.Printing.{Prints, PrintsSome}
 use Rattle.station_check.specs.Words.{AnswersWords, WritesWords}
 use Rattle.station_check.proofs.Coming.{lines_came}
@@ -50,7 +51,7 @@ returns g c =
             (λ (gsi : Told). to_come (gives gsi) c.in_ok-lines.lines) Answered
             c.in_ok-lines.ensures.unread c.in_ok-lines.ensures.whatever printed)
             (λ gsi a. c.end_text.ensures.writes holds (file_answers gsi) a);
-        gsi_reader = subst (λ (r : _). LeavesWords c.end_text.result
+        gsi_reader = subst (λ (r : _). Leaves words_left c.end_text.result
             (reader_change g.R.Source.told g.R.Source.failed g.R.Source.gave r last))
             c.in_ok-lines.ensures.unread
             (left_as _ _ _ c.end_text.ensures.same c.print_blocks-answer.ensures.left);

@@ -7,8 +7,8 @@ use Rattle.byte_ends.specs.Input.{input_within}
 use Rattle.byte_ends.specs.Source.{reader_change}
 use Rattle.direction_table.specs.declared.reading.TheConstants.{LONGEST_TABLE}
 use Rattle.station_check.proofs.LawLemmas.{station_of_file}
-use Rattle.station_compare.proofs.Comparisons.{compares_by_file, compares_by_table, asked}
-use Rattle.station_compare.proofs.Comparisons.{left_by_table, unasked, left_alone, left_by_file}
+use Rattle.station_compare.proofs.Comparisons.{compares_by_file, compares_by_table}
+use Rattle.station_compare.proofs.Comparisons.{left_alone, left_by_file, left_by_table}
 use Rattle.station_compare.specs.Answers.{IsComparison}
 use Rattle.station_compare.specs.Comparing.{ByInput}
 use Rattle.station_compare.specs.Faults.{of_file}
@@ -42,7 +42,6 @@ returns g c =
             survey = s.so gsi_left gsi_may;
             named = sym c.get.ensures ∙ ap option_copied c.in-Some.is;
           })) (q.so table_left table_may);
-      unread = asked its c.args.within answer _ table by_input;
       gsi_reader = left_by_table its c.args.within answer _ _ by_input file.left;
       table_reader = c.compare_station-answer.ensures.reader;
     }
@@ -62,9 +61,8 @@ returns-in_default g c =
         survey = s.so gsi_left gsi_may;
         none = sym c.get.ensures ∙ ap option_copied c.in_default.is;
       };
-      unread = refl;
       gsi_reader = file.left;
-      table_reader = refl;
+      table_reader = record { same = refl; unfailed = refl };
     }
 
 pub returns-in-Err : goal.returns-in-Err
@@ -87,8 +85,7 @@ returns-in-Err g c =
       compares = λ gsi_left table_left gsi_may table_may.
           compares_by_file c.args.limits _ _ c.args.name.now c.args.within fault of_file_fault
           (s.so gsi_left gsi_may);
-      unread = unasked Agreement fault _ refl;
       gsi_reader = left_by_file {B = Agreement} c.stations_of_file-surveyed.result.0 fault
           (Err (of_file fault)) _ c.in-Err.is refl c.stations_of_file-surveyed.ensures.surveys.left;
-      table_reader = left_alone Agreement fault _ refl;
+      table_reader = left_alone Agreement fault _ (record { same = refl; unfailed = refl });
     })

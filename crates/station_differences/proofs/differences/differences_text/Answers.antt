@@ -7,10 +7,10 @@ use Rattle.byte_ends.specs.Input.{input_within}
 use Rattle.byte_ends.specs.Source.{reader_change}
 use Rattle.direction_table.specs.declared.reading.TheConstants.{LONGEST_TABLE}
 use Rattle.station_check.proofs.LawLemmas.{station_of_file}
-use Rattle.station_compare.proofs.Comparisons.{compares_by_file, left_alone, left_by_file, unasked}
+use Rattle.station_compare.proofs.Comparisons.{compares_by_file, left_alone, left_by_file}
 use Rattle.station_compare.specs.Faults.{of_file}
 use Rattle.station_differences.specs.OfInput.{HasNoneOfInput, IsTextOf}
-use Rattle.station_differences.proofs.AnswerLaws.{asked, left_by_input, tells_by_input}
+use Rattle.station_differences.proofs.AnswerLaws.{left_by_input, tells_by_input}
 use Rattle.station_differences.proofs.differences.differences_text.Goals as goal
 
 pub returns : goal.returns
@@ -42,7 +42,6 @@ returns g c =
               survey = s.so gsi_left gsi_may;
               named = sym c.get.ensures ∙ ap option_copied c.in-Some.is;
             })) (q.so table_left table_may);
-        unread = asked (λ text. text.items) its.station _ answer _ by_input;
         gsi_reader = left_by_input (λ text. text.items) its.station _ answer _ by_input file.left;
         table_reader = c.text_of_station.ensures.reader;
       },
@@ -64,9 +63,8 @@ returns-in_default g c =
           survey = s.so gsi_left gsi_may;
           none = sym c.get.ensures ∙ ap option_copied c.in_default.is;
         };
-        unread = refl;
         gsi_reader = file.left;
-        table_reader = refl;
+        table_reader = record { same = refl; unfailed = refl };
       },
     )
 
@@ -90,8 +88,7 @@ returns-in_err-stations g c =
         so = λ gsi_left table_left gsi_may table_may within.
             compares_by_file c.args.limits _ _ c.args.name.now within fault of_file_fault
             (s.so gsi_left gsi_may);
-        unread = unasked (List ℕ) fault _ refl;
         gsi_reader = rw is_its at left;
-        table_reader = left_alone (List ℕ) fault _ refl;
+        table_reader = left_alone (List ℕ) fault _ (record { same = refl; unfailed = refl });
       },
     )

@@ -14,7 +14,6 @@ returns-in_err-text g c =
           table_bytes = told.table_bytes;
           table_reads = told.table_reads;
           so = told.so;
-          unread = told.unread;
           gsi_reader = told.gsi_reader;
           table_reader = told.table_reader;
         };
@@ -34,7 +33,6 @@ returns g c =
           table_bytes = told.table_bytes;
           table_reads = told.table_reads;
           so = told.so;
-          unread = told.unread;
           gsi_reader = told.gsi_reader;
           table_reader = told.table_reader;
         };
@@ -56,7 +54,6 @@ returns-in_err-write_whole g c =
           table_bytes = told.table_bytes;
           table_reads = told.table_reads;
           so = told.so;
-          unread = told.unread;
           gsi_reader = told.gsi_reader;
           table_reader = told.table_reader;
         };

@@ -1,0 +1,3 @@
+pub mod CommandsLaws
+pub mod NamingLaws
+pub mod LimitLaws

@@ -1,0 +1,204 @@
+-- What the words of a command line ask for, or why they are answered with an error.
+use Rattle.std.specs.Prelude.{◌≡◌, ◌≢◌, ◌⊎◌, ℕ, List, [], Option, Some, None, codes, option_map}
+use Rattle.std.specs.Borrow.{Bor}
+use Rattle.std.specs.List.{join_by}
+use Rattle.clap.specs.Words.{matched_of, raw_values, kind_of, fault_of, HasKind, Row, Text}
+use Rattle.clap.specs.Words.{subcommand_of, rows_of}
+use Rattle.clap.specs.declared.error.Error.{Error}
+use Rattle.clap.specs.declared.error.kind.ErrorKind.TheVariants.{InvalidValue, OutOfMemory}
+use Rattle.clap.specs.declared.error.kind.ErrorKind.TheVariants.{ValueValidation}
+use Rattle.clap.specs.declared.parser.matches.Found.{Found}
+use Rattle.station_book.specs.Limits.{FaceLimits}
+use Rattle.station_explain.specs.Naming.{Names, IsMeant, IsNoNameInAnyCase}
+use Rattle.station_explain.specs.Table.{Explanation}
+use Rattle.command_line.specs.Commands.{the_program}
+use Rattle.command_line.specs.Stated.{IsGiven, IsMissing, StatesDigests, StatesForm, StatesLimits}
+use Rattle.command_line.specs.Stated.{StatesName, StatesNoLimits, StatesNoName, StatesNoNumber}
+use Rattle.command_line.specs.Stated.{StatesNoResidual, StatesNoWithin, StatesNumber}
+use Rattle.command_line.specs.Stated.{StatesResidual, StatesWithin}
+use Rattle.command_line.specs.declared.request.Digests.{Digests}
+use Rattle.command_line.specs.declared.request.Request.{Request}
+use Rattle.command_line.specs.declared.request.Request.TheVariants as request
+
+-- What is asked for, with the paths of its files.
+abbrev pub Asked : Type 0
+Asked = Request (Bor (List ℕ))
+
+-- A station of a field file is asked for: the path of the file, the station's name, and the limits
+-- of face differences.
+pub record AsksOfStation (found : Found) (gsi station : List ℕ) (limits : FaceLimits)
+    : Type 0 where
+  pub field_file : IsGiven found (codes "GSI") gsi
+  pub of_station : IsGiven found (codes "STATION") station
+  pub of_limits : StatesLimits found limits
+
+-- What `compare` asks for: a station, the path of the table, the limit of the comparison or none,
+-- and whether digests are printed.
+pub record AsksToCompare (found : Found) (gsi station table : List ℕ) (limits : FaceLimits)
+    (within : Option ℕ) (digests : Digests) : Type 0 where
+  pub station_of : AsksOfStation found gsi station limits
+  pub of_table : IsGiven found (codes "TABLE") table
+  pub of_within : StatesWithin found within
+  pub of_digests : StatesDigests found digests
+
+-- What `check` asks for: its two paths, the limits of face differences, the residual limit or none,
+-- and whether digests are printed.
+pub record AsksToCheck (found : Found) (gsi sheet : List ℕ) (limits : FaceLimits)
+    (residual : Option ℕ) (digests : Digests) : Type 0 where
+  pub field_file : IsGiven found (codes "GSI") gsi
+  pub of_sheet : IsGiven found (codes "SHEET") sheet
+  pub of_limits : StatesLimits found limits
+  pub of_residual : StatesResidual found residual
+  pub of_digests : StatesDigests found digests
+
+-- What a subcommand of this name asks for, by what is found of the words after it: each its own
+-- request.
+abbrev pub AsksFor : Text → Found → Asked → Type 0
+AsksFor name found (request.Compare gsi station table limits within digests) =
+    (name ≡ codes "compare")
+    × AsksToCompare found gsi.now station.now table.now limits within digests
+AsksFor name found (request.Differences gsi station table limits) =
+    (name ≡ codes "differences") × AsksOfStation found gsi.now station.now limits
+    × IsGiven found (codes "TABLE") table.now
+AsksFor name found (request.Directions gsi station limits decimals) =
+    (name ≡ codes "directions") × AsksOfStation found gsi.now station.now limits
+    × StatesNumber found (codes "decimals") decimals
+AsksFor name found (request.Residuals gsi station limits) =
+    (name ≡ codes "residuals") × AsksOfStation found gsi.now station.now limits
+AsksFor name found (request.Report gsi station limits) =
+    (name ≡ codes "report") × AsksOfStation found gsi.now station.now limits
+AsksFor name found (request.Check gsi sheet limits residual digests) =
+    (name ≡ codes "check") × AsksToCheck found gsi.now sheet.now limits residual digests
+AsksFor name found (request.Means gsi station limits) =
+    (name ≡ codes "means") × AsksOfStation found gsi.now station.now limits
+AsksFor name found (request.Mark gsi station) =
+    (name ≡ codes "mark") × IsGiven found (codes "GSI") gsi.now × StatesName found station
+AsksFor name found (request.List gsi limits form) =
+    (name ≡ codes "list") × IsGiven found (codes "GSI") gsi.now
+    × StatesLimits found limits × StatesForm found form
+AsksFor name found (request.Words gsi) =
+    (name ≡ codes "words") × IsGiven found (codes "GSI") gsi.now
+AsksFor name found other = ⊥
+
+-- No station can be asked for: the field file or the name is missing, or no limits are stated that
+-- may be.
+abbrev pub LacksStation : Found → Type 0
+LacksStation found =
+    IsMissing found (codes "GSI") ⊎ IsMissing found (codes "STATION") ⊎ StatesNoLimits found
+
+-- What `compare` needs isn't found.
+abbrev pub LacksToCompare : Found → Type 0
+LacksToCompare found =
+    LacksStation found ⊎ IsMissing found (codes "TABLE") ⊎ StatesNoWithin found
+
+-- What `differences` needs isn't found.
+abbrev pub LacksForDifferences : Found → Type 0
+LacksForDifferences found = LacksStation found ⊎ IsMissing found (codes "TABLE")
+
+-- What `directions` needs isn't found.
+abbrev pub LacksForDirections : Found → Type 0
+LacksForDirections found = LacksStation found ⊎ StatesNoNumber found (codes "decimals") 1 8
+
+-- What `check` needs isn't found.
+abbrev pub LacksToCheck : Found → Type 0
+LacksToCheck found = IsMissing found (codes "GSI") ⊎ IsMissing found (codes "SHEET")
+    ⊎ StatesNoLimits found ⊎ StatesNoResidual found
+
+-- What `mark` needs isn't found.
+abbrev pub LacksToMark : Found → Type 0
+LacksToMark found = IsMissing found (codes "GSI") ⊎ StatesNoName found
+
+-- What `list` needs isn't found.
+abbrev pub LacksForList : Found → Type 0
+LacksForList found = IsMissing found (codes "GSI") ⊎ StatesNoLimits found
+
+-- What a subcommand of this name needs isn't found of the words after it.
+pub data Lacks (name : Text) (found : Found) : Type 0 where
+  of_compare : name ≡ codes "compare" → LacksToCompare found → Lacks name found
+  of_differences : name ≡ codes "differences" → LacksForDifferences found → Lacks name found
+  of_directions : name ≡ codes "directions" → LacksForDirections found → Lacks name found
+  of_residuals : name ≡ codes "residuals" → LacksStation found → Lacks name found
+  of_report : name ≡ codes "report" → LacksStation found → Lacks name found
+  of_check : name ≡ codes "check" → LacksToCheck found → Lacks name found
+  of_means : name ≡ codes "means" → LacksStation found → Lacks name found
+  of_mark : name ≡ codes "mark" → LacksToMark found → Lacks name found
+  of_list : name ≡ codes "list" → LacksForList found → Lacks name found
+  of_words : name ≡ codes "words" → IsMissing found (codes "GSI") → Lacks name found
+  -- No subcommand of another name can be done.
+  of_other_name : (name ≢ codes "compare") × (name ≢ codes "differences")
+      × (name ≢ codes "directions") × (name ≢ codes "residuals") × (name ≢ codes "report")
+      × (name ≢ codes "check") × (name ≢ codes "means") × (name ≢ codes "mark")
+      × (name ≢ codes "list") × (name ≢ codes "words")
+      → Lacks name found
+
+-- The words of `explain` have this name of a fault: they make one line, with a blank between each
+-- two.
+pub record NamesFault (found : Found) (name : List ℕ) : Type 0 where
+  pub words : List (List ℕ)
+  pub given : option_map raw_values (matched_of found (codes "FAULT")) ≡ Some words
+  pub named : Names (join_by (λ word. word) (codes " ") words) name
+
+-- What `explain` asks for: the fault that its words name; all names where it has no words.
+abbrev pub AsksToExplain : Found → List (Bor (List Explanation)) → Asked → Type 0
+AsksToExplain found table (request.Explain None) = matched_of found (codes "FAULT") ≡ None
+AsksToExplain found table (request.Explain (Some e)) =
+    (name : List ℕ) × NamesFault found name × IsMeant table name e.now
+AsksToExplain found table other = ⊥
+
+-- Why `explain` answers none: no fault has the name, or there is no memory.
+abbrev pub IsMistakenName : Found → List (Bor (List Explanation)) → Error → Type 0
+IsMistakenName found table error = (kind_of error ≡ OutOfMemory)
+    ⊎ ((kind_of error ≡ InvalidValue)
+    × ((name : List ℕ) × NamesFault found name × IsNoNameInAnyCase table name))
+
+-- The name of a subcommand, and what is found of the words after it; or that there is none.
+abbrev pub Named : Type 0
+Named = Option (Text × List Row)
+
+-- The subcommand has this name, and this is found of the words after it.
+abbrev pub Meets : Named → Text → Found → Type 0
+Meets named name found = named ≡ Some (name, rows_of found)
+
+-- The subcommand that the words of a command line name by the grammar of the program, with what is
+-- found of the words after it. The first word is the program's name.
+abbrev pub named_by : List Text → Named
+named_by words = subcommand_of the_program words
+
+-- A subcommand is named, and asks for this: `explain` for an explanation, each other as it is said
+-- above.
+pub record NamesRequest (named : Named) (table : List (Bor (List Explanation)))
+    (request : Asked) : Type 0 where
+  pub name : Text
+  pub found : Found
+  pub met : Meets named name found
+  pub asked : AsksFor name found request
+      ⊎ ((name ≡ codes "explain") × AsksToExplain found table request)
+
+-- What the words ask for: where no subcommand is named, the words of standard input.
+abbrev pub IsAskedFor : Named → List (Bor (List Explanation)) → Asked → Type 0
+IsAskedFor named table asked =
+    ((named ≡ None) × (asked ≡ request.WordsOfInput)) ⊎ NamesRequest named table asked
+
+-- This is what the words of a command line ask for: the grammar takes them, and the request is that
+-- of the subcommand that they name, or of none.
+pub record IsAskedForBy (words : List Text) (table : List (Bor (List Explanation)))
+    (request : Asked) : Type 0 where
+  pub taken : fault_of the_program words ≡ []
+  pub asked : IsAskedFor (named_by words) table request
+
+-- A subcommand is named, and this error is its answer: `explain` is given no name of a fault, or
+-- memory ran out; or what another subcommand needs isn't found.
+pub record NamesMistake (named : Named) (table : List (Bor (List Explanation)))
+    (error : Error) : Type 0 where
+  pub name : Text
+  pub found : Found
+  pub met : Meets named name found
+  pub mistaken : ((name ≡ codes "explain") × IsMistakenName found table error)
+      ⊎ ((name ≢ codes "explain") × (kind_of error ≡ ValueValidation) × Lacks name found)
+
+-- Why the words of a command line are answered with an error: memory ran out, or the grammar
+-- refuses them or they ask for help or the version, and the error is of the kind that the grammar
+-- gives; or the grammar takes them, and it is the answer of the subcommand that they name.
+abbrev pub IsMistakeIn : List Text → List (Bor (List Explanation)) → Error → Type 0
+IsMistakeIn words table error = HasKind (fault_of the_program words) error
+    ⊎ ((fault_of the_program words ≡ []) × NamesMistake (named_by words) table error)

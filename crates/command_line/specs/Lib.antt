@@ -1,0 +1,4 @@
+-- The public definitions, which public contracts cite, in the order in which a reader needs them.
+pub mod Commands
+pub mod Stated
+pub mod CommandLine

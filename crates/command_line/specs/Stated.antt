@@ -1,0 +1,97 @@
+-- What is read of the words after a subcommand's name: the texts, limits and numbers that a parse
+-- found.
+use Rattle.std.specs.Prelude.{◌≡◌, ◌≢◌, ◌≤◌, ℕ, IsSome, List, Option, Some, None, codes}
+use Rattle.std.specs.Str.Parse.{IsNumeral, digits_value, without_leading_plus}
+use Rattle.clap.specs.Words.{one_text, matched_of, first_value}
+use Rattle.clap.specs.declared.parser.matches.Found.{Found}
+use Rattle.adjust_kernel.specs.Names.{IsName}
+use Rattle.adjust_kernel.specs.declared.bounds.TheConstants.{LARGEST_RESIDUAL_LIMIT}
+use Rattle.limit_texts.specs.Limits.{StatesLimit}
+use Rattle.limit_texts.specs.declared.limit.LimitUnit.{LimitUnit}
+use Rattle.limit_texts.specs.declared.limit.LimitUnit.TheVariants.{Hundredth, HalfUnit, Thousandth}
+use Rattle.station_book.specs.Limits.{AreLimits, FaceLimits}
+use Rattle.command_line.specs.declared.request.Digests.{Digests}
+use Rattle.command_line.specs.declared.request.Digests.TheVariants.{Printed, Omitted}
+use Rattle.command_line.specs.declared.request.ListForm.{ListForm}
+use Rattle.command_line.specs.declared.request.ListForm.TheVariants.{Lines, Rows}
+
+-- The first value of this id writes this number: in decimal digits, of which it has one at least,
+-- after a plus or none.
+abbrev pub StatesNumber : Found → List ℕ → ℕ → Type 0
+StatesNumber found id n =
+    (text : List ℕ) × (one_text found id ≡ Some text)
+    × IsNumeral 10 (without_leading_plus text)
+    × (n ≡ digits_value 10 (without_leading_plus text))
+
+-- The first value of this id, if there is one, writes no number from a smallest up to a largest.
+abbrev pub StatesNoNumber : Found → List ℕ → ℕ → ℕ → Type 0
+StatesNoNumber found id smallest largest =
+    (n : ℕ) → StatesNumber found id n → ¬ ((smallest ≤ n) × (n ≤ largest))
+
+-- The first value of this id is this text.
+abbrev pub IsGiven : Found → List ℕ → List ℕ → Type 0
+IsGiven found id text = first_value found id ≡ Some text
+
+-- No value of this id was found.
+abbrev pub IsMissing : Found → List ℕ → Type 0
+IsMissing found id = first_value found id ≡ None
+
+-- The first value of this id states this limit, counted in this unit.
+pub record LimitIsStated (found : Found) (id : List ℕ) (unit : LimitUnit) (limit : ℕ)
+    : Type 0 where
+  pub text : List ℕ
+  pub given : IsGiven found id text
+  pub states : StatesLimit unit text limit
+
+-- The first value of this id, if there is one, states no limit up to a largest.
+abbrev pub NoLimitIsStated : Found → List ℕ → LimitUnit → ℕ → Type 0
+NoLimitIsStated found id unit largest =
+    (limit : ℕ) → LimitIsStated found id unit limit → ¬ (limit ≤ largest)
+
+-- These limits are stated.
+pub record StatesLimits (found : Found) (limits : FaceLimits) : Type 0 where
+  pub two_c : LimitIsStated found (codes "two-c") Hundredth limits.two_c
+  pub two_i : LimitIsStated found (codes "two-i") Hundredth limits.two_i
+
+-- No limits are stated that may be.
+abbrev pub StatesNoLimits : Found → Type 0
+StatesNoLimits found = (limits : FaceLimits) → StatesLimits found limits → ¬ (AreLimits limits)
+
+-- This residual limit is stated, or none.
+abbrev pub StatesResidual : Found → Option ℕ → Type 0
+StatesResidual found None = matched_of found (codes "residual") ≡ None
+StatesResidual found (Some most) = LimitIsStated found (codes "residual") HalfUnit most
+
+-- A residual limit is stated that may not be.
+abbrev pub StatesNoResidual : Found → Type 0
+StatesNoResidual found = IsSome (matched_of found (codes "residual"))
+    × NoLimitIsStated found (codes "residual") HalfUnit LARGEST_RESIDUAL_LIMIT
+
+-- This limit of a comparison is stated, in units of 0.000001 gon, or none.
+abbrev pub StatesWithin : Found → Option ℕ → Type 0
+StatesWithin found None = matched_of found (codes "within") ≡ None
+StatesWithin found (Some within) = LimitIsStated found (codes "within") Thousandth within
+
+-- A limit of a comparison is stated that may not be.
+abbrev pub StatesNoWithin : Found → Type 0
+StatesNoWithin found = IsSome (matched_of found (codes "within"))
+    × NoLimitIsStated found (codes "within") Thousandth 1_000_000
+
+-- Digests are printed where the flag stands, and only there: its value is then the text `true`.
+abbrev pub StatesDigests : Found → Digests → Type 0
+StatesDigests found Printed = one_text found (codes "sha256") ≡ Some (codes "true")
+StatesDigests found Omitted = one_text found (codes "sha256") ≢ Some (codes "true")
+
+-- The list is of rows where the flag stands, and only there: its value is then the text `true`.
+abbrev pub StatesForm : Found → ListForm → Type 0
+StatesForm found Rows = one_text found (codes "csv") ≡ Some (codes "true")
+StatesForm found Lines = one_text found (codes "csv") ≢ Some (codes "true")
+
+-- This name of a station is stated, or none.
+abbrev pub StatesName : Found → Option (List ℕ) → Type 0
+StatesName found None = IsMissing found (codes "station")
+StatesName found (Some name) = IsGiven found (codes "station") name × IsName name
+
+-- A text is stated that no station can have for a name.
+abbrev pub StatesNoName : Found → Type 0
+StatesNoName found = (text : List ℕ) × IsGiven found (codes "station") text × ¬ (IsName text)

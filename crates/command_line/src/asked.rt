@@ -1,0 +1,77 @@
+//! What the words of a command line ask for.
+
+ghost use Rattle.std.specs.Prelude.{◌≡◌, ◌⊎◌, IfOk, IfErr, map, string_bytes};
+ghost use Rattle.clap.specs.Words.{found_of, kind_of, subcommand_rows_of};
+ghost use Rattle.command_line.specs.CommandLine.{AsksToExplain, IsAskedFor, IsAskedForBy};
+ghost use Rattle.command_line.specs.CommandLine.{IsMistakeIn, IsMistakenName, NamesMistake};
+
+use crate::arguments::FAULT;
+use crate::commands::program;
+use crate::mistakes::{mistake_in, no_such_fault};
+use crate::request::Request;
+use crate::subcommands::request_after;
+use clap::error::ErrorKind;
+use clap::{ArgMatches, Command, Error};
+use station_explain::{Explanation, explanation_meant, fault_named_in};
+use std::alloc::Global;
+
+/// What the words of a command line, of which the first is the program's name, ask for. A fault is
+/// looked for in the table of explanations.
+///
+/// # Errors
+///
+/// What `clap` says of a mistake; help or the version that was asked for; that memory ran out.
+pub fn asked_for<'a>(
+    alloc: Global,
+    table: &[&'static [Explanation]],
+    words: &'a [String],
+) -> Result<Request<'a, &'a str>, Error>
+    ensures asked { IfOk result (IsAskedForBy (map string_bytes words.now) table.now) }
+    ensures mistake { IfErr result (IsMistakeIn (map string_bytes words.now) table.now) }
+{
+    let mut program = program(alloc)?;
+    let matches = program.try_get_matches_from_mut(words)?;
+    request_named(alloc, table, &mut program, &matches)
+}
+
+/// The request of the subcommand that a parse met, or of none.
+fn request_named<'a>(
+    alloc: Global,
+    table: &[&'static [Explanation]],
+    program: &mut Command<'a>,
+    matches: &ArgMatches<'a>,
+) -> Result<Request<'a, &'a str>, Error>
+    ensures asked { IfOk result (IsAskedFor (subcommand_rows_of matches.now) table.now) }
+    ensures mistake { IfErr result (λ error. (kind_of error ≡ ErrorKind.OutOfMemory)
+        ⊎ NamesMistake (subcommand_rows_of matches.now) table.now error) }
+{
+    match matches.subcommand() {
+        None => Ok(Request::WordsOfInput),
+        Some(("explain", found)) => explanation_asked_for(alloc, table, program, found),
+        Some((name, found)) => match request_after(name, found) {
+            Some(request) => Ok(request),
+            None => Err(mistake_in(alloc, program, found)?),
+        },
+    }
+}
+
+/// The explanation that is asked for; a mistake where no fault of the table has the name.
+fn explanation_asked_for<'a>(
+    alloc: Global,
+    table: &[&'static [Explanation]],
+    program: &mut Command<'a>,
+    found: &ArgMatches<'a>,
+) -> Result<Request<'a, &'a str>, Error>
+    ensures asked { IfOk result (AsksToExplain (found_of found.now) table.now) }
+    ensures mistake { IfErr result (IsMistakenName (found_of found.now) table.now) }
+{
+    let Some(words) = found.get_strs(FAULT) else {
+        return Ok(Request::Explain { fault: None });
+    };
+    let line = words.join(alloc, " ")?;
+    let name = fault_named_in(line.as_str());
+    match explanation_meant(table, name) {
+        Some(fault) => Ok(Request::Explain { fault: Some(fault) }),
+        None => Err(no_such_fault(alloc, table, program, line.as_str(), name)?),
+    }
+}

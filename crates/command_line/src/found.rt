@@ -1,0 +1,108 @@
+//! What is read of the words after a subcommand's name.
+
+ghost use Rattle.std.specs.Prelude.{◌≤◌, ◌^◌, ℕ, IfSome, IfNone, codes};
+ghost use Rattle.clap.specs.Words.{found_of};
+ghost use Rattle.command_line.specs.Stated.{LimitIsStated, StatesDigests, StatesForm, StatesLimits};
+ghost use Rattle.command_line.specs.Stated.{StatesName, StatesNoLimits, StatesNoName};
+ghost use Rattle.command_line.specs.Stated.{StatesNoNumber, StatesNoResidual, StatesNoWithin};
+ghost use Rattle.command_line.specs.Stated.{StatesNumber, StatesResidual, StatesWithin};
+
+use crate::arguments::{CSV, DECIMALS, RESIDUAL, SHA256, STATED_NAME, TWO_C, TWO_I, WITHIN};
+use crate::request::{Digests, ListForm};
+use adjust_kernel::{Name, ResidualLimit};
+use clap::ArgMatches;
+use direction_table::{Decimals, MOST_WRITTEN};
+use limit_texts::{LimitUnit, limit_stated};
+use station_book::Limits;
+
+/// The most that a table may be asked to be near, in units of 0.000001 gon.
+pub(crate) const LARGEST_WITHIN: u32 = 1_000_000;
+
+/// The name that is stated of the file's one station, or that there is none, unless no station can
+/// have it.
+pub(crate) fn stated_name_of(found: &ArgMatches<'_>) -> Option<Option<Name>>
+    ensures stated { IfSome result (StatesName (found_of found.now)) }
+    ensures none { IfNone result (StatesNoName (found_of found.now)) }
+{
+    let Some(name) = found.get_str(STATED_NAME) else {
+        return Some(None);
+    };
+    Some(Some(Name::new(name.as_bytes())?))
+}
+
+/// The limits of face differences, unless one is missing or out of its range.
+pub(crate) fn limits_of(found: &ArgMatches<'_>) -> Option<Limits>
+    ensures stated { IfSome result (StatesLimits (found_of found.now)) }
+    ensures none { IfNone result (StatesNoLimits (found_of found.now)) }
+{
+    let two_c = limit_of(found, TWO_C, LimitUnit::Hundredth)?;
+    let two_i = limit_of(found, TWO_I, LimitUnit::Hundredth)?;
+    Limits::new(two_c, two_i)
+}
+
+/// The limit that an option states, counted in this unit.
+fn limit_of(found: &ArgMatches<'_>, option: &str, unit: LimitUnit) -> Option<u32>
+    ensures stated { IfSome result (LimitIsStated (found_of found.now) option.now unit) }
+    ensures none { IfNone result ((limit : ℕ)
+        → LimitIsStated (found_of found.now) option.now unit limit → 2 ^ 32 ≤ limit) }
+{
+    limit_stated(found.get_str(option)?, unit)
+}
+
+/// The residual limit or that there is none, unless it is out of its range.
+pub(crate) fn residual_of(found: &ArgMatches<'_>) -> Option<Option<ResidualLimit>>
+    ensures stated { IfSome result (StatesResidual (found_of found.now)) }
+    ensures none { IfNone result (StatesNoResidual (found_of found.now)) }
+{
+    if !found.contains_id(RESIDUAL) {
+        return Some(None);
+    }
+    let most = limit_of(found, RESIDUAL, LimitUnit::HalfUnit)?;
+    Some(Some(ResidualLimit::new(most)?))
+}
+
+/// How many decimals a direction is written with, unless it is missing or out of its range.
+pub(crate) fn decimals_of(found: &ArgMatches<'_>) -> Option<Decimals>
+    ensures stated { IfSome result (StatesNumber (found_of found.now) (codes "decimals")) }
+    ensures none { IfNone result (StatesNoNumber (found_of found.now) (codes "decimals")
+        1 MOST_WRITTEN) }
+{
+    Decimals::new(found.get_one(DECIMALS)?)
+}
+
+/// Within how many units of 0.000001 gon a table agrees, or that no number is stated, unless it is
+/// out of its range.
+pub(crate) fn within_of(found: &ArgMatches<'_>) -> Option<Option<u32>>
+    ensures stated { IfSome result (StatesWithin (found_of found.now)) }
+    ensures range { IfSome result (λ within. IfSome within (λ n. n ≤ LARGEST_WITHIN)) }
+    ensures none { IfNone result (StatesNoWithin (found_of found.now)) }
+{
+    if !found.contains_id(WITHIN) {
+        return Some(None);
+    }
+    let within = limit_of(found, WITHIN, LimitUnit::Thousandth)?;
+    if within > LARGEST_WITHIN {
+        return None;
+    }
+    Some(Some(within))
+}
+
+/// The form in which stations are listed.
+pub(crate) fn form_of(found: &ArgMatches<'_>) -> ListForm
+    ensures { StatesForm (found_of found.now) result }
+{
+    match found.get_one(CSV) {
+        Some(true) => ListForm::Rows,
+        _ => ListForm::Lines,
+    }
+}
+
+/// Whether digests are printed.
+pub(crate) fn digests_of(found: &ArgMatches<'_>) -> Digests
+    ensures { StatesDigests (found_of found.now) result }
+{
+    match found.get_one(SHA256) {
+        Some(true) => Digests::Printed,
+        _ => Digests::Omitted,
+    }
+}

@@ -1,0 +1,22 @@
+//! What the words of a command line ask for: between them and a request.
+//!
+//! | File | Has |
+//! |---|---|
+//! | `asked` | `asked_for`: the request of a command line, or why there is none |
+//! | `request` | the types of a request |
+//! | `commands`, `arguments`, `help` | the grammar as `clap` builds it, and its help |
+//! | `subcommands`, `found` | the request of each subcommand, by the words after its name |
+//! | `mistakes` | the mistakes of words that the grammar takes |
+#![tactic(auto)]
+
+mod arguments;
+mod asked;
+mod commands;
+mod found;
+mod help;
+mod mistakes;
+mod request;
+mod subcommands;
+
+pub use asked::asked_for;
+pub use request::{Digests, ListForm, Request};

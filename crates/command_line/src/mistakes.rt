@@ -1,0 +1,105 @@
+//! The mistakes of a command line that the grammar takes.
+
+ghost use Rattle.std.specs.Prelude.{◌≡◌, IfOk};
+ghost use Rattle.clap.specs.Words.{kind_of};
+
+use crate::arguments::{RESIDUAL, TWO_C, TWO_I, WITHIN};
+use crate::found::LARGEST_WITHIN;
+use crate::help;
+use adjust_kernel::LARGEST_RESIDUAL_LIMIT;
+use clap::error::ErrorKind;
+use clap::{ArgMatches, Command, Error};
+use limit_texts::{LimitUnit, limit_stated};
+use station_book::LARGEST_LIMIT;
+use station_explain::{Explanation, list_of_near_names};
+use std::alloc::{AllocError, Global};
+
+/// An option that states a limit.
+struct LimitOption {
+    name: &'static str,
+    unit: LimitUnit,
+    /// The largest limit, in its unit.
+    largest: u32,
+    /// What may be stated.
+    stated_as: &'static str,
+}
+
+/// The options that state a limit.
+const LIMIT_OPTIONS: [LimitOption; 4] = [
+    LimitOption {
+        name: TWO_C,
+        unit: LimitUnit::Hundredth,
+        largest: LARGEST_LIMIT,
+        stated_as: help::FACE_LIMITS,
+    },
+    LimitOption {
+        name: TWO_I,
+        unit: LimitUnit::Hundredth,
+        largest: LARGEST_LIMIT,
+        stated_as: help::FACE_LIMITS,
+    },
+    LimitOption {
+        name: RESIDUAL,
+        unit: LimitUnit::HalfUnit,
+        largest: LARGEST_RESIDUAL_LIMIT,
+        stated_as: help::RESIDUAL_LIMITS,
+    },
+    LimitOption {
+        name: WITHIN,
+        unit: LimitUnit::Thousandth,
+        largest: LARGEST_WITHIN,
+        stated_as: help::TABLE_LIMITS,
+    },
+];
+
+/// The mistake of words that lack what their subcommand needs: a limit that may not be stated, or a
+/// name that no station can have. The parse has tested all else.
+pub(crate) fn mistake_in<'a>(
+    alloc: Global,
+    program: &mut Command<'a>,
+    found: &ArgMatches<'a>,
+) -> Result<Error, AllocError>
+    ensures { IfOk result (λ error. kind_of error ≡ ErrorKind.ValueValidation) }
+{
+    for option in &LIMIT_OPTIONS {
+        if let Some(text) = text_of_no_limit(found, option) {
+            let message = format!(in alloc;
+                "invalid value '{text}' for '--{} <LIMIT>': {}",
+                option.name, option.stated_as
+            )?;
+            return program.error(ErrorKind::ValueValidation, message.as_str());
+        }
+    }
+    program.error(ErrorKind::ValueValidation, help::NO_NAME)
+}
+
+/// What stands after an option where it is no limit that may be stated.
+fn text_of_no_limit<'a>(found: &ArgMatches<'a>, option: &LimitOption) -> Option<&'a str> {
+    let text = found.get_str(option.name)?;
+    match limit_stated(text, option.unit) {
+        Some(limit) if limit <= option.largest => None,
+        _ => Some(text),
+    }
+}
+
+/// The mistake of a line with a name that no fault of the table has: names near it are in its text.
+pub(crate) fn no_such_fault<'a>(
+    alloc: Global,
+    table: &[&'static [Explanation]],
+    program: &mut Command<'a>,
+    line: &str,
+    name: &str,
+) -> Result<Error, AllocError>
+    ensures { IfOk result (λ error. kind_of error ≡ ErrorKind.InvalidValue) }
+{
+    let near = list_of_near_names(alloc, table, name)?;
+    let near = near.as_str().trim_end();
+    let message = if near.is_empty() {
+        format!(in alloc;
+            "no fault has the name '{line}'; 'station_check explain' lists all names"
+        )?
+    } else {
+        format!(in alloc; "no fault has the name '{line}'; these are near:\n\n{near}")?
+    };
+    program.error(ErrorKind::InvalidValue, message.as_str())
+}

@@ -1,0 +1,116 @@
+//! What the program is asked to do.
+
+use adjust_kernel::{Name, ResidualLimit};
+use direction_table::Decimals;
+use station_book::Limits;
+use station_explain::Explanation;
+
+/// Whether the digests of the two files that were judged are printed.
+#[derive(Clone, Copy)]
+pub enum Digests {
+    /// None is.
+    Omitted,
+
+    /// After the line of an acceptance or an agreement stands one line a file, as `sha256sum` prints
+    /// it.
+    Printed,
+}
+
+/// The form in which stations are listed.
+#[derive(Clone, Copy)]
+pub enum ListForm {
+    /// Lines to read.
+    Lines,
+
+    /// Rows for other programs, as CSV.
+    Rows,
+}
+
+/// What the program is asked to do with files of type `F`: their paths, or the files once they are
+/// open.
+#[derive(Drop)]
+pub enum Request<'a, F> {
+    /// Checks a sheet against a field file.
+    Check {
+        gsi: F,
+        sheet: F,
+        limits: Limits,
+        residual: Option<ResidualLimit>,
+        digests: Digests,
+    },
+
+    /// Prints the sheet of means of a station of a field file.
+    Means {
+        gsi: F,
+        station: &'a str,
+        limits: Limits,
+    },
+
+    /// Prints the least-squares directions of a station of a field file, as a table.
+    Directions {
+        gsi: F,
+        station: &'a str,
+        limits: Limits,
+        decimals: Decimals,
+    },
+
+    /// Prints the residuals of a station of a field file, observation by observation.
+    Residuals {
+        gsi: F,
+        station: &'a str,
+        limits: Limits,
+    },
+
+    /// Prints the report of a station of a field file.
+    Report {
+        gsi: F,
+        station: &'a str,
+        limits: Limits,
+    },
+
+    /// Compares a table with a station of a field file: they agree within so many units of
+    /// 0.000001 gon, or where none are stated within what is usual for the table's decimals.
+    Compare {
+        gsi: F,
+        station: &'a str,
+        table: F,
+        limits: Limits,
+        within: Option<u32>,
+        digests: Digests,
+    },
+
+    /// Prints the differences of a table from a station of a field file, target by target.
+    Differences {
+        gsi: F,
+        station: &'a str,
+        table: F,
+        limits: Limits,
+    },
+
+    /// Prints a copy of a field file with codes put in. The name is that of the file's one station,
+    /// where its lines set none up.
+    Mark {
+        gsi: F,
+        station: Option<Name>,
+    },
+
+    /// Lists the stations of a field file.
+    List {
+        gsi: F,
+        limits: Limits,
+        form: ListForm,
+    },
+
+    /// Prints the words of a field file.
+    Words {
+        gsi: F,
+    },
+
+    /// Prints the words of standard input.
+    WordsOfInput,
+
+    /// Explains a fault, or prints the names of all.
+    Explain {
+        fault: Option<&'static Explanation>,
+    },
+}

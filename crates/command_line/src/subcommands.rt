@@ -1,0 +1,150 @@
+//! What each subcommand asks for.
+
+ghost use Rattle.std.specs.Prelude.{◌≡◌, IfSome, IfNone, codes};
+ghost use Rattle.clap.specs.Words.{found_of};
+ghost use Rattle.command_line.specs.CommandLine.{AsksFor, Lacks, LacksForDifferences};
+ghost use Rattle.command_line.specs.CommandLine.{LacksForDirections, LacksForList, LacksStation};
+ghost use Rattle.command_line.specs.CommandLine.{LacksToCheck, LacksToCompare, LacksToMark};
+ghost use Rattle.command_line.specs.Stated.{IsMissing};
+
+use crate::arguments::{GSI, SHEET, STATION, TABLE};
+use crate::found::{
+    decimals_of, digests_of, form_of, limits_of, residual_of, stated_name_of, within_of,
+};
+use crate::request::Request;
+use clap::ArgMatches;
+
+/// What a subcommand of this name asks for, by what is found of the words after it; none where an
+/// argument that it needs is missing, or is no limit, number or name that it takes.
+pub(crate) fn request_after<'a>(name: &str, found: &ArgMatches<'a>) -> Option<Request<'a, &'a str>>
+    ensures asked { IfSome result (AsksFor name.now (found_of found.now)) }
+    ensures none { IfNone result (Lacks name.now (found_of found.now)) }
+{
+    match name {
+        "compare" => compare_request(found),
+        "differences" => differences_request(found),
+        "directions" => directions_request(found),
+        "residuals" => residuals_request(found),
+        "report" => report_request(found),
+        "check" => check_request(found),
+        "means" => means_request(found),
+        "mark" => mark_request(found),
+        "list" => list_request(found),
+        "words" => words_request(found),
+        _ => None,
+    }
+}
+
+fn compare_request<'a>(found: &ArgMatches<'a>) -> Option<Request<'a, &'a str>>
+    ensures asked { IfSome result (AsksFor (codes "compare") (found_of found.now)) }
+    ensures none { IfNone result (LacksToCompare (found_of found.now)) }
+{
+    Some(Request::Compare {
+        gsi: found.get_str(GSI)?,
+        station: found.get_str(STATION)?,
+        table: found.get_str(TABLE)?,
+        limits: limits_of(found)?,
+        within: within_of(found)?,
+        digests: digests_of(found),
+    })
+}
+
+fn differences_request<'a>(found: &ArgMatches<'a>) -> Option<Request<'a, &'a str>>
+    ensures asked { IfSome result (AsksFor (codes "differences") (found_of found.now)) }
+    ensures none { IfNone result (LacksForDifferences (found_of found.now)) }
+{
+    Some(Request::Differences {
+        gsi: found.get_str(GSI)?,
+        station: found.get_str(STATION)?,
+        table: found.get_str(TABLE)?,
+        limits: limits_of(found)?,
+    })
+}
+
+fn directions_request<'a>(found: &ArgMatches<'a>) -> Option<Request<'a, &'a str>>
+    ensures asked { IfSome result (AsksFor (codes "directions") (found_of found.now)) }
+    ensures none { IfNone result (LacksForDirections (found_of found.now)) }
+{
+    Some(Request::Directions {
+        gsi: found.get_str(GSI)?,
+        station: found.get_str(STATION)?,
+        limits: limits_of(found)?,
+        decimals: decimals_of(found)?,
+    })
+}
+
+fn residuals_request<'a>(found: &ArgMatches<'a>) -> Option<Request<'a, &'a str>>
+    ensures asked { IfSome result (AsksFor (codes "residuals") (found_of found.now)) }
+    ensures none { IfNone result (LacksStation (found_of found.now)) }
+{
+    Some(Request::Residuals {
+        gsi: found.get_str(GSI)?,
+        station: found.get_str(STATION)?,
+        limits: limits_of(found)?,
+    })
+}
+
+fn report_request<'a>(found: &ArgMatches<'a>) -> Option<Request<'a, &'a str>>
+    ensures asked { IfSome result (AsksFor (codes "report") (found_of found.now)) }
+    ensures none { IfNone result (LacksStation (found_of found.now)) }
+{
+    Some(Request::Report {
+        gsi: found.get_str(GSI)?,
+        station: found.get_str(STATION)?,
+        limits: limits_of(found)?,
+    })
+}
+
+fn check_request<'a>(found: &ArgMatches<'a>) -> Option<Request<'a, &'a str>>
+    ensures asked { IfSome result (AsksFor (codes "check") (found_of found.now)) }
+    ensures none { IfNone result (LacksToCheck (found_of found.now)) }
+{
+    Some(Request::Check {
+        gsi: found.get_str(GSI)?,
+        sheet: found.get_str(SHEET)?,
+        limits: limits_of(found)?,
+        residual: residual_of(found)?,
+        digests: digests_of(found),
+    })
+}
+
+fn means_request<'a>(found: &ArgMatches<'a>) -> Option<Request<'a, &'a str>>
+    ensures asked { IfSome result (AsksFor (codes "means") (found_of found.now)) }
+    ensures none { IfNone result (LacksStation (found_of found.now)) }
+{
+    Some(Request::Means {
+        gsi: found.get_str(GSI)?,
+        station: found.get_str(STATION)?,
+        limits: limits_of(found)?,
+    })
+}
+
+fn mark_request<'a>(found: &ArgMatches<'a>) -> Option<Request<'a, &'a str>>
+    ensures asked { IfSome result (AsksFor (codes "mark") (found_of found.now)) }
+    ensures none { IfNone result (LacksToMark (found_of found.now)) }
+{
+    Some(Request::Mark {
+        gsi: found.get_str(GSI)?,
+        station: stated_name_of(found)?,
+    })
+}
+
+fn list_request<'a>(found: &ArgMatches<'a>) -> Option<Request<'a, &'a str>>
+    ensures asked { IfSome result (AsksFor (codes "list") (found_of found.now)) }
+    ensures none { IfNone result (LacksForList (found_of found.now)) }
+{
+    Some(Request::List {
+        gsi: found.get_str(GSI)?,
+        limits: limits_of(found)?,
+        form: form_of(found),
+    })
+}
+
+fn words_request<'a>(found: &ArgMatches<'a>) -> Option<Request<'a, &'a str>>
+    ensures asked { IfSome result (AsksFor (codes "words") (found_of found.now)) }
+    ensures none { IfNone result (IsMissing (found_of found.now) (codes "GSI")) }
+{
+    Some(Request::Words {
+        gsi: found.get_str(GSI)?,
+    })
+}
