@@ -11,7 +11,7 @@ longest counts. Extensions may be in capitals too.
 A field file is done where `station_check list` names stations in it, and each of them has an
 accepted sheet or a table that agrees. The answer to each sheet and table is printed, and kept in
 NAME.answer beside NAME.csv. A table that belongs to no field file, or to one of its stations by no
-name, is said to be passed over, which is no mistake.
+name, is said to be skipped, which is no mistake.
 
 Exit status: 0 where there are field files, each is done, and nothing was refused; 1 where not;
 2 where nothing could be checked: a mistake on the command line, no such folder, one that takes no
@@ -47,7 +47,7 @@ TABLE = ".directions"
 ENVIRONMENT = dict(os.environb)
 
 # The exit statuses of station_check.
-DONE, REFUSAL, MISTAKE = 0, 1, 2
+DONE, REFUSED, MISTAKE = 0, 1, 2
 
 COUNTS = rb": \d+ sets, \d+ targets, \d+ directions"
 ACCEPTED_LINE = re.compile(rb"accepted (.*)" + COUNTS + rb", greatest residual \d+/\d+\n")
@@ -61,7 +61,7 @@ SHEET_ROW = re.compile(rb'^"?(?:sheet|target|set|obs)"?(?:,[^,\r\n]*){4}\s*$', r
 TABLE_ROW = re.compile(rb"^[^,;\t ].*[,;\t ]\"?[+-]?\d[\d.,'-]*\"?[,;\s]*$", re.MULTILINE)
 
 
-class CannotCheck(Exception):
+class Refused(Exception):
     """Why nothing was checked."""
 
 
@@ -71,7 +71,7 @@ class Result(Enum):
     GOOD = "accepted"
     REFUSED = "refused"
     NOT_CHECKED = "not checked"
-    PASSED_OVER = "passed over"
+    SKIPPED = "skipped"
 
 
 # ---------------------------------------------------------------- names
@@ -148,7 +148,7 @@ class Run(NamedTuple):
         try:
             run = os.posix_spawn(self.args[0], self.args, ENVIRONMENT, file_actions=[takes, both])
         except OSError as why:  # the program has run before, so it is the output
-            raise CannotCheck(f"cannot write {self.output}: {why.strerror}") from None
+            raise Refused(f"cannot write {self.output}: {why.strerror}") from None
         return os.waitstatus_to_exitcode(os.waitpid(run, 0)[1])
 
     def printed(self) -> bytes:
@@ -244,8 +244,8 @@ class Folder:
         runs, claims = [], {claim.name: claim for claim in self.claims}
         for claim in self.claims:
             if said := self.why_not(claim):
-                passed_over = Result.PASSED_OVER if claim.is_table else Result.NOT_CHECKED
-                self.results[claim.name] = passed_over, said
+                not_compared = Result.SKIPPED if claim.is_table else Result.NOT_CHECKED
+                self.results[claim.name] = not_compared, said
             else:
                 runs.append(Run(claim.name, self.arguments(claim), claim.name + ANSWER))
         for run, status in finished(runs, self.options.jobs):
@@ -254,7 +254,7 @@ class Folder:
             good = line.fullmatch(printed) if status == DONE else None
             if good and claim.field is not None:
                 self.good[claim.field].add(good[1])
-            result = Result.REFUSED if status == REFUSAL else Result.NOT_CHECKED
+            result = Result.REFUSED if status == REFUSED else Result.NOT_CHECKED
             self.results[run.name] = Result.GOOD if good else result, first_line(printed)
 
     def left(self, field: str) -> list[str]:
@@ -285,7 +285,7 @@ class Folder:
         each = [f"{sheets[result]} {result.value}" for result in list(Result)[:3]]
         line = f"{done} of {files} field files done; of the sheets {', '.join(each)}"
         if tables:
-            others = tables[Result.NOT_CHECKED] + tables[Result.PASSED_OVER]
+            others = tables[Result.NOT_CHECKED] + tables[Result.SKIPPED]
             line += f"; of the tables {tables[Result.GOOD]} agreed, {tables[Result.REFUSED]} refused, "
             line += f"{others} not compared"
         print(line)
@@ -333,14 +333,14 @@ def found_program(options: Options) -> str:
     """The path of station_check, which takes these options."""
     program = shutil.which("station_check")
     if program is None:
-        raise CannotCheck("no station_check is on the path")
+        raise Refused("no station_check is on the path")
     for words in [
         ["check", *options.check, os.devnull, os.devnull],
         ["compare", *options.compare, os.devnull, "S", os.devnull],
     ]:
         done = subprocess.run([program, *words], capture_output=True, text=True)
-        if done.returncode != REFUSAL:  # an empty sheet is refused, and an empty field file
-            raise CannotCheck(done.stderr.rstrip("\n"))
+        if done.returncode != REFUSED:  # an empty sheet is refused, and an empty field file
+            raise Refused(done.stderr.rstrip("\n"))
     return os.path.abspath(program)
 
 
@@ -349,7 +349,7 @@ def enter(folder: str) -> None:
     try:
         os.chdir(folder)
     except OSError as why:
-        raise CannotCheck(f"cannot open {folder}: {why.strerror}") from None
+        raise Refused(f"cannot open {folder}: {why.strerror}") from None
 
 
 def main() -> int:
@@ -364,10 +364,10 @@ def main() -> int:
         folder.list_stations()
         folder.check()
         well = folder.report()
-    except (CannotCheck, OSError) as why:
+    except (Refused, OSError) as why:
         print(f"{SCRIPT}: {why}", file=sys.stderr)
         return MISTAKE
-    return DONE if well else REFUSAL
+    return DONE if well else REFUSED
 
 
 if __name__ == "__main__":

@@ -12,8 +12,8 @@ job without codes, a last set that was not ended; with --without-codes the block
 42. --plain writes plain ASCII letters for others, a blank for a tab, and drops a byte order mark and
 a final byte 1A.
 
-COPY.gsi.log has each line that was left out or changed. The script prints a command by which
-anybody sees that nothing else was changed.
+COPY.gsi.log has each line that was left out or changed. The script prints the command
+that shows that nothing else was changed.
 
 Exit status: 0 the copy was written, 1 it was not (standard error says why), 2 a mistake on the
 command line. Python 3.10 or later is all it needs.
@@ -26,9 +26,11 @@ import re
 import shlex
 import sys
 import unicodedata
+from argparse import ArgumentParser, Namespace
 from collections import Counter
+from collections.abc import Iterable, Iterator
 from itertools import groupby, pairwise
-from typing import NamedTuple
+from typing import Any, BinaryIO, NamedTuple
 
 STATION, SET, END = "10", "20", "30"
 
@@ -80,13 +82,13 @@ class Block:
     """A line that isn't blank: its number, its place among all lines, its bytes with their end, and
     its words up to the first that is none."""
 
-    def __init__(self, number, place, line):
+    def __init__(self, number: int, place: int, line: bytes) -> None:
         self.number, self.place, self.line = number, place, line
         begin = len(codecs.BOM_UTF8) * line.startswith(codecs.BOM_UTF8)
         self.wide = line[begin : begin + 1] == b"*"
         self.words = list(self.words_of(line.rstrip(b"\r\n"), begin + self.wide))
 
-    def words_of(self, text, at):
+    def words_of(self, text: bytes, at: int) -> Iterator[Word]:
         while word := WORD.match(text, at):
             begin = at + BEFORE
             # A letter of two bytes makes a word longer: it goes on to the next blank.
@@ -95,35 +97,36 @@ class Block:
             yield Word(int(word[1]), word[2], text[begin:end], begin)
             at = end + 1
 
-    def first_of(self, index):
+    def first_of(self, index: int) -> Word | None:
         """The first word of an index; else none."""
         return next((word for word in self.words if word.index == index), None)
 
-    def name(self, index):
+    def name(self, index: int) -> str | None:
         """The content of a word without the zeros before it; of no such word none."""
         if word := self.first_of(index):
             return (word.content.lstrip(b"0") or word.content[-1:]).decode("latin-1")
+        return None
 
-    def begins_with(self, index):
+    def begins_with(self, index: int) -> bool:
         return bool(self.words) and self.words[0].index == index
 
-    def code(self):
+    def code(self) -> str | None:
         """The code of a code block; of a measurement none."""
         return self.name(CODE) if self.begins_with(CODE) else None
 
-    def is_reading(self):
+    def is_reading(self) -> bool:
         """Whether it is a measurement with a direction."""
         return self.begins_with(POINT) and self.first_of(DIRECTION) is not None
 
-    def sets_up(self):
+    def sets_up(self) -> bool:
         """Whether it is a measurement that sets up the instrument, and measures nothing itself."""
         indices = {word.index for word in self.words}
         return self.begins_with(POINT) and not MEASURED & indices and bool(SET_UP & indices)
 
-    def target(self):
+    def target(self) -> str | None:
         return self.name(POINT)
 
-    def face(self):
+    def face(self) -> int:
         """1 or 2, by the zenith angle."""
         word = self.first_of(ZENITH)
         if word is None or word.information[3:4] != GON or not word.content.isdigit():
@@ -133,7 +136,7 @@ class Block:
             raise Refused(f"block {self.number}: no face has the zenith angle {zenith}")
         return 1 if zenith < HALF_CIRCLE else 2
 
-    def renamed(self, name):
+    def renamed(self, name: str) -> bytes:
         """The line with another name."""
         index = POINT if self.begins_with(POINT) else INFORMATION
         if not self.words or not (word := self.first_of(index)):
@@ -145,7 +148,7 @@ class Block:
         return self.line[: word.begin] + filled + self.line[word.begin + len(word.content) :]
 
 
-def lines_of(path):
+def lines_of(path: str) -> list[bytes]:
     """The lines of a field file with their ends, blank ones too."""
     try:
         with open(path, "rb") as file:
@@ -157,7 +160,7 @@ def lines_of(path):
     return lines
 
 
-def blocks_of(lines):
+def blocks_of(lines: list[bytes]) -> list[Block]:
     full = [(place, line) for place, line in enumerate(lines) if line.strip(b" \r\n")]
     return [Block(number, *block) for number, block in enumerate(full, 1)]
 
@@ -165,25 +168,34 @@ def blocks_of(lines):
 # ---------------------------------------------------------------- what is left out
 
 
-def sets_of(blocks):
-    """Each set: the name of its station, its number, and its blocks, that of code 20 first."""
-    station, open_set = None, None
+class MarkedSet(NamedTuple):
+    """A set that codes mark: the name of its station, its number, its blocks."""
+
+    station: str | None
+    number: str | None
+    blocks: list[Block]
+
+
+def sets_of(blocks: Iterable[Block]) -> Iterator[MarkedSet]:
+    """Each set, with the block of code 20 first."""
+    station: str | None = None
+    open_set: list[Block] | None = None
     for block in blocks:
         code = block.code()
         if code == STATION:
             station = block.name(INFORMATION)
         if code == SET:
             open_set = []
-            yield station, block.name(INFORMATION), open_set
+            yield MarkedSet(station, block.name(INFORMATION), open_set)
         if code in (STATION, END):
             open_set = None
         if open_set is not None:
             open_set.append(block)
 
 
-def of_set(blocks, station, number):
+def of_set(blocks: list[Block], station: str, number: str) -> list[Block]:
     """The blocks of a set."""
-    found = [of_set for *name, of_set in list(sets_of(blocks)) if name == [station, number]]
+    found = [of_set.blocks for of_set in list(sets_of(blocks)) if of_set[:2] == (station, number)]
     if not found:
         raise Refused(f"station {station} has no set {number}")
     if len(found) > 1:
@@ -191,34 +203,34 @@ def of_set(blocks, station, number):
     return found[0]
 
 
-def readings_of_stations(blocks):
+def readings_of_stations(blocks: list[Block]) -> list[list[Block]]:
     """The readings between lines that set up."""
-    groups = [[]]
+    groups: list[list[Block]] = [[]]
     for block in blocks:
         groups += [[]] * block.sets_up()
         groups[-1] += [block] * block.is_reading()
     return groups
 
 
-def readings_together(blocks):
+def readings_together(blocks: list[Block]) -> list[list[Block]]:
     """The readings of each set; where no code opens one, those between lines that set up."""
-    marked = [of_set for *_, of_set in list(sets_of(blocks))]
-    of_sets = [[block for block in of_set if block.is_reading()] for of_set in marked]
+    marked = list(sets_of(blocks))
+    of_sets = [[block for block in of_set.blocks if block.is_reading()] for of_set in marked]
     return of_sets or readings_of_stations(blocks)
 
 
-def is_pair(first, second):
+def is_pair(first: Block, second: Block) -> bool:
     """Whether a target is read in both faces."""
     return first.target() == second.target() and {first.face(), second.face()} == {1, 2}
 
 
-def are_pairs(readings):
+def are_pairs(readings: list[Block]) -> bool:
     """Whether each target is read in both faces before the next."""
     pairs = list(zip(readings[::2], readings[1::2]))
     return len(readings) % 2 == 0 and all(is_pair(*pair) for pair in pairs)
 
 
-def closing_pairs(readings):
+def closing_pairs(readings: list[Block]) -> Iterator[Block]:
     """The pairs of the opening target that stand between others and the end, or such a pair."""
     pairs = list(zip(readings[::2], readings[1::2]))
     between = False  # whether others follow the pair that opened
@@ -232,10 +244,10 @@ def closing_pairs(readings):
         between = False
 
 
-def half_sets(readings):
+def half_sets(readings: list[Block]) -> Iterator[list[Block]]:
     """Readings in one face, up to one of the same target as the reading before it."""
     for _, run in groupby(readings, Block.face):
-        half = []
+        half: list[Block] = []
         for reading in run:
             if half and half[-1].target() == reading.target():
                 yield half
@@ -244,9 +256,9 @@ def half_sets(readings):
         yield half
 
 
-def closing_sights(blocks):
+def closing_sights(blocks: list[Block]) -> list[Block]:
     """The readings that close a half set, or pairs that close a set."""
-    closing = []
+    closing: list[Block] = []
     for readings in readings_together(blocks):
         if are_pairs(readings):
             closing += closing_pairs(readings)
@@ -259,10 +271,10 @@ def closing_sights(blocks):
     return closing
 
 
-def ends_of_sets(readings):
+def ends_of_sets(readings: list[Block]) -> Iterator[int]:
     """The places at which each target was read as often in face I as in face II, and that which was
     read first comes again."""
-    odd = Counter()  # of each target how often more it was read in face I
+    odd: Counter[str | None] = Counter()  # of each target how often more it was read in face I
     for place, reading in enumerate(readings):
         comes_again = place > 0 and reading.target() == readings[0].target()
         if comes_again and not any(odd.values()):
@@ -270,7 +282,7 @@ def ends_of_sets(readings):
         odd[reading.target()] += {1: 1, 2: -1}[reading.face()]
 
 
-def broken_set(readings):
+def broken_set(readings: list[Block]) -> list[Block]:
     """The readings of a last set that lacks a face of a target, or ends with another target than the
     set before it; none where no set was broken off."""
     for before in range(MOST_BEFORE + 1):
@@ -286,7 +298,7 @@ def broken_set(readings):
     return []
 
 
-def broken_off(blocks):
+def broken_off(blocks: list[Block]) -> list[Block]:
     """The readings of last sets that were broken off, in a job without codes."""
     if any(block.code() == SET for block in blocks):
         raise Refused("the file has codes: leave the set out by --set")
@@ -296,7 +308,7 @@ def broken_off(blocks):
     return broken
 
 
-def with_codes(blocks):
+def with_codes(blocks: list[Block]) -> list[Block]:
     """The blocks of the codes that open and end sets."""
     found = [block for block in blocks if block.code() in (STATION, SET, END)]
     if not found:
@@ -304,11 +316,11 @@ def with_codes(blocks):
     return found
 
 
-def range_said(first, last):
+def range_said(first: int, last: int) -> str:
     return f"block {first}" if first == last else f"blocks {first}-{last}"
 
 
-def numbered(blocks, first, last):
+def numbered(blocks: list[Block], first: int, last: int | None) -> list[Block]:
     """The blocks from one number to another, or to the last."""
     last = len(blocks) if last is LAST else last
     if not first <= last <= len(blocks):
@@ -316,9 +328,10 @@ def numbered(blocks, first, last):
     return blocks[first - 1 : last]
 
 
-def left_out(blocks, asked):
+def left_out(blocks: list[Block], asked: Namespace) -> tuple[set[int], list[str]]:
     """The blocks that are left out, and what was asked for."""
-    out, said = [], []
+    out: list[Block] = []
+    said: list[str] = []
     for first, last in asked.blocks or []:
         out += (found := numbered(blocks, first, last))
         said.append(range_said(found[0].number, found[-1].number))
@@ -341,9 +354,10 @@ def left_out(blocks, asked):
 # ---------------------------------------------------------------- what is changed
 
 
-def renamed(blocks, out, asked):
+def renamed(blocks: list[Block], out: set[int], asked: Namespace) -> tuple[dict[int, bytes], list[str]]:
     """The lines that get another name, by their places, and what was asked for."""
-    lines, said = {}, []
+    lines: dict[int, bytes] = {}
+    said: list[str] = []
     for numbers, name in asked.rename or []:
         for first, last in numbers:
             for block in numbered(blocks, first, last):
@@ -354,7 +368,7 @@ def renamed(blocks, out, asked):
     return lines, said
 
 
-def plain(line, number, is_first, is_last):
+def plain(line: bytes, number: int, is_first: bool, is_last: bool) -> bytes:
     """A line in plain ASCII, where each letter with an accent has its plain letter."""
     try:
         text = line.decode()
@@ -370,7 +384,9 @@ def plain(line, number, is_first, is_last):
     return text.encode()
 
 
-def in_plain(lines, blocks, out, changed):
+def in_plain(
+    lines: list[bytes], blocks: list[Block], out: set[int], changed: dict[int, bytes]
+) -> dict[int, bytes]:
     """The lines that are changed, by their places, with those that aren't plain."""
     changed = dict(changed)
     for block in blocks:
@@ -382,12 +398,12 @@ def in_plain(lines, blocks, out, changed):
     return changed
 
 
-def copied(lines, out, changed):
+def copied(lines: list[bytes], out: set[int], changed: dict[int, bytes]) -> list[bytes]:
     """The lines of the copy."""
     return [changed.get(place, line) for place, line in enumerate(lines) if place not in out]
 
 
-def neighbours(places):
+def neighbours(places: list[int]) -> list[list[int]]:
     """Places in groups that follow each other without another between."""
     groups = [[place] for place in places[:1]]
     for before, place in pairwise(places):
@@ -396,11 +412,13 @@ def neighbours(places):
     return groups
 
 
-def without_end(line):
+def without_end(line: bytes) -> bytes:
     return line.rstrip(b"\n") + b"\n"
 
 
-def log_of(asked, blocks, said, out, changed):
+def log_of(
+    asked: Namespace, blocks: list[Block], said: str, out: set[int], changed: dict[int, bytes]
+) -> Iterator[bytes]:
     """The log: what was asked for and why, and the lines as they were and are, as `diff` has them:
     of blocks that follow each other first all that were, then all that are."""
     names = f"{os.path.basename(asked.copy)} is {os.path.basename(asked.field)}"
@@ -420,7 +438,7 @@ def log_of(asked, blocks, said, out, changed):
 # ---------------------------------------------------------------- the command line
 
 
-def numbers(text):
+def numbers(text: str) -> tuple[int, int | None]:
     if not (found := NUMBERS.fullmatch(text)):
         said = "is no number of a block, and none as 4-7 or 4-"
         raise argparse.ArgumentTypeError(f"{text!r} {said}")
@@ -428,11 +446,11 @@ def numbers(text):
     return first, int(found[3]) if found[3] else LAST if found[2] else first
 
 
-def several_numbers(text):
+def several_numbers(text: str) -> list[tuple[int, int | None]]:
     return [numbers(part) for part in text.split(",")]
 
 
-def name(text):
+def name(text: str) -> str:
     if not text or not text.isascii() or not text.isprintable() or text.startswith("0"):
         raise argparse.ArgumentTypeError("a name is of printable ASCII, with no zero before it")
     return text
@@ -441,7 +459,9 @@ def name(text):
 class Rename(argparse.Action):
     """Takes blocks and a name."""
 
-    def __call__(self, parser, asked, values, option=None):
+    def __call__(
+        self, parser: ArgumentParser, asked: Namespace, values: Any, option: str | None = None
+    ) -> None:
         try:
             renaming = several_numbers(values[0]), name(values[1])
         except argparse.ArgumentTypeError as why:
@@ -449,14 +469,14 @@ class Rename(argparse.Action):
         asked.rename = [*(asked.rename or []), renaming]
 
 
-def reason(text):
+def reason(text: str) -> str:
     if not text.strip() or not text.isprintable():
         raise argparse.ArgumentTypeError("say why in one line")
     return text
 
 
-def command_line():
-    parser = argparse.ArgumentParser(
+def command_line() -> ArgumentParser:
+    parser = ArgumentParser(
         description="Leaves blocks out of a copy of a field file or renames them, writes a log "
         "beside the copy, and prints the command that shows that nothing else was changed.",
         epilog="Example: prepare.py FIELD.gsi COPY.gsi --blocks 36 40-42 --why 'named wrongly'. "
@@ -483,7 +503,7 @@ def command_line():
     return parser
 
 
-def new_file(path):
+def new_file(path: str) -> BinaryIO:
     """A file that was not there, to be written."""
     try:
         return open(path, "xb")
@@ -493,7 +513,7 @@ def new_file(path):
         raise Refused(f"cannot write {path}: {why.strerror}") from None
 
 
-def prepared(asked):
+def prepared(asked: Namespace) -> tuple[int, int]:
     """Writes the copy and its log, and gives how many blocks are left out and changed."""
     lines = lines_of(asked.field)
     blocks = blocks_of(lines)
@@ -516,17 +536,17 @@ def prepared(asked):
     return len(out), len(changed)
 
 
-def blocks_are(count):
+def blocks_are(count: int) -> str:
     return "1 block is" if count == 1 else f"{count} blocks are"
 
 
-def counted(out, changed):
+def counted(out: int, changed: int) -> str:
     """What is printed of these numbers of blocks."""
     said = [f"{blocks_are(out)} left out"] * bool(out)
     return ", ".join(said + [f"{blocks_are(changed)} changed"] * bool(changed))
 
 
-def main():
+def main() -> None:
     parser = command_line()
     asked = parser.parse_args()
     of_lines = [asked.blocks, asked.set, asked.closing, asked.broken_off, asked.without_codes]

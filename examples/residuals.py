@@ -4,20 +4,21 @@
     station_check residuals FIELD.gsi STATION | python3 residuals.py STATION > PICTURE.svg
 
 Each set has a column and each target a row. The residuals are those that station_check prints, and
-nothing is drawn where it prints none. The standard deviation is computed here alone, of residuals
-with 3 decimals: station_check says nothing of it.
+nothing is drawn where it prints none. The standard deviation is computed here, of residuals with 3
+decimals; that of the exact residuals is printed by 'station_check report'.
 
 Python 3.10 or later is all it needs.
 """
 
 import argparse
 import csv
+import io
 import math
 import re
 import sys
 from fractions import Fraction
 from pathlib import Path
-from typing import NamedTuple
+from typing import Iterable, Iterator, NamedTuple
 from xml.sax.saxutils import escape
 
 # The name by which this script was called, for what it says.
@@ -46,7 +47,7 @@ MARKED = f'{BOLD} fill="{GREATEST}"'
 NOT_SEEN = "\N{MULTIPLICATION SIGN}"
 
 
-class CannotDraw(Exception):
+class Refused(Exception):
     """Why there is no picture."""
 
 
@@ -54,25 +55,25 @@ class Station(NamedTuple):
     """A station: its residuals in mgon, by set and target."""
 
     name: str
-    targets: list
-    sets: list
-    residuals: dict
+    targets: list[str]
+    sets: list[str]
+    residuals: dict[tuple[str, str], Fraction]
 
-    def greatest(self):
+    def greatest(self) -> Fraction:
         """The greatest size of a residual."""
-        return max(map(abs, self.residuals.values()))
+        return max(abs(residual) for residual in self.residuals.values())
 
-    def greatest_places(self):
+    def greatest_places(self) -> list[tuple[str, str]]:
         """The set and the target of each residual of the greatest size, unless that is 0."""
         greatest = self.greatest()
         return [at for at, v in self.residuals.items() if v and abs(v) == greatest]
 
-    def degrees_of_freedom(self):
+    def degrees_of_freedom(self) -> int:
         """How many observations there are more than unknowns: all directions but the first, and
         all orientations."""
         return len(self.residuals) - (len(self.targets) - 1) - len(self.sets)
 
-    def standard_deviation(self):
+    def standard_deviation(self) -> float:
         """That of a two-face direction, in mgon; there are some degrees of freedom."""
         squares = sum(v * v for v in self.residuals.values())
         return math.sqrt(squares / self.degrees_of_freedom())
@@ -81,19 +82,19 @@ class Station(NamedTuple):
 # ---------------------------------------------------------------- the residuals
 
 
-def is_observation(row):
+def is_observation(row: list[str]) -> bool:
     """Whether a row may be that of an observation."""
-    return len(row) == len(TITLES) and IN_MGON.fullmatch(row[-1])
+    return len(row) == len(TITLES) and IN_MGON.fullmatch(row[-1]) is not None
 
 
-def read_station(name, lines):
+def read_station(name: str, lines: Iterable[str]) -> Station:
     """The station of this name, of which these lines are what station_check printed."""
     titles, *rows = [row for row in csv.reader(lines) if row] or [[]]
     if not rows:
-        raise CannotDraw("standard input has no residuals: nothing is drawn")
-    residuals = {tuple(row[:2]): Fraction(row[-1]) for row in rows if is_observation(row)}
+        raise Refused("standard input has no residuals: nothing is drawn")
+    residuals = {(row[0], row[1]): Fraction(row[-1]) for row in rows if is_observation(row)}
     if titles != TITLES or len(residuals) < len(rows):
-        raise CannotDraw("standard input is not what 'station_check residuals' prints")
+        raise Refused("standard input is not what 'station_check residuals' prints")
     sets, targets = (list(dict.fromkeys(part)) for part in zip(*residuals))
     return Station(name, targets, sets, residuals)
 
@@ -101,39 +102,39 @@ def read_station(name, lines):
 # ---------------------------------------------------------------- the picture
 
 
-def text(x, y, size, content, anchor="start", more=""):
+def text(x: float, y: float, size: float, content: str, anchor: str = "start", more: str = "") -> str:
     return (
         f'<text x="{x:.2f}" y="{y:.2f}" font-size="{size:.2f}" text-anchor="{anchor}"{more}>'
         f"{escape(content)}</text>"
     )
 
 
-def line(x1, y1, x2, y2, colour, width=0.15):
+def line(x1: float, y1: float, x2: float, y2: float, colour: str, width: float = 0.15) -> str:
     return (
         f'<line x1="{x1:.2f}" y1="{y1:.2f}" x2="{x2:.2f}" y2="{y2:.2f}" stroke="{colour}" '
         f'stroke-width="{width}"/>'
     )
 
 
-def box(x, y, width, height, colour):
+def box(x: float, y: float, width: float, height: float, colour: str) -> str:
     return (
         f'<rect x="{x:.2f}" y="{y:.2f}" width="{width:.2f}" height="{height:.2f}" '
         f'fill="{colour}"/>'
     )
 
 
-def signed(number):
+def signed(number: str) -> str:
     """The text of a number with its sign; 0 has none."""
     text = number.replace("-", "\N{MINUS SIGN}")
     return text[1:] if float(number) == 0 else text
 
 
-def plain(value):
+def plain(value: Fraction) -> str:
     """The text of a round number."""
     return f"{float(value):.3f}".rstrip("0").rstrip(".")
 
 
-def round_above(value):
+def round_above(value: Fraction) -> Fraction:
     """The least round number that is not below a value: 0.01, 0.015, 0.02, 0.03 and so on."""
     step = Fraction(1, 100)
     while True:
@@ -146,7 +147,7 @@ def round_above(value):
 class Page:
     """Where things stand on the page, in millimetres."""
 
-    def __init__(self, station):
+    def __init__(self, station: Station) -> None:
         self.row = min(HIGHEST_ROW, (TALLEST - HEAD - AXIS - FOOT) / len(station.targets))
         self.size = min(LARGEST_TEXT, 0.85 * self.row)
         longest = max(len("target"), *map(len, station.targets))
@@ -160,7 +161,7 @@ class Page:
         self.scale = round_above(self.greatest)
         self.place_numbers()
 
-    def place_numbers(self):
+    def place_numbers(self) -> None:
         """Decides where the numbers stand, and so how long a bar can be."""
         gap = min(GAP, self.column / 10)
         width = len(self.number(self.scale)) * DIGIT * SMALL_TEXT
@@ -171,24 +172,24 @@ class Page:
         self.below = not self.beside and self.row >= HIGH_ROW and self.column >= width + 1
         self.zero = gap + self.reach
 
-    def number(self, value):
+    def number(self, value: Fraction) -> str:
         """The text of a residual, with the decimals that station_check prints."""
         return signed(f"{float(value):+.3f}")
 
-    def middle(self, column):
+    def middle(self, column: int) -> float:
         """Where the residual 0 stands in a column."""
         return self.left + column * self.column + self.zero
 
-    def end(self, column):
+    def end(self, column: int) -> float:
         """Where the numbers beside the bars of a column end."""
         return self.left + (column + 1) * self.column - GAP
 
-    def base(self, row, size):
+    def base(self, row: int, size: float) -> float:
         """The line on which text of this size stands in a row."""
         return self.top + (row + 0.5) * self.row + 0.36 * size
 
 
-def heading(page, station):
+def heading(page: Page, station: Station) -> Iterator[str]:
     span = f"\N{MINUS SIGN}{plain(page.scale)} to +{plain(page.scale)} mgon"
     counts = f"{len(station.sets)} sets, {len(station.targets)} targets"
     counts += f", {len(station.residuals)} directions"
@@ -197,7 +198,7 @@ def heading(page, station):
     yield text(MARGIN, 26.5, 2.9, f"station_check residuals: {counts}", more=ONE_WIDTH)
 
 
-def axes(page, station):
+def axes(page: Page, station: Station) -> Iterator[str]:
     """The numbers of the sets; lines at zero and, in wide columns, at the ends of the scale."""
     narrow = page.column < NARROW
     size = min(LARGEST_TEXT, page.column * 0.6)
@@ -218,12 +219,12 @@ def axes(page, station):
                 yield text(x, page.top - 1.8, SMALL_TEXT, label, "middle")
 
 
-def stripe(row):
+def stripe(row: int) -> str:
     """The colour behind a row."""
     return WHITE if row % 2 else STRIPE
 
 
-def stripes(page, station):
+def stripes(page: Page, station: Station) -> Iterator[str]:
     marked = {target for _, target in station.greatest_places()}
     for row, target in enumerate(station.targets):
         top = page.top + row * page.row
@@ -232,7 +233,7 @@ def stripes(page, station):
         yield text(MARGIN, page.base(row, page.size), page.size, target, more=more)
 
 
-def bar(page, column, row, value):
+def bar(page: Page, column: int, row: int, value: Fraction) -> Iterator[str]:
     """The bar of a residual, with its number where there is room."""
     length = float(value / page.scale) * page.reach
     middle, top = page.middle(column), page.top + row * page.row
@@ -250,7 +251,7 @@ def bar(page, column, row, value):
         yield text(middle, top + page.row - 0.6, SMALL_TEXT, number, "middle")
 
 
-def bars(page, station):
+def bars(page: Page, station: Station) -> Iterator[str]:
     for row, target in enumerate(station.targets):
         for column, number in enumerate(station.sets):
             value = station.residuals.get((number, target))
@@ -261,7 +262,7 @@ def bars(page, station):
                 yield text(*place, page.size, NOT_SEEN, "middle", f' fill="{MISSING}"')
 
 
-def notes(page, station):
+def notes(page: Page, station: Station) -> Iterator[str]:
     """What is said below the rows."""
     said = [greatest_note(page, station)]
     if len(station.residuals) < len(station.sets) * len(station.targets):
@@ -275,7 +276,7 @@ def notes(page, station):
         yield text(MARGIN, page.bottom + 7 + 4.5 * number, NOTE, note)
 
 
-def greatest_note(page, station):
+def greatest_note(page: Page, station: Station) -> str:
     """Where the greatest residual is."""
     places = station.greatest_places()
     if not places:
@@ -286,17 +287,17 @@ def greatest_note(page, station):
     return f"The greatest residual, {size}, is red: set {of_set}, target {target}{others}."
 
 
-def deviation_note(station):
-    """The standard deviation of a two-face direction, which station_check doesn't print."""
+def deviation_note(station: Station) -> str:
+    """The standard deviation of a two-face direction."""
     freedom = station.degrees_of_freedom()
     degrees = f"{freedom} degrees of freedom" if freedom != 1 else "1 degree of freedom"
     if freedom == 0:
         return f"{degrees}: the residuals say nothing of the accuracy."
     deviation = f"{station.standard_deviation():.3f} mgon, {degrees}"
-    return f"Not of station_check: standard deviation of a two-face direction {deviation}."
+    return f"Standard deviation of a two-face direction, from these residuals: {deviation}."
 
 
-def picture(station):
+def picture(station: Station) -> str:
     page = Page(station)
     parts = [
         f'<svg xmlns="http://www.w3.org/2000/svg" width="{PAGE}mm" height="{page.height:.2f}mm" '
@@ -317,7 +318,7 @@ def picture(station):
 # ---------------------------------------------------------------- the command line
 
 
-def command_line():
+def command_line() -> argparse.ArgumentParser:
     parser = argparse.ArgumentParser(
         description="Draws the residuals of a station, in mgon, as an SVG picture on standard "
         "output. What 'station_check residuals' printed is read from standard input.",
@@ -329,14 +330,16 @@ def command_line():
     return parser
 
 
-def main():
+def main() -> None:
     asked = command_line().parse_args()
-    sys.stdin.reconfigure(encoding="utf-8", errors="replace", newline="")
+    if isinstance(sys.stdin, io.TextIOWrapper):
+        sys.stdin.reconfigure(encoding="utf-8", errors="replace", newline="")
     try:
         station = read_station(asked.station, sys.stdin)
-    except (CannotDraw, csv.Error) as why:
+    except (Refused, csv.Error) as why:
         sys.exit(f"{SCRIPT}: {why}")
-    sys.stdout.reconfigure(encoding="utf-8")
+    if isinstance(sys.stdout, io.TextIOWrapper):
+        sys.stdout.reconfigure(encoding="utf-8")
     print(picture(station), end="")
 
 

@@ -8,7 +8,7 @@ import re
 import subprocess
 import sys
 from pathlib import Path
-from typing import Callable, Iterator, NamedTuple, Optional
+from typing import Callable, Iterator, NamedTuple
 
 from faults import MAN_PAGE, PROGRAM, ROOT, escaped, man_text, sentence
 from parts import with_part
@@ -43,7 +43,7 @@ class Option(NamedTuple):
     name: str
     value: str  # what stands for its number or its text; of a flag nothing
     text: str
-    usual: Optional[str]  # its number where none is stated, or that there is no limit; of a text none
+    usual: str | None  # its number where none is stated, or that there is no limit; of a text none
 
     def summary(self) -> str:
         return first_sentence(self.text)

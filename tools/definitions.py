@@ -2,8 +2,8 @@
 
 The page has what the promise of an acceptance rests on, then that of an agreement, and then those of
 differences, of residuals and of a report: the file of each promise and all that it cites, however far, in
-reading order, with the comment that it begins with and those of its records. The other definitions are
-read where they stand.
+reading order, with the comment that it begins with. Those of records are there for an acceptance; of the
+other promises for the file of the promise alone. The other definitions are read where they stand.
 """
 
 import re
@@ -32,7 +32,7 @@ SOURCE = re.compile(r" ?\((?:profile|textbook|GSI manual)[^)]*\)")
 INTRODUCTION = """\
 # Definitions
 
-What the contracts speak of, in plain words. This page is made by `tools/definitions.py` from the comments of the definitions: what each file is about, and its records. A link leads to the definitions themselves, each of which has a comment. *GSI manual* means Leica's description of the format, *textbook* the usual least-squares station adjustment, *profile* that this project decides.
+What the contracts speak of, in plain words. This page is made by `tools/definitions.py` from the comments of the definitions: it says what each file is about, and of what an acceptance rests on the records too. A link leads to the files of a crate, in which each definition has a comment. *GSI manual* means Leica's description of the format, *textbook* the usual least-squares station adjustment, *profile* that this project decides.
 
 A contract is as good as its definitions, so they are short and are not the program written again: a relation on a whole line, lines cut at all line ends at once, a sum over rows, 'there is no division into two parts'. Where one does go line by line, a law says the same in another way.
 """
@@ -75,6 +75,16 @@ class Spec(NamedTuple):
     @property
     def link(self) -> str:
         return f"[`{self.module}`](../crates/{self.crate}/specs/{self.module}.antt)"
+
+    def about(self) -> str:
+        """A row of the page: the name of the file, and what it is about."""
+        return f"- `{self.module}`: {sentence(self.head())}"
+
+    def records(self) -> Iterator[str]:
+        """A row for each of its records."""
+        for name, comment, is_record in self.definitions():
+            if is_record:
+                yield f"  - `{name}`: {sentence(comment)}"
 
     def text(self) -> str:
         return self.path.read_text()
@@ -142,8 +152,8 @@ def closure(first: Spec) -> list[Spec]:
 
 def sentence(text: str) -> str:
     """A comment as a sentence: it ends with a point, and begins with a capital where it does not
-    begin with a name of one letter."""
-    text = text if re.match(r"\w\b", text) else text[:1].upper() + text[1:]
+    begin with a name of one letter. The article is no name."""
+    text = text if re.match(r"[^\Wa]\b", text) else text[:1].upper() + text[1:]
     return text if text.endswith((".", ":")) else f"{text}."
 
 
@@ -154,13 +164,13 @@ def size_of(specs: list[Spec]) -> str:
 def belief(specs: list[Spec]) -> Iterator[str]:
     yield "## What you have to believe\n"
     yield (
-        f"An acceptance says what {Spec(*ACCEPTANCE).link} says: one page, in the order of the promise. "
+        f"An acceptance means what {Spec(*ACCEPTANCE).link} says: one page, in the order of the promise. "
         f"It rests on the {size_of(specs)}, "
         "and on no others; each rests on those before it. That the program keeps the promise is proved, "
         "and needs no reading. So whoever believes these definitions, and what "
         "[the first page](../README.md#what-is-trusted) says is trusted, may believe an acceptance.\n"
     )
-    yield from in_words(specs)
+    yield from in_words(specs, specs)
 
 
 def belief_of_contract(specs: list[Spec]) -> Iterator[str]:
@@ -170,9 +180,7 @@ def belief_of_contract(specs: list[Spec]) -> Iterator[str]:
         "An acceptance rests on its fields `gsi_bytes`, `sheet_bytes`, `promise`, `gsi_reader` and "
         f"`sheet_reader`, and so on what these {len(specs)} files say of an acceptance besides:\n"
     )
-    for spec in specs:
-        yield f"- {spec.link}: {sentence(spec.head())}"
-    yield ""
+    yield from [*(spec.about() for spec in specs), ""]
 
 
 def belief_beside(title: str, says: str, specs: list[Spec], known: list[Spec]) -> Iterator[str]:
@@ -181,24 +189,23 @@ def belief_beside(title: str, says: str, specs: list[Spec], known: list[Spec]) -
     more = [spec for spec in specs if spec not in known]
     yield f"## What you have to believe of {title}\n"
     yield (
-        f"{says} says what {specs[-1].link} says. "
+        f"{says} means what {specs[-1].link} says. "
         f"It rests on {shared} of the files above and on the {size_of(more)}, and on no others.\n"
     )
-    yield from in_words(more)
+    yield from in_words(more, specs[-1:])
 
 
-def in_words(specs: list[Spec]) -> Iterator[str]:
-    """What files of definitions are about, by crate, with their records in plain words."""
+def in_words(specs: list[Spec], whole: list[Spec]) -> Iterator[str]:
+    """What files of definitions are about, by crate; of these `whole` ones with their records."""
     crate = None
     for spec in specs:
         if spec.crate != crate:
             yield from [""] * (crate is not None)
             crate = spec.crate
-            yield f"### Of `{crate}`\n"
-        yield f"- {spec.link}: {sentence(spec.head())}"
-        for name, comment, is_record in spec.definitions():
-            if is_record:
-                yield f"  - `{name}`: {sentence(comment)}"
+            yield f"### Of [`{crate}`](../crates/{crate}/specs)\n"
+        yield spec.about()
+        if spec in whole:
+            yield from spec.records()
     yield ""
 
 

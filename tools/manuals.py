@@ -21,7 +21,7 @@ CHANGES = ROOT / "CHANGELOG.md"
 # Each tool, and what its page says that it does.
 TOOLS = {
     "adjust": "adjust a station by least squares, and write its sheet",
-    "check_folder": "check all sheets of a folder against their field files",
+    "check_folder": "check the sheets and tables of a folder against their field files",
     "prepare": "leave out or rename blocks in a copy of a field file",
     "residuals": "draw the residuals of a station",
 }

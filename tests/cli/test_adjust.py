@@ -109,7 +109,7 @@ class AdjustTest(ProgramTest):
         station = adjust.chosen(adjust.read_list(listed.decode()), None)
         try:
             sheet = adjust.sheet_of(station)
-        except adjust.CannotAdjust as why:
+        except adjust.Refused as why:
             self.assertIn("is not connected", str(why), place)
             self.assertTrue(self.is_apart(gsi), place)
             return "not connected"

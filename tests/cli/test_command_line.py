@@ -82,7 +82,10 @@ MORE = b"\nFor more information, try '--help'.\n"
 
 # What is said of a limit that is no whole number of its unit, or out of its range.
 FACE_LIMITS = b"state mgon, as 0.3mgon: from 0mgon to 10000mgon, by 0.01;\nor units of 0.01 mgon: from 0 to 1000000\n"
-RESIDUAL_LIMITS = b"state mgon, as 0.3mgon: from 0mgon to 10mgon, by 0.005;\nor half units of 0.005 mgon: from 0 to 2000\n"
+RESIDUAL_LIMITS = (
+    b"state mgon, as 0.3mgon: from 0mgon to 10mgon, by 0.005;\n"
+    b"or half units of 0.005 mgon: from 0 to 2000\n"
+)
 
 # What 2c and 2i are, in the help of each command that has their limits.
 FACE_DIFFERENCES = [

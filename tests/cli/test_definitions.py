@@ -10,6 +10,12 @@ sys.path.insert(0, str(ROOT / "tools"))
 
 import definitions
 
+# The names that a file takes of another crate's definitions, or of its own crate's.
+CITED = re.compile(r"use Rattle\.(\w+)\.specs\.(\w+)\.\{([^}]*)\}")
+
+# One thing in several crates: the line of a refusal, of each crate's own faults.
+ALIKE = {"refusal_line"}
+
 
 def promised():
     """The files that the promises rest on."""
@@ -19,7 +25,30 @@ def promised():
     return dict.fromkeys(spec for closure in closures for spec in closure)
 
 
+def origins(crate):
+    """The names of definitions that a crate meets: its own, and those that its files cite; of each
+    the crates that define it. Names that it calls by their file's are not among them."""
+    found = {}
+    folder = ROOT / "crates" / crate
+    for path in [*folder.glob("specs/**/*.antt"), *folder.glob("src/**/*.rt")]:
+        for origin, _, names in CITED.findall(path.read_text()):
+            for name in names.split(","):
+                if origin != "std":
+                    found.setdefault(name.split(" as ")[0].strip(), set()).add(origin)
+    for spec in definitions.specs_of(crate):
+        for definition in spec.definitions():
+            found.setdefault(definition.name, set()).add(crate)
+    return found
+
+
 class DefinitionsTest(unittest.TestCase):
+    def test_no_name_stands_for_two_things_in_one_crate(self):
+        for crate in definitions.crates():
+            for name, crates in origins(crate).items():
+                if name not in ALIKE:
+                    with self.subTest(crate, name=name):
+                        self.assertEqual(1, len(crates), crates)
+
     def test_the_page_is_up_to_date(self):
         """Where this fails, `python3 tools/definitions.py` makes it anew."""
         self.assertEqual(definitions.page(), definitions.PAGE.read_text())
@@ -35,6 +64,11 @@ class DefinitionsTest(unittest.TestCase):
             for spec in definitions.specs_of(crate):
                 with self.subTest(crate, file=spec.path.name):
                     self.assertTrue(spec.head())
+
+    def test_each_row_of_the_page_is_a_sentence(self):
+        for row in re.findall(r"^ *- `\w+`: (.*)$", definitions.PAGE.read_text(), re.MULTILINE):
+            with self.subTest(row):
+                self.assertRegex(row, r"^([A-Z0-9]|[b-z]\b).*[.:]$")
 
     def test_no_definition_of_the_promise_is_left_out(self):
         """What the promise cites is in files that the list of its crate's definitions names."""

@@ -118,7 +118,8 @@ class DistTest(ProgramTest):
         self.check_module(place / "share/station_check", {})
         self.assertEqual("libstation_check.so.1", os.readlink(place / "lib/libstation_check.so"))
         self.assertTrue((place / "include/station_check.h").exists())
-        self.assertRegex((place / "share/doc/station_check/PROVED").read_text(), r"\nSHA-256 of the library.*: [0-9a-f]{64}\n")
+        note = (place / "share/doc/station_check/PROVED").read_text()
+        self.assertRegex(note, r"\nSHA-256 of the library.*: [0-9a-f]{64}\n")
         packages = [path for name, path in made.items() if name.endswith(".deb")]
         for package in packages:
             root = self.folder / "deb"

@@ -262,7 +262,7 @@ class FolderTest(ProgramTest):
         self.assertEqual((0, SUMMARY.format(2, 2, 2, 0, 0)), (status, lines[-1]))
         self.assertFalse((self.folder / "files" / "old.answer").exists())
 
-    def test_folders_inside_are_passed_over(self):
+    def test_folders_inside_are_skipped(self):
         originals = self.folder / "files" / "originals"
         originals.mkdir(parents=True)
         (originals / "job.gsi").write_bytes(b"a line of titles\n" + STATION)

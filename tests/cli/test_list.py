@@ -219,8 +219,8 @@ class ListTest(ProgramTest):
         self.assertEqual(len(lines), len(rows) - 1)
         for line, (_, number, target, direction, two_c, two_i) in zip(lines, rows[1:]):
             p = round(float(direction) * 200_000)
-            said = f"set {number}, target {target}: p {p}, 2c {round(float(two_c) * 100)}, 2i {round(float(two_i) * 100)}"
-            self.assertEqual(said, line)
+            faces = f"2c {round(float(two_c) * 100)}, 2i {round(float(two_i) * 100)}"
+            self.assertEqual(f"set {number}, target {target}: p {p}, {faces}", line)
 
     def test_what_is_not_read_changes_no_list(self):
         self.check([Run(name, LISTING, file=file, stdout=LIST) for name, file in SAME])

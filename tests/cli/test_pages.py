@@ -4,7 +4,7 @@ import re
 import unittest
 
 from pages import checked, page_steps
-from program import ROOT, TimedTest
+from program import ROOT, TimedTest, answer_of
 
 GUIDE = ROOT / "docs" / "GUIDE.md"
 ARCHITECTURE = ROOT / "docs" / "ARCHITECTURE.md"
@@ -61,8 +61,12 @@ class PagesTest(TimedTest):
 
     def test_the_guide_runs_each_command_of_the_program(self):
         commands = " ".join(step.command for step in page_steps(GUIDE.read_text()))
-        for command in ["mark", "words", "list", "means", "check", "check --residual", "directions", "compare"]:
-            self.assertIn(f"station_check {command} ", commands)
+        listed = re.search(r"^Commands:\n(.*?)\n\n", answer_of(["--help"])[1].decode(), re.DOTALL | re.MULTILINE)
+        names = re.findall(r"^  (\w+)", listed[1], re.MULTILINE)
+        self.assertIn("explain", names)
+        for command in [*names, "list --csv", "check --residual"]:
+            if command != "help":
+                self.assertRegex(commands, rf"station_check {command} ")
 
     def test_links_lead_to_files_and_headings_that_are_there(self):
         for page in LINKED:
@@ -77,12 +81,20 @@ class PagesTest(TimedTest):
 
     def test_the_house_stands_as_it_is_drawn(self):
         lines = re.findall(r"^(\w+)[^:]*:(.*)$", (ROOT / "crates.txt").read_text(), re.MULTILINE)
-        rows = re.findall(r"^\| `(\w+)` \| [^|]* \| ([^|]*) \|", ARCHITECTURE.read_text(), re.MULTILINE)
+        rows = re.findall(r"^\| \[?`(\w+)`[^|]* \| ([^|]*) \|$", ARCHITECTURE.read_text(), re.MULTILINE)
         drawn = {crate: re.findall(r"`(\w+)`", libraries) for crate, libraries in rows}
         self.assertGreater(len(lines), 10)
         for crate, libraries in lines:
             with self.subTest(crate):
                 self.assertEqual(libraries.split(), drawn[crate])
+
+    def test_the_picture_of_the_house_has_each_crate_once(self):
+        picture = ARCHITECTURE.read_text().partition("```\n")[2].partition("```\n")[0]
+        crates = re.findall(r"^(\w+)[^:]*:", (ROOT / "crates.txt").read_text(), re.MULTILINE)
+        for crate in crates:
+            if not crate.startswith("test"):
+                with self.subTest(crate):
+                    self.assertEqual(1, len(re.findall(rf"^.{{15}}{crate} ", picture, re.MULTILINE)))
 
     def test_the_table_of_tests_names_each_of_them(self):
         rows = re.findall(r"^\| (`test_.*?) \|", TESTS.read_text(), re.MULTILINE)

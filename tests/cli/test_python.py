@@ -17,9 +17,6 @@ TIME = 300
 # A function that has a name has it by `def`.
 NAMED_LAMBDA = re.compile(r"^\s*\w+ = lambda\b", re.MULTILINE)
 
-# Files that still have some.
-NOT_YET = {"model.py"}
-
 
 class PythonTest(TimedTest):
     def check(self, module, *words):
@@ -42,9 +39,8 @@ class PythonTest(TimedTest):
 
     def test_no_lambda_has_a_name(self):
         for path in FILES:
-            if path.name not in NOT_YET:
-                with self.subTest(str(path.relative_to(ROOT))):
-                    self.assertIsNone(NAMED_LAMBDA.search(path.read_text()))
+            with self.subTest(str(path.relative_to(ROOT))):
+                self.assertIsNone(NAMED_LAMBDA.search(path.read_text()))
 
 
 if __name__ == "__main__":

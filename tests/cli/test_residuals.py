@@ -60,20 +60,20 @@ class ResidualsTest(ProgramTest):
         for note in notes:
             self.assertTrue(any(note in word for word in words), (note, words))
 
-    def test_a_picture_names_the_greatest_residual_and_says_what_is_not_of_station_check(self):
+    def test_a_picture_names_the_greatest_residual_and_the_standard_deviation(self):
         _, picture, _ = drawn(self.rows_of(STATION, "P7"), "P7")
         # The squares of the 22 residuals add up to 0.5779 mgon squared, and 5 directions and 4
         # orientations are unknown: the root of 0.5779 / 13.
-        deviation = "standard deviation of a two-face direction 0.211 mgon, 13 degrees of freedom"
+        deviation = "Standard deviation of a two-face direction, from these residuals: 0.211 mgon, 13 degrees"
         greatest = "The greatest residual, 0.320 mgon, is red: set 4, target TOWER."
-        self.check_notes(words_of(picture), greatest, f"Not of station_check: {deviation}.")
+        self.check_notes(words_of(picture), greatest, f"{deviation} of freedom.")
         elements = ElementTree.fromstring(picture).iter()
         marked = {element.text for element in elements if element.get("fill") == "#b4431f"}
         self.assertEqual({"set 4", "TOWER"}, marked - {None})
         words = words_of(drawn(RESIDUALS)[1])
         # Four residuals of 0.005 mgon, one degree of freedom: the root of 4, times 0.005 mgon.
         greatest = "The greatest residual, 0.005 mgon, is red: set 1, target A, and 3 as large."
-        self.check_notes(words, greatest, "two-face direction 0.010 mgon, 1 degree of freedom.")
+        self.check_notes(words, greatest, "from these residuals: 0.010 mgon, 1 degree of freedom.")
 
     def test_one_set_says_nothing_of_the_accuracy(self):
         words = self.words_of_file(field_file({1: [("A", 0, 20_000_000), ("B", 10, 20_000_010)]}))

@@ -55,9 +55,25 @@ RUNS = [
         stdin=LINES.split(b"\r\n")[0] + b"\n*410002+0000000000000020 42....+0000000000000001\n",
         stdout=FIRST_BLOCK + b"2 1 41 0002 +0000000000000020\n2 2 42 .... +0000000000000001\n",
     ),
-    Run("an index with a leading zero is a number", stdin=b"110001+0000000A 05....-00000001", stdout=b"1 1 11 0001 +0000000A\n1 2 5 .... -00000001\n"),
-    Run("the text before a fault is written", stdin=FIRST_WORD, stdout=FIRST_BLOCK, stderr=refused("block 2: FirstWord"), status=1),
-    Run("blank lines before a fault are not numbered", stdin=b"\n" + FIRST_WORD, stdout=FIRST_BLOCK, stderr=refused("block 2: FirstWord"), status=1),
+    Run(
+        "an index with a leading zero is a number",
+        stdin=b"110001+0000000A 05....-00000001",
+        stdout=b"1 1 11 0001 +0000000A\n1 2 5 .... -00000001\n",
+    ),
+    Run(
+        "the text before a fault is written",
+        stdin=FIRST_WORD,
+        stdout=FIRST_BLOCK,
+        stderr=refused("block 2: FirstWord"),
+        status=1,
+    ),
+    Run(
+        "blank lines before a fault are not numbered",
+        stdin=b"\n" + FIRST_WORD,
+        stdout=FIRST_BLOCK,
+        stderr=refused("block 2: FirstWord"),
+        status=1,
+    ),
     Run("a tab", stdin=b"110001+0000000A\t21.102+00000000", stderr=refused("block 1: Byte 16"), status=1),
     Run("a foreign first word", stdin=b"510001+00000000", stderr=refused("block 1: FirstWord"), status=1),
     Run(

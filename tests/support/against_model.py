@@ -5,7 +5,7 @@ With SWEEP in the environment whole sweeps are run, not samples of them.
 
 from fractions import Fraction
 from pathlib import Path
-from typing import Iterable, NamedTuple, Optional
+from typing import Iterable, NamedTuple
 
 import model
 from program import EXAMPLE, EXAMPLE_TABLE, SWEEP, Answer, ProgramTest, answer_of, side_by_side
@@ -23,11 +23,11 @@ class Case(NamedTuple):
     command: str
     gsi: bytes
     sheet: bytes = b""
-    station: Optional[str] = "S1"  # of `mark` none where it isn't stated
+    station: str | None = "S1"  # of `mark` none where it isn't stated
     limits: model.Limits = model.Limits()
-    residual: Optional[int] = None
+    residual: int | None = None
     decimals: int = model.USUAL_DECIMALS
-    within: Optional[int] = None
+    within: int | None = None
 
     def expected(self, gsi: Path = Path("field.gsi")) -> Answer:
         """What the model answers, of a field file at this path."""

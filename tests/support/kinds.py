@@ -55,7 +55,7 @@ OF_READS = ["block n: Read", "sheet: Read", "table: Read"]
 NEVER_MET = ["adjust: NotFound"]
 
 
-def kind_of(answer):
+def kind_of(answer: tuple[int, bytes, bytes]) -> str:
     """What was printed, or the reason of a refusal, with `n` for each number but those of words."""
     status, stdout, stderr = answer
     if status == 0:
