@@ -302,7 +302,7 @@ class CommandLineTest(ProgramTest):
 
     def test_help_is_printed_on_standard_output(self):
         for args, parts in [
-            (["--help"], [b"Exit status:", b"0.00001 gon", b"/dev/stdin"]),
+            (["--help"], [b"Exit status:", b"half units of 0.005 mgon", b"/dev/stdin"]),
             (["-h"], [b"Usage: "]),
             (["help"], [b"Usage: "]),
             (["check", "--help"], [b"--residual <LIMIT>", b"0.3mgon", b"half units", b"[default: none]"]),

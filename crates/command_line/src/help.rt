@@ -1,18 +1,20 @@
 //! What `--help` says: of the program, and of each command.
 
-pub const ABOUT: &str = "Checks survey station adjustments against the field file";
+pub const ABOUT: &str = "Prints least-squares directions of a GSI field file, and checks yours";
 
 pub const LONG_ABOUT: &str = "\
-Checks survey station adjustments against the field file.
+Prints the least-squares directions of a GSI field file, and checks yours against them.
 
-A total station writes directions to a field file in Leica's GSI format. Some program adjusts them,
-and prints directions, rounded, or states directions and orientations in a sheet, exactly.
-station_check reads the field file and what the program made of it, and says that it is right or
-names the first fault: 'compare' for a table of directions, 'check' for a sheet.
+A total station writes the sets of directions that it measured to a field file, in Leica's GSI
+format. Your program adjusts them, and prints a table with one direction for each target: 'compare'
+says how far it is from the least-squares directions, 'differences' which target is off. Or your
+program states exact fractions in a sheet, which 'check' accepts only where they are exactly right.
+'directions', 'residuals' and 'report' print the adjustment itself. A refusal names the first fault,
+and 'explain' says what to do.
 
-Units: face differences and their limits are in units of 0.00001 gon (0.01 mgon), the last digit of
-an angle in gon. Two-face directions and residuals are in half units (0.005 mgon); a circle of
-400 gon is 80000000 half units. How far a table is apart is in units of 0.000001 gon (0.001 mgon).";
+Units: 'list' prints two-face directions in half units of 0.005 mgon, of which a circle of 400 gon
+has 80000000, and face differences in units of 0.01 mgon; 'check' prints residuals in half units;
+'compare' counts units of 0.001 mgon. A limit is stated in mgon, as 0.3mgon, or in these units.";
 
 pub const STATUSES: &str = "\
 Without a command, station_check prints the words of the field file on standard input.
@@ -284,7 +286,7 @@ pub const WORDS_LONG_ABOUT: &str = "\
 Prints the words of a field file, one a line: the number of the block, the number of the word in
 its block, the index, the four bytes of information, and the sign with the content.
 
-A line that holds nothing but blanks is passed over and has no number. At the first fault the words
+A line that holds nothing but blanks is skipped and has no number. At the first fault the words
 of all blocks before it are printed, and the fault is named on standard error.";
 
 pub const WORDS_EXAMPLE: &str = "\

@@ -433,8 +433,8 @@ of it read as one.",
         remedy: "\
 Check a copy without the reading that does not count: for a repeated pointing the field
 book says which. Of the examples, prepare.py leaves out closing sights, or blocks by their numbers,
-and writes a log. An orientation sight before the code 20 of the first set is passed over, and so
-are closing sights and detail points after a code 30. Where each target has this fault, set the
+and writes a log. An orientation sight before the code 20 of the first set is skipped, and so are
+closing sights and detail points after a code 30. Where each target has this fault, set the
 instrument to zenith angles.",
     },
     Said {
@@ -748,8 +748,8 @@ const VALUE_FAULTS: &[Explanation] = &[
         names: &["Number"],
         meaning: "a number of the sheet or the table is not written as it should be",
         when: "\
-A number of a sheet is written as '0', or as a digit 1 to 9 with further digits, after a '-' where
-it is below 0: with no point, blank, plus or zero before it. A direction of a table is written as at
+A number of a sheet is written as '0', or as a digit 1 to 9 with further digits, with a leading '-'
+if it is negative: with no point, blank, plus or zero before it. A direction of a table is written as at
 most 3 digits, and a decimal point or comma with decimals where it has any, after a '+' or '-' where
 it has a sign: with no exponent and no unit. Its decimals after the ninth are 0.",
         example: "refused: sheet row 3: Number",
