@@ -18,7 +18,8 @@ use Rattle.set_marks.specs.declared.fault.MarkFault.{MarkFault}
 use Rattle.set_marks.specs.declared.fault.MarkFault.TheVariants.{File, Reading, At, Memory}
 use Rattle.station_mark.proofs.PastLimits.{past_limit, failed_at_end, past_at_end, no_read_at_end}
 use Rattle.station_mark.proofs.PastLimits.{IsFaultAtEnd, IsNoRead}
-use Rattle.station_mark.specs.Answers.{IsMarkAnswer, marked_left, marking_in}
+use Rattle.station_mark.specs.Answers.{IsMarkAnswer, IsReadWhole, WasReadFor}
+use Rattle.station_mark.specs.Answers.{marked_left, marking_in}
 use Rattle.station_mark.specs.Giving.{IsAllGiven, IsLeft}
 use Rattle.station_mark.specs.declared.marked_file.MarkedFile.{MarkedFile}
 
@@ -90,6 +91,22 @@ leaves reader bytes fails station (Err (File (file.At number kind.FirstWord))) h
 leaves reader bytes fails station (Err (File file.Memory)) h a = tt
 leaves reader bytes fails station (Err Memory) h a = tt
 
+-- A reader of which all is kept was read whole.
+read_whole : (reader : ReaderChange) (bytes : List ℕ) (fails : Bool)
+    → IsLeft LONGEST_FILE (length bytes) fails reader → IsReadWhole (length bytes) reader
+read_whole reader bytes true h = inr (inl h)
+read_whole reader bytes false (inl h) = inl h
+read_whole reader bytes false (inr h) = inr (inr h)
+
+-- And so for any answer.
+read_for : (r : Result MarkedFile MarkFault) (count : ℕ) (reader : ReaderChange)
+    → IsReadWhole count reader → WasReadFor r count reader
+read_for (Ok m) count reader h = h
+read_for (Err (File fault)) count reader h = h
+read_for (Err (Reading number what)) count reader h = h
+read_for (Err (At number what)) count reader h = h
+read_for (Err Memory) count reader h = tt
+
 -- What is answered of the bytes that were kept is the answer on what the reader gave.
 pub answered : (station : Option (List ℕ)) (reader : ReaderChange) (bytes : List ℕ) (fails : Bool)
     (r : Result MarkedFile MarkFault) → IsAllGiven LONGEST_FILE reader bytes fails
@@ -101,6 +118,7 @@ answered station reader bytes fails r h a kept = record {
   marks = λ left may. subst (λ (f : FileAnswers). AnswersMark station bytes f (marking_in r))
       (sym (same_answers reader bytes fails h.left left may)) a;
   kept = kept;
+  whole = read_for r (length bytes) reader (read_whole reader bytes fails h.left);
   reader = leaves reader bytes fails station r h.left a;
 }
 
@@ -112,6 +130,7 @@ out_of_memory station reader bytes h = record {
   reads = h;
   marks = λ left may. tt;
   kept = tt;
+  whole = tt;
   reader = tt;
 }
 
