@@ -136,7 +136,7 @@ A residual above 10 mgon is a fault.
 
 The first row has the titles. Directions are in gon with 6 decimals, residuals in mgon with 3, each
 rounded from the exact fraction; the middle of two goes up. The direction and the residual of a row
-add up to its adjusted direction, to the last digit.
+add up to its adjusted direction, to the last digit, but for a full circle.
 
 STATION is compared byte by byte with the names in the field file, of which the zeros on the left
 are no part. A name that begins with '-' follows after '--'.";
