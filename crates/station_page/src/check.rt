@@ -1,6 +1,6 @@
 //! The check of a sheet, for a page.
 
-ghost use Rattle.std.specs.Prelude.{◌≡◌, ◌<◌, ◌≤◌, length, take, IfOk, IfErr};
+ghost use Rattle.std.specs.Prelude.{◌≡◌, ◌<◌, ◌≤◌, length, drop, take, IfOk, IfErr};
 ghost use Rattle.station_check.specs.RunEndings.{status_of};
 ghost use Rattle.station_check.specs.declared.verdict_line.TheConstants.{LONGEST_VERDICT_LINE};
 ghost use Rattle.station_page.specs.Answers.{IsCheckOf};
@@ -42,6 +42,7 @@ pub extern "C" fn station_page_check(
     ensures answers { AreFaceLimits two_c two_i → IsResidualLimit is_stated residual
         → LONGEST_VERDICT_LINE ≤ length out.old → result < 2 }
     ensures fits { written.new ≤ length out.old }
+    ensures rest { drop written.new out.new ≡ drop written.new out.old }
 {
     *written = 0;
     let Some(limits) = Limits::new(two_c, two_i) else {
@@ -79,6 +80,7 @@ fn hand_out_verdict(verdict: &Result<Accepted, Fault>, out: &mut [u8], written: 
         (length out.old) result (take written.new out.new) }
     ensures answers { LONGEST_VERDICT_LINE ≤ length out.old → result < 2 }
     ensures fits { written.new ≤ length out.old }
+    ensures rest { drop written.new out.new ≡ drop written.new out.old }
 {
     match verdict {
         Ok(accepted) => hand_out(DONE, accepted_line(*accepted).as_slice(), out, written),

@@ -1,6 +1,6 @@
 //! The comparison of a table of directions, for a page.
 
-ghost use Rattle.std.specs.Prelude.{◌≡◌, ◌<◌, ◌≤◌, length, take, IfOk, IfErr};
+ghost use Rattle.std.specs.Prelude.{◌≡◌, ◌<◌, ◌≤◌, length, drop, take, IfOk, IfErr};
 ghost use Rattle.gsi_file.specs.FileAnswers.{file_answers};
 ghost use Rattle.station_check.specs.Came.{handed_in};
 ghost use Rattle.station_check.specs.RunEndings.{status_of};
@@ -51,6 +51,7 @@ pub extern "C" fn station_page_compare(
     ensures answers { AreFaceLimits two_c two_i → IsWithin is_stated within
         → LONGEST_VERDICT_LINE ≤ length out.old → result < 2 }
     ensures fits { written.new ≤ length out.old }
+    ensures rest { drop written.new out.new ≡ drop written.new out.old }
 {
     *written = 0;
     let Some(limits) = Limits::new(two_c, two_i) else {
@@ -110,6 +111,7 @@ fn hand_out_comparison(
         (length out.old) result (take written.new out.new) }
     ensures answers { LONGEST_VERDICT_LINE ≤ length out.old → result < 2 }
     ensures fits { written.new ≤ length out.old }
+    ensures rest { drop written.new out.new ≡ drop written.new out.old }
 {
     match answer {
         Ok(agreement) => hand_out(DONE, agreement_line(*agreement).as_slice(), out, written),

@@ -1,6 +1,6 @@
 //! The differences of a table of directions from its station, target by target, for a page.
 
-ghost use Rattle.std.specs.Prelude.{◌≡◌, ◌≤◌, length, take, MatchResult};
+ghost use Rattle.std.specs.Prelude.{◌≡◌, ◌≤◌, length, drop, take, MatchResult};
 ghost use Rattle.gsi_file.specs.FileAnswers.{file_answers};
 ghost use Rattle.station_check.specs.Came.{handed_in};
 ghost use Rattle.station_differences.specs.Answers.{HasNoDifferences};
@@ -41,6 +41,7 @@ pub extern "C" fn station_page_differences(
     ensures beyond { (AreFaceLimits two_c two_i → ⊥)
         → (result ≡ OUT_OF_RANGE) × (written.new ≡ 0) }
     ensures fits { written.new ≤ length out.old }
+    ensures rest { drop written.new out.new ≡ drop written.new out.old }
 {
     *written = 0;
     let Some(limits) = Limits::new(two_c, two_i) else {

@@ -1,6 +1,6 @@
 //! The table of a station's least-squares directions, for a page.
 
-ghost use Rattle.std.specs.Prelude.{◌≡◌, ◌≤◌, length, take, MatchResult};
+ghost use Rattle.std.specs.Prelude.{◌≡◌, ◌≤◌, length, drop, take, MatchResult};
 ghost use Rattle.direction_table.specs.Texts.{AreDecimals};
 ghost use Rattle.gsi_file.specs.FileAnswers.{file_answers};
 ghost use Rattle.station_check.specs.Came.{handed_in};
@@ -39,6 +39,7 @@ pub extern "C" fn station_page_directions(
     ensures beyond { (AreFaceLimits two_c two_i → AreDecimals decimals → ⊥)
         → (result ≡ OUT_OF_RANGE) × (written.new ≡ 0) }
     ensures fits { written.new ≤ length out.old }
+    ensures rest { drop written.new out.new ≡ drop written.new out.old }
 {
     *written = 0;
     let Some(limits) = Limits::new(two_c, two_i) else {

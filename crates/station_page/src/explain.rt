@@ -1,6 +1,7 @@
 //! What a fault means, for a page.
 
-ghost use Rattle.std.specs.Prelude.{◌≤◌, length, take, List, string_bytes, option_map, MatchResult};
+ghost use Rattle.std.specs.Prelude.{◌≡◌, ◌≤◌, length, drop, take, List, string_bytes};
+ghost use Rattle.std.specs.Prelude.{option_map, MatchResult};
 ghost use Rattle.std.specs.Borrow.{Bor};
 ghost use Rattle.station_explain.specs.Table.{Explanation, IsTheTable};
 ghost use Rattle.station_page.specs.Answers.{IsExplanationOf};
@@ -42,6 +43,7 @@ pub extern "C" fn station_page_explain(
     ensures explain { (table : List (Bor (List Explanation))) × IsTheTable table
         × IsExplanationOf table line.now (length out.old) result (take written.new out.new) }
     ensures fits { written.new ≤ length out.old }
+    ensures rest { drop written.new out.new ≡ drop written.new out.old }
 {
     hand_out_explanation(alloc, &all_explanations(), line, out, written)
 }
@@ -57,6 +59,7 @@ fn hand_out_explanation(
     ensures explain { IsExplanationOf table.now line.now (length out.old) result
         (take written.new out.new) }
     ensures fits { written.new ≤ length out.old }
+    ensures rest { drop written.new out.new ≡ drop written.new out.old }
 {
     match explained(alloc, table, line) {
         Ok(text) => hand_out(DONE, text.as_bytes(), out, written),

@@ -1,6 +1,6 @@
 //! How a call hands out its text.
 
-ghost use Rattle.std.specs.Prelude.{◌≡◌, ◌≤◌, length, take};
+ghost use Rattle.std.specs.Prelude.{◌≡◌, ◌≤◌, length, drop, take};
 ghost use Rattle.station_check.specs.RunEndings.{status_of};
 ghost use Rattle.station_page.specs.HandedOut.{HandsOut, text_or_refusal};
 
@@ -19,6 +19,7 @@ pub(crate) fn hand_out(status: u8, text: &[u8], out: &mut [u8], written: &mut us
     ensures hands_out { HandsOut status text.now (length out.old) result
         (take written.new out.new) }
     ensures fits { written.new ≤ length out.old }
+    ensures rest { drop written.new out.new ≡ drop written.new out.old }
     ensures kept { length out.new ≡ length out.old }
 {
     *written = 0;
@@ -40,6 +41,7 @@ pub(crate) fn hand_out_answer(
     ensures hands_out { HandsOut (status_of answer.now) (text_or_refusal text.now answer.now)
         (length out.old) result (take written.new out.new) }
     ensures fits { written.new ≤ length out.old }
+    ensures rest { drop written.new out.new ≡ drop written.new out.old }
     ensures kept { length out.new ≡ length out.old }
 {
     match answer {

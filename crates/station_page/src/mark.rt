@@ -1,6 +1,6 @@
 //! The copy of a field file with codes put in, for a page.
 
-ghost use Rattle.std.specs.Prelude.{◌≡◌, ◌≤◌, IfOk, IfErr, length, take};
+ghost use Rattle.std.specs.Prelude.{◌≡◌, ◌≤◌, IfOk, IfErr, length, drop, take};
 ghost use Rattle.station_page.specs.Answers.{IsMarkOf};
 ghost use Rattle.station_page.specs.Limits.{MayBeStated, stated_name};
 ghost use Rattle.station_check.specs.RunEndings.{status_of};
@@ -36,7 +36,9 @@ pub extern "C" fn station_page_mark(
     ensures beyond { (MayBeStated name.now → ⊥)
         → (result ≡ OUT_OF_RANGE) × (written.new ≡ 0) × (notes_written.new ≡ 0) }
     ensures fits { written.new ≤ length out.old }
+    ensures rest { drop written.new out.new ≡ drop written.new out.old }
     ensures notes_fit { notes_written.new ≤ length notes.old }
+    ensures notes_rest { drop notes_written.new notes.new ≡ drop notes_written.new notes.old }
 {
     *written = 0;
     *notes_written = 0;
@@ -78,6 +80,7 @@ fn hand_out_notes(
     ensures hands_out { HandsOut status (notes_in answer.now) (length notes.old) result
         (take written.new notes.new) }
     ensures fits { written.new ≤ length notes.old }
+    ensures rest { drop written.new notes.new ≡ drop written.new notes.old }
 {
     match answer {
         Ok(noted) => hand_out(status, &noted.notes, notes, written),

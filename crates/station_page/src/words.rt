@@ -1,6 +1,6 @@
 //! The words of a field file, for a page.
 
-ghost use Rattle.std.specs.Prelude.{◌≡◌, ◌≢◌, ◌≤◌, [], length, take, Some, Err};
+ghost use Rattle.std.specs.Prelude.{◌≡◌, ◌≢◌, ◌≤◌, [], length, drop, take, Some, Err};
 ghost use Rattle.gsi_file.specs.FileAnswers.{file_answers};
 ghost use Rattle.station_check.specs.Came.{handed_in};
 ghost use Rattle.station_check.specs.RunEndings.{status_of};
@@ -32,7 +32,10 @@ pub extern "C" fn station_page_words(
     ensures words { IsWordsOf gsi.now (length out.old) (length refusal.old) result
         (take written.new out.new) (take refusal_written.new refusal.new) }
     ensures fits { written.new ≤ length out.old }
+    ensures rest { drop written.new out.new ≡ drop written.new out.old }
     ensures refusal_fits { refusal_written.new ≤ length refusal.old }
+    ensures refusal_rest { drop refusal_written.new refusal.new
+        ≡ drop refusal_written.new refusal.old }
 {
     let (answer, text) = words_of(alloc, gsi);
     let status = hand_out(status_of(&answer), text.bytes(), out, written);
