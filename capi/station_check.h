@@ -9,9 +9,10 @@
  * from a signal handler, nor in the child that a process with threads forked.
  *
  * Texts: `text` has room for `room` bytes. The call writes the text to its beginning, without a zero
- * at the end, and its length to `*length`. Where there is too little room nothing is written, and
- * the status is 3: call again with more. STATION_CHECK_LINE bytes are enough for each line of
- * station_check_check and station_check_compare; any other text may have more bytes than the files.
+ * at the end, and its length to `*length`. Where there is too little room nothing is written but
+ * the length 0, of a digest perhaps a part, and the status is 3: call again with more.
+ * STATION_CHECK_LINE bytes are enough for each line of station_check_check and
+ * station_check_compare; any other text may have more bytes than the files.
  *
  * Limits: those of face differences, `two_c` and `two_i`, are in units of 0.01 mgon, at most
  * 1,000,000, and usually STATION_CHECK_FACES. Where `is_stated` is false there is no limit of
