@@ -32,9 +32,9 @@ LINK = ROOT / "capi" / "link.sh"
 STATIC = ROOT / "build" / "page" / "lib.a"
 COUNTS = re.compile(r"^(\d+) passed, (\d+) failed$")
 
-# Some minutes that the gate takes on so many processors: on four by an earlier gate, which had other
-# crates and more wrong bodies; on two twice as many, not measured.
-MINUTES = {4: 100, 2: 200}
+# About how many minutes the gate takes on so many processors: on four as an earlier one took, on two
+# twice as many, not measured.
+MINUTES = {4: 150, 2: 300}
 
 # The memory that a check of the largest crate stays within, whose proof and tests may run side by
 # side, and that any other check stays within, in bytes.
