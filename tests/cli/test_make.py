@@ -7,6 +7,7 @@ import shutil
 import signal
 import subprocess
 import unittest
+from functools import partial
 
 from program import ROOT, ProgramTest, until
 
@@ -132,10 +133,12 @@ class MakeTest(ProgramTest):
         return run_of(*words, **options)
 
     def begin(self, *targets, **more):
-        """A make whose toolchain is held in a crate, in a process group of its own."""
+        """A make whose toolchain is held in a crate, in a process group of its own. What is started
+        in the background ignores the interrupt of a terminal; it does not."""
         words, options = self.asked(targets, more)
         streams = {"stdout": subprocess.DEVNULL, "stderr": subprocess.DEVNULL}
-        run = subprocess.Popen(words, start_new_session=True, **options, **streams)
+        heeds = partial(signal.signal, signal.SIGINT, signal.SIG_DFL)
+        run = subprocess.Popen(words, start_new_session=True, preexec_fn=heeds, **options, **streams)
         until(lambda: "held " in self.calls.read_text())
         return run
 

@@ -749,9 +749,9 @@ const VALUE_FAULTS: &[Explanation] = &[
         meaning: "a number of the sheet or the table is not written as it should be",
         when: "\
 A number of a sheet is written as '0', or as a digit 1 to 9 with further digits, with a leading '-'
-if it is negative: with no point, blank, plus or zero before it. A direction of a table is written as at
-most 3 digits, and a decimal point or comma with decimals where it has any, after a '+' or '-' where
-it has a sign: with no exponent and no unit. Its decimals after the ninth are 0.",
+if it is negative: with no point, blank, plus or zero before it. A direction of a table is written
+as at most 3 digits, and a decimal point or comma with decimals where it has any, after a '+' or '-'
+where it has a sign: with no exponent and no unit. Its decimals after the ninth are 0.",
         example: "refused: sheet row 3: Number",
         remedy: "\
 Write the number so. Directions and orientations of a sheet are whole numbers too: they
