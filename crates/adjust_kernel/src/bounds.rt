@@ -11,7 +11,7 @@ pub const MOST_TARGETS: usize = 100;
 pub const MOST_SETS: usize = 40;
 
 /// The most rows of a sheet: an observation of each target in each set.
-pub const MOST_ROWS: usize = 4_000;
+pub const MOST_ROWS: usize = MOST_SETS * MOST_TARGETS;
 
 /// The largest number of a set; the smallest is 1.
 pub const LARGEST_SET_NUMBER: u16 = 9_999;

@@ -3,7 +3,8 @@
 //! A name is a value of fixed size: its bytes, followed by zeros. So it is copied, compared and
 //! hashed without memory, and contracts see it as the list of its bytes.
 
-ghost use Rattle.std.specs.Prelude.{◌≡◌, ◌<◌, ◌≤◌, ℕ, List, length, drop, take, ◌↔◌, IfSome, IfNone, IsTrue};
+ghost use Rattle.std.specs.Prelude.{◌≡◌, ◌<◌, ◌≤◌, ℕ, List, length, drop, take, ◌↔◌, IfSome};
+ghost use Rattle.std.specs.Prelude.{IfNone, IsTrue};
 ghost use Rattle.std.specs.Str.{bytes_eq};
 ghost use Rattle.adjust_kernel.specs.Names.{IsName, padded};
 
@@ -95,8 +96,8 @@ impl Name {
         &self.bytes[..self.len]
     }
 
-    /// Its bytes, and zeros after them, as many as the longest name has; and how many are its own. So
-    /// they are copied without a look at how many that is.
+    /// Its bytes, and zeros after them, as many as the longest name has; and how many are its own.
+    /// So they are copied without a look at how many that is.
     #[inline(always)]
     pub fn padded(&self) -> (&[u8; LONGEST_NAME], usize)
         ensures bytes { result.0.now ≡ padded self.now }
@@ -107,8 +108,8 @@ impl Name {
         (&self.bytes, self.len)
     }
 
-    /// What always holds of a name, for a proof that needs it where the name is only held. It does
-    /// nothing when the program runs.
+    /// The rules of names, which each name keeps: for a proof that holds a name and needs them. It
+    /// does nothing when the program runs.
     #[inline(always)]
     pub fn recall(&self)
         ensures { IsName self.now }

@@ -1,7 +1,8 @@
 //! Observations of a station, and the rules that their list keeps.
 
 ghost use Rattle.std.specs.Prelude.{◌↔◌, ◌≤◌, All, AllPairs, IsTrue};
-ghost use Rattle.adjust_kernel.specs.Stations.{IsObs, IsBefore, AreObs, EachSetObserved, EachTargetObserved};
+ghost use Rattle.adjust_kernel.specs.Stations.{IsObs, IsBefore, AreObs, EachSetObserved};
+ghost use Rattle.adjust_kernel.specs.Stations.{EachTargetObserved};
 
 use crate::bounds::{MOST_SETS, MOST_TARGETS, TURN};
 use crate::marks::{MOST_NODES, are_marked};

@@ -2,8 +2,10 @@
 //!
 //! A sum of n residuals is at most n times the largest residual in size, which the type keeps: with
 //! all rows of a sheet it is far within 128 bits, so no sum is ever tested for overflow.
-ghost use Rattle.std.specs.Prelude.{◌≡◌, ◌≤◌, ◌<◌, ◌-◌, ◌+◌, [], pos, List, length, All, slice_index_or, slice_set, ◌+ℤ◌, ◌*ℤ◌};
-ghost use Rattle.adjust_kernel.specs.declared.bounds.TheConstants.{MOST_ROWS, MOST_TARGETS, MOST_SETS, LARGEST_RESIDUAL};
+ghost use Rattle.std.specs.Prelude.{◌≡◌, ◌≤◌, ◌<◌, ◌-◌, ◌+◌, [], pos, List, length, All};
+ghost use Rattle.std.specs.Prelude.{slice_index_or, slice_set, ◌+ℤ◌, ◌*ℤ◌};
+ghost use Rattle.adjust_kernel.specs.declared.bounds.TheConstants.{MOST_ROWS, MOST_TARGETS};
+ghost use Rattle.adjust_kernel.specs.declared.bounds.TheConstants.{MOST_SETS, LARGEST_RESIDUAL};
 ghost use Rattle.adjust_kernel.specs.declared.tally.Added.{Added};
 ghost use Rattle.adjust_kernel.specs.Within.{IsWithin};
 ghost use Rattle.adjust_kernel.specs.Tallies.{AreSumsOf};

@@ -1,7 +1,9 @@
 //! The sheet of an adjustment.
 
 ghost use Rattle.std.specs.Prelude.{◌≡◌, ◌↔◌, IsTrue, IfSome, IfNone};
-ghost use Rattle.adjust_kernel.specs.Sheets.{IsSheet, IsDenominator, IsDirection, IsOrientation, IsRow, AreDirections, AreOrientations, AreRows, sheet_of};
+ghost use Rattle.adjust_kernel.specs.Sheets.{IsSheet, IsDenominator, IsDirection, IsOrientation};
+ghost use Rattle.adjust_kernel.specs.Sheets.{IsRow, AreDirections, AreOrientations, AreRows};
+ghost use Rattle.adjust_kernel.specs.Sheets.{sheet_of};
 ghost use Rattle.adjust_kernel.specs.Within.{IsWithin};
 
 use crate::bounds::{
@@ -54,6 +56,7 @@ impl Sheet {
             (IsSheet (sheet_of name denominator directions.items orientations.items rows.items)
             → ⊥) }
     {
+        // For the proof alone: a name keeps the rules of names.
         name.recall();
         if is_denominator(denominator)
             && are_directions(&directions)
@@ -163,6 +166,7 @@ fn is_angle(value: i128) -> bool
 fn is_direction(direction: &Direction) -> bool
     ensures { IsTrue result ↔ IsDirection direction.now }
 {
+    // For the proof alone: a name keeps the rules of names.
     direction.name.recall();
     is_angle(direction.value)
 }
@@ -178,6 +182,7 @@ fn is_orientation(orientation: &Orientation) -> bool
 fn is_row(row: &Row) -> bool
     ensures { IsTrue result ↔ IsRow row.now }
 {
+    // For the proof alone: a name keeps the rules of names.
     row.target.recall();
     is_set_number(&row.set)
         && row.value < TURN

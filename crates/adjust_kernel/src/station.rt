@@ -1,6 +1,7 @@
 //! The station as it was measured.
 
-ghost use Rattle.std.specs.Prelude.{◌≡◌, ◌≢◌, ◌↔◌, ◌≤◌, All, AllPairs, IsTrue, IfSome, IfNone, length};
+ghost use Rattle.std.specs.Prelude.{◌≡◌, ◌≢◌, ◌↔◌, ◌≤◌, All, AllPairs, IsTrue, IfSome, IfNone};
+ghost use Rattle.std.specs.Prelude.{length};
 ghost use Rattle.std.specs.Bool.{OnTrue};
 ghost use Rattle.adjust_kernel.specs.Names.{IsName};
 ghost use Rattle.adjust_kernel.specs.Stations.{IsStation, AreTargets, AreSets, station_of};
@@ -46,6 +47,7 @@ impl Station {
         ensures none { IfNone result
             (IsStation (station_of name targets.items sets.items obs.items) → ⊥) }
     {
+        // For the proof alone: a name keeps the rules of names.
         name.recall();
         if are_targets(&targets) && are_sets(&sets) && are_obs(&obs, sets.len(), targets.len()) {
             return Some(Station::from_valid(name, targets, sets, obs));
@@ -123,6 +125,7 @@ fn are_different_names(names: &[Name]) -> bool
 {
     for place in 0..names.len() {
         let name = names[place];
+        // For the proof alone: a name keeps the rules of names.
         name.recall();
         if names[..place].iter().any(|earlier| earlier.is_same(&name)) {
             return false;

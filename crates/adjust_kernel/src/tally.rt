@@ -1,6 +1,7 @@
 //! The sums of residuals, target by target and set by set: what every way of keeping them promises.
 ghost use Rattle.std.specs.Prelude.{◌≡◌, ◌<◌, ◌+◌, ◌++◌, ◌∷◌, [], ℕ, List, length};
-ghost use Rattle.adjust_kernel.specs.declared.bounds.TheConstants.{MOST_ROWS, MOST_TARGETS, MOST_SETS, LARGEST_RESIDUAL};
+ghost use Rattle.adjust_kernel.specs.declared.bounds.TheConstants.{MOST_ROWS, MOST_TARGETS};
+ghost use Rattle.adjust_kernel.specs.declared.bounds.TheConstants.{MOST_SETS, LARGEST_RESIDUAL};
 ghost use Rattle.adjust_kernel.specs.Within.{IsWithin};
 ghost use Rattle.adjust_kernel.specs.Tallies.{added_for_target, added_for_set};
 

@@ -44,11 +44,11 @@ use crate::tally::Tally;
 pub fn check(
     station: &Station,
     sheet: &Sheet,
-    residual: Option<ResidualLimit>,
+    limit: Option<ResidualLimit>,
 ) -> Result<Accepted, KernelFault>
-    ensures { IsKernelAnswer station.now sheet.now residual result }
+    ensures { IsKernelAnswer station.now sheet.now limit result }
 {
-    check_with(Running::new(), station, sheet, residual)
+    check_with(Running::new(), station, sheet, limit)
 }
 
 /// Checks a sheet as `check` does, with the sums of this tally, to which nothing was added.
@@ -56,13 +56,13 @@ pub fn check_with<T: Tally>(
     tally: T,
     station: &Station,
     sheet: &Sheet,
-    residual: Option<ResidualLimit>,
+    limit: Option<ResidualLimit>,
 ) -> Result<Accepted, KernelFault>
     requires nothing { T.StandsFor tally [] }
     requires room { T.room tally ≡ MOST_ROWS }
-    ensures { IsKernelAnswer station.now sheet.now residual result }
+    ensures { IsKernelAnswer station.now sheet.now limit result }
 {
-    verdict_of(tally, station, sheet, residual)
+    verdict_of(tally, station, sheet, limit)
 }
 
 /// The verdict: the tests in their order.
@@ -70,19 +70,19 @@ fn verdict_of<T: Tally>(
     tally: T,
     station: &Station,
     sheet: &Sheet,
-    residual: Option<ResidualLimit>,
+    limit: Option<ResidualLimit>,
 ) -> Result<Accepted, KernelFault>
     requires nothing { T.StandsFor tally [] }
     requires room { T.room tally ≡ MOST_ROWS }
-    ensures verdict { IsVerdict station.now sheet.now residual result }
+    ensures verdict { IsVerdict station.now sheet.now limit result }
     ensures valid_station { IsStation station.now }
     ensures valid_sheet { IsSheet sheet.now }
-    ensures valid_limit { OnOk result (IfSome residual (λ most. most ≤ LARGEST_RESIDUAL_LIMIT)) }
+    ensures valid_limit { OnOk result (IfSome limit (λ n. n ≤ LARGEST_RESIDUAL_LIMIT)) }
 {
     check_matches(station, sheet)?;
     let greatest_residual = check_sums(tally, station, sheet)?;
     check_connection(station, sheet)?;
-    check_limit(station, sheet, residual)?;
+    check_limit(station, sheet, limit)?;
     Ok(acceptance(station, sheet, greatest_residual))
 }
 
@@ -126,17 +126,17 @@ fn check_connection(station: &Station, sheet: &Sheet) -> Result<(), KernelFault>
 fn check_limit(
     station: &Station,
     sheet: &Sheet,
-    residual: Option<ResidualLimit>,
+    limit: Option<ResidualLimit>,
 ) -> Result<(), KernelFault>
     requires matches { Matches station.now sheet.now }
     requires targets { TargetsAddUp station.now sheet.now }
     requires sets { SetsAddUp station.now sheet.now }
     requires connected { HoldsTogether station.now sheet.now }
-    ensures ok { OnOk result (IfSome residual (KeepsLimit station.now sheet.now)) }
-    ensures valid { OnOk result (IfSome residual (λ most. most ≤ LARGEST_RESIDUAL_LIMIT)) }
-    ensures fault { IfErr result (λ fault. IsVerdict station.now sheet.now residual (Err fault)) }
+    ensures ok { OnOk result (IfSome limit (KeepsLimit station.now sheet.now)) }
+    ensures valid { OnOk result (IfSome limit (λ n. n ≤ LARGEST_RESIDUAL_LIMIT)) }
+    ensures fault { IfErr result (λ fault. IsVerdict station.now sheet.now limit (Err fault)) }
 {
-    if let Some(limit) = residual {
+    if let Some(limit) = limit {
         if let Some(row) = first_above_limit(sheet, station.obs(), limit.half_units()) {
             return Err(KernelFault::Residual(row as u32 + 1));
         }

@@ -1,5 +1,6 @@
 -- What came of a reader.
-use Rattle.std.proofs.Common.{◌≡◌, ◌++◌, List, ℕ, [], Option, Some, None, Result, Ok, Err, refl, sym, Bool}
+use Rattle.std.proofs.Common.{◌≡◌, ◌++◌, List, ℕ, [], Option, Some, None, Result, Ok, Err, refl}
+use Rattle.std.proofs.Common.{sym, Bool}
 use Rattle.std.proofs.Common.{ap, ◌∙◌, subst, append_assoc, take}
 use Rattle.std.proofs.lemmas.List.{append-nil}
 use Rattle.byte_ends.specs.Came.{BytesCame}
@@ -69,7 +70,8 @@ given_by_read told failed gave old new r buf reads adds = record {
 -- Without a read, of whatever may be left.
 pub through_none : {S : Type 0} (told : S → Option Told) (failed : S → Bool)
     (gave : S → ℕ → List ℕ → Type 0) (s : S)
-    (P : Told → Told → Type 0) → ((t : Told) → P t t) → Through (reader_change told failed gave s s) P
+    (P : Told → Told → Type 0) → ((t : Told) → P t t)
+    → Through (reader_change told failed gave s s) P
 through_none told failed gave s P so = record {
   given = [];
   by_reads = given_none told failed gave s;
@@ -79,7 +81,8 @@ through_none told failed gave s P so = record {
 -- Through some reads and then others.
 pub through_then : {S : Type 0} (told : S → Option Told) (failed : S → Bool)
     (gave : S → ℕ → List ℕ → Type 0)
-    (old now new : S) (P Q R : Told → Told → Type 0) → Through (reader_change told failed gave old now) P
+    (old now new : S) (P Q R : Told → Told → Type 0)
+    → Through (reader_change told failed gave old now) P
     → Through (reader_change told failed gave now new) Q
     → ((first then last : Told) → P first then → Q then last → R first last)
     → Through (reader_change told failed gave old new) R

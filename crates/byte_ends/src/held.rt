@@ -1,6 +1,8 @@
-ghost use Rattle.std.specs.Prelude.{◌≡◌, ◌<◌, ◌≤◌, ◌+◌, ℕ, Bool, List, Option, Some, length, vec_len, vec_capacity, IfOk};
+ghost use Rattle.std.specs.Prelude.{◌≡◌, ◌<◌, ◌≤◌, ◌+◌, ℕ, Bool, List, Option, Some, length};
+ghost use Rattle.std.specs.Prelude.{vec_len, vec_capacity, IfOk};
 ghost use Rattle.std.specs.Io.KnownBytes.{WriteAppends};
-ghost use Rattle.byte_ends.specs.Sink.{TakesSome, failed_after, handed_on_by_write, handed_on_by_flush};
+ghost use Rattle.byte_ends.specs.Sink.{TakesSome, failed_after, handed_on_by_write};
+ghost use Rattle.byte_ends.specs.Sink.{handed_on_by_flush};
 
 use crate::failed::Failed;
 use crate::out_of_memory::OutOfMemory;
@@ -63,7 +65,8 @@ impl Held {
 
 impl Sink for Held {
     ghost use Rattle.std.specs.Prelude.{◌-◌, ◌↔◌, min, true, IsErr, MatchResult};
-    ghost use Rattle.byte_ends.specs.Held.{held_bytes, held_room, held_step, held_flush_fails, has_failed, is_handed_on, IsSetTo};
+    ghost use Rattle.byte_ends.specs.Held.{held_bytes, held_room, held_step, held_flush_fails};
+    ghost use Rattle.byte_ends.specs.Held.{has_failed, is_handed_on, IsSetTo};
 
     ghost failed = { λ s. has_failed s };
 

@@ -1,6 +1,7 @@
 ghost use Rattle.std.specs.Prelude.{◌≡◌, ◌<◌, ℕ, Bool, List, Option, None, length};
 ghost use Rattle.std.specs.Io.KnownBytes.{WriteAppends, Keeps};
-ghost use Rattle.byte_ends.specs.Sink.{TakesSome, failed_after, handed_on_by_write, handed_on_by_flush};
+ghost use Rattle.byte_ends.specs.Sink.{TakesSome, failed_after, handed_on_by_write};
+ghost use Rattle.byte_ends.specs.Sink.{handed_on_by_flush};
 
 use crate::failed::Failed;
 use crate::sink::Sink;

@@ -1,6 +1,7 @@
 ghost use Rattle.std.specs.Prelude.{◌≡◌, ◌<◌, ◌+◌, ℕ, Bool, List, Option, OnOk, OnErr, length};
 ghost use Rattle.std.specs.Io.KnownBytes.{WriteAppends, Appends};
-ghost use Rattle.byte_ends.specs.Sink.{TakesSome, failed_after, handed_on_after, handed_on_by_write, handed_on_by_flush, AppendsSome};
+ghost use Rattle.byte_ends.specs.Sink.{TakesSome, failed_after, handed_on_after};
+ghost use Rattle.byte_ends.specs.Sink.{handed_on_by_write, handed_on_by_flush, AppendsSome};
 
 use crate::failed::Failed;
 

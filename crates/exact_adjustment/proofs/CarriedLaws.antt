@@ -1,5 +1,6 @@
 -- What follows where observations carry angles to all sets and targets.
-use Rattle.std.proofs.Common.{◌≡◌, inl, inr, ℕ, zero, suc, ◌<◌, Bool, true, false, List, length, get_or, All}
+use Rattle.std.proofs.Common.{◌≡◌, inl, inr, ℕ, zero, suc, ◌<◌, Bool, true, false, List, length}
+use Rattle.std.proofs.Common.{get_or, All}
 use Rattle.std.proofs.Common.{ℤ, pos, arith, refl, sym, ◌∙◌, ap, subst, ◌==◌, ◌||◌, ◌&&◌}
 use Rattle.std.specs.Prelude.{◌⊎◌}
 use Rattle.std.proofs.lemmas.Bool.Decides.{nat_tests}

@@ -1,6 +1,7 @@
 -- Marks on what has an angle, as they are kept in one list: first the sets, then the targets.
 use Rattle.std.proofs.Common.{◌≡◌, ℕ, zero, suc, ◌+◌, ◌<◌, Bool, true, false}
-use Rattle.std.proofs.Common.{◌-◌, List, length, get_or, set, replicate, ℤ, pos, arith, refl, sym, ◌∙◌, ap}
+use Rattle.std.proofs.Common.{◌-◌, List, length, get_or, set, replicate, ℤ, pos, arith, refl, sym}
+use Rattle.std.proofs.Common.{◌∙◌, ap}
 use Rattle.std.proofs.Common.{subst, ◌==◌, ◌||◌, ◌&&◌}
 use Rattle.std.proofs.lemmas.Bool.Decides.{nat_tests}
 use Rattle.std.proofs.lemmas.List.{get_or-set_same, get_or-set_other, get_or-replicate}

@@ -1,8 +1,10 @@
 -- Where some directions and orientations, with whatever full turns, have all sums of residuals 0
--- and keep the largest limit, an exact adjustment with nearest full turns keeps it. The bound: along
--- the observations that carry the angles, at most 139 of them, the two choices go apart by the
--- limit each, so that an observation's turns differ from those of its ends by less than one turn.
-use Rattle.std.proofs.Common.{◌≡◌, ℕ, suc, zero, ◌+◌, ◌-◌, ◌*◌, ◌≤◌, ◌<◌, Bool, true, false, List, [], ◌∷◌, length}
+-- and keep the largest limit, an exact adjustment with nearest full turns keeps it. The bound:
+-- along the observations that carry the angles, at most 139 of them, the two choices go apart by
+-- the limit each, so that an observation's turns differ from those of its ends by less than one
+-- turn.
+use Rattle.std.proofs.Common.{◌≡◌, ℕ, suc, zero, ◌+◌, ◌-◌, ◌*◌, ◌≤◌, ◌<◌, Bool, true, false, List}
+use Rattle.std.proofs.Common.{[], ◌∷◌, length}
 use Rattle.std.proofs.Common.{All, ℤ, pos, negsuc, ◌+ℤ◌, arith, ap, refl, sym, ◌∙◌, subst, map}
 use Rattle.std.proofs.Math.IntN.{◌*ℤ◌, ◌-ℤ◌}
 use Rattle.std.proofs.Math.Nat.{mul-le-mul, mul-le-mul_left}
@@ -28,13 +30,15 @@ use Rattle.adjust_kernel.proofs.PairedTurns.{Pair, paired, retuned, difference, 
 use Rattle.adjust_kernel.proofs.PairedTurns.{paired-all, turns_by}
 use Rattle.adjust_kernel.proofs.Ring.{num, ◌⊕◌, ◌⊖◌, ◌⊗◌, same_value}
 use Rattle.adjust_kernel.proofs.SumLaws.{AllByRecursion-map}
-use Rattle.adjust_kernel.proofs.TurnLaws.{limited_is_least_over_turns, taken, taken_squares, taken_up}
+use Rattle.adjust_kernel.proofs.TurnLaws.{limited_is_least_over_turns, taken, taken_squares}
+use Rattle.adjust_kernel.proofs.TurnLaws.{taken_up}
 use Rattle.exact_adjustment.specs.Adjustments.{AdjustmentValue, choice_by}
 use Rattle.exact_adjustment.specs.Exact.{AddsUp, IsExact, KeepsLimit, observed_by}
 use Rattle.exact_adjustment.specs.LeastOf.{AreTied, observed_with}
 use Rattle.exact_adjustment.specs.Nearest.{HasNearestTurns, IsNearest}
 use Rattle.exact_adjustment.proofs.CarriedLaws.{has_obs, held_together}
-use Rattle.exact_adjustment.proofs.ExactLaws.{adjusted, as_many, count, few, long, placed, turns_again}
+use Rattle.exact_adjustment.proofs.ExactLaws.{adjusted, as_many, count, few, long, placed}
+use Rattle.exact_adjustment.proofs.ExactLaws.{turns_again}
 use Rattle.exact_adjustment.proofs.PairLaws.{kept, kept-all, kept-back, firsts-all, retuned-all}
 use native.Mathlib.Decide.{dec_lt}
 
@@ -194,10 +198,13 @@ module _ (station : StationValue) (a : AdjustmentValue) (is_station : IsStation 
       (retuned-all (λ r. IsWithin (pos (2_000 * c.denominator)) (residual c r)) rs turns
       (recursion_from_All (λ r. IsWithin (pos (2_000 * c.denominator)) (residual c r))
       (with_turns rs turns) limited_here))
-      (paired-all (λ r. IsWithin (pos (40_000_000 * angles.denominator)) (residual angles r)) rs turns
+      (paired-all (λ r. IsWithin (pos (40_000_000 * angles.denominator)) (residual angles r)) rs
+      turns
       (AllByRecursion-map (λ (r : TurnedObservation). IsNearest (residual angles r))
-      (λ (r : TurnedObservation). IsWithin (pos (40_000_000 * angles.denominator)) (residual angles r))
-      (λ (r : TurnedObservation) h. half_is_within angles.denominator (residual angles r) near_by.whole h) rs
+      (λ (r : TurnedObservation). IsWithin (pos (40_000_000 * angles.denominator))
+      (residual angles r))
+      (λ (r : TurnedObservation) h. half_is_within angles.denominator (residual angles r)
+      near_by.whole h) rs
       (recursion_from_All (λ (r : TurnedObservation). IsNearest (residual angles r)) rs
       near_by.nearest)))
     where
@@ -247,7 +254,8 @@ module _ (station : StationValue) (a : AdjustmentValue) (is_station : IsStation 
           near_by.reached near_by.carried d.part_of_set d.part_of_target
           (All-from_recursion InOnePart rs
           (firsts-all InOnePart rs turns same_length
-          (AllByRecursion-map (λ (x : Pair). agrees x ≡ true → IsInside x) (λ (x : Pair). InOnePart x.0)
+          (AllByRecursion-map (λ (x : Pair). agrees x ≡ true → IsInside x)
+          (λ (x : Pair). InOnePart x.0)
           (λ x f e. f (to_zero (residual angles x.0) e)) pairs
           (kept-back agrees IsInside pairs
           (inside_all (kept agrees pairs)

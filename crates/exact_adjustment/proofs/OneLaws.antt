@@ -182,7 +182,8 @@ module _ (station : StationValue) (is_station : IsStation station) (turns turns'
       let any : TurnedObservation = record { set = 0; target = 0; value = 0; turn = pos 0 } in
       let within = is_station.obs.within n d inside in
       let h : IsNearest (residual c (turned_by o k)) =
-      subst (λ r. IsNearest (residual c r)) (get_or-turned station.obs turns n d (pos 0) any each inside)
+      subst (λ r. IsNearest (residual c r))
+      (get_or-turned station.obs turns n d (pos 0) any each inside)
       (near.nearest n any (omega (arith, inside, length-turned station.obs turns each))) in
       let g : IsNearest (residual c' (turned_by o k')) =
       subst (λ r. IsNearest (residual c' r))

@@ -1,5 +1,6 @@
 -- The two sides of a sum of residuals, one observation more.
-use Rattle.std.proofs.Common.{◌≡◌, ℕ, zero, suc, ◌+◌, ◌*◌, ◌≤◌, ◌<◌, List, [], ◌∷◌, map, length, get_or}
+use Rattle.std.proofs.Common.{◌≡◌, ℕ, zero, suc, ◌+◌, ◌*◌, ◌≤◌, ◌<◌, List, [], ◌∷◌, map, length}
+use Rattle.std.proofs.Common.{get_or}
 use Rattle.std.proofs.Common.{ℤ, pos, negsuc, arith, ap, refl, ◌∙◌}
 use Rattle.std.proofs.Math.IntN.{◌*ℤ◌, ◌-ℤ◌, ◌+ℤ◌}
 use Rattle.std.proofs.Math.Nat.{mul-le-mul_left}
@@ -98,7 +99,8 @@ size_at_place station a n o k each inside =
     let d : TurnedObservation = record { set = 0; target = 0; value = 0; turn = pos 0 } in
     let there : n < length (turned station.obs a.turns) =
     omega (arith, inside, length-turned station.obs a.turns each) in
-    ap unsigned_abs (get_or-map (residual (choice_by a)) (turned station.obs a.turns) n d (pos 0) there
+    ap unsigned_abs (get_or-map (residual (choice_by a)) (turned station.obs a.turns) n d (pos 0)
+    there
     ∙ ap (residual (choice_by a)) (get_or-turned station.obs a.turns n o k d each inside))
 
 -- Where some residual is above a limit, it is not kept.

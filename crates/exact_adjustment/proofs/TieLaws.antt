@@ -1,5 +1,6 @@
 -- What holds a station together, said of rows and of turns.
-use Rattle.std.proofs.Common.{◌≡◌, Bool, true, false, List, [], ◌∷◌, map, length, ℤ, pos, arith, ap, refl, ◌∙◌, subst}
+use Rattle.std.proofs.Common.{◌≡◌, Bool, true, false, List, [], ◌∷◌, map, length, ℤ, pos, arith, ap}
+use Rattle.std.proofs.Common.{refl, ◌∙◌, subst}
 use Rattle.std.proofs.lemmas.List.{length-map}
 use Rattle.std.specs.Bool.{OnTrue}
 use Rattle.adjust_kernel.specs.Connected.{IsConnected, IsDivided}

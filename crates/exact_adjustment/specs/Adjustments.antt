@@ -30,9 +30,9 @@ adjustment_of denominator directions orientations turns = record {
 abbrev pub AreOnCircle : ℕ → List ℕ → Type 0
 AreOnCircle denominator angles = All (λ angle. angle < denominator * TURN) angles
 
--- The rules that every adjustment keeps (profile): some targets and not too many, not too many sets,
--- a denominator, the first direction 0, all angles on the circle, few turns. The denominator is so
--- short that sums over a whole station fit in the width of the numbers.
+-- The rules that every adjustment keeps (profile): some targets and not too many, not too many
+-- sets, a denominator, the first direction 0, all angles on the circle, few turns. The denominator
+-- is so short that sums over a whole station fit in the width of the numbers.
 pub record IsAdjustment (a : AdjustmentValue) : Type 0 where
   pub some : 1 ≤ length a.directions
   pub few_targets : length a.directions ≤ MOST_TARGETS

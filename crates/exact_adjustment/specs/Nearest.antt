@@ -1,6 +1,7 @@
 -- Full turns that are nearest to angles which the observations carry, in their order and again and
 -- again, from the first target to all sets and targets (profile).
-use Rattle.std.specs.Prelude.{◌≡◌, ◌≢◌, ℕ, zero, suc, ◌/◌, ◌%◌, ◌<◌, Bool, true, false, ◌==◌, ◌||◌, ◌&&◌}
+use Rattle.std.specs.Prelude.{◌≡◌, ◌≢◌, ℕ, zero, suc, ◌/◌, ◌%◌, ◌<◌, Bool, true, false, ◌==◌, ◌||◌}
+use Rattle.std.specs.Prelude.{◌&&◌}
 use Rattle.std.specs.Prelude.{All, length, slice_index_or, List, ℤ, pos, neg_ℤ, ◌≤ℤ◌, ◌<ℤ◌}
 use Rattle.adjust_kernel.specs.Residuals.{Choice, residual}
 use Rattle.adjust_kernel.specs.Stations.{StationValue}

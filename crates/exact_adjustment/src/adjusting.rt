@@ -27,7 +27,8 @@ fn largest_limit() -> ResidualLimit
 /// what it found is tested.
 fn tested(station: &Station, found: Option<Found>) -> Result<Adjustment, AdjustFault>
     requires tied { AreTied station.now }
-    requires said { WasSaid (length station.now.sets) (length station.now.targets) station.now.obs found }
+    requires said { WasSaid (length station.now.sets) (length station.now.targets)
+        station.now.obs found }
     ensures exact { IfOk result (IsExact station.now) }
     ensures limited { IfOk result (λ a. KeepsLimit station.now a LARGEST_RESIDUAL_LIMIT) }
     ensures tied { OnOk result (AreTied station.now) }

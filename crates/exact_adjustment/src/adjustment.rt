@@ -1,5 +1,6 @@
 //! Directions, orientations and full turns, over one denominator of any size.
-ghost use Rattle.std.specs.Prelude.{◌≡◌, ◌↔◌, ◌*◌, ◌<◌, ◌≤◌, All, IfNone, IfSome, IsTrue, slice_index_or};
+ghost use Rattle.std.specs.Prelude.{◌≡◌, ◌↔◌, ◌*◌, ◌<◌, ◌≤◌, All, IfNone, IfSome, IsTrue};
+ghost use Rattle.std.specs.Prelude.{slice_index_or};
 ghost use Rattle.adjust_kernel.specs.Within.{IsWithin};
 ghost use Rattle.adjust_kernel.specs.declared.bounds.TheConstants.{LARGEST_TURN, TURN};
 ghost use Rattle.exact_adjustment.specs.Adjustments.{AreOnCircle, IsAdjustment, adjustment_of};
@@ -26,7 +27,8 @@ pub struct Adjustment {
 }
 
 impl Model for Adjustment {
-    ghost use Rattle.exact_adjustment.specs.Adjustments.{AdjustmentValue, IsAdjustment, adjustment_of};
+    ghost use Rattle.exact_adjustment.specs.Adjustments.{AdjustmentValue, IsAdjustment};
+    ghost use Rattle.exact_adjustment.specs.Adjustments.{adjustment_of};
 
     ghost Value = { AdjustmentValue };
 

@@ -1,7 +1,7 @@
 //! Bounds of adjustments.
 
-use adjust_kernel::{LARGEST_TURN, MOST_ROWS, TURN};
-
-/// No sum that is taken of an adjustment is above the denominator times this: 20 turns for each of
-/// the most observations of a station.
-pub const LARGEST_FACTOR: u64 = MOST_ROWS as u64 * 2 * (LARGEST_TURN as u64 + 1) * TURN as u64;
+/// No number that is made of an adjustment is above the denominator times this: not a sum over a
+/// station, which is below 20 turns for each of the most observations, and not two full circles in
+/// the finest unit of stated directions, of which a full circle has 32,400,000,000,000. The
+/// denominator of a station's adjustment is below 2^786, so that all of these are below 2^832.
+pub const LARGEST_FACTOR: u64 = 65_000_000_000_000;

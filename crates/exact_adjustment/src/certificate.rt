@@ -1,6 +1,7 @@
 //! Whether sums of residuals are 0, in natural numbers: what would be negative goes to the other
 //! side.
-ghost use Rattle.std.specs.Prelude.{◌≡◌, ◌+◌, ◌*◌, ◌<◌, ◌≤◌, ℕ, pos, ◌+ℤ◌, ◌-ℤ◌, ◌*ℤ◌, ◌↔◌, IsTrue, length, All};
+ghost use Rattle.std.specs.Prelude.{◌≡◌, ◌+◌, ◌*◌, ◌<◌, ◌≤◌, ℕ, pos, ◌+ℤ◌, ◌-ℤ◌, ◌*ℤ◌, ◌↔◌, IsTrue};
+ghost use Rattle.std.specs.Prelude.{length, All};
 ghost use Rattle.adjust_kernel.specs.Residuals.{set_sum, target_sum};
 ghost use Rattle.adjust_kernel.specs.Stations.{IsObs};
 ghost use Rattle.adjust_kernel.specs.Within.{IsWithin};

@@ -1,59 +1,37 @@
 -- A read after the first bytes of a buffer.
 use Rattle.std.proofs.Common.{◌≡◌, ℕ, suc, ◌+◌, ◌-◌, ◌<◌, ◌≤◌, List, [], ◌∷◌, ◌++◌, length, take}
-use Rattle.std.proofs.Common.{drop, Option, None, Some, Result, Ok, Err, slice_range, MatchResult}
-use Rattle.std.proofs.Common.{refl, sym, ap, subst, ◌∙◌, arith, length-take, drop-drop}
+use Rattle.std.proofs.Common.{drop, Option, Result, Ok, Err, slice_range, MatchResult}
+use Rattle.std.proofs.Common.{refl, sym, ap, ◌∙◌, arith, length-take, drop-drop}
 use Rattle.std.specs.Prelude.{IfOk, Bool}
 use Rattle.std.proofs.lemmas.List.{drop-take, drop-append-le, take-append-le}
-use Rattle.byte_ends.specs.Source.{Told, Reads, AfterRead, TellsOver, MayGive, Through, Adds}
+use Rattle.byte_ends.specs.Source.{Told, Reads, Fails, AfterRead, TellsOver, MayGive, Through, Adds}
 use Rattle.byte_ends.specs.Source.{given_by, given_then, reader_change, ended, broken_off}
 use Rattle.byte_ends.proofs.Coming.{given_by_read, left_is}
 use Rattle.byte_ends.specs.declared.failed.Failed.{Failed}
-use Rattle.gsi_file.specs.Filling.{Grows, GivesTold, FailsTold}
+use Rattle.gsi_file.specs.Filling.{Grows}
 
-take_behind : (pre ys : List ℕ) (held n : ℕ) → length pre ≡ held
+take_after : (pre ys : List ℕ) (held n : ℕ) → length pre ≡ held
     → take (held + n) (pre ++ ys) ≡ pre ++ take n ys
-take_behind [] ys held n e = let z : held + n ≡ n = omega arith in ap (λ k. take k ys) z
-take_behind (x ∷ pre) ys held n e =
+take_after [] ys held n e = let z : held + n ≡ n = omega arith in ap (λ k. take k ys) z
+take_after (x ∷ pre) ys held n e =
     let s : held + n ≡ suc (length pre + n) = omega arith in
     ap (λ k. take k (x ∷ (pre ++ ys))) s ∙ ap (λ zs. x ∷ zs)
-    (take_behind pre ys (length pre) n refl)
-
-gives_told : (old new : Option Told) (mid : List ℕ) (n : ℕ) → 0 < length mid
-    → Reads {E = Failed} old new (Ok n) mid → GivesTold old new (take n mid)
-gives_told None new mid n some h = tt
-gives_told (Some old) None mid n some h = h
-gives_told (Some old) (Some new) mid n some h =
-    record { next = h.next; same = h.same; end = λ e lt. h.end e some }
-
-fails_told : (old new : Option Told) (mid : List ℕ) (e : Failed) → 0 < length mid
-    → Reads {E = Failed} old new (Err e) mid → FailsTold old new
-fails_told None new mid e some h = tt
-fails_told (Some old) None mid e some h = h
-fails_told (Some old) (Some new) mid e some h =
-    let same : new ≡ old = h.unchanged in
-    let end = h.end in (
-      (
-        sym (ap (λ (t : Told). t.bytes) same) ∙ end.0,
-        sym (ap (λ (t : Told). t.fails) same)
-            ∙ end.1,
-      ),
-      same,
-    )
+    (take_after pre ys (length pre) n refl)
 
 -- A read into the room after a buffer's first bytes appends what it gave, or failed and left them.
-pub reads_behind : (old new : Option Told) (pre mid post : List ℕ) (held : ℕ) (r : Result ℕ Failed)
-    → length pre ≡ held → 0 < length mid → IfOk r (λ n. n ≤ length mid) → Reads old new r mid →
+pub reads_after : (old new : Told) (pre mid post : List ℕ) (held : ℕ) (r : Result ℕ Failed)
+    → length pre ≡ held → 0 < length mid → IfOk r (λ n. n ≤ length mid) → AfterRead old new r mid →
     MatchResult r (λ n. Grows old new pre (take (held + n) (pre ++ (mid ++ post))) n)
-    (λ _. (take held (pre ++ (mid ++ post)) ≡ pre) × FailsTold old new)
-reads_behind old new pre mid post held (Ok n) e some le h = record {
+    (λ _. (take held (pre ++ (mid ++ post)) ≡ pre) × Fails old new)
+reads_after old new pre mid post held (Ok n) e some le h = record {
   given = take n mid;
-  now = take_behind pre (mid ++ post) held n e
+  now = take_after pre (mid ++ post) held n e
       ∙ ap (λ zs. pre ++ zs) (take-append-le n mid post le);
   count = omega (arith, length-take n mid);
-  told = gives_told old new mid n some h;
+  told = record { next = h.next; same = h.same; end = λ none room. h.end none some };
 }
-reads_behind old new pre mid post held (Err e') e some le h =
-    (take_whole pre (mid ++ post) held e, fails_told old new mid e' some h)
+reads_after old new pre mid post held (Err e') e some le h =
+    (take_whole pre (mid ++ post) held e, h)
   where
     take_whole : (xs ys : List ℕ) (k : ℕ) → length xs ≡ k → take k (xs ++ ys) ≡ xs
     take_whole [] ys k e = let z : k ≡ 0 = omega arith in ap (λ j. take j ys) z
@@ -62,9 +40,9 @@ reads_behind old new pre mid post held (Err e') e some le h =
         ap (λ j. take j (x ∷ (xs ++ ys))) s ∙ ap (λ zs. x ∷ zs) (take_whole xs ys (length xs) refl)
 
 -- A range that begins n bytes later is the range without its first n bytes.
-pub slice_range_behind : (xs : List ℕ) (a e n : ℕ) → a + n ≤ e
+pub slice_range_after : (xs : List ℕ) (a e n : ℕ) → a + n ≤ e
     → slice_range xs (a + n) e ≡ drop n (slice_range xs a e)
-slice_range_behind xs a e n le =
+slice_range_after xs a e n le =
     let whole : n + (e - (a + n)) ≡ e - a = omega arith in
     ap (take (e - (a + n))) (sym (drop-drop n a xs))
     ∙ sym (drop-take n (e - (a + n)) (drop a xs))
@@ -81,10 +59,10 @@ range_of_take xs a e le =
     sym (drop-take a (e - a) xs) ∙ ap (λ k. drop a (take k xs)) whole
 
 -- A read after the first bytes of the room, as one after those in hand.
-pub grows_behind : (old new : Option Told) (buf buf' hand : List ℕ) (a e n : ℕ) → a ≤ e
+pub grows_after : (old new : Told) (buf buf' hand : List ℕ) (a e n : ℕ) → a ≤ e
     → e ≤ length buf → slice_range buf a e ≡ hand → Grows old new (take e buf) (take (e + n) buf') n
     → Grows old new hand (slice_range buf' a (e + n)) n
-grows_behind old new buf buf' hand a e n le inside same g = record {
+grows_after old new buf buf' hand a e n le inside same g = record {
   given = g.given;
   now =
       range_of_take buf' a (e + n) (omega arith)

@@ -2,6 +2,7 @@
 use Rattle.std.specs.Prelude.{◌≡◌, ℕ, ◌-◌, Bool, false, All, not, ◌||◌, ◌==◌, List, length, take}
 use Rattle.std.specs.Prelude.{filter}
 use Rattle.std.specs.List.{slice_split, list_all}
+use Rattle.gsi_word.specs.Bytes.{blank}
 
 -- A carriage return ends a line, and so does a line feed: after both of them stands an empty part.
 abbrev pub is_line_end : ℕ → Bool
@@ -17,7 +18,7 @@ parts bytes = slice_split is_line_end bytes
 
 -- Whether a part has no byte other than a blank.
 abbrev pub is_blank : List ℕ → Bool
-is_blank part = list_all (λ b. b == 32) part
+is_blank part = list_all (λ b. b == blank) part
 
 -- Whether a part is a line, and numbered: it is not blank.
 abbrev pub is_line : List ℕ → Bool

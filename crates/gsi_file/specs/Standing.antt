@@ -13,7 +13,7 @@ use Rattle.gsi_file.specs.declared.lines.Lines.{Lines}
 use Rattle.gsi_file.specs.declared.line.Line.{Line}
 use Rattle.gsi_file.specs.Failing.{failed_in}
 use Rattle.gsi_file.specs.Window.{line_in_window, unused}
-use Rattle.gsi_file.specs.Finding.{answers_in, BreaksOff}
+use Rattle.gsi_file.specs.Finding.{answers_in}
 use Rattle.gsi_file.specs.ToCome.{ToCome, Answers, IsRead, only}
 
 -- What is to come in a state, of so many bytes that may be taken, with these in hand, of a reader
@@ -98,18 +98,6 @@ abbrev pub Progresses : {A E : Type 0} → Result (Option A) E → ℕ → ℕ �
 Progresses (Ok (Some x)) old new = new < old
 Progresses (Ok None) old new = ⊤
 Progresses (Err e) old new = ⊤
-
--- A call answered a failed read.
-abbrev pub IsReadFault : {A : Type 0} → Result (Option A) FileFault → Type 0
-IsReadFault (Ok x) = ⊥
-IsReadFault (Err (At number kind)) = IsRead kind
-IsReadFault (Err Memory) = ⊥
-
--- A failed read, where nothing was settled before it, comes of a reader that has given all its
--- bytes and fails, where it tells.
-abbrev pub FailsAtItsEnd : {A : Type 0} → Result (Option A) FileFault → Bool
-    → Option Told → Option Told → Type 0
-FailsAtItsEnd result settled old new = IsReadFault result → settled ≡ false → BreaksOff old new
 
 -- Where a step settles the end or a failed read, the reader tells that it has ended or broken off,
 -- whether it told its bytes or not.

@@ -4,7 +4,6 @@ use Rattle.std.specs.Prelude.{Result, Ok, Err, ◌⊎◌}
 use Rattle.byte_ends.specs.Source.{WhereTold}
 use Rattle.gsi_word.specs.Blocks.{GsiBlock, IsBlock}
 use Rattle.gsi_word.specs.BlockViews.{block_of}
-use Rattle.gsi_word.specs.Shapes.{IsShape}
 use Rattle.gsi_word.specs.declared.shape.Shape.{Shape}
 use Rattle.gsi_word.specs.LineFaults.{IsLineFault}
 use Rattle.gsi_word.specs.declared.line_fault.LineFault.{LineFault}
@@ -90,11 +89,10 @@ Answers t (Ok None) t' = GivesEnd t t'
 Answers t (Err (At number kind)) t' = GivesFault t t' number kind
 Answers t (Err Memory) t' = ⊥
 
--- A step has found this line, a block of this shape, or the end, or a fault, by which nothing is
--- counted.
+-- A step has found this line, a block, or the end, or a fault, by which nothing is counted.
 abbrev pub FindsBlock : ToCome → Result (Option Shape) FileKind → ToCome → List ℕ → Type 0
 FindsBlock t (Ok (Some shape)) t' line =
-    TakesLine t.answers t'.answers line × IsShape shape line
+    TakesLine t.answers t'.answers line
     × (t'.number ≡ t.number + 1) × (t'.number ≤ LONGEST_FILE)
 FindsBlock t (Ok None) t' line = GivesEnd t t'
 FindsBlock t (Err kind) t' line =

@@ -4,7 +4,8 @@ ghost use Rattle.std.specs.Prelude.{◌≡◌, ◌≤◌, ◌⊎◌, List, ℕ, 
 ghost use Rattle.byte_ends.specs.Source.{Told};
 ghost use Rattle.gsi_word.specs.Blocks.{GsiBlock, IsBlock};
 ghost use Rattle.gsi_file.specs.Parts.{ended_lines};
-ghost use Rattle.gsi_file.specs.FileAnswers.{is_within, IsFirstBreak, answers_before, answers_of_all, file_answers};
+ghost use Rattle.gsi_file.specs.FileAnswers.{is_within, IsFirstBreak, answers_before};
+ghost use Rattle.gsi_file.specs.FileAnswers.{answers_of_all, file_answers};
 ghost use Rattle.gsi_file.specs.ToCome.{IsFileFault};
 ghost use Rattle.gsi_file.specs.declared.file_fault.FileKind.{FileKind};
 ghost use Rattle.gsi_file.specs.declared.file_fault.FileKind.TheVariants as kind;

@@ -68,14 +68,16 @@ fn check_line(line: &[u8], printable: bool) -> Result<Shape, FileKind>
 }
 
 impl<R: Source> Lines<R> {
-    ghost use Rattle.std.specs.Prelude.{◌≡◌, ◌<◌, ◌≤◌, List, ℕ, length, take, false, Some, IfOk, IfErr, IfSome, OnOk};
+    ghost use Rattle.std.specs.Prelude.{◌≡◌, ◌<◌, ◌≤◌, List, ℕ, length, take, false, Some, IfOk};
+    ghost use Rattle.std.specs.Prelude.{IfErr, IfSome, OnOk};
     ghost use Rattle.std.specs.Io.BufRead.{Rests};
     ghost use Rattle.std.specs.Borrow.{sem};
     ghost use Rattle.gsi_file.specs.contracts.lines.Lines.{the_row};
     ghost use Rattle.gsi_file.specs.FileAnswers.{file_answers};
-    ghost use Rattle.gsi_file.specs.ToCome.{FindsNext, FindsBlock, IsRead};
-    ghost use Rattle.gsi_file.specs.Finding.{BreaksOff};
-    ghost use Rattle.gsi_file.specs.Standing.{to_come, gives, reader_of, AsksNoMore, line_found, bytes_left, is_settled, Progresses, FailsAtItsEnd, IsOverBy, IsOverWith, IsNext};
+    ghost use Rattle.gsi_file.specs.ToCome.{FindsNext, FindsBlock};
+    ghost use Rattle.gsi_file.specs.Standing.{to_come, gives, reader_of, AsksNoMore, line_found};
+    ghost use Rattle.gsi_file.specs.Standing.{bytes_left, is_settled, Progresses, IsOverBy};
+    ghost use Rattle.gsi_file.specs.Standing.{IsOverWith, IsNext};
     ghost use Rattle.byte_ends.specs.Source.{Told, Through, reader_change};
 
     /// Takes the one buffer, and reads nothing. Where there is no memory the reader is dropped.
@@ -151,15 +153,14 @@ impl<R: Source> Lines<R> {
     /// Finds the next line and counts it, and answers the shape of its block.
     #[inline(always)]
     fn advance(&mut self) -> Result<Option<Shape>, FileFault>
-        ensures finds { FindsNext (to_come R.told self.old) result (to_come R.told self.new)
-            (line_found self.new) }
-        ensures through { Through (reader_change R.told R.failed R.gave (reader_of self.old) (reader_of self.new))
+        ensures shape { IfOk result
+            (λ found. IfSome found (λ shape. IsShape shape (line_found self.new))) }
+        ensures through { Through
+            (reader_change R.told R.failed R.gave (reader_of self.old) (reader_of self.new))
             (λ before after. FindsNext (to_come (gives before) self.old) result
             (to_come (gives after) self.new) (line_found self.new)) }
         ensures settled { AsksNoMore result self.old self.new }
         ensures progress { Progresses result (bytes_left self.old) (bytes_left self.new) }
-        ensures fails { FailsAtItsEnd result (is_settled self.old)
-            (R.told (reader_of self.old)) (R.told (reader_of self.new)) }
         ensures failed { R.failed (reader_of self.new)
             ≡ failed_in (is_settled self.old) (R.failed (reader_of self.old)) result }
         ensures over { is_settled self.old ≡ false
@@ -179,18 +180,18 @@ impl<R: Source> Lines<R> {
         }
     }
 
-    /// Finds the next line and counts it, where nothing is settled. After a fault nothing is, yet.
+    /// Finds, tests and counts the next line, while the state is `Open`: the caller settles a
+    /// fault.
     fn find_block(&mut self) -> Result<Option<Shape>, FileKind>
         requires { is_settled self.old ≡ false }
-        ensures finds { FindsBlock (to_come R.told self.old) result (to_come R.told self.new)
-            (line_found self.new) }
-        ensures through { Through (reader_change R.told R.failed R.gave (reader_of self.old) (reader_of self.new))
+        ensures shape { IfOk result
+            (λ found. IfSome found (λ shape. IsShape shape (line_found self.new))) }
+        ensures through { Through
+            (reader_change R.told R.failed R.gave (reader_of self.old) (reader_of self.new))
             (λ before after. FindsBlock (to_come (gives before) self.old) result
             (to_come (gives after) self.new) (line_found self.new)) }
         ensures settled { OnOk result (AsksNoMore result self.old self.new) }
         ensures progress { Progresses result (bytes_left self.old) (bytes_left self.new) }
-        ensures fails { IfErr result (λ kind. IsRead kind
-            → BreaksOff (R.told (reader_of self.old)) (R.told (reader_of self.new))) }
         ensures failed { R.failed (reader_of self.new)
             ≡ failed_by (R.failed (reader_of self.old)) result }
         ensures over { IsOverBy result (is_settled self.new) (R.told (reader_of self.new)) }

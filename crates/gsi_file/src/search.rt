@@ -4,10 +4,10 @@
 //! looks no further than one byte past the longest line, nor past what may still be taken of the
 //! file, so at the same byte the file's limit comes first.
 
-ghost use Rattle.std.specs.Prelude.{◌≡◌, ◌≤◌, ◌-◌, Some, true, false};
+ghost use Rattle.std.specs.Prelude.{◌≡◌, ◌≤◌, ◌-◌, IfOk, IfSome, true, false};
 ghost use Rattle.byte_ends.specs.Source.{Through, reader_change};
 ghost use Rattle.gsi_file.specs.Failing.{failed_by};
-ghost use Rattle.gsi_file.specs.Finding.{Finds, IsOverAfter};
+ghost use Rattle.gsi_file.specs.Finding.{Finds, IsFound, IsOverAfter};
 
 use crate::bounds::LONGEST_LINE;
 use crate::buffer::Buffer;
@@ -75,10 +75,9 @@ pub(crate) fn find_line<R: Source>(
     buffer: &mut Buffer,
     room: usize,
 ) -> Result<Option<FoundLine>, FileKind>
-    ensures finds { Finds (R.told reader.old) (R.told reader.new) room buffer.old buffer.new
-        result }
-    ensures through { Through (reader_change R.told R.failed R.gave reader.old reader.new) (λ before after.
-        Finds (Some before) (Some after) room buffer.old buffer.new result) }
+    ensures found { IfOk result (λ found. IfSome found (IsFound room buffer.new)) }
+    ensures through { Through (reader_change R.told R.failed R.gave reader.old reader.new)
+        (λ before after. Finds before after room buffer.old buffer.new result) }
     ensures failed { R.failed reader.new ≡ failed_by (R.failed reader.old) result }
     ensures over { IsOverAfter result (R.told reader.new) }
 {

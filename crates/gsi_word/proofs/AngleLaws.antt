@@ -7,7 +7,8 @@ use Rattle.std.specs.List.{list_all, AllPass}
 use Rattle.std.proofs.lemmas.Bool.{leb-true, le-leb}
 use Rattle.std.proofs.lemmas.List.Sums.{AllPass-from_list_all, list_all-from_AllPass}
 use Rattle.gsi_word.specs.Words.{GsiWord}
-use Rattle.gsi_word.specs.Angles.{decimal_value, decimal_number, is_gon, is_input_mode, last_unit}
+use Rattle.gsi_word.specs.Angles.{decimal_value, decimal_number, is_gon, is_input_mode}
+use Rattle.gsi_word.specs.declared.angle.TheConstants.{LAST_UNIT}
 use Rattle.gsi_word.specs.Angles.{angle_within_turn, angle_of, IsAngle}
 use Rattle.gsi_word.specs.declared.angle.AngleFault.{AngleFault}
 use Rattle.gsi_word.specs.declared.angle.AngleFault.TheVariants.{Unit as WrongUnit, InputMode, Sign}
@@ -45,15 +46,15 @@ passed true true false number n e = record {
 same_number : (m n : ℕ) → ◌≡◌ {A = Result ℕ AngleFault} (Ok m) (Ok n) → m ≡ n
 same_number m n e = cc
 
-within_cases : (m n : ℕ) (t : Bool) → leb m last_unit ≡ t → (if t then Ok m else Err Range) ≡ Ok n
-    → (m ≡ n) × (n ≤ last_unit)
+within_cases : (m n : ℕ) (t : Bool) → leb m LAST_UNIT ≡ t → (if t then Ok m else Err Range) ≡ Ok n
+    → (m ≡ n) × (n ≤ LAST_UNIT)
 within_cases m n true test e = let same : m ≡ n = same_number m n e in
-    (same, leb-true _ _ (ap (λ (k : ℕ). leb k last_unit) (sym same) ∙ test))
+    (same, leb-true _ _ (ap (λ (k : ℕ). leb k LAST_UNIT) (sym same) ∙ test))
 within_cases m n false test e = absurd (err_ok Range n e)
 
-within : (d : Option ℕ) (n : ℕ) → angle_within_turn d ≡ Ok n → (d ≡ Some n) × (n ≤ last_unit)
+within : (d : Option ℕ) (n : ℕ) → angle_within_turn d ≡ Ok n → (d ≡ Some n) × (n ≤ LAST_UNIT)
 within None n e = absurd (err_ok Digits n e)
-within (Some m) n e = let p = within_cases m n (leb m last_unit) refl e in (ap Some p.0, p.1)
+within (Some m) n e = let p = within_cases m n (leb m LAST_UNIT) refl e in (ap Some p.0, p.1)
 
 same_some : (m n : ℕ) → ◌≡◌ {A = Option ℕ} (Some m) (Some n) → m ≡ n
 same_some m n e = cc

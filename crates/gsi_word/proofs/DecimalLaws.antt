@@ -40,8 +40,8 @@ digits_after n (b ∷ digits) =
     let places : 10 ^ length (b ∷ digits) ≡ 10 ^ length digits * 10 = pow-suc 10 (length digits) in
     omega (arith, here, alone, ap (λ (k : ℕ). n * k) places)
 
--- The number of sixteen digits: what the first eight write, moved by eight places, and what the last
--- eight write.
+-- The number of sixteen digits: what the first eight write, moved by eight places, and what the
+-- last eight write.
 pub value_in_halves : (digits : List ℕ) → length digits ≡ 16
     → decimal_value digits
     ≡ decimal_value (take 8 digits) * 100000000 + decimal_value (drop 8 digits)

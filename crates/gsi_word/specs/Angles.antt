@@ -8,11 +8,13 @@ use Rattle.std.specs.Char.{is_ascii_digit}
 use Rattle.gsi_word.specs.declared.angle.AngleFault.{AngleFault}
 use Rattle.gsi_word.specs.declared.angle.AngleFault.TheVariants.{Unit as WrongUnit, InputMode, Sign}
 use Rattle.gsi_word.specs.declared.angle.AngleFault.TheVariants.{Digits, Range}
+use Rattle.gsi_word.specs.declared.angle.TheConstants.{LAST_UNIT}
+use Rattle.gsi_word.specs.Bytes.{zero_digit}
 use Rattle.gsi_word.specs.Words.{GsiWord}
 
 -- The number that decimal digits write.
 abbrev pub decimal_value : List ℕ → ℕ
-decimal_value digits = fold (λ n b. 10 * n + (b - 48)) 0 digits
+decimal_value digits = fold (λ n b. 10 * n + (b - zero_digit)) 0 digits
 
 -- The number that bytes write, where all are digits.
 abbrev pub decimal_number : List ℕ → Option ℕ
@@ -26,14 +28,10 @@ is_gon b = b == 50
 abbrev pub is_input_mode : ℕ → Bool
 is_input_mode b = (b == 46 || b == 48) || (b == 50 || b == 51)
 
--- The last unit before a full turn of 400 gon.
-abbrev pub last_unit : ℕ
-last_unit = 39999999
-
 -- A number of units as an angle: below a full turn.
 abbrev pub angle_within_turn : Option ℕ → Result ℕ AngleFault
 angle_within_turn None = Err Digits
-angle_within_turn (Some units) = if nat_le units last_unit then Ok units else Err Range
+angle_within_turn (Some units) = if nat_le units LAST_UNIT then Ok units else Err Range
 
 -- The angle of a word in units, or the first of its faults: the unit, the input mode, the sign, the
 -- digits, the range.
@@ -51,4 +49,4 @@ pub record IsAngle (w : GsiWord) (units : ℕ) : Type 0 where
   pub sign : w.negative ≡ false
   pub digits : AllPass is_ascii_digit w.content
   pub value : units ≡ decimal_value w.content
-  pub within_turn : units ≤ last_unit
+  pub within_turn : units ≤ LAST_UNIT

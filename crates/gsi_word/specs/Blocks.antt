@@ -3,6 +3,8 @@
 use Rattle.std.specs.Prelude.{◌≡◌, ℕ, ◌<◌, Bool, nat_eq, codes, List, [], ◌∷◌, ◌++◌, length, drop}
 use Rattle.std.specs.Prelude.{map, All, replicate, if◌then◌else◌, ◌⊎◌}
 use Rattle.std.specs.List.{join_with_byte, starts_with}
+use Rattle.gsi_word.specs.declared.index.TheConstants.{POINT_NUMBER, CODE_NUMBER}
+use Rattle.gsi_word.specs.Bytes.{blank}
 use Rattle.gsi_word.specs.Words.{GsiWord, IsWord, spelled}
 
 -- What a block says: how many bytes the content of each word has, and its words in order.
@@ -27,11 +29,11 @@ pub record AreWords (width : ℕ) (bytes : List ℕ) (words : List GsiWord) : Ty
   pub some_word : 0 < length words
   pub each : All (IsWord width) words
   pub blanks : ℕ
-  pub text : bytes ≡ join_with_byte 32 (map spelled words) ++ replicate blanks 32
+  pub text : bytes ≡ join_with_byte blank (map spelled words) ++ replicate blanks blank
 
 -- A measurement block begins with a point number, a code block with a code number.
 abbrev pub IsFirst : GsiWord → Type 0
-IsFirst w = (w.index ≡ 11) ⊎ (w.index ≡ 41)
+IsFirst w = (w.index ≡ POINT_NUMBER) ⊎ (w.index ≡ CODE_NUMBER)
 
 -- The first of the words is one that a block begins with.
 abbrev pub BeginsBlock : List GsiWord → Type 0

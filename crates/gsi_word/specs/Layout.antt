@@ -5,29 +5,30 @@ use Rattle.std.specs.Prelude.{nat_le, ◌==◌, IsTrue, List, [], ◌∷◌, len
 use Rattle.std.specs.Char.{is_ascii_digit}
 use Rattle.std.specs.Int.{is_in_range}
 use Rattle.std.specs.List.{list_any}
+use Rattle.gsi_word.specs.Bytes.{blank, plus, minus, zero_digit, nine_digit}
 use Rattle.gsi_word.specs.Words.{GsiWord, IsWord}
 
 -- The word that these bytes are.
 abbrev pub word_of : List ℕ → GsiWord
 word_of bytes = record {
-  index = 10 * (slice_index bytes 0 - 48) + (slice_index bytes 1 - 48);
+  index = 10 * (slice_index bytes 0 - zero_digit) + (slice_index bytes 1 - zero_digit);
   info = take 4 (drop 2 bytes);
-  negative = slice_index bytes 6 == 45;
+  negative = slice_index bytes 6 == minus;
   content = drop 7 bytes;
 }
 
 -- Whether a byte may stand in a line.
 abbrev pub is_printable : ℕ → Bool
-is_printable b = is_in_range 32 126 b
+is_printable b = is_in_range blank 126 b
 
 -- Whether printable bytes begin with a word of this width that ends them or has a blank after it.
 unfoldable pub begins_word : ℕ → List ℕ → Bool
 begins_word width bytes =
     nat_le (7 + width) (length bytes)
     && (is_ascii_digit (slice_index bytes 0) && (is_ascii_digit (slice_index bytes 1)
-    && (not (list_any (λ b. b == 32) (take 4 (drop 2 bytes)))
-    && ((slice_index bytes 6 == 43 || slice_index bytes 6 == 45)
-    && (length bytes == 7 + width || slice_index bytes (7 + width) == 32)))))
+    && (not (list_any (λ b. b == blank) (take 4 (drop 2 bytes)))
+    && ((slice_index bytes 6 == plus || slice_index bytes 6 == minus)
+    && (length bytes == 7 + width || slice_index bytes (7 + width) == blank)))))
 
 -- The first words of some bytes, each with its blank.
 abbrev pub words_from : ℕ → ℕ → List ℕ → List GsiWord
@@ -42,8 +43,8 @@ is_width width = width == 8 || width == 16
 -- Two digits stand first.
 pub record HasIndex (bytes : List ℕ) : Type 0 where
   pub long : 2 ≤ length bytes
-  pub tens : (48 ≤ slice_index bytes 0) × (slice_index bytes 0 ≤ 57)
-  pub ones : (48 ≤ slice_index bytes 1) × (slice_index bytes 1 ≤ 57)
+  pub tens : (zero_digit ≤ slice_index bytes 0) × (slice_index bytes 0 ≤ nine_digit)
+  pub ones : (zero_digit ≤ slice_index bytes 1) × (slice_index bytes 1 ≤ nine_digit)
 
 -- All bytes of one word.
 pub record IsWordBytes (width : ℕ) (bytes : List ℕ) : Type 0 where

@@ -1,5 +1,6 @@
 -- The public definitions, which public contracts and laws cite, in the order in which a reader
 -- needs them.
+pub mod Bytes
 pub mod Words
 pub mod Blocks
 pub mod LineFaults

@@ -4,6 +4,7 @@ use Rattle.std.specs.Prelude.{◌≡◌, ◌≢◌, ℕ, ◌+◌, List, [], ◌�
 use Rattle.std.specs.List.{flat_map}
 use Rattle.gsi_word.specs.declared.line_fault.LineFault.{LineFault}
 use Rattle.gsi_word.specs.declared.line_fault.LineFault.TheVariants.{Byte, Word, FirstWord}
+use Rattle.gsi_word.specs.Bytes.{blank}
 use Rattle.gsi_word.specs.Words.{GsiWord, IsLineByte, IsWord, spelled}
 use Rattle.gsi_word.specs.Blocks.{width_of, word_bytes, AreWords, BeginsBlock}
 
@@ -20,7 +21,7 @@ pub record IsByteFault (line : List ℕ) (at : ℕ) : Type 0 where
 -- A word ends where the bytes end, or before a blank.
 abbrev pub EndsWord : List ℕ → Type 0
 EndsWord [] = ⊤
-EndsWord (b ∷ bs) = b ≡ 32
+EndsWord (b ∷ bs) = b ≡ blank
 
 -- The bytes begin with a word.
 pub record BeginsWord (width : ℕ) (bytes : List ℕ) : Type 0 where
@@ -32,7 +33,7 @@ pub record BeginsWord (width : ℕ) (bytes : List ℕ) : Type 0 where
 
 -- A word and the blank after it.
 abbrev pub followed : GsiWord → List ℕ
-followed w = spelled w ++ 32 ∷ []
+followed w = spelled w ++ blank ∷ []
 
 -- The words before the nth, from 1, are each followed by a blank. No word begins after them, and
 -- where there is at least one of them not all that is left is blank.
@@ -43,7 +44,7 @@ pub record IsWordFault (width : ℕ) (bytes : List ℕ) (nth : ℕ) : Type 0 whe
   pub text : bytes ≡ flat_map followed words ++ rest
   pub place : nth ≡ length words + 1
   pub fault : ¬ BeginsWord width rest
-  pub goes_on : (words ≡ []) ⊎ Any (λ b. b ≢ 32) rest
+  pub goes_on : (words ≡ []) ⊎ Any (λ b. b ≢ blank) rest
 
 -- The line is words, but the first is neither a point number nor a code number.
 pub record IsFirstWordFault (line : List ℕ) : Type 0 where

@@ -1,6 +1,7 @@
 -- A word of a GSI line, and the bytes that it is written with (GSI manual).
 use Rattle.std.specs.Prelude.{◌≡◌, ℕ, ◌+◌, ◌/◌, ◌%◌, ◌<◌, ◌≤◌, Bool, List, ◌∷◌, ◌++◌, length, All}
 use Rattle.std.specs.Prelude.{if◌then◌else◌}
+use Rattle.gsi_word.specs.Bytes.{blank, plus, minus, zero_digit}
 
 -- What a word says: its index, its information, whether its sign is minus, and its content.
 pub record GsiWord : Type 0 where
@@ -11,7 +12,7 @@ pub record GsiWord : Type 0 where
 
 -- A byte that may stand in a line: a blank or a visible character of ASCII.
 abbrev pub IsLineByte : ℕ → Type 0
-IsLineByte b = (32 ≤ b) × (b ≤ 126)
+IsLineByte b = (blank ≤ b) × (b ≤ 126)
 
 -- A byte that may stand in the information of a word: a visible character of ASCII.
 abbrev pub IsGraphic : ℕ → Type 0
@@ -28,8 +29,10 @@ pub record IsWord (width : ℕ) (w : GsiWord) : Type 0 where
 
 -- `-` or `+`.
 abbrev pub sign_byte : Bool → ℕ
-sign_byte negative = if negative then 45 else 43
+sign_byte negative = if negative then minus else plus
 
 -- The bytes of a word: two digits of its index, the information, the sign, the content.
 abbrev pub spelled : GsiWord → List ℕ
-spelled w = (48 + w.index / 10) ∷ (48 + w.index % 10) ∷ (w.info ++ sign_byte w.negative ∷ w.content)
+spelled w =
+    (zero_digit + w.index / 10) ∷ (zero_digit + w.index % 10)
+    ∷ (w.info ++ sign_byte w.negative ∷ w.content)

@@ -46,4 +46,4 @@ impl AngleFault {
 pub(crate) const GON: u8 = b'2';
 
 /// The greatest angle, in units of 0.00001 gon: one less than a full turn of 400 gon.
-pub(crate) const LAST_UNIT: u64 = 39_999_999;
+pub const LAST_UNIT: u32 = 39_999_999;

@@ -7,6 +7,7 @@ ghost use Rattle.gsi_word.specs.Angles.{angle_of, IsAngle};
 ghost use Rattle.gsi_word.specs.Blocks.{GsiBlock, IsBlock};
 ghost use Rattle.gsi_word.specs.LineFaults.{IsLineFault};
 ghost use Rattle.gsi_word.specs.declared.line_fault.LineFault.{LineFault};
+ghost use Rattle.gsi_word.specs.declared.angle.TheConstants.{LAST_UNIT};
 ghost use Rattle.gsi_word.specs.declared.index.TheConstants.{POINT_NUMBER, HORIZONTAL_DIRECTION};
 ghost use Rattle.gsi_word.specs.declared.index.TheConstants.{VERTICAL_ANGLE, CODE_NUMBER};
 ghost use Rattle.gsi_word.specs.declared.index.TheConstants.{CODE_INFORMATION};
@@ -46,11 +47,12 @@ pub fn one_angle()
     ensures { (word : GsiWord) (units : ℕ) → (angle_of word ≡ Ok units) ↔ IsAngle word units }
 {}
 
-/// The indices, in digits.
+/// The indices and the greatest angle, in digits.
 pub fn indices()
     ensures point_number { POINT_NUMBER ≡ 11 }
     ensures horizontal_direction { HORIZONTAL_DIRECTION ≡ 21 }
     ensures vertical_angle { VERTICAL_ANGLE ≡ 22 }
     ensures code_number { CODE_NUMBER ≡ 41 }
     ensures code_information { CODE_INFORMATION ≡ 42 }
+    ensures last_unit { LAST_UNIT ≡ 39999999 }
 {}

@@ -23,7 +23,7 @@ mod word;
 mod words;
 mod zeros;
 
-pub use angle::AngleFault;
+pub use angle::{AngleFault, LAST_UNIT};
 pub use block::Block;
 pub use decimal::decimal_number;
 pub use found::Found;

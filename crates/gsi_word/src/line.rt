@@ -4,14 +4,17 @@
 //! line. Then the words: of printable bytes only the two digits, the information, the sign and the
 //! byte after the word are left to be tested, and the content is not looked at again.
 
-ghost use Rattle.std.specs.Prelude.{◌≡◌, ◌≢◌, ◌↔◌, ◌⊎◌, ◌≤◌, ◌+◌, length, drop, replicate, All, Any, IsTrue, IfOk, IfErr};
+ghost use Rattle.std.specs.Prelude.{◌≡◌, ◌≢◌, ◌↔◌, ◌⊎◌, ◌≤◌, ◌+◌, length, drop, replicate, All};
+ghost use Rattle.std.specs.Prelude.{Any, IsTrue, IfOk, IfErr};
 ghost use Rattle.std.specs.Bool.{OnTrue, OnFalse};
+ghost use Rattle.gsi_word.specs.Bytes.{blank};
 ghost use Rattle.gsi_word.specs.Words.{IsLineByte};
 ghost use Rattle.gsi_word.specs.Blocks.{is_starred, width_of, word_bytes, AreWords, IsBlock};
 ghost use Rattle.gsi_word.specs.LineFaults.{IsWordFault, IsLineFault};
 ghost use Rattle.gsi_word.specs.Layout.{begins_word, is_width, words_from, KeepsWords};
 ghost use Rattle.gsi_word.specs.BlockViews.{block_of};
 ghost use Rattle.gsi_word.specs.Shapes.{shaped, IsShape};
+ghost use Rattle.gsi_word.specs.declared.index.TheConstants.{CODE_NUMBER, POINT_NUMBER};
 
 use crate::block::Block;
 use crate::index::{CODE_NUMBER, POINT_NUMBER};
@@ -149,21 +152,21 @@ fn after_word(bytes: &[u8], width: u8) -> &[u8]
     requires { 7 + width ≤ length bytes.now }
     ensures { result.now ≡ drop (8 + width) bytes.now }
 {
-    let behind = CONTENT + width as usize + 1;
-    &bytes[behind.min(bytes.len())..]
+    let next = CONTENT + width as usize + 1;
+    &bytes[next.min(bytes.len())..]
 }
 
 /// Whether there are only blanks.
 fn is_blank(bytes: &[u8]) -> bool
-    ensures blank { OnTrue result (bytes.now ≡ replicate (length bytes.now) 32) }
-    ensures ink { OnFalse result (Any (λ b. b ≢ 32) bytes.now) }
+    ensures blank { OnTrue result (bytes.now ≡ replicate (length bytes.now) blank) }
+    ensures ink { OnFalse result (Any (λ b. b ≢ blank) bytes.now) }
 {
     bytes.iter().all(|b| *b == b' ')
 }
 
 /// Whether a word of this index begins a block: a point number or a code number.
 fn is_first_index(index: u8) -> bool
-    ensures { IsTrue result ↔ ((index ≡ 11) ⊎ (index ≡ 41)) }
+    ensures { IsTrue result ↔ ((index ≡ POINT_NUMBER) ⊎ (index ≡ CODE_NUMBER)) }
 {
     index == POINT_NUMBER || index == CODE_NUMBER
 }

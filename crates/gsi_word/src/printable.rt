@@ -5,7 +5,8 @@
 //! line, so that no bytes are left to be tested one by one; some are tested twice. Only a line that
 //! fails is searched for its first bad byte.
 
-ghost use Rattle.std.specs.Prelude.{◌≡◌, ◌↔◌, ◌≤◌, ◌<◌, ◌+◌, ℕ, length, not, position, slice_index, All, IsTrue, IfErr, OnOk};
+ghost use Rattle.std.specs.Prelude.{◌≡◌, ◌↔◌, ◌≤◌, ◌<◌, ◌+◌, ℕ, length, not, position, slice_index};
+ghost use Rattle.std.specs.Prelude.{All, IsTrue, IfErr, OnOk};
 ghost use Rattle.gsi_word.specs.Words.{IsLineByte};
 ghost use Rattle.gsi_word.specs.LineFaults.{IsByteFault};
 ghost use Rattle.gsi_word.specs.Layout.{is_printable};

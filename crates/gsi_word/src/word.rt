@@ -43,9 +43,11 @@ impl<'a> Model for Word<'a> {
 
 impl<'a> Word<'a> {
     ghost use Rattle.std.specs.Prelude.{◌≡◌, ◌<◌, ◌≤◌, ◌+◌, ◌/◌, ◌%◌, length, drop, All, IfOk, ◌⊎◌};
+    ghost use Rattle.gsi_word.specs.Bytes.{zero_digit};
     ghost use Rattle.gsi_word.specs.Words.{IsGraphic, IsLineByte};
     ghost use Rattle.gsi_word.specs.Names.{name_of};
     ghost use Rattle.gsi_word.specs.Angles.{angle_of};
+    ghost use Rattle.gsi_word.specs.declared.angle.TheConstants.{LAST_UNIT};
 
     /// What the word is: 11 a point number, 21 a horizontal direction, 22 a vertical angle, 41 a
     /// code, 42 its first information.
@@ -59,7 +61,7 @@ impl<'a> Word<'a> {
     /// The first digit of the index, as it stands.
     #[inline(always)]
     pub fn tens(&self) -> u8
-        ensures value { result ≡ 48 + self.now.index / 10 }
+        ensures value { result ≡ zero_digit + self.now.index / 10 }
         ensures two_digits { self.now.index < 100 }
     {
         self.bytes[0]
@@ -68,7 +70,7 @@ impl<'a> Word<'a> {
     /// The second digit of the index, as it stands.
     #[inline(always)]
     pub fn ones(&self) -> u8
-        ensures { result ≡ 48 + self.now.index % 10 }
+        ensures { result ≡ zero_digit + self.now.index % 10 }
     {
         self.bytes[1]
     }
@@ -124,7 +126,7 @@ impl<'a> Word<'a> {
     #[inline(always)]
     pub fn angle(&self) -> Result<u32, AngleFault>
         ensures value { result ≡ angle_of self.now }
-        ensures within_turn { IfOk result (λ units. units < 40000000) }
+        ensures within_turn { IfOk result (λ units. units ≤ LAST_UNIT) }
     {
         let info = self.info();
         if info[3] != GON {
@@ -138,7 +140,7 @@ impl<'a> Word<'a> {
         }
         match decimal_number(self.content()) {
             None => Err(AngleFault::Digits),
-            Some(units) if units <= LAST_UNIT => Ok(units as u32),
+            Some(units) if units <= u64::from(LAST_UNIT) => Ok(units as u32),
             Some(_) => Err(AngleFault::Range),
         }
     }

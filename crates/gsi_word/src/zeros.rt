@@ -2,6 +2,7 @@
 
 ghost use Rattle.std.specs.Prelude.{◌≡◌, ◌<◌, ◌==◌, length, drop, ◌⊎◌};
 ghost use Rattle.std.specs.List.{prefix_len};
+ghost use Rattle.gsi_word.specs.Bytes.{zero_digit};
 ghost use Rattle.gsi_word.specs.Names.{name_of};
 
 use crate::lanes::lowest_lane;
@@ -27,7 +28,7 @@ pub(crate) fn zeros_before(content: &[u8]) -> usize
 #[inline(always)]
 fn leading_zeros(content: &[u8]) -> usize
     requires { (length content.now ≡ 8) ⊎ (length content.now ≡ 16) }
-    ensures { result ≡ prefix_len (λ b. b == 48) content.now }
+    ensures { result ≡ prefix_len (λ b. b == zero_digit) content.now }
 {
     if content.len() == GSI_8 {
         let others = u8x8::from_slice(content).simd_ne(u8x8::splat(b'0'));

@@ -110,24 +110,27 @@ from_first_turned targets c = record {
   directions = λ t h. back_from_first c.denominator (c.direction t) (c.direction 0);
 }
 
-as_stated_at : (directions : List ℕ) (t : ℕ) → pos (get_or directions t 0) ≡ as_stated directions t
+as_stated_at : (directions : List ℕ) (t : ℕ) → pos (81 * get_or directions t 0)
+    ≡ as_stated directions t
 as_stated_at [] zero = refl
 as_stated_at [] (suc t) = refl
 as_stated_at (d ∷ directions) zero = refl
 as_stated_at (d ∷ directions) (suc t) = as_stated_at directions t
 
 -- Rounded directions as stated, target by target.
-as_stated_is : (directions : List ℕ) → (λ t. pos (get_or directions t 0)) ≡ as_stated directions
+as_stated_is : (directions : List ℕ) → (λ t. pos (81 * get_or directions t 0))
+    ≡ as_stated directions
 as_stated_is directions = λ i. λ t. as_stated_at directions t i
 
 -- Rounded directions are near every least choice.
 pub rounded_is_near : (station : StationValue) (step : ℕ) (directions : List ℕ) (c : Choice)
     (turns : List ℤ) → AreRounded station step directions → IsLeastOf station c turns
-    → AreBroughtNear (length station.targets) c (as_stated directions) step
+    → AreBroughtNear (length station.targets) c (as_stated directions) (81 * step)
 rounded_is_near station step directions c turns r least =
-    subst (λ stated. AreBroughtNear (length station.targets) c stated step)
+    subst (λ stated. AreBroughtNear (length station.targets) c stated (81 * step))
     (as_stated_is directions)
-    (as_near (length station.targets) (from_first c) c (λ t. pos (get_or directions t 0)) step
+    (as_near (length station.targets) (from_first c) c (λ t. pos (81 * get_or directions t 0))
+    (81 * step)
     least.positive (from_first_turned (length station.targets) c)
     (rounded_near (length station.targets) step (from_first c) (λ t. get_or directions t 0)
     (λ t inside. r.each t inside c turns least)))
@@ -145,7 +148,8 @@ rounded_is_apart station step most apart directions r small is = by (dec_le apar
         let c = choice_by r.adjustable.adjustment in
         let turns = r.adjustable.adjustment.turns in
         absurd ((is.from_each c turns least).no_nearer most (omega (arith, h))
-        (less_near (length station.targets) c (as_stated directions) step (2_000 * most) small
+        (less_near (length station.targets) c (as_stated directions) (81 * step) (162_000 * most)
+        (omega (arith, small))
         (rounded_is_near station step directions c turns r least)))
 
 -- Rounded directions of an adjustment are whole steps on the circle, and the first is 0.

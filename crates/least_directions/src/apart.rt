@@ -12,9 +12,9 @@ use std::alloc::Global;
 
 /// How far stated directions, one for each target of a station, are apart from its least-squares
 /// directions, in units of 0.000001 gon: one rotation brings every stated direction within that of
-/// the least-squares one, and none brings them nearer by a unit. Stated directions are in units of
-/// 0.000000001 gon. No residual may be above 2,000 half units (0.005 mgon each). Memory is linear
-/// in the observations.
+/// the least-squares one, and none brings them nearer by a unit. Stated directions are in parts, 81
+/// of which are 0.000000001 gon. No residual may be above 2,000 half units (0.005 mgon each).
+/// Memory is linear in the observations.
 ///
 /// # Errors
 ///

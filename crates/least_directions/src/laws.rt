@@ -4,9 +4,10 @@ ghost use Rattle.std.specs.Prelude.{◌≡◌, ◌≤◌, ◌<◌, ◌*◌, ◌%
 ghost use Rattle.adjust_kernel.specs.Residuals.{Choice};
 ghost use Rattle.adjust_kernel.specs.Stations.{StationValue};
 ghost use Rattle.directions_apart.specs.Apart.{AreBroughtNear};
-ghost use Rattle.directions_apart.specs.declared.units.TheConstants.{CIRCLE, UNIT};
+ghost use Rattle.directions_apart.specs.declared.units.TheConstants.{CIRCLE, PARTS, UNIT};
 ghost use Rattle.exact_adjustment.specs.LeastOf.{IsLeastOf};
-ghost use Rattle.least_directions.specs.LeastDirections.{AreApart, AreRounded, IsAdjustable, as_stated};
+ghost use Rattle.least_directions.specs.LeastDirections.{AreApart, AreRounded, IsAdjustable};
+ghost use Rattle.least_directions.specs.LeastDirections.{as_stated};
 
 /// A station that is adjustable has a least-squares choice.
 pub fn least()
@@ -25,12 +26,12 @@ pub fn one_answer()
 {}
 
 /// One rotation brings rounded directions within half a step of the least-squares ones, whichever
-/// choice is least; bounds are in halves of 0.000000001 gon. So the directions are apart by half a
-/// step at most, rounded up to whole units.
+/// choice is least; bounds are in halves of a part, 81 of which are 0.000000001 gon. So the
+/// directions are apart by half a step at most, rounded up to whole units.
 pub fn rounded()
     ensures near { (station : StationValue) (step : ℕ) (directions : List ℕ) (c : Choice)
         (turns : List ℤ) → AreRounded station step directions → IsLeastOf station c turns
-        → AreBroughtNear (length station.targets) c (as_stated directions) step }
+        → AreBroughtNear (length station.targets) c (as_stated directions) (PARTS * step) }
     ensures apart { (station : StationValue) (step most apart : ℕ) (directions : List ℕ)
         → AreRounded station step directions → step ≤ 2 * UNIT * most
         → AreApart station (as_stated directions) apart → apart ≤ most }

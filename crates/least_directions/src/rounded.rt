@@ -1,5 +1,6 @@
 //! A station's least-squares directions, rounded as tables print them.
-ghost use Rattle.std.specs.Prelude.{◌≡◌, ◌≤◌, ◌<◌, ◌%◌, ℕ, All, length, slice_index_or, IfErr, IfOk};
+ghost use Rattle.std.specs.Prelude.{◌≡◌, ◌≤◌, ◌<◌, ◌%◌, ℕ, All, length, slice_index_or, IfErr};
+ghost use Rattle.std.specs.Prelude.{IfOk};
 ghost use Rattle.directions_apart.specs.Rounding.{IsRounded};
 ghost use Rattle.directions_apart.specs.declared.units.TheConstants.{CIRCLE};
 ghost use Rattle.exact_adjustment.specs.Adjustments.{choice_by};

@@ -39,7 +39,8 @@ is-some Thousandth = omega arith
 one-mgon : (unit : ℕ) (text : List ℕ) (a b : ℕ) → 0 < unit → StatesMgon unit text a
     → StatesMgon unit text b → a ≡ b
 one-mgon unit text a b some s t =
-    let t-of-s = stated-thousandths unit text s.number (thousandths_value s.number) b s.text_is refl t in
+    let t-of-s = stated-thousandths unit text s.number (thousandths_value s.number) b s.text_is refl
+    t in
     sym (is-quotient unit (thousandths_value s.number) a some s.value)
     ∙ is-quotient unit (thousandths_value s.number) b some t-of-s
 

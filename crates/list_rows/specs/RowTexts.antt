@@ -12,7 +12,8 @@ use Rattle.station_book.specs.Stations.{SurveyedStation}
 -- the titles
 abbrev pub titles : List (List ℕ)
 titles =
-    codes "station" ∷ codes "set" ∷ codes "target" ∷ codes "direction" ∷ codes "2c" ∷ codes "2i" ∷ []
+    codes "station" ∷ codes "set" ∷ codes "target" ∷ codes "direction" ∷ codes "2c" ∷ codes "2i" ∷
+    []
 
 -- The row of an observation of a station: the station's name, the number of the set, the name of
 -- the target, the two-face direction in gon with six decimals, and its face differences 2c and 2i

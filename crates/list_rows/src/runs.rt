@@ -1,5 +1,5 @@
-//! The list as rows as a command, over a source of bytes and sinks: it makes its call, and answers the
-//! exit status.
+//! The list as rows as a command, over a source of bytes and sinks: it makes its call, and answers
+//! the exit status.
 ghost use Rattle.byte_ends.specs.Sink.{writer_change};
 ghost use Rattle.byte_ends.specs.Source.{UntilDropped};
 ghost use Rattle.list_rows.specs.Runs.{IsRowsRun};

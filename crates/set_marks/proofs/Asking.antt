@@ -1,5 +1,7 @@
 -- Names that are found without comparing each, and what is asked of them.
-use Rattle.std.proofs.Common.{◌≡◌, ℕ, zero, suc, ◌+◌, Bool, true, false, ◌&&◌, ◌||◌, not, List, [], ◌∷◌, ◌++◌, length, take, drop, refl, sym, ap, ◌∙◌, inl, inr, arith, append_assoc, None}
+use Rattle.std.proofs.Common.{◌≡◌, ℕ, zero, suc, ◌+◌, Bool, true, false, ◌&&◌, ◌||◌, not, List, []}
+use Rattle.std.proofs.Common.{◌∷◌, ◌++◌, length, take, drop, refl, sym, ap, ◌∙◌, inl, inr, arith}
+use Rattle.std.proofs.Common.{append_assoc, None}
 use Rattle.std.specs.Prelude.{slice_get, if◌then◌else◌, Some, ◌==◌, ◌<◌, ◌≤◌}
 use Rattle.std.specs.Bool.{OnTrue}
 use Rattle.std.proofs.Math.Seq.{take-append_seam}
@@ -14,7 +16,9 @@ use Rattle.station_book.proofs.lists.NameMaps.{name_eq, names_by_bytes}
 use Rattle.indexmap.specs.IndexSet.{insert_key}
 use Rattle.set_marks.specs.declared.faces.Faces.{Faces}
 use Rattle.set_marks.specs.declared.sight.Sight.{Sight}
-use Rattle.set_marks.specs.Divisions.{is_of, is_same_face, is_again, is_pair, last_target, end_of, targets_of, names_with, again_from, again_in, alone_among, alone_in}
+use Rattle.set_marks.specs.Divisions.{is_of, is_same_face, is_again, is_pair, last_target, end_of}
+use Rattle.set_marks.specs.Divisions.{targets_of, names_with, again_from, again_in, alone_among}
+use Rattle.set_marks.specs.Divisions.{alone_in}
 use Rattle.set_marks.specs.Searching.{repeats, names_in, KeepsFaces}
 use Rattle.set_marks.proofs.BeginsAndEnds.{among_with, among_names, or_none}
 use Rattle.set_marks.proofs.Repeated.{same_face}
@@ -103,7 +107,8 @@ targets_next : (rs rest left : List Sight) (r : Sight) (at : ℕ) → left ≡ d
 targets_next rs rest left r at is split =
     let step : at + 1 ≡ suc at = omega arith in
     ap (λ (k : ℕ). targets_of (take k rs)) step
-    ∙ ap (λ l. targets_of l) (take_next rs rest at r (sym is ∙ split)) ∙ names_more [] (take at rs) r
+    ∙ ap (λ l. targets_of l) (take_next rs rest at r (sym is ∙ split))
+    ∙ names_more [] (take at rs) r
 
 -- With the reading that comes next, what is left, and how many targets there are.
 pub next_left : (rs rest left : List Sight) (r : Sight) (at : ℕ) → left ≡ drop at rs
@@ -117,7 +122,8 @@ pub same_targets : (rs rest left : List Sight) (r : Sight) (at : ℕ) → left �
     → length (targets_of (take (at + 1) rs)) ≡ length (targets_of (take at rs))
 same_targets rs rest left r at is split e =
     ap length (targets_next rs rest left r at is split)
-    ∙ ap (λ b. length (if b then targets_of (take at rs) else targets_of (take at rs) ++ r.target ∷ []))
+    ∙ ap (λ b. length (if b then targets_of (take at rs) else targets_of (take at rs) ++ r.target
+    ∷ []))
     (among_targets (take at rs) r.target ∙ e)
 
 pub more_targets : (rs rest left : List Sight) (r : Sight) (at : ℕ) → left ≡ drop at rs

@@ -1,5 +1,6 @@
 -- Names that a content gives: they are read as they are from any content that holds them.
-use Rattle.std.proofs.Common.{◌≡◌, ℕ, ◌<◌, Bool, true, false, cond, List, [], ◌∷◌, ◌++◌, length, reverse, Option, Some, None, refl, ap, subst, inl, inr, arith, All}
+use Rattle.std.proofs.Common.{◌≡◌, ℕ, ◌<◌, Bool, true, false, cond, List, [], ◌∷◌, ◌++◌, length}
+use Rattle.std.proofs.Common.{reverse, Option, Some, None, refl, ap, subst, inl, inr, arith, All}
 use Rattle.std.specs.Prelude.{IfSome, ◌==◌}
 use Rattle.std.specs.List.{AllByRecursion, AllZip}
 use Rattle.std.proofs.lemmas.Bool.{cases_Bool}
@@ -12,7 +13,8 @@ use Rattle.station_book.specs.Blocks.{target}
 use Rattle.station_book.specs.Places.{History}
 use Rattle.station_book.proofs.lists.Elements.{all_in, in_reverse, all_from}
 use Rattle.set_marks.specs.declared.sight.Sight.{Sight}
-use Rattle.set_marks.specs.Stations.{SetUp, Occupation, sets_up, set_up_in, set_ups_of, sights_of, occupations, begun, stations_of}
+use Rattle.set_marks.specs.Stations.{SetUp, Occupation, sets_up, set_up_in, set_ups_of, sights_of}
+use Rattle.set_marks.specs.Stations.{occupations, begun, stations_of}
 use Rattle.set_marks.proofs.Bare.{is_rest}
 
 -- A name that a content gives which holds it.
@@ -55,7 +57,8 @@ unfolding target
 first_content line b is = by b.words refl is.words.some_word is.words.each where
   by : (words : List GsiWord) → b.words ≡ words → 0 < length b.words
       → All (IsWord (cond (is_starred line) 16 8)) b.words → HasBareTarget b
-  by [] e some each = absurd (let l : length b.words ≡ 0 = ap (λ (ws : List GsiWord). length ws) e in
+  by [] e some each = absurd
+      (let l : length b.words ≡ 0 = ap (λ (ws : List GsiWord). length ws) e in
       omega arith)
   by (w ∷ ws) e some each =
       let word = All-head (IsWord (cond (is_starred line) 16 8)) w ws
@@ -82,7 +85,8 @@ both : (ss ts : List SetUp) → AllByRecursion IsBareSetUp ss → AllByRecursion
 both [] ts a b = b
 both (s ∷ ss) ts a b = (a.0, both ss ts a.1 b)
 
-set_ups_bare : (h : History) → AllByRecursion HasBareTarget h → AllByRecursion IsBareSetUp (set_ups_of h)
+set_ups_bare : (h : History) → AllByRecursion HasBareTarget h
+    → AllByRecursion IsBareSetUp (set_ups_of h)
 set_ups_bare [] all = tt
 set_ups_bare (b ∷ past) all = both (set_ups_of past) (set_up_in (length (sights_of past)) b)
     (set_ups_bare past all.1) (one (sets_up b)) where
@@ -101,7 +105,8 @@ all_named (s ∷ t ∷ ss) rs all = All-cons (λ (o : Occupation). IsBareName o.
 
 -- The stations of real blocks have such names, and so has one whose name is stated.
 pub bare_names : (station : Option (List ℕ)) (lines : List (List ℕ)) (h : History)
-    → AllZip IsBlock lines (reverse h) → IfSome station IsName → HaveBareNames (stations_of station h)
+    → AllZip IsBlock lines (reverse h) → IfSome station IsName
+    → HaveBareNames (stations_of station h)
 bare_names (Some name) lines h zip is = all_named (begun (Some name) h) (sights_of h)
     (name_is_bare name is, tt)
 bare_names None lines h zip is = all_named (set_ups_of h) (sights_of h)

@@ -1,5 +1,7 @@
 -- Where sets begin, and where the last of them ends, in words.
-use Rattle.std.proofs.Common.{◌≡◌, ℕ, zero, suc, ◌+◌, ◌≤◌, Bool, true, false, ◌&&◌, ◌||◌, not, List, [], ◌∷◌, ◌++◌, length, filter, take, Some, refl, sym, ap, subst, ◌∙◌, inl, inr, arith, append_assoc, All}
+use Rattle.std.proofs.Common.{◌≡◌, ℕ, zero, suc, ◌+◌, ◌≤◌, Bool, true, false, ◌&&◌, ◌||◌, not, List}
+use Rattle.std.proofs.Common.{[], ◌∷◌, ◌++◌, length, filter, take, Some, refl, sym, ap, subst, ◌∙◌}
+use Rattle.std.proofs.Common.{inl, inr, arith, append_assoc, All}
 use Rattle.std.specs.Prelude.{slice_get, if◌then◌else◌}
 use Rattle.std.specs.List.{list_any}
 use Rattle.std.specs.Str.{bytes_eq}
@@ -12,9 +14,11 @@ use Rattle.std.proofs.lemmas.List.Folds.{list_any-append}
 use Rattle.std.proofs.lemmas.Slice.Eq.{bytes_eq-Decides}
 use Rattle.station_book.specs.Places.{is_among, with_new}
 use Rattle.set_marks.specs.declared.sight.Sight.{Sight}
-use Rattle.set_marks.specs.Divisions.{is_of, first_target, starts_of, starts_from, last_place, end_in, end_by, end_of, names_with, targets_of}
+use Rattle.set_marks.specs.Divisions.{is_of, first_target, starts_of, starts_from, last_place}
+use Rattle.set_marks.specs.Divisions.{end_in, end_by, end_of, names_with, targets_of}
 use Rattle.set_marks.proofs.SetsInWords.{first_start}
-use Rattle.set_marks.specs.BeginsAndEnds.{count_of, is_even, begins_by, begins_set, places_from, was_read, EndsLastSet}
+use Rattle.set_marks.specs.BeginsAndEnds.{count_of, is_even, begins_by, begins_set, places_from}
+use Rattle.set_marks.specs.BeginsAndEnds.{was_read, EndsLastSet}
 
 -- What stands at the seam of two lists.
 at_seam : (front rs : List Sight) (r : Sight) → slice_get (front ++ r ∷ rs) (length front) ≡ Some r
@@ -227,7 +231,8 @@ several_above : (r : Sight) (rs : List Sight) → 2 ≤ length (starts_of (r ∷
 several_above r rs many =
     by (first_start r rs) (starts_from r.target false 1 rs) refl where
       by : starts_of (r ∷ rs) ≡ 0 ∷ starts_from r.target false 1 rs
-          → (ps : List ℕ) → starts_from r.target false 1 rs ≡ ps → 1 ≤ last_place (starts_of (r ∷ rs))
+          → (ps : List ℕ) → starts_from r.target false 1 rs ≡ ps
+          → 1 ≤ last_place (starts_of (r ∷ rs))
       by is [] e = let two : 2 ≤ length {A = ℕ} (0 ∷ []) =
           subst (λ (qs : List ℕ). 2 ≤ length (0 ∷ qs)) e
           (subst (λ (qs : List ℕ). 2 ≤ length qs) is many) in absurd (omega (arith, two))

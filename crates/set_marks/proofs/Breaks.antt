@@ -1,5 +1,7 @@
 -- Where the first line of some bytes ends.
-use Rattle.std.proofs.Common.{◌≡◌, ℕ, suc, ◌+◌, ◌<◌, ◌≤◌, true, false, List, [], ◌∷◌, length, take, drop, get_or, not, Option, Some, None, refl, sym, ap, subst, ◌∙◌, arith, inl, inr}
+use Rattle.std.proofs.Common.{◌≡◌, ℕ, suc, ◌+◌, ◌<◌, ◌≤◌, true, false, List, [], ◌∷◌, length, take}
+use Rattle.std.proofs.Common.{drop, get_or, not, Option, Some, None, refl, sym, ap, subst, ◌∙◌}
+use Rattle.std.proofs.Common.{arith, inl, inr}
 use Rattle.std.specs.Prelude.{cond}
 use Rattle.std.specs.List.{position, position_or_len}
 use Rattle.std.proofs.lemmas.Bool.{cases_lt, lt-ltb, le-ltb, false_from_ne_true, false≢true, ne_eqb}
@@ -15,11 +17,13 @@ use Rattle.set_marks.specs.Placing.{IsEmptyPart, IsFirstEnd}
 abbrev place : List ℕ → ℕ
 place bytes = position_or_len is_line_end bytes
 
-found : (bytes : List ℕ) → place bytes < length bytes → position is_line_end bytes ≡ Some (place bytes)
+found : (bytes : List ℕ) → place bytes < length bytes → position is_line_end bytes
+    ≡ Some (place bytes)
 found bytes lt = ap (λ b. cond b (Some (place bytes)) None) (lt-ltb (place bytes) (length bytes) lt)
 
 missed : (bytes : List ℕ) → length bytes ≤ place bytes → position is_line_end bytes ≡ None
-missed bytes le = ap (λ b. cond b (Some (place bytes)) None) (le-ltb (place bytes) (length bytes) le)
+missed bytes le = ap (λ b. cond b (Some (place bytes)) None)
+    (le-ltb (place bytes) (length bytes) le)
 
 at_place : (bytes : List ℕ) → place bytes < length bytes → IsFirstEnd bytes (place bytes)
 at_place bytes lt =
@@ -43,7 +47,8 @@ some_end bytes n e = elim (cases_lt (place bytes) (length bytes)) [
 pub no_end : (bytes : List ℕ) → None ≡ position is_line_end bytes → parts bytes ≡ bytes ∷ []
 no_end bytes e = elim (cases_lt (place bytes) (length bytes)) [
   | inl lt ↦ let f : None ≡ Some (place bytes) = e ∙ found bytes lt in cc
-  | inr le ↦ slice_split_none is_line_end bytes (All-from_get_or (λ b. is_line_end b ≡ false) bytes 0
+  | inr le ↦ slice_split_none is_line_end bytes
+      (All-from_get_or (λ b. is_line_end b ≡ false) bytes 0
       (λ k lt. fails_before_first is_line_end bytes k 0 (omega arith)))
 ]
 
@@ -88,7 +93,8 @@ printable_position bytes at printable inside e = is_position bytes (Some at) (
 )
 
 -- A line feed at the front ends an empty part.
-pub feed_first : (bytes : List ℕ) → 0 < length bytes → slice_index bytes 0 ≡ 10 → IsEmptyPart bytes 1
+pub feed_first : (bytes : List ℕ) → 0 < length bytes → slice_index bytes 0 ≡ 10
+    → IsEmptyPart bytes 1
 feed_first bytes lt e =
     let end : is_line_end (slice_index bytes 0) ≡ true = rw e refl in
     inr (refl, some_end bytes 0 (printable_position bytes 0 (λ k lt. absurd (omega arith)) lt end))

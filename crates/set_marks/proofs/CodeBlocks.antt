@@ -1,9 +1,11 @@
 -- What the book reads in the blocks of code lines.
-use Rattle.std.proofs.Common.{◌≡◌, ℕ, zero, suc, ◌-◌, ◌<◌, Bool, true, false, List, [], ◌∷◌, ◌++◌, length, replicate, Option, Some, None, refl, sym, ap, arith}
+use Rattle.std.proofs.Common.{◌≡◌, ℕ, zero, suc, ◌-◌, ◌<◌, Bool, true, false, List, [], ◌∷◌, ◌++◌}
+use Rattle.std.proofs.Common.{length, replicate, Option, Some, None, refl, sym, ap, arith}
 use Rattle.std.specs.Prelude.{◌==◌}
 use Rattle.std.proofs.lemmas.Bool.{agree_below, agree_below_at, eqb-true}
 use Rattle.gsi_word.specs.Names.{name_of}
-use Rattle.station_book.specs.Blocks.{role_of, opens_station, opens_set, closes_set, has_two, named, number}
+use Rattle.station_book.specs.Blocks.{role_of, opens_station, opens_set, closes_set, has_two, named}
+use Rattle.station_book.specs.Blocks.{number}
 use Rattle.set_marks.specs.declared.mark.Code.TheVariants.{Station, Set, Close}
 use Rattle.set_marks.specs.Marks.{width_of, code_block}
 use Rattle.set_marks.proofs.BareNames.{IsBareName}
@@ -23,7 +25,8 @@ bare : (zeros : ℕ) (name : List ℕ) → IsBareName name → name_of (replicat
 bare zero name is = is.bare
 bare (suc zeros) name is = more (replicate zeros 48 ++ name) (bare zeros name is) where
   more : (bytes : List ℕ) → name_of bytes ≡ name → name_of (48 ∷ bytes) ≡ name
-  more [] e = absurd (let l : 0 ≡ length name = ap length e in let s = is.is_name.some in omega arith)
+  more [] e = absurd
+      (let l : 0 ≡ length name = ap length e in let s = is.is_name.some in omega arith)
   more (b ∷ bytes) e = e
 
 -- A code line of a station names it.

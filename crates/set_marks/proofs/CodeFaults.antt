@@ -1,5 +1,6 @@
 -- The faults that a block may have, apart from those of codes.
-use Rattle.std.proofs.Common.{◌≡◌, ℕ, Bool, true, false, ◌&&◌, ◌||◌, not, List, [], ◌∷◌, ◌++◌, Option, Some, None, refl}
+use Rattle.std.proofs.Common.{◌≡◌, ℕ, Bool, true, false, ◌&&◌, ◌||◌, not, List, [], ◌∷◌, ◌++◌}
+use Rattle.std.proofs.Common.{Option, Some, None, refl}
 use Rattle.std.specs.Prelude.{IfSome}
 use Rattle.std.specs.List.{AllByRecursion}
 use Rattle.std.specs.Option.{option_map}
@@ -14,9 +15,15 @@ use Rattle.station_book.specs.declared.fault.BookKind.TheVariants as kinds
 use Rattle.station_book.specs.declared.role.Role.{Role}
 use Rattle.station_book.specs.declared.role.Role.TheVariants as roles
 use Rattle.station_book.specs.Limits.{FaceLimits}
-use Rattle.station_book.specs.Blocks.{role_of, is_station, is_set_code, is_close, is_measurement, opens_station, opens_set, closes_set, is_opening, has_direction, has_two, lacks, named, number, found_in_block, name_found, angle_fault}
+use Rattle.station_book.specs.Blocks.{role_of, is_station, is_set_code, is_close, is_measurement}
+use Rattle.station_book.specs.Blocks.{opens_station, opens_set, closes_set, is_opening}
+use Rattle.station_book.specs.Blocks.{has_direction, has_two, lacks, named, number, found_in_block}
+use Rattle.station_book.specs.Blocks.{name_found, angle_fault}
 use Rattle.station_book.specs.Places.{History, is_open, is_empty, station}
-use Rattle.station_book.specs.Faults.{when, first_of, end_faults, station_faults, set_faults, reading_faults, faults_as, fault_after, fault_at_end, open_readings, has_one_face, had_sets, has_set_number, is_face_taken}
+use Rattle.station_book.specs.Faults.{when, first_of, end_faults, station_faults, set_faults}
+use Rattle.station_book.specs.Faults.{reading_faults, faults_as, fault_after, fault_at_end}
+use Rattle.station_book.specs.Faults.{open_readings, has_one_face, had_sets, has_set_number}
+use Rattle.station_book.specs.Faults.{is_face_taken}
 use Rattle.station_book.proofs.places.Steps.{set_role, measurement_role}
 use Rattle.set_marks.specs.Found.{is_of_codes}
 

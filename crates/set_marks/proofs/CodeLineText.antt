@@ -2,7 +2,8 @@
 use Rattle.std.proofs.Common.{◌≡◌, ℕ, Bool, true, false, List, [], ◌∷◌, ◌++◌, map, arith, All}
 use Rattle.std.specs.List.{join_with_byte}
 use Rattle.std.proofs.lemmas.Bool.{or_from, ne_eqb}
-use Rattle.std.proofs.lemmas.List.Elements.{All-cons, All-head, All-nil, All-tail, All-append, All-weaker}
+use Rattle.std.proofs.lemmas.List.Elements.{All-cons, All-head, All-nil, All-tail, All-append}
+use Rattle.std.proofs.lemmas.List.Elements.{All-weaker}
 use Rattle.gsi_word.specs.Words.{GsiWord, IsWord, IsLineByte, spelled}
 use Rattle.gsi_word.proofs.WordLaws.{spelled_printable}
 use Rattle.gsi_file.specs.Parts.{HasNoEnd, is_line_end}
@@ -25,7 +26,8 @@ words_printable width (w ∷ v ∷ words) each = All-append IsLineByte (spelled 
     (All-cons IsLineByte 32 (join_with_byte 32 (map spelled (v ∷ words))) (omega arith, omega arith)
     (words_printable width (v ∷ words) (All-tail (IsWord width) w (v ∷ words) each)))
 
-starred : (wide : Bool) (bytes : List ℕ) → All IsLineByte bytes → All IsLineByte (star wide ++ bytes)
+starred : (wide : Bool) (bytes : List ℕ) → All IsLineByte bytes
+    → All IsLineByte (star wide ++ bytes)
 starred true bytes each = All-cons IsLineByte 42 bytes (omega arith, omega arith) each
 starred false bytes each = each
 
@@ -33,4 +35,5 @@ starred false bytes each = each
 pub text_has_no_end : (m : Mark) → HasRoom m.wide m.code → HasNoEnd (text_of m)
 text_has_no_end m room = All-weaker IsLineByte (λ b. is_line_end b ≡ false) printable_ends_none
     (text_of m) (starred m.wide (words_text m.wide m.code)
-    (words_printable (width_of m.wide) (words_of (width_of m.wide) m.code) (are_words m.wide m.code room)))
+    (words_printable (width_of m.wide) (words_of (width_of m.wide) m.code)
+    (are_words m.wide m.code room)))

@@ -1,5 +1,6 @@
 -- The lines of the copy of a file are its blocks with the code lines between.
-use Rattle.std.proofs.Common.{◌≡◌, ℕ, false, ◌+◌, List, [], ◌∷◌, length, reverse, Option, None, sym, subst}
+use Rattle.std.proofs.Common.{◌≡◌, ℕ, false, ◌+◌, List, [], ◌∷◌, length, reverse, Option, None, sym}
+use Rattle.std.proofs.Common.{subst}
 use Rattle.std.specs.Prelude.{IfSome}
 use Rattle.std.specs.List.{AllZip}
 use Rattle.gsi_word.specs.Blocks.{IsBlock}
@@ -39,4 +40,5 @@ copy_is_blocks station bytes h zip is fault =
     let roomy = all_roomy station bytes h zip is fault in
     subst (λ (ls : List (List ℕ)). AllZip IsBlock ls (copy_blocks station h))
     (sym (copy_lines bytes marks roomy))
-    (lines_are_blocks 0 marks lines (reverse h) roomy (copy_marked station lines h zip is fault).up zip)
+    (lines_are_blocks 0 marks lines (reverse h) roomy (copy_marked station lines h zip is fault).up
+    zip)

@@ -1,10 +1,13 @@
 -- The lines of a copy are those of the file, with the code lines between.
-use Rattle.std.proofs.Common.{◌≡◌, ℕ, suc, ◌+◌, ◌-◌, ◌<◌, ◌≤◌, Bool, true, false, List, [], ◌∷◌, ◌++◌, length, filter, map, take, drop, refl, sym, ap, subst, ◌∙◌, inl, inr, arith, append_assoc}
+use Rattle.std.proofs.Common.{◌≡◌, ℕ, suc, ◌+◌, ◌-◌, ◌<◌, ◌≤◌, Bool, true, false, List, [], ◌∷◌}
+use Rattle.std.proofs.Common.{◌++◌, length, filter, map, take, drop, refl, sym, ap, subst, ◌∙◌, inl}
+use Rattle.std.proofs.Common.{inr, arith, append_assoc}
 use Rattle.std.specs.Prelude.{◌==◌}
 use Rattle.std.specs.List.{AllByRecursion, AllZip, flat_map}
 use Rattle.std.proofs.Math.Seq.{take-add}
 use Rattle.std.proofs.lemmas.Bool.{cases_Bool, cases_lt, eqb-true, eqb-false}
-use Rattle.std.proofs.lemmas.List.{drop-drop, drop_at, take_at, take-append-drop, length-append, length-drop}
+use Rattle.std.proofs.lemmas.List.{drop-drop, drop_at, take_at, take-append-drop, length-append}
+use Rattle.std.proofs.lemmas.List.{length-drop}
 use Rattle.std.proofs.lemmas.List.Splits.{slice_split_at}
 use Rattle.gsi_word.specs.Blocks.{GsiBlock, IsBlock}
 use Rattle.gsi_file.specs.Parts.{parts, is_line, is_line_end, numbered_lines, HasNoEnd}
@@ -21,7 +24,8 @@ use Rattle.set_marks.proofs.CodeLineText.{text_has_no_end}
 use Rattle.set_marks.proofs.WholeLines.{LastEnds, last_behind}
 use Rattle.set_marks.proofs.Unmarked.{line_ends}
 use Rattle.set_marks.proofs.Segments.{AreUp, AreFrom, from_later, none_before, earlier_codes}
-use Rattle.set_marks.proofs.NumberedLines.{numbered_append, one_numbered, one_part, some_part, first_cut}
+use Rattle.set_marks.proofs.NumberedLines.{numbered_append, one_numbered, one_part, some_part}
+use Rattle.set_marks.proofs.NumberedLines.{first_cut}
 
 -- what each code line says has room
 abbrev pub AreRoomy : List BlockMark → Type 0
@@ -50,7 +54,8 @@ abbrev lines_at : List ℕ → ℕ → List BlockMark → List ℕ
 lines_at bytes at ms = flat_map (λ m. line_of (placed_at bytes at m)) ms
 
 woven_here : (bytes : List ℕ) (at : ℕ) (ms : List BlockMark) (later : List Mark)
-    → woven at bytes (map (placed_at bytes at) ms ++ later) ≡ lines_at bytes at ms ++ woven at bytes later
+    → woven at bytes (map (placed_at bytes at) ms ++ later) ≡ lines_at bytes at ms
+    ++ woven at bytes later
 woven_here bytes at [] later = refl
 woven_here bytes at (m ∷ ms) later =
     let line = line_of (placed_at bytes at m) in
@@ -65,7 +70,8 @@ numbered_codes : (bytes : List ℕ) (at : ℕ) (ms : List BlockMark) (more : Lis
 numbered_codes bytes at [] more roomy = refl
 numbered_codes bytes at (m ∷ ms) more roomy =
     let mark = placed_at bytes at m in
-    ap (λ (bs : List ℕ). numbered_lines bs) (append_assoc (line_of mark) (lines_at bytes at ms) more)
+    ap (λ (bs : List ℕ). numbered_lines bs)
+    (append_assoc (line_of mark) (lines_at bytes at ms) more)
     ∙ numbered_append (line_of mark) (lines_at bytes at ms ++ more) (line_ends mark)
     ∙ (λ i. one_numbered (text_of mark) mark.line_end (text_has_no_end mark roomy.0)
     (text_is_line m.wide m.code) i ++ numbered_codes bytes at ms more roomy.1 i)
@@ -153,7 +159,8 @@ with_line : (bytes : List ℕ) (at number : ℕ) (ms : List BlockMark) (p : List
     (ps : List (List ℕ)) (line : List ℕ) → AreRoomy ms
     → numbered_lines line ≡ filter is_line (p ∷ [] ∷ [])
     → ((n : ℕ) (ls : List BlockMark) → AreRoomy ls
-    → numbered_lines (woven (at + length p + 1) bytes (placed_from bytes (at + length p + 1) n ls ps))
+    → numbered_lines
+    (woven (at + length p + 1) bytes (placed_from bytes (at + length p + 1) n ls ps))
     ≡ lines_with n ls (filter is_line ps))
     → ((later : List Mark) → AreBehind (at + length p + 1) later
     → woven at bytes later ≡ line ++ woven (at + length p + 1) bytes later)
@@ -164,7 +171,8 @@ with_line bytes at number ms p ps line roomy one rest on joins =
     let next = at + length p + 1 in
     let first = marks_of_block (suc number) ms in
     let after = marks_after (suc number) ms in
-    let far = λ (n : ℕ) (ls : List BlockMark). placed_behind bytes next next n ls ps (omega arith) in
+    let far = λ (n : ℕ) (ls : List BlockMark). placed_behind bytes next next n ls ps (omega arith)
+    in
     let later = placed_from bytes next (suc number) after ps in
     let same = placed_from bytes next number ms ps in
     elim (cases_Bool (is_line p)) [
@@ -173,7 +181,8 @@ with_line bytes at number ms p ps line roomy one rest on joins =
           ∙ ap (λ (ls : List (List ℕ)). map code_text first ++ ls)
           (ap (λ (bs : List ℕ). numbered_lines bs) (on later (far (suc number) after))
           ∙ joins (woven next bytes later)
-          ∙ (λ i. (one ∙ kept p h) i ++ rest (suc number) after (roomy_after (suc number) ms roomy) i)))
+          ∙ (λ i. (one ∙ kept p h) i ++ rest (suc number) after (roomy_after (suc number) ms roomy)
+          i)))
       | inr h ↦ rw h (ap (λ (bs : List ℕ). numbered_lines bs) (on same (far number ms))
           ∙ joins (woven next bytes same)
           ∙ (λ i. (one ∙ dropped p h) i ++ rest number ms roomy i))
@@ -201,7 +210,8 @@ from_place bytes at number ms (p ∷ ps) le e roomy = elim (first_cut (drop at b
       ap (λ (bs : List ℕ). length bs) c.is ∙ length-append p (c.end ∷ c.rest) in
       let inside : next ≤ length bytes = omega (arith, long, length-drop at bytes, le) in
       let line = p ++ c.end ∷ [] in
-      let split : drop at bytes ≡ line ++ c.rest = c.is ∙ sym (append_assoc p (c.end ∷ []) c.rest) in
+      let split : drop at bytes ≡ line ++ c.rest = c.is
+      ∙ sym (append_assoc p (c.end ∷ []) c.rest) in
       let count : length line ≡ length p + 1 = length-append p (c.end ∷ []) in
       let behind : drop next bytes ≡ c.rest =
       ap (λ (k : ℕ). drop k bytes) (let q : next ≡ at + (length p + 1) = omega arith in q)

@@ -1,9 +1,12 @@
 -- The code lines of a file stand where lines with a byte begin, in order.
-use Rattle.std.proofs.Common.{◌≡◌, ℕ, suc, ◌+◌, ◌-◌, ◌<◌, ◌≤◌, true, false, List, [], ◌∷◌, ◌++◌, length, map, drop, get_or, refl, sym, ap, subst, ◌∙◌, inl, inr, arith, append_assoc}
+use Rattle.std.proofs.Common.{◌≡◌, ℕ, suc, ◌+◌, ◌-◌, ◌<◌, ◌≤◌, true, false, List, [], ◌∷◌, ◌++◌}
+use Rattle.std.proofs.Common.{length, map, drop, get_or, refl, sym, ap, subst, ◌∙◌, inl, inr, arith}
+use Rattle.std.proofs.Common.{append_assoc}
 use Rattle.std.specs.Prelude.{slice_index}
 use Rattle.std.specs.List.{AllByRecursion}
 use Rattle.std.proofs.lemmas.Bool.{cases_Bool}
-use Rattle.std.proofs.lemmas.List.{append-nil, drop-drop, drop_at, length-append, length-drop, get_or-drop}
+use Rattle.std.proofs.lemmas.List.{append-nil, drop-drop, drop_at, length-append, length-drop}
+use Rattle.std.proofs.lemmas.List.{get_or-drop}
 use Rattle.std.proofs.lemmas.List.Elements.{All-head}
 use Rattle.gsi_file.specs.Parts.{parts, is_line, is_line_end, HasNoEnd}
 use Rattle.set_marks.specs.declared.mark.BlockMark.{BlockMark}
@@ -21,7 +24,8 @@ pub record AreWell (bytes : List ℕ) (from : ℕ) (ms : List Mark) : Type 0 whe
 
 well_earlier : (bytes : List ℕ) (from at : ℕ) (ms : List Mark) → from ≤ at → AreWell bytes at ms
     → AreWell bytes from ms
-well_earlier bytes from at [] le w = record { ordered = (let o = w.ordered in omega arith); each = tt }
+well_earlier bytes from at [] le w = record
+    { ordered = (let o = w.ordered in omega arith); each = tt }
 well_earlier bytes from at (m ∷ ms) le w = record {
   ordered = ((let o = w.ordered.0 in omega arith), w.ordered.1, w.ordered.2, w.ordered.3);
   each = w.each;
@@ -81,7 +85,8 @@ well_from : (bytes : List ℕ) (at number : ℕ) (ms : List BlockMark) (ps : Lis
     → AreWell bytes at (placed_from bytes at number ms ps)
 well_from bytes at number ms [] le e begins roomy = absurd (some_part (drop at bytes) e)
 well_from bytes at number ms (p ∷ ps) le e begins roomy = elim (first_cut (drop at bytes) p ps e) [
-  | inl a ↦ subst (λ (qs : List (List ℕ)). AreWell bytes at (placed_from bytes at number ms (p ∷ qs)))
+  | inl a ↦ subst
+      (λ (qs : List (List ℕ)). AreWell bytes at (placed_from bytes at number ms (p ∷ qs)))
       (sym a.behind) (well_line bytes at number ms p [] roomy begins
       (has_first bytes at p [] (a.is ∙ sym (append-nil p)) a.none)
       (λ n ls r. record { ordered = le; each = tt }))
@@ -91,7 +96,8 @@ well_from bytes at number ms (p ∷ ps) le e begins roomy = elim (first_cut (dro
       ap (λ (bs : List ℕ). length bs) c.is ∙ length-append p (c.end ∷ c.rest) in
       let inside : next ≤ length bytes = omega (arith, long, length-drop at bytes, le) in
       let line = p ++ c.end ∷ [] in
-      let split : drop at bytes ≡ line ++ c.rest = c.is ∙ sym (append_assoc p (c.end ∷ []) c.rest) in
+      let split : drop at bytes ≡ line ++ c.rest = c.is
+      ∙ sym (append_assoc p (c.end ∷ []) c.rest) in
       let count : length line ≡ length p + 1 = length-append p (c.end ∷ []) in
       let behind : drop next bytes ≡ c.rest =
       ap (λ (k : ℕ). drop k bytes) (let q : next ≡ at + (length p + 1) = omega arith in q)
@@ -113,6 +119,7 @@ well_from bytes at number ms (p ∷ ps) le e begins roomy = elim (first_cut (dro
 ]
 
 -- The code lines of a file stand where lines with a byte begin, in order.
-pub are_well : (bytes : List ℕ) (ms : List BlockMark) → AreRoomy ms → AreWell bytes 0 (placed bytes ms)
+pub are_well : (bytes : List ℕ) (ms : List BlockMark) → AreRoomy ms
+    → AreWell bytes 0 (placed bytes ms)
 are_well bytes ms roomy =
     well_from bytes 0 0 ms (parts bytes) (omega arith) refl (inl refl) roomy

@@ -1,6 +1,7 @@
 -- The copy of a marked file: its blocks, what the book finds in it, and what it is without its code
 -- lines.
-use Rattle.std.proofs.Common.{◌≡◌, ℕ, Bool, true, false, List, [], ◌∷◌, ◌++◌, reverse, Option, Some, None, refl, sym, ap, subst, ◌∙◌, append_assoc}
+use Rattle.std.proofs.Common.{◌≡◌, ℕ, Bool, true, false, List, [], ◌∷◌, ◌++◌, reverse, Option, Some}
+use Rattle.std.proofs.Common.{None, refl, sym, ap, subst, ◌∙◌, append_assoc}
 use Rattle.std.specs.Prelude.{IfSome}
 use Rattle.std.specs.List.{AllZip, list_any}
 use Rattle.std.proofs.lemmas.List.{reverse-reverse, reverse-append, append-nil}
@@ -48,7 +49,8 @@ one_each (l ∷ ls) (x ∷ bs) (y ∷ cs) a b =
 -- Bytes have one history.
 one_history : (bytes : List ℕ) (g h : History) → AreBlocksOf bytes g → AreBlocksOf bytes h → g ≡ h
 one_history bytes g h a b = sym (reverse-reverse g)
-    ∙ ap (λ (bs : List GsiBlock). reverse bs) (one_each (numbered_lines bytes) (reverse g) (reverse h) a b)
+    ∙ ap (λ (bs : List GsiBlock). reverse bs)
+    (one_each (numbered_lines bytes) (reverse g) (reverse h) a b)
     ∙ reverse-reverse h
 
 -- Where a file ends without a fault, its lines are its numbered lines.
@@ -65,39 +67,41 @@ all_lines bytes fails e = by (first_break LONGEST_FILE bytes) fails e where
 
 module _ (station : Option (List ℕ)) (bytes : List ℕ) (fails : Bool) (m : Marked)
     (is : IfSome station IsName)
-    (marking : IsMarking station bytes (file_answers (record { bytes = bytes; fails = fails })) m) where
-  file_blocks : AreBlocksOf bytes marking.blocks
-  file_blocks = subst (λ (ls : List (List ℕ)). AllZip IsBlock ls (reverse marking.blocks))
-      (all_lines bytes fails marking.are_blocks.ended) marking.are_blocks.each
+    (marking : IsMarking station bytes (file_answers (record { bytes = bytes; fails = fails })) m)
+  where
+    file_blocks : AreBlocksOf bytes marking.blocks
+    file_blocks = subst (λ (ls : List (List ℕ)). AllZip IsBlock ls (reverse marking.blocks))
+        (all_lines bytes fails marking.are_blocks.ended) marking.are_blocks.each
 
-  -- The copy has the file's blocks, with those of the code lines before theirs.
-  pub copy_has_blocks : AreBlocksOf (copy_of bytes m) (copy_history station marking.blocks)
-  copy_has_blocks =
-      subst (λ (copy : List ℕ). AreBlocksOf copy (copy_history station marking.blocks))
-      (sym marking.copy) (subst (λ (bs : List GsiBlock). AllZip IsBlock
-      (numbered_lines (woven 0 bytes (placed bytes (marks_of station marking.blocks)))) bs)
-      (sym (history_of (copy_blocks station marking.blocks)))
-      (copy_is_blocks station bytes marking.blocks file_blocks is marking.clean))
+    -- The copy has the file's blocks, with those of the code lines before theirs.
+    pub copy_has_blocks : AreBlocksOf (copy_of bytes m) (copy_history station marking.blocks)
+    copy_has_blocks =
+        subst (λ (copy : List ℕ). AreBlocksOf copy (copy_history station marking.blocks))
+        (sym marking.copy) (subst (λ (bs : List GsiBlock). AllZip IsBlock
+        (numbered_lines (woven 0 bytes (placed bytes (marks_of station marking.blocks)))) bs)
+        (sym (history_of (copy_blocks station marking.blocks)))
+        (copy_is_blocks station bytes marking.blocks file_blocks is marking.clean))
 
-  -- In it the book finds each reading where the division puts it.
-  pub copy_is_found : (copy : History) → AreBlocksOf (copy_of bytes m) copy
-      → IsFoundAsDivided station marking.blocks copy
-  copy_is_found copy blocks =
-      let lines = numbered_lines bytes in
-      let h = marking.blocks in
-      subst (λ (g : History). IsFoundAsDivided station h g)
-      (one_history (copy_of bytes m) (copy_history station h) copy copy_has_blocks blocks) (record {
-        found = found_as_divided station lines h file_blocks is marking.clean;
-        faults = λ limits. no_fault_of_codes limits station lines h file_blocks is marking.clean;
-        end = no_fault_at_end station lines h file_blocks is marking.clean;
-      })
+    -- In it the book finds each reading where the division puts it.
+    pub copy_is_found : (copy : History) → AreBlocksOf (copy_of bytes m) copy
+        → IsFoundAsDivided station marking.blocks copy
+    copy_is_found copy blocks =
+        let lines = numbered_lines bytes in
+        let h = marking.blocks in
+        subst (λ (g : History). IsFoundAsDivided station h g)
+        (one_history (copy_of bytes m) (copy_history station h) copy copy_has_blocks blocks) (record {
+          found = found_as_divided station lines h file_blocks is marking.clean;
+          faults = λ limits. no_fault_of_codes limits station lines h file_blocks is marking.clean;
+          end = no_fault_at_end station lines h file_blocks is marking.clean;
+        })
 
-  -- Without its code lines it is the file.
-  pub copy_without : list_any is_put_in (whole_lines bytes) ≡ false → unmarked (copy_of bytes m) ≡ bytes
-  copy_without none =
-      let marks = marks_of station marking.blocks in
-      let well = are_well bytes marks
-      (all_roomy station bytes marking.blocks file_blocks is marking.clean) in
-      ap (λ (copy : List ℕ). unmarked copy) marking.copy
-      ∙ bytes_come_back bytes (placed bytes marks) well.ordered
-      (All-from_recursion (BeginsSomeLine bytes) (placed bytes marks) well.each) none
+    -- Without its code lines it is the file.
+    pub copy_without : list_any is_put_in (whole_lines bytes) ≡ false → unmarked (copy_of bytes m)
+        ≡ bytes
+    copy_without none =
+        let marks = marks_of station marking.blocks in
+        let well = are_well bytes marks
+        (all_roomy station bytes marking.blocks file_blocks is marking.clean) in
+        ap (λ (copy : List ℕ). unmarked copy) marking.copy
+        ∙ bytes_come_back bytes (placed bytes marks) well.ordered
+        (All-from_recursion (BeginsSomeLine bytes) (placed bytes marks) well.each) none

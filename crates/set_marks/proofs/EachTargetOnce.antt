@@ -1,10 +1,13 @@
 -- In a set each target is read once in each face.
-use Rattle.std.proofs.Common.{◌≡◌, ℕ, suc, ◌-◌, ◌/◌, ◌<◌, ◌≤◌, Bool, true, false, ◌&&◌, not, List, [], ◌∷◌, ◌++◌, length, filter, take, refl, sym, ap, subst, ◌∙◌, inl, inr, ◌⊎◌, arith, Option, Some, None, append_assoc}
+use Rattle.std.proofs.Common.{◌≡◌, ℕ, suc, ◌-◌, ◌/◌, ◌<◌, ◌≤◌, Bool, true, false, ◌&&◌, not, List}
+use Rattle.std.proofs.Common.{[], ◌∷◌, ◌++◌, length, filter, take, refl, sym, ap, subst, ◌∙◌, inl}
+use Rattle.std.proofs.Common.{inr, ◌⊎◌, arith, Option, Some, None, append_assoc}
 use Rattle.std.specs.Prelude.{Contains, nat_lt, slice_get}
 use Rattle.std.specs.List.{list_all, list_any}
 use Rattle.std.specs.Str.{bytes_eq}
 use Rattle.std.proofs.Math.Seq.{take-append_seam}
-use Rattle.std.proofs.lemmas.Bool.{cases_Bool, and_parts, and_from, or_cases, or_parts, or_left, or_right, not-true, ltb-false}
+use Rattle.std.proofs.lemmas.Bool.{cases_Bool, and_parts, and_from, or_cases, or_parts, or_left}
+use Rattle.std.proofs.lemmas.Bool.{or_right, not-true, ltb-false}
 use Rattle.std.proofs.lemmas.List.{append-nil, length-append, take_all}
 use Rattle.std.proofs.lemmas.List.Folds.{list_any_at}
 use Rattle.std.proofs.lemmas.List.Sums.{AllPass-from_list_all}
@@ -15,7 +18,9 @@ use Rattle.set_marks.specs.declared.bounds.TheConstants.{MOST_READINGS}
 use Rattle.set_marks.specs.declared.fault.MarkKind.{MarkKind}
 use Rattle.set_marks.specs.declared.fault.MarkKind.TheVariants as kinds
 use Rattle.set_marks.specs.declared.sight.Sight.{Sight}
-use Rattle.set_marks.specs.Divisions.{is_of, is_same_face, is_again, is_pair, again_from, again_in, alone_among, alone_in, flaw_when, flaw_found, are_read_alike, last_target, readings_flaw, order_flaw, set_flaw}
+use Rattle.set_marks.specs.Divisions.{is_of, is_same_face, is_again, is_pair, again_from, again_in}
+use Rattle.set_marks.specs.Divisions.{alone_among, alone_in, flaw_when, flaw_found, are_read_alike}
+use Rattle.set_marks.specs.Divisions.{last_target, readings_flaw, order_flaw, set_flaw}
 use Rattle.set_marks.specs.SetsInWords.{readings_in, ReadsEachOnce}
 
 abbrev reads : List ℕ → Bool → Sight → Bool
@@ -66,7 +71,8 @@ at_most_one name second front (r ∷ rs) e few =
       | inl h ↦ let f : Some r ≡ None = rw h at e in cc
       | inr h ↦
           let none : list_any (is_again r) front ≡ false =
-          ap (λ (fs : List Sight). list_any (is_again r) fs) (sym (take_front front (r ∷ rs))) ∙ h in
+          ap (λ (fs : List Sight). list_any (is_again r) fs) (sym (take_front front (r ∷ rs)))
+          ∙ h in
           let again : again_from (front ++ r ∷ rs) (suc (length front)) rs ≡ None = rw h at e in
           let moved : (front ++ r ∷ []) ++ rs ≡ front ++ r ∷ rs = append_assoc front (r ∷ []) rs in
           let long : length (front ++ r ∷ []) ≡ suc (length front) =
@@ -182,7 +188,8 @@ set_once first rs e =
     let few = ltb-false MOST_READINGS (length rs)
     (no_flaw (nat_lt MOST_READINGS (length rs)) kinds.TooManyTargets (slice_get rs MOST_READINGS)
     own.1.0) in
-    let whole : take (suc MOST_READINGS) rs ≡ rs = take_all (suc MOST_READINGS) rs (omega (arith, few)) in
+    let whole : take (suc MOST_READINGS) rs
+    ≡ rs = take_all (suc MOST_READINGS) rs (omega (arith, few)) in
     record {
       many = ltb-false (length rs) 4
           (no_flaw (nat_lt (length rs) 4) kinds.OneTarget (slice_get rs 0) order.0);

@@ -1,9 +1,13 @@
--- Stations end one after another: what is kept of those that have ended, and of the one that is open.
-use Rattle.std.proofs.Common.{◌≡◌, ℕ, ◌+◌, ◌-◌, ◌≤◌, Bool, true, false, List, [], ◌∷◌, ◌++◌, length, take, drop, Option, Some, None, refl, sym, ap, subst, ◌∙◌, inl, inr, arith, append_assoc}
+-- Stations end one after another: what is kept of those that have ended, and of the one that is
+-- open.
+use Rattle.std.proofs.Common.{◌≡◌, ℕ, ◌+◌, ◌-◌, ◌≤◌, Bool, true, false, List, [], ◌∷◌, ◌++◌, length}
+use Rattle.std.proofs.Common.{take, drop, Option, Some, None, refl, sym, ap, subst, ◌∙◌, inl, inr}
+use Rattle.std.proofs.Common.{arith, append_assoc}
 use Rattle.std.specs.Prelude.{not, ◌&&◌, IfNone, is_some}
 use Rattle.std.specs.Option.{option_map}
 use Rattle.std.proofs.lemmas.Bool.{cases_Bool}
-use Rattle.std.proofs.lemmas.List.{append-nil, length-append, length-drop, drop_all, take_all, drop-append-le, take-append-le}
+use Rattle.std.proofs.lemmas.List.{append-nil, length-append, length-drop, drop_all, take_all}
+use Rattle.std.proofs.lemmas.List.{drop-append-le, take-append-le}
 use Rattle.gsi_word.specs.Blocks.{GsiBlock}
 use Rattle.gsi_word.specs.Names.{name_of}
 use Rattle.station_book.specs.Blocks.{target, has_direction, role_of, lacks, is_measurement}
@@ -18,10 +22,16 @@ use Rattle.set_marks.specs.declared.recognized.Recognized.{Recognized}
 use Rattle.set_marks.specs.declared.readings.Readings.{Readings}
 use Rattle.set_marks.specs.declared.sight.Sight.{Sight}
 use Rattle.set_marks.specs.Divisions.{divided}
-use Rattle.set_marks.specs.Stations.{SetUp, Occupation, sets_up, sight_in, sights_of, set_up_in, set_ups_of, occupations, begun, is_stated, stations_of, tells_set_up}
-use Rattle.set_marks.specs.Marking.{as_fault, fault_of_stations, station_fault, names_after, marks_from, recognized_from, station_marks, is_open_after, told_of}
+use Rattle.set_marks.specs.Stations.{SetUp, Occupation, sets_up, sight_in, sights_of, set_up_in}
+use Rattle.set_marks.specs.Stations.{set_ups_of, occupations, begun, is_stated, stations_of}
+use Rattle.set_marks.specs.Stations.{tells_set_up}
+use Rattle.set_marks.specs.Marking.{as_fault, fault_of_stations, station_fault, names_after}
+use Rattle.set_marks.specs.Marking.{marks_from, recognized_from, station_marks, is_open_after}
+use Rattle.set_marks.specs.Marking.{told_of}
 use Rattle.set_marks.proofs.StationReadings.{BeginBy, by_more, by_both}
-use Rattle.set_marks.specs.Keeping.{TakesStation, AreMarkedFirst, AreEnded, AreMarked, Ends, open_one, open_in, begun_in, BeginsStation, AddsReading, Adds, Keeps}
+use Rattle.set_marks.specs.Keeping.{TakesStation, AreMarkedFirst, AreEnded, AreMarked, Ends}
+use Rattle.set_marks.specs.Keeping.{open_one, open_in, begun_in, BeginsStation, AddsReading, Adds}
+use Rattle.set_marks.specs.Keeping.{Keeps}
 
 -- Nothing is marked before the first station.
 pub none_marked : (m : Marking) → m.marks.items ≡ [] → m.stations.items ≡ [] → m.names ≡ []
@@ -207,7 +217,8 @@ occupied_next : (ss : List SetUp) (name : List ℕ) (rs : List Sight)
     → occupations (ss ++ record { name = name; from = length rs } ∷ []) rs
     ≡ occupations ss rs ++ record { name = name; sights = [] } ∷ []
 occupied_next [] name rs =
-    ap (λ (l : List Sight). record { name = name; sights = l } ∷ []) (drop_all (length rs) rs (omega arith))
+    ap (λ (l : List Sight). record { name = name; sights = l } ∷ [])
+    (drop_all (length rs) rs (omega arith))
 occupied_next (s ∷ []) name rs =
     ap (λ (l : List Sight). record { name = s.name; sights = l }
     ∷ record { name = name; sights = drop (length rs) rs } ∷ []) (take_rest s.from rs)
@@ -228,7 +239,8 @@ open_more (Some n) ended rs more none =
     last_more more ended (record { name = n; sights = rs })
 
 -- Where no station is open, none has ended.
-none_ended : (name : Option (List ℕ)) (ss : List SetUp) (ended : List Occupation) (rs all : List Sight)
+none_ended : (name : Option (List ℕ)) (ss : List SetUp) (ended : List Occupation)
+    (rs all : List Sight)
     → is_empty (begun_in name) ≡ is_empty ss → occupations ss all ≡ ended ++ open_one name rs
     → name ≡ None → ended ≡ []
 none_ended (Some n) ss ended rs all e is none = cc
@@ -283,9 +295,11 @@ reads_more station h b r r' same kept adds blocks =
           ∙ occupied_more (begun station h) rs more (begun_by station h)
           ∙ ap (λ (ss : List Occupation). with_more more ss) kept.stations
           ∙ open_more r.station kept.ended r.sights.items more
-          (none_ended r.station (begun station h) kept.ended r.sights.items rs kept.begun kept.stations)
+          (none_ended r.station (begun station h) kept.ended r.sights.items rs kept.begun
+          kept.stations)
           ∙ ap (λ (l : List Sight). kept.ended ++ open_one r.station l) (sym adds.sights)
-          ∙ ap (λ (n : Option (List ℕ)). kept.ended ++ open_one n r'.sights.items) (sym adds.station);
+          ∙ ap (λ (n : Option (List ℕ)). kept.ended ++ open_one n r'.sights.items)
+          (sym adds.station);
       are_ended = rw (adds.marking, adds.flaw) kept.are_ended;
       begun = ap (λ (n : Option (List ℕ)). is_empty (begun_in n)) adds.station
           ∙ kept.begun ∙ ap (λ (ss : List SetUp). is_empty ss) (sym same);
@@ -380,7 +394,8 @@ pub no_sets : (station : Option (List ℕ)) (h : History) (old new : Readings) (
     → as_fault (fault_of_stations (length h + 1) [] (stations_of station h))
     ≡ Some (At (blocks + 1) kinds.NoSets)
 no_sets station h old new blocks kept ends none few counted =
-    ap (λ (f : Option Flaw). as_fault f) (last_fault (length h + 1) (stations_of station h) new.marking
+    ap (λ (f : Option Flaw). as_fault f)
+    (last_fault (length h + 1) (stations_of station h) new.marking
     (all_marked station h old new kept ends none)
     ∙ by new.marking.names few)
     ∙ ap (λ (n : ℕ). Some (At (n + 1) kinds.NoSets)) (sym (counted ∙ kept.blocks)) where

@@ -3,7 +3,8 @@ use Rattle.std.proofs.Common.{◌≡◌, ℕ, false, List, [], ◌∷◌, Option
 use Rattle.std.specs.Prelude.{codes, true, Bool}
 use Rattle.gsi_word.specs.Words.{GsiWord}
 use Rattle.gsi_word.specs.Blocks.{GsiBlock}
-use Rattle.station_book.specs.Blocks.{role_of, target, named, number, angles, angle_fault, is_of_face, has_two, lacks}
+use Rattle.station_book.specs.Blocks.{role_of, target, named, number, angles, angle_fault}
+use Rattle.station_book.specs.Blocks.{is_of_face, has_two, lacks}
 use Rattle.station_book.specs.Places.{History}
 use Rattle.set_marks.specs.declared.division.Divided.TheVariants.{Sets, Flawed}
 use Rattle.set_marks.specs.declared.fault.MarkKind.TheVariants as kinds

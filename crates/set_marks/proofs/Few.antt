@@ -1,5 +1,7 @@
 -- A station that has sets has at most 40, and its name has room.
-use Rattle.std.proofs.Common.{◌≡◌, ℕ, suc, ◌+◌, ◌-◌, ◌/◌, ◌<◌, ◌≤◌, Bool, true, false, List, [], ◌∷◌, length, drop, Option, Some, None, refl, sym, ap, ◌∙◌, arith, inl, inr}
+use Rattle.std.proofs.Common.{◌≡◌, ℕ, suc, ◌+◌, ◌-◌, ◌/◌, ◌<◌, ◌≤◌, Bool, true, false, List, []}
+use Rattle.std.proofs.Common.{◌∷◌, length, drop, Option, Some, None, refl, sym, ap, ◌∙◌, arith, inl}
+use Rattle.std.proofs.Common.{inr}
 use Rattle.std.specs.Prelude.{slice_get, is_none, nat_le, nat_lt, not, ◌&&◌, if◌then◌else◌}
 use Rattle.std.specs.Str.{bytes_eq}
 use Rattle.std.proofs.lemmas.Bool.{cases_Bool, cases_lt, le-leb, lt-leb}
@@ -12,14 +14,19 @@ use Rattle.set_marks.specs.declared.fault.MarkKind.TheVariants as kinds
 use Rattle.set_marks.specs.declared.sight.Sight.{Sight}
 use Rattle.station_book.specs.declared.bounds.TheConstants.{MOST_STATIONS}
 use Rattle.station_book.specs.Places.{is_among, is_empty}
-use Rattle.set_marks.specs.Divisions.{order_flaw, are_read_alike, last_target, set_flaw, part, next_of, sets_flaw, rest_flaw, flaw_of, is_division, leading_of, doubt_flaw, divided, divided_by, divided_unless, is_in_one_face, starts_of, first_set, end_in, latest_flaw, later, flaw_at, flaw_when}
+use Rattle.set_marks.specs.Divisions.{order_flaw, are_read_alike, last_target, set_flaw, part}
+use Rattle.set_marks.specs.Divisions.{next_of, sets_flaw, rest_flaw, flaw_of, is_division}
+use Rattle.set_marks.specs.Divisions.{leading_of, doubt_flaw, divided, divided_by, divided_unless}
+use Rattle.set_marks.specs.Divisions.{is_in_one_face, starts_of, first_set, end_in, latest_flaw}
+use Rattle.set_marks.specs.Divisions.{later, flaw_at, flaw_when}
 use Rattle.set_marks.specs.Marking.{station_fault, is_too_long, told_of, recognized}
 use Rattle.set_marks.specs.declared.division.Divided.{Divided}
 use Rattle.set_marks.specs.Stations.{Occupation}
 use Rattle.set_marks.proofs.Fewest.{fewest}
 
 -- Where nothing stands first of some, nothing stands of each.
-pub none_of_two : {X : Type 0} (a b : Option X) → first_of (a ∷ b ∷ []) ≡ None → (a ≡ None) × (b ≡ None)
+pub none_of_two : {X : Type 0} (a b : Option X) → first_of (a ∷ b ∷ []) ≡ None → (a ≡ None)
+    × (b ≡ None)
 none_of_two None None e = (refl, refl)
 none_of_two None (Some y) e = cc
 none_of_two (Some x) b e = cc
@@ -44,7 +51,8 @@ few : (first : List Sight) (count end : ℕ) (starts : List ℕ) (rs : List Sigh
     → count + length starts ≤ MOST_SETS
 few first count end [] rs le e = omega (arith, le)
 few first count end (from ∷ starts) rs le e =
-    let each = none_of_three (flaw_when (nat_le MOST_SETS count) kinds.TooManySets (slice_get rs from))
+    let each = none_of_three
+    (flaw_when (nat_le MOST_SETS count) kinds.TooManySets (slice_get rs from))
     (set_flaw first (part from (next_of end starts) rs))
     (sets_flaw first (suc count) end starts rs) e in
     let below : suc count ≤ MOST_SETS = not_many count (slice_get rs from) each.0 in
@@ -56,7 +64,8 @@ few_rest : (leading : ℕ) (rs : List Sight) → rest_flaw leading rs ≡ None
     → length (starts_of rs) ≤ MOST_SETS
 few_rest leading [] e = cc
 few_rest leading (r ∷ rs) e =
-    let all : 0 + length (starts_of (r ∷ rs)) ≤ MOST_SETS = few (first_set (starts_of (r ∷ rs)) (r ∷ rs)) 0 (end_in (r ∷ rs)) (starts_of (r ∷ rs))
+    let all : 0 + length (starts_of (r ∷ rs)) ≤ MOST_SETS = few
+    (first_set (starts_of (r ∷ rs)) (r ∷ rs)) 0 (end_in (r ∷ rs)) (starts_of (r ∷ rs))
     (r ∷ rs) (omega arith) (none_of_two
     (sets_flaw (first_set (starts_of (r ∷ rs)) (r ∷ rs)) 0 (end_in (r ∷ rs)) (starts_of (r ∷ rs))
     (r ∷ rs))
@@ -154,7 +163,8 @@ pub next_flaw : (first : List Sight) (count end from : ℕ) (starts : List ℕ) 
     → sets_flaw first (count + 1) end starts rs ≡ whole
 next_flaw first count end from starts rs whole lt none e =
     let few : nat_le MOST_SETS count ≡ false = lt-leb MOST_SETS count lt in
-    let f : sets_flaw first count end (from ∷ starts) rs ≡ first_of (sets_flaw first (suc count) end starts rs ∷ []) =
+    let f : sets_flaw first count end (from ∷ starts) rs
+    ≡ first_of (sets_flaw first (suc count) end starts rs ∷ []) =
     rw (few, none) refl in
     let step : suc count ≡ count + 1 = omega arith in
     ap (λ (k : ℕ). sets_flaw first k end starts rs) (sym step)

@@ -1,10 +1,14 @@
 -- Bytes with code lines woven in are a marked copy.
-use Rattle.std.proofs.Common.{◌≡◌, ℕ, zero, suc, rules, ◌/◌, ◌%◌, ◌+◌, ◌-◌, ◌<◌, ◌≤◌, Bool, true, false, List, [], ◌∷◌, ◌++◌, length, take, drop, replicate, All, inl, inr, refl, sym, ap, subst, ◌∙◌, append_assoc, arith, get_or}
+use Rattle.std.proofs.Common.{◌≡◌, ℕ, zero, suc, rules, ◌/◌, ◌%◌, ◌+◌, ◌-◌, ◌<◌, ◌≤◌, Bool, true}
+use Rattle.std.proofs.Common.{false, List, [], ◌∷◌, ◌++◌, length, take, drop, replicate, All, inl}
+use Rattle.std.proofs.Common.{inr, refl, sym, ap, subst, ◌∙◌, append_assoc, arith, get_or}
 use Rattle.std.specs.Prelude.{slice_index}
 use Rattle.std.specs.List.{flat_map}
 use Rattle.std.proofs.Math.Seq.{take-suc}
-use Rattle.std.proofs.lemmas.List.{length-drop, length-append, length-replicate, drop-drop, take-append-drop, append-nil, get_or-drop}
-use Rattle.std.proofs.lemmas.List.Elements.{All-head, All-tail, All-cons, All-nil, All-append, All-replicate}
+use Rattle.std.proofs.lemmas.List.{length-drop, length-append, length-replicate, drop-drop}
+use Rattle.std.proofs.lemmas.List.{take-append-drop, append-nil, get_or-drop}
+use Rattle.std.proofs.lemmas.List.Elements.{All-head, All-tail, All-cons, All-nil, All-append}
+use Rattle.std.proofs.lemmas.List.Elements.{All-replicate}
 use Rattle.gsi_word.specs.Words.{GsiWord, IsWord, IsLineByte}
 use Rattle.gsi_word.specs.Blocks.{IsBlock, BeginsBlock}
 use Rattle.gsi_file.specs.Parts.{is_line_end}
@@ -12,8 +16,10 @@ use Rattle.station_book.specs.Blocks.{is_opening, role_of}
 use Rattle.set_marks.specs.declared.mark.Code.{Code}
 use Rattle.set_marks.specs.declared.mark.Code.TheVariants.{Station, Set, Close}
 use Rattle.set_marks.specs.declared.mark.Mark.{Mark}
-use Rattle.set_marks.specs.Marks.{width_of, word_of, digits, star, words_of, code_block, words_text, text_of, line_of, HasRoom}
-use Rattle.set_marks.specs.Copies.{woven, AreOrdered, IsCodeLine, EndsLine, Cut, joined, IsCut, IsMarkedCopy, BeginsLine}
+use Rattle.set_marks.specs.Marks.{width_of, word_of, digits, star, words_of, code_block, words_text}
+use Rattle.set_marks.specs.Marks.{text_of, line_of, HasRoom}
+use Rattle.set_marks.specs.Copies.{woven, AreOrdered, IsCodeLine, EndsLine, Cut, joined, IsCut}
+use Rattle.set_marks.specs.Copies.{IsMarkedCopy, BeginsLine}
 
 -- A word that is put in is a word.
 is_word : (width index : ℕ) (name : List ℕ) → index < 100 → length name ≤ width
@@ -34,13 +40,15 @@ short_code true = omega arith
 short_code false = omega arith
 
 printable_digits : (n : ℕ) → n < 100 → All IsLineByte (digits n)
-printable_digits n lt = All-cons IsLineByte (48 + n / 10) ((48 + n % 10) ∷ []) (omega arith, omega arith)
+printable_digits n lt = All-cons IsLineByte (48 + n / 10) ((48 + n % 10) ∷ [])
+    (omega arith, omega arith)
     (All-cons IsLineByte (48 + n % 10) [] (omega arith, omega arith) (All-nil IsLineByte))
 
 -- The word of a code.
 code_word : (wide : Bool) (tens : ℕ) → 48 ≤ tens → tens ≤ 57
     → IsWord (width_of wide) (word_of (width_of wide) 41 (tens ∷ 48 ∷ []))
-code_word wide tens low high = is_word (width_of wide) 41 (tens ∷ 48 ∷ []) (omega arith) (short_code wide)
+code_word wide tens low high = is_word (width_of wide) 41 (tens ∷ 48 ∷ []) (omega arith)
+    (short_code wide)
     (All-cons IsLineByte tens (48 ∷ []) (omega arith, omega arith)
     (All-cons IsLineByte 48 [] (omega arith, omega arith) (All-nil IsLineByte)))
 
@@ -52,11 +60,15 @@ two_words width a b ha hb = All-cons (IsWord width) a (b ∷ []) ha
 -- The words of a code line are words.
 pub are_words : (wide : Bool) (code : Code) → HasRoom wide code
     → All (IsWord (width_of wide)) (words_of (width_of wide) code)
-are_words wide (Station name) room = two_words (width_of wide) _ _ (code_word wide 49 (omega arith) (omega arith))
+are_words wide (Station name) room = two_words (width_of wide) _ _
+    (code_word wide 49 (omega arith) (omega arith))
     (is_word (width_of wide) 42 name (omega arith) room.0 room.1.printable)
-are_words wide (Set number) room = two_words (width_of wide) _ _ (code_word wide 50 (omega arith) (omega arith))
-    (is_word (width_of wide) 42 (digits number) (omega arith) (short_code wide) (printable_digits number room))
-are_words wide Close room = All-cons (IsWord (width_of wide)) _ [] (code_word wide 51 (omega arith) (omega arith))
+are_words wide (Set number) room = two_words (width_of wide) _ _
+    (code_word wide 50 (omega arith) (omega arith))
+    (is_word (width_of wide) 42 (digits number) (omega arith) (short_code wide)
+    (printable_digits number room))
+are_words wide Close room = All-cons (IsWord (width_of wide)) _ []
+    (code_word wide 51 (omega arith) (omega arith))
     (All-nil (IsWord (width_of wide)))
 
 some_word : (width : ℕ) (code : Code) → 0 < length (words_of width code)
@@ -69,7 +81,8 @@ begins_block width (Station name) = inr refl
 begins_block width (Set number) = inr refl
 begins_block width Close = inr refl
 
-block_as : (wide : Bool) (code : Code) → HasRoom wide code → IsBlock (star wide ++ words_text wide code)
+block_as : (wide : Bool) (code : Code) → HasRoom wide code
+    → IsBlock (star wide ++ words_text wide code)
     (record { width = width_of wide; words = words_of (width_of wide) code })
 block_as true code room = record {
   width = refl;
@@ -146,7 +159,8 @@ last_of n xs lt e = record { ends = inr (take n xs, get_or xs n 0, take-suc xs n
 
 -- What stands from a place up to where a line begins, ends a line.
 ends_after : (from at : ℕ) (bytes : List ℕ) → from < at → at ≤ length bytes
-    → is_line_end (slice_index bytes (at - 1)) ≡ true → EndsLine (take (at - from) (drop from bytes))
+    → is_line_end (slice_index bytes (at - 1)) ≡ true
+    → EndsLine (take (at - from) (drop from bytes))
 ends_after from at bytes lt inside e =
     let place : at - from ≡ suc (at - from - 1) = omega arith in
     let sum : from + (at - from - 1) ≡ at - 1 = omega arith in
@@ -162,7 +176,8 @@ no_piece n xs e = subst (λ (k : ℕ). EndsLine (take k xs)) (sym e) (record { e
 -- A piece up to where a line begins ends a line.
 pub ends_line : (from : ℕ) (bytes : List ℕ) (m : Mark) → from ≤ m.at → m.at ≤ length bytes
     → BeginsLine bytes m → EndsLine (take (m.at - from) (drop from bytes))
-ends_line from bytes m le inside (inl zero_place) = no_piece (m.at - from) (drop from bytes) (omega arith)
+ends_line from bytes m le inside (inl zero_place) = no_piece (m.at - from) (drop from bytes)
+    (omega arith)
 ends_line from bytes m le inside (inr after) = by (m.at - from) refl where
   by : (k : ℕ) → m.at - from ≡ k → EndsLine (take (m.at - from) (drop from bytes))
   by zero e = no_piece (m.at - from) (drop from bytes) e

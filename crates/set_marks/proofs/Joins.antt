@@ -1,5 +1,6 @@
 -- Code lines one after another.
-use Rattle.std.proofs.Common.{◌≡◌, ℕ, suc, ◌+◌, List, [], ◌∷◌, ◌++◌, length, map, ap, sym, ◌∙◌, append_assoc, Bool, false, Option, Some, None, arith}
+use Rattle.std.proofs.Common.{◌≡◌, ℕ, suc, ◌+◌, List, [], ◌∷◌, ◌++◌, length, map, ap, sym, ◌∙◌}
+use Rattle.std.proofs.Common.{append_assoc, Bool, false, Option, Some, None, arith}
 use Rattle.std.specs.Prelude.{IfSome, ◌≢◌, slice_get, nat_lt, ◌&&◌, drop, if◌then◌else◌}
 use Rattle.std.proofs.lemmas.Bool.{ltb-false, eq-eqb, ne_eqb}
 use Rattle.adjust_kernel.specs.Names.{IsName}
@@ -30,8 +31,10 @@ pub next_set : (old whole : List BlockMark) (number from : ℕ) (starts : List �
     → (old ++ mark_at (slice_get rs from) (Set number)) ++ set_marks (number + 1) starts rs ≡ whole
 next_set old whole number from starts rs e =
     let step : suc number ≡ number + 1 = omega arith in
-    ap (λ (k : ℕ). (old ++ mark_at (slice_get rs from) (Set number)) ++ set_marks k starts rs) (sym step)
-    ∙ append_assoc old (mark_at (slice_get rs from) (Set number)) (set_marks (suc number) starts rs) ∙ e
+    ap (λ (k : ℕ). (old ++ mark_at (slice_get rs from) (Set number)) ++ set_marks k starts rs)
+    (sym step)
+    ∙ append_assoc old (mark_at (slice_get rs from) (Set number))
+    (set_marks (suc number) starts rs) ∙ e
 
 -- A code line more of the same block.
 pub next_mark : {X : Type 0} (f : BlockMark → X) (old whole : List X) (number : ℕ) (m : BlockMark)
@@ -40,7 +43,8 @@ pub next_mark : {X : Type 0} (f : BlockMark → X) (old whole : List X) (number 
     → (old ++ f m ∷ []) ++ map f (marks_of_block number ms) ≡ whole
 next_mark f old whole number m ms same e =
     append_assoc old (f m ∷ []) (map f (marks_of_block number ms))
-    ∙ ap (λ (l : List _). old ++ l) (sym (ap (λ (b : Bool). map f (if b then m ∷ marks_of_block number ms
+    ∙ ap (λ (l : List _). old ++ l)
+    (sym (ap (λ (b : Bool). map f (if b then m ∷ marks_of_block number ms
     else [])) (eq-eqb m.block number same))) ∙ e
 
 -- Those after it.

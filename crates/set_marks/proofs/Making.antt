@@ -1,5 +1,6 @@
 -- From what is kept and found to what is answered.
-use Rattle.std.proofs.Common.{◌≡◌, ℕ, ◌+◌, List, [], ◌∷◌, length, Option, Some, None, sym, ap, subst, ◌∙◌, All}
+use Rattle.std.proofs.Common.{◌≡◌, ℕ, ◌+◌, List, [], ◌∷◌, length, Option, Some, None, sym, ap}
+use Rattle.std.proofs.Common.{subst, ◌∙◌, All}
 use Rattle.std.specs.Prelude.{Err}
 use Rattle.gsi_file.specs.FileAnswers.{FileAnswers}
 use Rattle.gsi_file.specs.declared.file_fault.FileFault.TheVariants as file
@@ -51,7 +52,8 @@ is_marking station bytes answers r m found made are clean all is ordered begin k
 
 -- A fault of the lines or of a block.
 pub refused_before : (station : Option (List ℕ)) (bytes : List ℕ) (answers : FileAnswers)
-    (e : MarkFault) → AnswersReadings station answers (Err e) → AnswersMark station bytes answers (Err e)
+    (e : MarkFault) → AnswersReadings station answers (Err e)
+    → AnswersMark station bytes answers (Err e)
 refused_before station bytes answers (File (file.At number kind)) a = a
 refused_before station bytes answers (File file.Memory) a = a
 refused_before station bytes answers (Reading number kind) a = record {

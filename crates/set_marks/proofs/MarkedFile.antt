@@ -1,5 +1,6 @@
 -- What the book finds in the copy of a file without a fault.
-use Rattle.std.proofs.Common.{◌≡◌, ℕ, ◌+◌, false, List, [], ◌∷◌, ◌++◌, length, reverse, Option, Some, None, refl, sym, ap, subst, ◌∙◌, arith, append_assoc}
+use Rattle.std.proofs.Common.{◌≡◌, ℕ, ◌+◌, false, List, [], ◌∷◌, ◌++◌, length, reverse, Option}
+use Rattle.std.proofs.Common.{Some, None, refl, sym, ap, subst, ◌∙◌, arith, append_assoc}
 use Rattle.std.specs.Prelude.{IfSome}
 use Rattle.std.specs.List.{AllZip, flat_map}
 use Rattle.gsi_word.specs.Blocks.{GsiBlock, IsBlock}
@@ -12,14 +13,18 @@ use Rattle.set_marks.specs.declared.flaw.Flaw.{Flaw}
 use Rattle.set_marks.specs.declared.sight.Sight.{Sight}
 use Rattle.set_marks.specs.Stations.{stations_of, fault_of_blocks}
 use Rattle.set_marks.specs.Marking.{marks_of, fault_of, fault_of_stations, as_fault}
-use Rattle.set_marks.specs.MarkedBlocks.{MarkedStation, blocks_of_station, marked_blocks, grown, HaveNoCode, AreMarkedStations, for_readings, told_of, told_of_station}
+use Rattle.set_marks.specs.MarkedBlocks.{MarkedStation, blocks_of_station, marked_blocks, grown}
+use Rattle.set_marks.specs.MarkedBlocks.{HaveNoCode, AreMarkedStations, for_readings, told_of}
+use Rattle.set_marks.specs.MarkedBlocks.{told_of_station}
 use Rattle.set_marks.specs.Found.{Found, found_in, HasNoFaultOfCodes}
 use Rattle.set_marks.specs.MarkedFile.{with_codes, copy_blocks, copy_history, in_file}
 use Rattle.set_marks.proofs.BareNames.{bare_names}
 use Rattle.set_marks.proofs.ReadingBlocks.{sights_from, sights_in_order, no_codes}
-use Rattle.set_marks.proofs.Segments.{AreMarksOf, AreUp, up_later, split_at, later_codes, from_readings}
+use Rattle.set_marks.proofs.Segments.{AreMarksOf, AreUp, up_later, split_at, later_codes}
+use Rattle.set_marks.proofs.Segments.{from_readings}
 use Rattle.set_marks.proofs.MarkedSets.{told_is}
-use Rattle.set_marks.proofs.MarkedStations.{all_sights, readings_append, codes_plain, of_stations, stations_done}
+use Rattle.set_marks.proofs.MarkedStations.{all_sights, readings_append, codes_plain, of_stations}
+use Rattle.set_marks.proofs.MarkedStations.{stations_done}
 use Rattle.set_marks.proofs.StationReadings.{all_are_read}
 use Rattle.set_marks.proofs.OwnFaults.{clean_blocks}
 use Rattle.set_marks.proofs.MarkedWalks.{found_as_marked, none_of_codes, none_at_end}
@@ -66,7 +71,8 @@ copy_marked station lines h zip is fault =
           ∙ later_codes 1 s.group s.rest ms from
           ∙ ap (λ (xs : List GsiBlock). s.group ++ xs) done.copied
           ∙ sym (append_assoc s.group done.outside (flat_map blocks_of_station done.stations));
-      told = done.told ∙ ap (λ (fs : List (Option Found)). fs ++ flat_map told_of_station done.stations)
+      told = done.told
+          ∙ ap (λ (fs : List (Option Found)). fs ++ flat_map told_of_station done.stations)
           (sym (readings_append None s.group done.outside
           ∙ ap (λ (fs : List (Option Found)). fs ++ for_readings None done.outside)
           (told_is None 1 s.group [] s.here)));

@@ -1,6 +1,8 @@
 -- The sets of a station in the copy: each after its code line, in the blocks in which its readings
 -- are.
-use Rattle.std.proofs.Common.{◌≡◌, ℕ, zero, suc, ◌+◌, ◌-◌, ◌<◌, ◌≤◌, Bool, true, List, [], ◌∷◌, ◌++◌, length, map, take, drop, Option, Some, refl, sym, ap, subst, ◌∙◌, arith, append_assoc, All}
+use Rattle.std.proofs.Common.{◌≡◌, ℕ, zero, suc, ◌+◌, ◌-◌, ◌<◌, ◌≤◌, Bool, true, List, [], ◌∷◌}
+use Rattle.std.proofs.Common.{◌++◌, length, map, take, drop, Option, Some, refl, sym, ap, subst}
+use Rattle.std.proofs.Common.{◌∙◌, arith, append_assoc, All}
 use Rattle.std.specs.Prelude.{◌==◌, slice_get}
 use Rattle.std.specs.List.{AllByRecursion, list_any, flat_map}
 use Rattle.std.proofs.lemmas.Bool.{or_left, or_right, eq-eqb}
@@ -15,10 +17,12 @@ use Rattle.set_marks.specs.Divisions.{parts_at, part, next_of}
 use Rattle.set_marks.specs.Marks.{code_block}
 use Rattle.set_marks.specs.Marking.{mark_at, set_marks}
 use Rattle.set_marks.specs.SetsInWords.{one_after_another, ReadsEachOnce}
-use Rattle.set_marks.specs.MarkedBlocks.{MarkedSet, blocks_of_set, AreMarkedSets, IsMarkedSet, for_readings, told_of_sets}
+use Rattle.set_marks.specs.MarkedBlocks.{MarkedSet, blocks_of_set, AreMarkedSets, IsMarkedSet}
+use Rattle.set_marks.specs.MarkedBlocks.{for_readings, told_of_sets}
 use Rattle.set_marks.specs.Found.{Found}
 use Rattle.set_marks.specs.MarkedFile.{with_codes, for_each, in_sets}
-use Rattle.set_marks.proofs.ReadingBlocks.{sights_from, IsClean, no_codes, whole_pairs, told_of_blocks}
+use Rattle.set_marks.proofs.ReadingBlocks.{sights_from, IsClean, no_codes, whole_pairs}
+use Rattle.set_marks.proofs.ReadingBlocks.{told_of_blocks}
 use Rattle.set_marks.proofs.CodeBlocks.{opens_set_as, set_once, set_numbered}
 use Rattle.set_marks.proofs.Segments.{marks_at, IsReady, AreMarksOf, AreUp, segment}
 
@@ -67,7 +71,8 @@ pub of_first : (rs more : List Sight) (codes : List Code)
 of_first [] more codes = tt
 of_first (r ∷ rs) more codes = by codes where
   by : (cs : List Code)
-      → AreMarksOf ((r ∷ rs) ++ more) (map (λ c. record { block = r.block; wide = r.wide; code = c }) cs)
+      → AreMarksOf ((r ∷ rs) ++ more)
+      (map (λ c. record { block = r.block; wide = r.wide; code = c }) cs)
   by [] = tt
   by (c ∷ cs) = (
     or_left (r.block == r.block) (list_any (λ s. s.block == r.block) (rs ++ more))
@@ -94,7 +99,8 @@ pub of_sets : (n : ℕ) (sets : List (List Sight)) (more : List Sight)
     → AreMarksOf (one_after_another sets ++ more) (marks_of_sets n sets)
 of_sets n [] more = tt
 of_sets n (set ∷ sets) more =
-    subst (λ (rs : List Sight). AreMarksOf rs (marks_at set (Set n ∷ []) ++ marks_of_sets (suc n) sets))
+    subst (λ (rs : List Sight). AreMarksOf rs
+    (marks_at set (Set n ∷ []) ++ marks_of_sets (suc n) sets))
     (sym (append_assoc set (one_after_another sets) more))
     (of_both (set ++ (one_after_another sets ++ more)) (marks_at set (Set n ∷ []))
     (marks_of_sets (suc n) sets) (of_first set (one_after_another sets ++ more) (Set n ∷ []))
@@ -180,7 +186,8 @@ sets_done name k ((r ∷ rs) ∷ sets) later ms n bs few each ready clean e of =
       );
       told = (λ i. told_is f n s.group set s.here i ++ done.told i);
       copied = s.copied
-          ∙ ap (λ (xs : List GsiBlock). (code_block r.wide (Set (suc k)) ∷ s.group) ++ xs) done.copied
+          ∙ ap (λ (xs : List GsiBlock). (code_block r.wide (Set (suc k)) ∷ s.group) ++ xs)
+          done.copied
           ∙ sym (append_assoc (code_block r.wide (Set (suc k)) ∷ s.group)
           (flat_map blocks_of_set done.marked) (with_codes ms done.next done.rest));
       up = λ u. s.up (done.up u);

@@ -1,13 +1,19 @@
 -- What is true of a history of marked blocks: between stations, at a station, and in a set.
-use Rattle.std.proofs.Common.{◌≡◌, ℕ, suc, ◌<◌, Bool, true, false, ◌&&◌, ◌||◌, not, cond, List, [], ◌∷◌, ◌++◌, length, Some, refl, sym, ap, ◌∙◌, arith}
+use Rattle.std.proofs.Common.{◌≡◌, ℕ, suc, ◌<◌, Bool, true, false, ◌&&◌, ◌||◌, not, cond, List, []}
+use Rattle.std.proofs.Common.{◌∷◌, ◌++◌, length, Some, refl, sym, ap, ◌∙◌, arith}
 use Rattle.std.specs.List.{list_any}
 use Rattle.std.specs.Str.{bytes_eq}
 use Rattle.std.proofs.lemmas.Bool.{and_from, and_right, or_parts, or_from, eq-eqb, ne_eqb}
 use Rattle.gsi_word.specs.Blocks.{GsiBlock}
-use Rattle.station_book.specs.Blocks.{is_opening, opens_station, opens_set, closes_set, has_direction, named, number}
-use Rattle.station_book.specs.Places.{History, Place, places, passes_at, is_open, is_set, is_same, is_empty, before, opening, station, number_at, is_among}
+use Rattle.station_book.specs.Blocks.{is_opening, opens_station, opens_set, closes_set}
+use Rattle.station_book.specs.Blocks.{has_direction, named, number}
+use Rattle.station_book.specs.Places.{History, Place, places, passes_at, is_open, is_set, is_same}
+use Rattle.station_book.specs.Places.{is_empty, before, opening, station, number_at, is_among}
 use Rattle.station_book.specs.Faults.{name_at, same_name, same_number, had_sets, has_set_number}
-use Rattle.station_book.proofs.places.Steps.{is_open-opening, is_open-other, readings-opening, readings-more, readings-other, same_station, sets-station, sets-more, sets-other, no_set_at_station, no_station_at_set, opens_no_station, opens_no_set}
+use Rattle.station_book.proofs.places.Steps.{is_open-opening, is_open-other, readings-opening}
+use Rattle.station_book.proofs.places.Steps.{readings-more, readings-other, same_station}
+use Rattle.station_book.proofs.places.Steps.{sets-station, sets-more, sets-other, no_set_at_station}
+use Rattle.station_book.proofs.places.Steps.{no_station_at_set, opens_no_station, opens_no_set}
 use Rattle.set_marks.specs.Found.{found_after}
 use Rattle.set_marks.proofs.CodeFaults.{MayClose, closed, close_role}
 use Rattle.set_marks.proofs.WholePairs.{AreOpenReadings}
@@ -141,9 +147,11 @@ begins_station names name past b opens is new h =
       of_station = record {
         inside = ap (λ (p : Place). is_empty p) here;
         is_named = ap (λ (p : Place). name_at p) here ∙ is;
-        first_time = had_none name (b ∷ past) (station (b ∷ past)) (ap (λ (p : Place). name_at p) here ∙ is)
+        first_time = had_none name (b ∷ past) (station (b ∷ past))
+            (ap (λ (p : Place). name_at p) here ∙ is)
             (places (b ∷ past)) (not_used name past b no_set ∙ h.only.only name new);
-        numbers = λ n lt. ap (λ (ps : List Place). list_any (λ s. same_number (number_at s) (Some n)) ps)
+        numbers = λ n lt. ap
+            (λ (ps : List Place). list_any (λ s. same_number (number_at s) (Some n)) ps)
             (sets-station b past opens);
         only = names_stay (names ++ name ∷ []) past b no_set (names_more names name past h.only);
       };
@@ -162,7 +170,8 @@ station_stays names name count past b plain h =
       inside = ap (λ (p : Place). is_empty p) here ∙ h.inside;
       is_named = ap (λ (p : Place). name_at p) here ∙ h.is_named;
       first_time = had_more past b no_station ∙ h.first_time;
-      numbers = λ n lt. ap (λ (ps : List Place). list_any (λ s. same_number (number_at s) (Some n)) ps)
+      numbers = λ n lt. ap
+          (λ (ps : List Place). list_any (λ s. same_number (number_at s) (Some n)) ps)
           (sets-other b past no_station no_set) ∙ h.numbers n lt;
       only = names_stay (names ++ name ∷ []) past b no_set h.only;
     }
@@ -181,7 +190,8 @@ begins_set names name count past b opens is h =
         inside = ap (λ (p : Place). is_empty p) here ∙ h.inside;
         is_named = ap (λ (p : Place). name_at p) here ∙ h.is_named;
         first_time = had_more past b no_station ∙ h.first_time;
-        numbers = λ n lt. ap (λ (ps : List Place). list_any (λ s. same_number (number_at s) (Some n)) ps)
+        numbers = λ n lt. ap
+            (λ (ps : List Place). list_any (λ s. same_number (number_at s) (Some n)) ps)
             (sets-more b past no_station opens)
             ∙ or_from (same_number (number b) (Some n)) (has_set_number (Some n) past)
             (rw is (ne_eqb (suc count) n (λ e. absurd (omega (arith, lt, e)))))

@@ -1,5 +1,7 @@
 -- The stations of a file in its copy.
-use Rattle.std.proofs.Common.{◌≡◌, ℕ, zero, suc, Bool, true, false, ◌&&◌, cond, List, [], ◌∷◌, ◌++◌, length, filter, map, take, drop, Option, Some, None, is_none, refl, sym, ap, subst, ◌∙◌, arith, append_assoc, All}
+use Rattle.std.proofs.Common.{◌≡◌, ℕ, zero, suc, Bool, true, false, ◌&&◌, cond, List, [], ◌∷◌, ◌++◌}
+use Rattle.std.proofs.Common.{length, filter, map, take, drop, Option, Some, None, is_none, refl}
+use Rattle.std.proofs.Common.{sym, ap, subst, ◌∙◌, arith, append_assoc, All}
 use Rattle.std.specs.Prelude.{◌==◌, slice_get, nat_lt, nat_le}
 use Rattle.std.specs.List.{AllByRecursion, list_any, flat_map}
 use Rattle.std.proofs.lemmas.Bool.{or_left, eq-eqb, lt-ltb}
@@ -21,18 +23,26 @@ use Rattle.set_marks.specs.declared.sight.Sight.{Sight}
 use Rattle.set_marks.specs.Stations.{Occupation}
 use Rattle.set_marks.specs.Divisions.{divided, starts_of, end_in, sets_of, flaw_when}
 use Rattle.set_marks.specs.Marks.{code_block}
-use Rattle.set_marks.specs.Marking.{mark_at, set_marks, close_mark, station_marks, is_open_after, marks_from, station_fault, names_after, fault_of_stations, is_too_long}
+use Rattle.set_marks.specs.Marking.{mark_at, set_marks, close_mark, station_marks, is_open_after}
+use Rattle.set_marks.specs.Marking.{marks_from, station_fault, names_after, fault_of_stations}
+use Rattle.set_marks.specs.Marking.{is_too_long}
 use Rattle.set_marks.specs.SetsInWords.{one_after_another, ReadsEachOnce, AreSets}
-use Rattle.set_marks.specs.MarkedBlocks.{MarkedSet, MarkedStation, blocks_of_set, blocks_of_station, HaveNoCode, IsOutside, AreMarkedStations, for_readings, told_of_sets, told_of_station}
+use Rattle.set_marks.specs.MarkedBlocks.{MarkedSet, MarkedStation, blocks_of_set, blocks_of_station}
+use Rattle.set_marks.specs.MarkedBlocks.{HaveNoCode, IsOutside, AreMarkedStations, for_readings}
+use Rattle.set_marks.specs.MarkedBlocks.{told_of_sets, told_of_station}
 use Rattle.set_marks.specs.Found.{Found}
 use Rattle.set_marks.specs.MarkedFile.{with_codes, for_each, in_sets, in_station}
 use Rattle.set_marks.proofs.BareNames.{IsBareName, HaveBareNames}
 use Rattle.set_marks.proofs.ReadingBlocks.{sights_from, IsClean, no_codes}
-use Rattle.set_marks.proofs.CodeBlocks.{opens_station_as, station_once, station_named, closes_set_as}
+use Rattle.set_marks.proofs.CodeBlocks.{opens_station_as, station_once, station_named}
+use Rattle.set_marks.proofs.CodeBlocks.{closes_set_as}
 use Rattle.set_marks.proofs.CodeFaults.{close_role}
 use Rattle.set_marks.proofs.Walks.{code_sees_nothing, of_other}
-use Rattle.set_marks.proofs.Segments.{marks_at, codes_at, IsReady, AreMarksOf, AreUp, Segment, segment}
-use Rattle.set_marks.proofs.MarkedSets.{marks_of_sets, mark_is, first_taken, set_marks_are, of_first, of_more, of_both, of_sets, sets_done, set_is, told_is}
+use Rattle.set_marks.proofs.Segments.{marks_at, codes_at, IsReady, AreMarksOf, AreUp, Segment}
+use Rattle.set_marks.proofs.Segments.{segment}
+use Rattle.set_marks.proofs.MarkedSets.{marks_of_sets, mark_is, first_taken, set_marks_are}
+use Rattle.set_marks.proofs.MarkedSets.{of_first, of_more, of_both, of_sets, sets_done, set_is}
+use Rattle.set_marks.proofs.MarkedSets.{told_is}
 use Rattle.set_marks.proofs.EachTargetOnce.{no_flaw}
 use Rattle.set_marks.proofs.SetsInWords.{sets_in_words}
 
@@ -70,8 +80,11 @@ outside_of : (in_set later : Bool) (rs : List Sight) (group more : List GsiBlock
 outside_of true later [] group more e plain none out =
     subst (λ (xs : List GsiBlock). IsOutside (xs ++ more)) (sym (none refl))
     (subst (λ (b : Bool). OutsideOf b more) e out)
-outside_of true later (r ∷ rs) group more e plain none out =
-    (closes_set_as r.wide, codes_plain group more plain (subst (λ (b : Bool). OutsideOf b more) e out))
+outside_of true later (r ∷ rs) group more e plain none out = (
+  closes_set_as r.wide,
+  codes_plain group more plain
+      (subst (λ (b : Bool). OutsideOf b more) e out),
+)
 outside_of false later rs group more e plain none out =
     subst (λ (xs : List GsiBlock). HaveNoCode ((xs ++ group) ++ more)) (sym (no_codes_at rs))
     (codes_plain group more plain (subst (λ (b : Bool). OutsideOf b more) e out))
@@ -139,9 +152,10 @@ no_station in_set names n [] ready e = record {
   are = tt;
   up = tt;
 }
-no_station in_set names n (b ∷ bs) ready e = absurd (not_empty (sights_from (suc n) bs) (rw ready at e)) where
-  not_empty : (rs : List Sight) {r : Sight} → r ∷ rs ≡ [] → ⊥
-  not_empty rs e = cc
+no_station in_set names n (b ∷ bs) ready e = absurd
+    (not_empty (sights_from (suc n) bs) (rw ready at e)) where
+      not_empty : (rs : List Sight) {r : Sight} → r ∷ rs ≡ [] → ⊥
+      not_empty rs e = cc
 
 -- A station without sets before those that are done.
 without_sets : (in_set : Bool) (names : List (List ℕ)) (s : Occupation) (ss : List Occupation)
@@ -149,14 +163,17 @@ without_sets : (in_set : Bool) (names : List (List ℕ)) (s : Occupation) (ss : 
     → station_marks in_set s d ≡ close_mark in_set s.sights
     → is_open_after in_set s d ≡ (in_set && is_empty s.sights)
     → in_station s d ≡ for_each None s.sights → divided s.sights ≡ d
-    → (g : Segment s.sights (all_sights ss) (closing in_set) (marks_from (is_open_after in_set s d) ss) n bs)
+    → (g : Segment s.sights (all_sights ss) (closing in_set)
+    (marks_from (is_open_after in_set s d) ss) n bs)
     → StationsDone (is_open_after in_set s d) names ss g.next g.rest
     → StationsDone in_set names (s ∷ ss) n bs
 without_sets in_set names s ss n bs d marks after told is g done =
     let rs = s.sights in
-    let here : marks_from in_set (s ∷ ss) ≡ marks_at rs (closing in_set) ++ marks_from (is_open_after in_set s d) ss =
+    let here : marks_from in_set (s ∷ ss) ≡ marks_at rs (closing in_set)
+    ++ marks_from (is_open_after in_set s d) ss =
     (λ i. station_marks in_set s (is i) ++ marks_from (is_open_after in_set s (is i)) ss)
-    ∙ ap (λ (ms : List BlockMark). ms ++ marks_from (is_open_after in_set s d) ss) (marks ∙ close_is in_set rs) in
+    ∙ ap (λ (ms : List BlockMark). ms ++ marks_from (is_open_after in_set s d) ss)
+    (marks ∙ close_is in_set rs) in
     let front = codes_at rs (closing in_set) ++ g.group in
     record {
       outside = front ++ done.outside;
@@ -182,7 +199,8 @@ of_place (r ∷ rs) zero code = (or_left (r.block == r.block) _ (eq-eqb r.block 
 of_place (r ∷ rs) (suc n) code = of_more (r ∷ []) rs (mark_at (slice_get rs n) code)
     (of_place rs n code)
 
-of_left : (rs more : List Sight) (ms : List BlockMark) → AreMarksOf rs ms → AreMarksOf (rs ++ more) ms
+of_left : (rs more : List Sight) (ms : List BlockMark) → AreMarksOf rs ms
+    → AreMarksOf (rs ++ more) ms
 of_left rs more [] of = tt
 of_left rs more (m ∷ ms) of = (
   rw (list_any-append (λ r. r.block == m.block) rs more)
@@ -222,14 +240,16 @@ of_station in_set s (Sets leading) =
     (of_set_marks 1 (starts_of behind) behind) (of_place behind (end_in behind) Close))))
 
 -- The code lines of stations are before their readings.
-pub of_stations : (in_set : Bool) (ss : List Occupation) → AreMarksOf (all_sights ss) (marks_from in_set ss)
+pub of_stations : (in_set : Bool) (ss : List Occupation)
+    → AreMarksOf (all_sights ss) (marks_from in_set ss)
 of_stations in_set [] = tt
 of_stations in_set (s ∷ ss) =
     let marks = station_marks in_set s (divided s.sights) in
     let more = marks_from (is_open_after in_set s (divided s.sights)) ss in
     of_both (s.sights ++ all_sights ss) marks more
     (of_left s.sights (all_sights ss) marks (of_station in_set s (divided s.sights)))
-    (of_more s.sights (all_sights ss) more (of_stations (is_open_after in_set s (divided s.sights)) ss))
+    (of_more s.sights (all_sights ss) more
+    (of_stations (is_open_after in_set s (divided s.sights)) ss))
 
 lead_is : (in_set : Bool) (leading : ℕ) (rs : List Sight)
     → close_mark (in_set && nat_lt 0 leading) rs ≡ marks_at (take leading rs) (closing in_set)
@@ -286,7 +306,8 @@ with_sets in_set names s ss n bs leading r others sets ready clean e is all part
     (of_first last more (Close ∷ [])) (of_more last more later of_later) in
     let rest_sets = marks_of_sets 2 sets ++ closed in
     let of_rest = of_both (one_after_another sets ++ (last ++ more)) (marks_of_sets 2 sets) closed
-    (of_sets 2 sets (last ++ more)) (of_more (one_after_another sets) (last ++ more) closed of_closed) in
+    (of_sets 2 sets (last ++ more))
+    (of_more (one_after_another sets) (last ++ more) closed of_closed) in
     let begun : List Code = Station s.name ∷ Set 1 ∷ [] in
     let from_set = marks_at set begun ++ rest_sets in
     let inner = one_after_another sets ++ (last ++ more) in
@@ -328,9 +349,11 @@ with_sets in_set names s ss n bs leading r others sets ready clean e is all part
     let marks : marks_from in_set (s ∷ ss) ≡ marks_at lead (closing in_set) ++ from_set =
     (λ i. station_marks in_set s (is i) ++ marks_from (is_open_after in_set s (is i)) ss)
     ∙ ap (λ (ms : List BlockMark). ms ++ later)
-    (λ i. lead_is in_set leading rs i ++ (begin i ++ (numbered i ++ mark_is (end_in behind) behind Close i)))
+    (λ i. lead_is in_set leading rs i
+    ++ (begin i ++ (numbered i ++ mark_is (end_in behind) behind Close i)))
     ∙ append_assoc (marks_at lead (closing in_set))
-    (marks_at set (Station s.name ∷ []) ++ (marks_of_sets 1 (set ∷ sets) ++ marks_at last (Close ∷ []))) later
+    (marks_at set (Station s.name ∷ [])
+    ++ (marks_of_sets 1 (set ∷ sets) ++ marks_at last (Close ∷ []))) later
     ∙ ap (λ (ms : List BlockMark). marks_at lead (closing in_set) ++ (marks_at set begun ++ ms))
     (append_assoc (marks_of_sets 2 sets) (marks_at last (Close ∷ [])) later) in
     record {
@@ -368,28 +391,34 @@ with_sets in_set names s ss n bs leading r others sets ready clean e is all part
                 b.here b.clean_group,
             c.are,
           );
-          outside = outside_of true after last d.group done.outside (after_is behind (end_in behind))
+          outside = outside_of true after last d.group done.outside
+              (after_is behind (end_in behind))
               (no_codes d.group d.clean_group) d.none done.out;
         },
         done.are,
       );
-      up = subst (λ (ms : List BlockMark). AreUp n ms) (sym marks) (a.up (b.up (c.up (d.up done.up))));
+      up = subst (λ (ms : List BlockMark). AreUp n ms) (sym marks)
+          (a.up (b.up (c.up (d.up done.up))));
     } where
-      begin : mark_at (slice_get s.sights leading) (Station s.name) ≡ marks_at (r ∷ others) (Station s.name ∷ [])
+      begin : mark_at (slice_get s.sights leading) (Station s.name)
+          ≡ marks_at (r ∷ others) (Station s.name ∷ [])
       begin = mark_is leading s.sights (Station s.name)
           ∙ ap (λ (xs : List Sight). marks_at xs (Station s.name ∷ [])) parted.behind
 
       numbered : set_marks 1 (starts_of (drop leading s.sights)) (drop leading s.sights)
           ≡ marks_of_sets 1 ((r ∷ others) ∷ sets)
-      numbered = set_marks_are 1 (end_in (drop leading s.sights)) (starts_of (drop leading s.sights))
+      numbered = set_marks_are 1 (end_in (drop leading s.sights))
+          (starts_of (drop leading s.sights))
           (drop leading s.sights) all.each
           ∙ ap (λ (xs : List (List Sight)). marks_of_sets 1 xs) parted.are
 
 first_part : (rs : List Sight) (leading : ℕ) → AreSets rs leading → (sets : List (List Sight))
     → sets_of (drop leading rs) ≡ sets
-    → (r : Sight) × (others : List Sight) × (more : List (List Sight)) × Parted rs leading r others more
+    → (r : Sight) × (others : List Sight) × (more : List (List Sight))
+    × Parted rs leading r others more
 first_part rs leading are [] e =
-    absurd (let some = are.some in let l : length (sets_of (drop leading rs)) ≡ 0 = ap (λ (xs : List (List Sight)). length xs) e in
+    absurd (let some = are.some in let l : length (sets_of (drop leading rs))
+    ≡ 0 = ap (λ (xs : List (List Sight)). length xs) e in
     omega (arith, some, l))
 first_part rs leading are ([] ∷ sets) e =
     absurd (let m = (All-head ReadsEachOnce [] sets
@@ -406,7 +435,8 @@ first_part rs leading are ((r ∷ others) ∷ sets) e =
       sets,
       record {
         are = e;
-        behind = same ∙ ap (λ (xs : List (List Sight)). one_after_another xs ++ drop (end_in behind) behind) e
+        behind = same
+            ∙ ap (λ (xs : List (List Sight)). one_after_another xs ++ drop (end_in behind) behind) e
             ∙ append_assoc (r ∷ others) (one_after_another sets) (drop (end_in behind) behind);
       },
     )
@@ -451,7 +481,8 @@ stations_done in_set names end (s ∷ ss) n bs ready clean e fault bare =
           let p = first_part s.sights leading all (sets_of (drop leading s.sights)) refl in
           let none = all_none (
           flaw_when (is_among names s.name) kinds.StationTwice (slice_get s.sights 0)
-          ∷ flaw_when (nat_le MOST_STATIONS (length names)) kinds.TooManyStations (slice_get s.sights 0)
+          ∷ flaw_when (nat_le MOST_STATIONS (length names)) kinds.TooManyStations
+          (slice_get s.sights 0)
           ∷ flaw_when (is_too_long s.name (slice_get s.sights leading)) kinds.NameTooLong
           (slice_get s.sights leading)
           ∷ []) (ap (λ (d : Divided). station_fault names s d) (sym is) ∙ here) in

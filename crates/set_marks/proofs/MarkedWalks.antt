@@ -1,5 +1,6 @@
 -- The walk over marked blocks, set by set and station by station.
-use Rattle.std.proofs.Common.{◌≡◌, ℕ, suc, true, ◌||◌, List, [], ◌∷◌, ◌++◌, Option, Some, None, refl, sym, subst, ◌∙◌, inl, inr, arith}
+use Rattle.std.proofs.Common.{◌≡◌, ℕ, suc, true, ◌||◌, List, [], ◌∷◌, ◌++◌, Option, Some, None}
+use Rattle.std.proofs.Common.{refl, sym, subst, ◌∙◌, inl, inr, arith}
 use Rattle.std.specs.List.{flat_map}
 use Rattle.std.proofs.lemmas.Bool.{cases_Bool, and_left, and_right, or_cases, false≢true}
 use Rattle.gsi_word.specs.Blocks.{GsiBlock}
@@ -10,12 +11,20 @@ use Rattle.station_book.specs.Places.{History, is_open}
 use Rattle.station_book.specs.Faults.{face, fault_at_end}
 use Rattle.station_book.proofs.places.Steps.{no_station_at_set}
 use Rattle.station_book.proofs.lists.Elements.{In, contains_in}
-use Rattle.set_marks.specs.MarkedBlocks.{MarkedSet, MarkedStation, blocks_of_set, blocks_of_station, marked_blocks, grown, HasWholePairs, HaveNoCode, AreMarkedSets, IsOutside, IsMarkedStation, AreMarkedStations, for_readings, told_of_sets, told_of_station, told_of}
+use Rattle.set_marks.specs.MarkedBlocks.{MarkedSet, MarkedStation, blocks_of_set, blocks_of_station}
+use Rattle.set_marks.specs.MarkedBlocks.{marked_blocks, grown, HasWholePairs, HaveNoCode}
+use Rattle.set_marks.specs.MarkedBlocks.{AreMarkedSets, IsOutside, IsMarkedStation}
+use Rattle.set_marks.specs.MarkedBlocks.{AreMarkedStations, for_readings, told_of_sets}
+use Rattle.set_marks.specs.MarkedBlocks.{told_of_station, told_of}
 use Rattle.set_marks.specs.Found.{Found, found_in, HasNoFaultOfCodes}
-use Rattle.set_marks.proofs.CodeFaults.{MayClose, closed, close_role, no_end_fault, at_station, at_close, at_set, at_reading, at_other}
-use Rattle.set_marks.proofs.Walks.{Walk, stay, onward, step_other, step_reading, code_sees_nothing, of_other, of_reading, grown_append}
+use Rattle.set_marks.proofs.CodeFaults.{MayClose, closed, close_role, no_end_fault, at_station}
+use Rattle.set_marks.proofs.CodeFaults.{at_close, at_set, at_reading, at_other}
+use Rattle.set_marks.proofs.Walks.{Walk, stay, onward, step_other, step_reading, code_sees_nothing}
+use Rattle.set_marks.proofs.Walks.{of_other, of_reading, grown_append}
 use Rattle.set_marks.proofs.WholePairs.{turned, in_rest, not_taken, may_close}
-use Rattle.set_marks.proofs.MarkedStates.{IsBetween, IsOutsideAfter, IsAtStation, IsInSet, begins_station, begins_set, set_stays, set_grows, found_in_set, ends_station, outside_stays}
+use Rattle.set_marks.proofs.MarkedStates.{IsBetween, IsOutsideAfter, IsAtStation, IsInSet}
+use Rattle.set_marks.proofs.MarkedStates.{begins_station, begins_set, set_stays, set_grows}
+use Rattle.set_marks.proofs.MarkedStates.{found_in_set, ends_station, outside_stays}
 
 -- A reading with a face is of its face.
 in_face : (b : GsiBlock) → (is_of_face One b || is_of_face Two b) ≡ true
@@ -50,7 +59,8 @@ over_set limits names name count all done (b ∷ rest) past whole e plain now =
           subst (Walk limits After past (grown (b ∷ past) rest)) (sym (of_reading f b rest sees))
           (onward limits There After past (b ∷ past) (grown (b ∷ past) rest) (f ∷ [])
           (for_readings f rest)
-          (step_reading limits There past b f (set_grows names name count done past b plain.0 sees now)
+          (step_reading limits There past b f
+          (set_grows names name count done past b plain.0 sees now)
           (at_reading limits past b sees now.is_open
           (not_taken all done rest past b whole e now.readings sees faced))
           sees (found_in_set names name count done past now))
@@ -75,7 +85,8 @@ over_sets : (limits : FaceLimits) (names : List (List ℕ)) (name : List ℕ) (c
     → IsAtStation names name count past
     → Walk limits (IsBetween (names ++ name ∷ [])) past (grown past (flat_map blocks_of_set sets))
     (told_of_sets name (suc count) sets)
-over_sets limits names name count [] past are now = stay limits (IsBetween (names ++ name ∷ [])) past
+over_sets limits names name count [] past are now = stay limits (IsBetween (names ++ name ∷ []))
+    past
     (record { may_close = now.may_close; only = now.of_station.only })
 over_sets limits names name count (s ∷ ss) past are now =
     let set = are.0 in
@@ -92,12 +103,14 @@ over_sets limits names name count (s ∷ ss) past are now =
     set.uncoded begun in
     let mid = grown (s.code ∷ past) s.blocks in
     let f : Option Found = Some (record { station = Some name; set = Some n }) in
-    let whole = onward limits In_set At past (s.code ∷ past) mid [] (for_readings f s.blocks) opened read in
+    let whole = onward limits In_set At past (s.code ∷ past) mid [] (for_readings f s.blocks)
+    opened read in
     let more = over_sets limits names name n ss mid are.1 whole.after in
     let later = grown mid (flat_map blocks_of_set ss) in
     subst (λ (h : History). Walk limits Between past h (told_of_sets name (suc count) (s ∷ ss)))
     (sym (grown_append (s.code ∷ past) s.blocks (flat_map blocks_of_set ss)))
-    (onward limits At Between past mid later (for_readings f s.blocks) (told_of_sets name (suc n) ss)
+    (onward limits At Between past mid later (for_readings f s.blocks)
+    (told_of_sets name (suc n) ss)
     whole more)
 
 -- Over blocks without a code where no set is open.
@@ -109,7 +122,8 @@ over_outside limits names [] past plain now = stay limits (IsBetween names) past
 over_outside limits names (b ∷ rest) past plain now =
     let Out = IsOutsideAfter names in
     let next = outside_stays names past b plain.0 now in
-    let quiet = at_other limits past b plain.0 (and_right (has_direction b) (is_open past) now.none_open) in
+    let quiet = at_other limits past b plain.0
+    (and_right (has_direction b) (is_open past) now.none_open) in
     let more = over_outside limits names rest (b ∷ past) plain.1 next in
     elim (cases_Bool (has_direction b)) [
       | inl sees ↦

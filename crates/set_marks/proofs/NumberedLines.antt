@@ -1,5 +1,6 @@
 -- The numbered lines of pieces of a file.
-use Rattle.std.proofs.Common.{◌≡◌, ℕ, true, false, List, [], ◌∷◌, ◌++◌, filter, refl, sym, ap, subst, ◌∙◌, inl, inr, ◌⊎◌}
+use Rattle.std.proofs.Common.{◌≡◌, ℕ, true, false, List, [], ◌∷◌, ◌++◌, filter, refl, sym, ap}
+use Rattle.std.proofs.Common.{subst, ◌∙◌, inl, inr, ◌⊎◌}
 use Rattle.std.specs.List.{onto_first}
 use Rattle.std.proofs.lemmas.Bool.{cases_Bool}
 use Rattle.std.proofs.lemmas.List.{append-nil}
@@ -19,7 +20,8 @@ record HasParts (a b : List ℕ) : Type 0 where
   pub joined : parts (a ++ b) ≡ (first ∷ more) ++ parts b
 
 has_parts : (x : ℕ) (a b : List ℕ) → LastEnds (x ∷ a) → HasParts (x ∷ a) b
-has_parts x [] b last = record { first = []; more = []; alone = rw last refl; joined = rw last refl }
+has_parts x [] b last = record
+    { first = []; more = []; alone = rw last refl; joined = rw last refl }
 has_parts x (y ∷ a) b last =
     let r = has_parts y a b last in elim (cases_Bool (is_line_end x)) [
       | inl h ↦ record {
@@ -44,7 +46,8 @@ numbered_append (x ∷ a) b last =
     let h = has_parts x a b last in
     ap (λ ps. filter is_line ps) h.joined ∙ filter-append is_line (h.first ∷ h.more) (parts b)
     ∙ ap (λ ls. ls ++ numbered_lines b) (sym (ap (λ ps. filter is_line ps) h.alone
-    ∙ filter-append is_line (h.first ∷ h.more) ([] ∷ []) ∙ append-nil (filter is_line (h.first ∷ h.more))))
+    ∙ filter-append is_line (h.first ∷ h.more) ([] ∷ [])
+    ∙ append-nil (filter is_line (h.first ∷ h.more))))
 
 -- A text that ends no line and is not blank, with what ends it, is one line.
 pub one_numbered : (text : List ℕ) (end : LineEnd) → HasNoEnd text → is_line text ≡ true
@@ -79,7 +82,8 @@ pub record IsAlone (tail part : List ℕ) (more : List (List ℕ)) : Type 0 wher
 cut_or_alone : (tail : List ℕ)
     → IsAlone tail tail [] ⊎ ((part : List ℕ) × (rest : List (List ℕ))
     × (parts tail ≡ part ∷ rest) × IsCut tail part rest)
-cut_or_alone [] = inl (record { is = refl; none = All-nil (λ b. is_line_end b ≡ false); behind = refl })
+cut_or_alone [] = inl
+    (record { is = refl; none = All-nil (λ b. is_line_end b ≡ false); behind = refl })
 cut_or_alone (x ∷ xs) = elim (cases_Bool (is_line_end x)) [
   | inl h ↦ inr (
     [],

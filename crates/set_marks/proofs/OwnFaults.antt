@@ -1,5 +1,6 @@
 -- What is true of the blocks of a file in which none has a fault by itself.
-use Rattle.std.proofs.Common.{◌≡◌, ℕ, ◌+◌, Bool, true, false, ◌||◌, ◌&&◌, not, cond, List, [], ◌∷◌, ◌++◌, length, reverse, Option, Some, None, is_none, refl, sym, subst}
+use Rattle.std.proofs.Common.{◌≡◌, ℕ, ◌+◌, Bool, true, false, ◌||◌, ◌&&◌, not, cond, List, [], ◌∷◌}
+use Rattle.std.proofs.Common.{◌++◌, length, reverse, Option, Some, None, is_none, refl, sym, subst}
 use Rattle.std.specs.Prelude.{nat_lt}
 use Rattle.std.specs.List.{AllByRecursion}
 use Rattle.std.specs.Option.{option_map}
@@ -12,13 +13,15 @@ use Rattle.station_book.specs.declared.fault.BookKind.{BookKind}
 use Rattle.station_book.specs.declared.fault.BookKind.TheVariants as faults
 use Rattle.station_book.specs.declared.role.Role.{Role}
 use Rattle.station_book.specs.declared.role.Role.TheVariants as roles
-use Rattle.station_book.specs.Blocks.{role_of, is_station, is_set_code, is_close, is_measurement, lacks, is_of_face, angles}
+use Rattle.station_book.specs.Blocks.{role_of, is_station, is_set_code, is_close, is_measurement}
+use Rattle.station_book.specs.Blocks.{lacks, is_of_face, angles}
 use Rattle.station_book.specs.Places.{History, is_empty}
 use Rattle.station_book.specs.Faults.{first_of}
 use Rattle.station_book.specs.Readings.{own_faults, face_of}
 use Rattle.station_book.proofs.readings.CleanBlocks.{all_none, none_when}
 use Rattle.set_marks.specs.declared.fault.MarkFault.TheVariants.{Reading}
-use Rattle.set_marks.specs.Stations.{SetUp, begun, is_stated, reading_fault, fault_as, own_fault, fault_of_blocks}
+use Rattle.set_marks.specs.Stations.{SetUp, begun, is_stated, reading_fault, fault_as, own_fault}
+use Rattle.set_marks.specs.Stations.{fault_of_blocks}
 use Rattle.set_marks.proofs.ReadingBlocks.{IsClean}
 use Rattle.set_marks.proofs.StationReadings.{HasStation, HaveStations}
 

@@ -1,5 +1,7 @@
 -- A set that repeats another has a flaw where that one has.
-use Rattle.std.proofs.Common.{◌≡◌, ℕ, zero, suc, ◌-◌, ◌*◌, ◌/◌, ◌<◌, Bool, true, false, ◌&&◌, ◌||◌, not, List, [], ◌∷◌, length, take, Option, Some, None, refl, sym, ap, ◌∙◌, inl, inr, arith}
+use Rattle.std.proofs.Common.{◌≡◌, ℕ, zero, suc, ◌-◌, ◌*◌, ◌/◌, ◌<◌, Bool, true, false, ◌&&◌, ◌||◌}
+use Rattle.std.proofs.Common.{not, List, [], ◌∷◌, length, take, Option, Some, None, refl, sym, ap}
+use Rattle.std.proofs.Common.{◌∙◌, inl, inr, arith}
 use Rattle.std.specs.Prelude.{slice_get, is_none, nat_lt, ⊤}
 use Rattle.std.specs.List.{list_all, list_any}
 use Rattle.std.specs.Str.{bytes_eq}
@@ -11,7 +13,11 @@ use Rattle.set_marks.specs.declared.flaw.Flaw.{Flaw}
 use Rattle.set_marks.specs.declared.fault.MarkKind.{MarkKind}
 use Rattle.set_marks.specs.declared.fault.MarkKind.TheVariants as kinds
 use Rattle.set_marks.specs.declared.sight.Sight.{Sight}
-use Rattle.set_marks.specs.Divisions.{is_of, is_same_face, is_again, is_pair, flaw_when, flaw_found, again_from, again_in, alone_among, alone_in, are_in_face, is_by_faces, is_by_targets, are_read_alike, last_target, readings_flaw, order_flaw, set_flaw, known_in, is_mostly_known}
+use Rattle.set_marks.specs.Divisions.{is_of, is_same_face, is_again, is_pair, flaw_when, flaw_found}
+use Rattle.set_marks.specs.Divisions.{again_from, again_in, alone_among, alone_in, are_in_face}
+use Rattle.set_marks.specs.Divisions.{is_by_faces, is_by_targets, are_read_alike, last_target}
+use Rattle.set_marks.specs.Divisions.{readings_flaw, order_flaw, set_flaw, known_in}
+use Rattle.set_marks.specs.Divisions.{is_mostly_known}
 use Rattle.set_marks.specs.Searching.{repeats}
 use Rattle.set_marks.proofs.Few.{none_of_two, none_of_three, no_flaw}
 
@@ -190,7 +196,8 @@ readings_clean xs ys l e =
     (found_nothing kinds.ReadTwice (again_in (take n ys))
     (sym (again_none (take n xs) (take n ys) 0 (take n xs) (take n ys) front front)
     ∙ nothing_found kinds.ReadTwice (again_in (take n xs)) each.0))
-    (failed_test (nat_lt MOST_READINGS (length ys)) kinds.TooManyTargets (slice_get ys MOST_READINGS)
+    (failed_test (nat_lt MOST_READINGS (length ys)) kinds.TooManyTargets
+    (slice_get ys MOST_READINGS)
     (ap (λ (k : ℕ). nat_lt MOST_READINGS k) (sym (like_length xs ys l))
     ∙ test_failed (nat_lt MOST_READINGS (length xs)) kinds.TooManyTargets
     (slice_get xs MOST_READINGS) each.1))
@@ -218,7 +225,8 @@ order_clean first xs ys l e =
     ∙ test_failed (nat_lt (length xs) 4) kinds.OneTarget (slice_get xs 0) each.0))
     (failed_test (not (are_read_alike first ys)) kinds.Order (slice_get ys (length ys / 2))
     (ap not (sym (read_alike first xs ys l))
-    ∙ test_failed (not (are_read_alike first xs)) kinds.Order (slice_get xs (length xs / 2)) each.1))
+    ∙ test_failed (not (are_read_alike first xs)) kinds.Order (slice_get xs (length xs / 2))
+    each.1))
     (failed_test (not (bytes_eq (last_target first) (last_target ys))) kinds.EndsElsewhere
     (slice_get ys (length ys - 1))
     (ap (λ t. not (bytes_eq (last_target first) t)) (sym (last_like xs ys l))

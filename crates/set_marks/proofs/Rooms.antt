@@ -1,5 +1,6 @@
 -- What the code lines of a file say has room.
-use Rattle.std.proofs.Common.{◌≡◌, ℕ, suc, ◌+◌, ◌<◌, ◌≤◌, Bool, true, false, ◌&&◌, List, [], ◌∷◌, ◌++◌, length, drop, Option, Some, None, refl, ap, arith}
+use Rattle.std.proofs.Common.{◌≡◌, ℕ, suc, ◌+◌, ◌<◌, ◌≤◌, Bool, true, false, ◌&&◌, List, [], ◌∷◌}
+use Rattle.std.proofs.Common.{◌++◌, length, drop, Option, Some, None, refl, ap, arith}
 use Rattle.std.specs.Prelude.{slice_get, nat_lt, nat_le}
 use Rattle.std.proofs.lemmas.Bool.{ltb-false}
 use Rattle.std.proofs.lemmas.List.Elements.{All-head, All-tail}
@@ -14,7 +15,9 @@ use Rattle.set_marks.specs.declared.division.Divided.TheVariants.{NoSets, Sets, 
 use Rattle.set_marks.specs.declared.sight.Sight.{Sight}
 use Rattle.set_marks.specs.Stations.{Occupation}
 use Rattle.set_marks.specs.Divisions.{divided, starts_of, end_in, parts_at, flaw_when}
-use Rattle.set_marks.specs.Marking.{mark_at, set_marks, close_mark, station_marks, is_open_after, marks_from, station_fault, names_after, fault_of_stations, is_too_long}
+use Rattle.set_marks.specs.Marking.{mark_at, set_marks, close_mark, station_marks, is_open_after}
+use Rattle.set_marks.specs.Marking.{marks_from, station_fault, names_after, fault_of_stations}
+use Rattle.set_marks.specs.Marking.{is_too_long}
 use Rattle.set_marks.proofs.BareNames.{IsBareName, HaveBareNames}
 use Rattle.set_marks.proofs.CopyLines.{AreRoomy}
 use Rattle.set_marks.proofs.EachTargetOnce.{no_flaw}
@@ -91,5 +94,6 @@ marks_roomy in_set names end (s ∷ ss) bare fault =
     (marks_from (is_open_after in_set s (divided s.sights)) ss)
     (station_roomy in_set names s (divided s.sights) refl
     (All-head (λ (o : Occupation). IsBareName o.name) s ss bare) none.0)
-    (marks_roomy (is_open_after in_set s (divided s.sights)) (names_after names s (divided s.sights))
+    (marks_roomy (is_open_after in_set s (divided s.sights))
+    (names_after names s (divided s.sights))
     end ss (All-tail (λ (o : Occupation). IsBareName o.name) s ss bare) none.1.0)

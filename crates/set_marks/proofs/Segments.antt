@@ -1,6 +1,7 @@
 -- Readings that stand one after another, with code lines before the first of them: the blocks in
 -- which they are, and the blocks of the copy.
-use Rattle.std.proofs.Common.{◌≡◌, ℕ, suc, ◌+◌, ◌<◌, ◌≤◌, true, List, [], ◌∷◌, ◌++◌, length, map, refl, sym, ap, subst, ◌∙◌, inl, inr, arith, append_assoc}
+use Rattle.std.proofs.Common.{◌≡◌, ℕ, suc, ◌+◌, ◌<◌, ◌≤◌, true, List, [], ◌∷◌, ◌++◌, length, map}
+use Rattle.std.proofs.Common.{refl, sym, ap, subst, ◌∙◌, inl, inr, arith, append_assoc}
 use Rattle.std.specs.Prelude.{◌==◌, ⊤}
 use Rattle.std.specs.List.{AllByRecursion, list_any}
 use Rattle.std.proofs.lemmas.Bool.{cases_Bool, or_cases, eq-eqb, ne_eqb, eqb-true}
@@ -73,10 +74,11 @@ no_earlier : (n k : ℕ) (bs : List GsiBlock) → list_any (λ r. r.block == k) 
 no_earlier n k [] e = cc
 no_earlier n k (b ∷ bs) e = elim (cases_Bool (has_direction b)) [
   | inr h ↦ let l : suc n ≤ k = no_earlier (suc n) k bs (rw h at e) in omega arith
-  | inl h ↦ elim (or_cases (n == k) (list_any (λ r. r.block == k) (sights_from (suc n) bs)) (rw h at e)) [
-    | inl f ↦ let g = eqb-true n k f in omega arith
-    | inr f ↦ let l : suc n ≤ k = no_earlier (suc n) k bs f in omega arith
-  ]
+  | inl h ↦ elim
+      (or_cases (n == k) (list_any (λ r. r.block == k) (sights_from (suc n) bs)) (rw h at e)) [
+        | inl f ↦ let g = eqb-true n k f in omega arith
+        | inr f ↦ let l : suc n ≤ k = no_earlier (suc n) k bs f in omega arith
+      ]
 ]
 
 -- Code lines of the readings of blocks are before these blocks or later ones.
@@ -115,7 +117,8 @@ marks_block r [] = tt
 marks_block r (c ∷ codes) = (refl, marks_block r codes)
 
 codes_here : (r : Sight) (codes : List Code) (ms : List BlockMark) → codes_before ms r.block ≡ []
-    → codes_before (map (λ c. record { block = r.block; wide = r.wide; code = c }) codes ++ ms) r.block
+    → codes_before (map (λ c. record { block = r.block; wide = r.wide; code = c }) codes ++ ms)
+    r.block
     ≡ map (λ c. code_block r.wide c) codes
 codes_here r [] ms e = e
 codes_here r (c ∷ codes) ms e = rw (eq-eqb r.block r.block refl)
@@ -249,7 +252,8 @@ segment (r ∷ rs) later codes ms n (b ∷ bs) ready clean e of =
     let next = suc n + length s.group in
     let from : AreFrom next ms = from_readings next s.rest ms
     (subst (λ (l : List Sight). AreMarksOf l ms) (sym s.there) of) in
-    let first : List BlockMark = map (λ c. record { block = r.block; wide = r.wide; code = c }) codes in
+    let first : List BlockMark = map (λ c. record { block = r.block; wide = r.wide; code = c })
+    codes in
     let here : codes_before (first ++ ms) n ≡ map (λ c. code_block r.wide c) codes =
     ap (λ (k : ℕ). codes_before (first ++ ms) k) at
     ∙ codes_here r codes ms (ap (λ (k : ℕ). codes_before ms k) (sym at)
@@ -272,5 +276,6 @@ segment (r ∷ rs) later codes ms n (b ∷ bs) ready clean e of =
           ∙ sym (append_assoc (map (λ c. code_block r.wide c) codes) (b ∷ s.group)
           (with_codes ms next s.rest));
       up = λ u. subst (λ (k : ℕ). AreUp k (first ++ ms)) (sym at)
-          (up_first r.block first ms (marks_block r codes) (up_later r.block next ms (omega (arith, at)) u));
+          (up_first r.block first ms (marks_block r codes)
+          (up_later r.block next ms (omega (arith, at)) u));
     }

@@ -1,5 +1,7 @@
 -- The sets that are recognized, in words.
-use Rattle.std.proofs.Common.{◌≡◌, ℕ, suc, ◌+◌, ◌-◌, ◌≤◌, true, false, ◌&&◌, List, [], ◌∷◌, ◌++◌, length, take, drop, Option, Some, None, is_none, refl, sym, ap, ◌∙◌, inl, inr, subst, arith, All}
+use Rattle.std.proofs.Common.{◌≡◌, ℕ, suc, ◌+◌, ◌-◌, ◌≤◌, true, false, ◌&&◌, List, [], ◌∷◌, ◌++◌}
+use Rattle.std.proofs.Common.{length, take, drop, Option, Some, None, is_none, refl, sym, ap, ◌∙◌}
+use Rattle.std.proofs.Common.{inl, inr, subst, arith, All}
 use Rattle.std.specs.Prelude.{nat_lt, nat_le, slice_get}
 use Rattle.std.proofs.Math.Seq.{take-add}
 use Rattle.std.proofs.lemmas.Bool.{cases_Bool, false≢true, leb-false}
@@ -12,7 +14,12 @@ use Rattle.set_marks.specs.declared.fault.MarkKind.TheVariants as kinds
 use Rattle.set_marks.specs.declared.flaw.Flaw.{Flaw}
 use Rattle.set_marks.specs.declared.division.Divided.TheVariants.{NoSets, Sets}
 use Rattle.set_marks.specs.declared.sight.Sight.{Sight}
-use Rattle.set_marks.specs.Divisions.{set_flaw, sets_flaw, sets_of, parts_at, part, starts_of, starts_from, first_set, end_in, rest_flaw, flaw_of, is_division, leading_of, flaw_when, flaw_found, doubt_flaw, doubt_after, begins_in_two, may_be_shifted, is_one_by_targets, is_mostly_known, stranger_among, divided, divided_by, divided_unless, is_in_one_face, latest_flaw, later}
+use Rattle.set_marks.specs.Divisions.{set_flaw, sets_flaw, sets_of, parts_at, part, starts_of}
+use Rattle.set_marks.specs.Divisions.{starts_from, first_set, end_in, rest_flaw, flaw_of}
+use Rattle.set_marks.specs.Divisions.{is_division, leading_of, flaw_when, flaw_found, doubt_flaw}
+use Rattle.set_marks.specs.Divisions.{doubt_after, begins_in_two, may_be_shifted, is_one_by_targets}
+use Rattle.set_marks.specs.Divisions.{is_mostly_known, stranger_among, divided, divided_by}
+use Rattle.set_marks.specs.Divisions.{divided_unless, is_in_one_face, latest_flaw, later}
 use Rattle.set_marks.specs.SetsInWords.{one_after_another, ReadsEachOnce, AreSets}
 use Rattle.set_marks.proofs.EachTargetOnce.{set_once, no_flaw, none_found}
 use Rattle.set_marks.proofs.Fewest.{fewest}
@@ -101,7 +108,8 @@ rest_are leading (r ∷ rs) e =
     ap (λ (ps : List ℕ). parts_at (end_in all) ps all) at in
     record {
       some = subst (λ (sets : List (List Sight)). 1 ≤ length sets) (sym same) (omega arith);
-      few = subst (λ (sets : List (List Sight)). length sets ≤ MOST_SETS) (sym same) (let n = j.few in omega arith);
+      few = subst (λ (sets : List (List Sight)). length sets ≤ MOST_SETS) (sym same)
+          (let n = j.few in omega arith);
       each = subst (λ (sets : List (List Sight)). All ReadsEachOnce sets) (sym same) j.each;
       same = ap (λ (sets : List (List Sight)). one_after_another sets) same ∙ j.same
           ∙ whole (end_in all) all;
@@ -124,7 +132,8 @@ something_wrong rs e f = elim (cases_Bool (is_division rs 0)) [
   | inl h ↦ absurd (no_number 0 (rw h at e))
   | inr h ↦
       let none : is_none (latest_flaw rs) ≡ true = ap (λ (o : Option Flaw). is_none o) f in
-      let some = stays_some (later (later (flaw_of rs 0) (flaw_of rs 1)) (flaw_of rs 2)) (flaw_of rs 3)
+      let some = stays_some (later (later (flaw_of rs 0) (flaw_of rs 1)) (flaw_of rs 2))
+      (flaw_of rs 3)
       (stays_some (later (flaw_of rs 0) (flaw_of rs 1)) (flaw_of rs 2)
       (stays_some (flaw_of rs 0) (flaw_of rs 1) h)) in
       false≢true (sym some ∙ none)

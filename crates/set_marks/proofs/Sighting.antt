@@ -1,5 +1,6 @@
 -- A reading as the division into sets sees it.
-use Rattle.std.proofs.Common.{◌≡◌, ℕ, Bool, true, false, List, [], ◌∷◌, ◌++◌, Option, Some, None, refl, sym, ap, ◌∙◌, inl, inr}
+use Rattle.std.proofs.Common.{◌≡◌, ℕ, Bool, true, false, List, [], ◌∷◌, ◌++◌, Option, Some, None}
+use Rattle.std.proofs.Common.{refl, sym, ap, ◌∙◌, inl, inr}
 use Rattle.std.specs.Prelude.{◌==◌, ◌&&◌, not, nat_lt, Ok}
 use Rattle.std.proofs.lemmas.Bool.{cases_Bool}
 use Rattle.std.proofs.lemmas.List.{append-nil}
@@ -9,7 +10,8 @@ use Rattle.station_book.specs.declared.angles.Reading.{Reading}
 use Rattle.station_book.specs.declared.fault.BookKind.{BookKind}
 use Rattle.station_book.specs.declared.face.Face.TheVariants.{Two}
 use Rattle.station_book.specs.declared.role.Role.TheVariants.{Measurement}
-use Rattle.station_book.specs.Blocks.{role_of, lacks, has_direction, is_measurement, target, is_of_face, angles}
+use Rattle.station_book.specs.Blocks.{role_of, lacks, has_direction, is_measurement, target}
+use Rattle.station_book.specs.Blocks.{is_of_face, angles}
 use Rattle.station_book.specs.Faults.{first_of}
 use Rattle.station_book.specs.Readings.{read, reading, own_faults, unless_fault}
 use Rattle.set_marks.specs.declared.readings.Readings.{Readings}
@@ -69,14 +71,16 @@ pub adds_sight : (stated : Bool) (b : GsiBlock) (number : ℕ) (old new : Readin
 adds_sight stated b number old new r role e station marking flaw sights blocks = record {
   adds = rw (no_set_up stated b (with_direction b r e)) (record {
     station = station;
-    sights = sights ∙ ap (λ (l : List Sight). old.sights.items ++ l) (sym (sight_is number b r role e));
+    sights = sights ∙ ap (λ (l : List Sight). old.sights.items ++ l)
+        (sym (sight_is number b r role e));
     marking = marking;
     flaw = flaw;
   });
   blocks = blocks;
 }
 
-no_set_up_line : (stated : Bool) (b : GsiBlock) → sets_up b ≡ false → (not stated && sets_up b) ≡ false
+no_set_up_line : (stated : Bool) (b : GsiBlock) → sets_up b ≡ false → (not stated && sets_up b)
+    ≡ false
 no_set_up_line true b e = refl
 no_set_up_line false b e = e
 

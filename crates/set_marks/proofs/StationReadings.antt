@@ -1,5 +1,6 @@
 -- The readings of a file's stations are its readings, one after another.
-use Rattle.std.proofs.Common.{◌≡◌, ℕ, ◌+◌, ◌-◌, ◌≤◌, true, false, List, [], ◌∷◌, ◌++◌, length, take, drop, Option, Some, None, refl, sym, ap, subst, ◌∙◌, inl, inr, arith}
+use Rattle.std.proofs.Common.{◌≡◌, ℕ, ◌+◌, ◌-◌, ◌≤◌, true, false, List, [], ◌∷◌, ◌++◌, length, take}
+use Rattle.std.proofs.Common.{drop, Option, Some, None, refl, sym, ap, subst, ◌∙◌, inl, inr, arith}
 use Rattle.std.specs.Prelude.{⊤}
 use Rattle.std.specs.List.{AllByRecursion}
 use Rattle.std.proofs.lemmas.Bool.{cases_Bool, false≢true}
@@ -8,7 +9,8 @@ use Rattle.gsi_word.specs.Blocks.{GsiBlock}
 use Rattle.station_book.specs.Blocks.{has_direction, target}
 use Rattle.station_book.specs.Places.{History, is_empty}
 use Rattle.set_marks.specs.declared.sight.Sight.{Sight}
-use Rattle.set_marks.specs.Stations.{SetUp, sets_up, sight_in, sights_of, set_up_in, set_ups_of, occupations, begun, stations_of}
+use Rattle.set_marks.specs.Stations.{SetUp, sets_up, sight_in, sights_of, set_up_in, set_ups_of}
+use Rattle.set_marks.specs.Stations.{occupations, begun, stations_of}
 use Rattle.set_marks.proofs.MarkedStations.{all_sights}
 
 -- each begins no later than the next
@@ -109,7 +111,8 @@ all_from s (t ∷ later) rs up =
     (all_from t later rs up.1 ∙ sym behind)
     ∙ take-append-drop (t.from - s.from) (drop s.from rs)
 
-all_of : (ss : List SetUp) (rs : List Sight) → AreInOrder ss rs → all_sights (occupations ss rs) ≡ rs
+all_of : (ss : List SetUp) (rs : List Sight) → AreInOrder ss rs → all_sights (occupations ss rs)
+    ≡ rs
 all_of [] rs is = sym is.first
 all_of (s ∷ later) rs is = all_from s later rs is.up
     ∙ ap (λ (k : ℕ). drop k rs) is.first

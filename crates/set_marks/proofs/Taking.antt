@@ -1,18 +1,21 @@
 -- The blocks of a file are read one by one.
-use Rattle.std.proofs.Common.{◌≡◌, ℕ, ◌+◌, Bool, true, false, List, [], ◌∷◌, ◌++◌, length, Option, Some, None, refl, sym, ap, subst, ◌∙◌, arith, append_assoc, reverse}
+use Rattle.std.proofs.Common.{◌≡◌, ℕ, ◌+◌, Bool, true, false, List, [], ◌∷◌, ◌++◌, length, Option}
+use Rattle.std.proofs.Common.{Some, None, refl, sym, ap, subst, ◌∙◌, arith, append_assoc, reverse}
 use Rattle.std.specs.Prelude.{IfSome, if◌then◌else◌, ◌&&◌, Err}
 use Rattle.std.specs.List.{AllZip}
 use Rattle.std.specs.Option.{option_map}
 use Rattle.std.proofs.lemmas.List.{append-nil, reverse-append}
 use Rattle.gsi_word.specs.Blocks.{GsiBlock, IsBlock}
 use Rattle.gsi_file.specs.FileAnswers.{FileAnswers, line_before}
-use Rattle.gsi_file.specs.ToCome.{ToCome, Answers, GivesLine, GivesEnd, GivesFault, FaultIsNext, only, TakesLine}
+use Rattle.gsi_file.specs.ToCome.{ToCome, Answers, GivesLine, GivesEnd, GivesFault, FaultIsNext}
+use Rattle.gsi_file.specs.ToCome.{only, TakesLine}
 use Rattle.gsi_file.specs.declared.file_fault.FileFault.{FileFault}
 use Rattle.gsi_file.specs.declared.file_fault.FileFault.TheVariants as file
 use Rattle.gsi_file.specs.declared.file_fault.FileKind.{FileKind}
 use Rattle.station_book.specs.declared.fault.BookKind.{BookKind}
 use Rattle.station_book.specs.declared.role.Role.{Role}
-use Rattle.station_book.specs.declared.role.Role.TheVariants.{Station, Set, Close, Measurement, Other}
+use Rattle.station_book.specs.declared.role.Role.TheVariants.{Station, Set, Close, Measurement}
+use Rattle.station_book.specs.declared.role.Role.TheVariants.{Other}
 use Rattle.station_book.specs.Blocks.{role_of, lacks}
 use Rattle.station_book.specs.Faults.{first_of}
 use Rattle.station_book.specs.Places.{History, is_empty}
@@ -21,7 +24,8 @@ use Rattle.set_marks.specs.declared.fault.MarkFault.{MarkFault}
 use Rattle.set_marks.specs.declared.fault.MarkFault.TheVariants.{File, Reading, At, Memory}
 use Rattle.set_marks.specs.declared.fault.MarkKind.TheVariants as kinds
 use Rattle.set_marks.specs.declared.readings.Readings.{Readings}
-use Rattle.set_marks.specs.Stations.{SetUp, begun, is_stated, fault_as, reading_fault, fault_of_blocks, own_fault, tells_set_up}
+use Rattle.set_marks.specs.Stations.{SetUp, begun, is_stated, fault_as, reading_fault}
+use Rattle.set_marks.specs.Stations.{fault_of_blocks, own_fault, tells_set_up}
 use Rattle.set_marks.specs.Keeping.{Adds, Keeps, AreReadings, AnswersReadings, begun_in}
 use Rattle.set_marks.specs.Markings.{AreBlocks, IsFileFault}
 use Rattle.set_marks.proofs.EndedStations.{keeps_next}
@@ -71,7 +75,8 @@ same_reading_fault (s ∷ ss) [] number b e = cc
 same_reading_fault (s ∷ ss) (t ∷ ts) number b e = refl
 
 same_fault : (role : Role) (stated : Bool) (ss ts : List SetUp) (number : ℕ) (b : GsiBlock)
-    → is_empty ss ≡ is_empty ts → fault_as role stated ss number b ≡ fault_as role stated ts number b
+    → is_empty ss ≡ is_empty ts → fault_as role stated ss number b
+    ≡ fault_as role stated ts number b
 same_fault Station stated ss ts number b e = refl
 same_fault Set stated ss ts number b e = refl
 same_fault Close stated ss ts number b e = refl
@@ -116,7 +121,8 @@ one_more R (a ∷ xs) (b ∷ ys) x y h r = (h.0, one_more R xs ys x y h.1 r)
 pub line_taken : (station : Option (List ℕ)) (first : FileAnswers) (t t' : ToCome) (r r' : Readings)
     (f f' : Option MarkFault) (number : ℕ) (b : GsiBlock)
     → AreTaken station first t r f → GivesLine t t' number b
-    → f' ≡ first_of (f ∷ fault_as (role_of b) (is_stated station) (begun_in r.station) number b ∷ [])
+    → f' ≡ first_of (f ∷ fault_as (role_of b) (is_stated station) (begun_in r.station) number b
+    ∷ [])
     → (f' ≡ None → Adds (is_stated station) b number r r')
     → AreTaken station first t' r' f'
 line_taken station first t t' r r' f f' number b taken gives is adds =
@@ -129,7 +135,8 @@ line_taken station first t t' r r' f f' number b taken gives is adds =
       done = taken.done ++ gives.line ∷ [];
       left = next.0;
       here = next.1;
-      split = taken.split ∙ ap (λ (a : FileAnswers). with_lines (taken.done ++ a.lines) a.last) next.2
+      split = taken.split ∙ ap (λ (a : FileAnswers). with_lines (taken.done ++ a.lines) a.last)
+          next.2
           ∙ ap (λ (l : List (List ℕ)). with_lines l next.0.last)
           (sym (append_assoc taken.done (gives.line ∷ []) next.0.lines));
       each = subst (λ (l : List GsiBlock). AllZip IsBlock (taken.done ++ gives.line ∷ []) l)
@@ -152,7 +159,8 @@ are_blocks station first t t' r f taken end =
     ∙ ap (λ (a : FileAnswers). taken.done ++ a.lines) over ∙ append-nil taken.done in
     record {
       ended = ap (λ (a : FileAnswers). a.last) taken.split ∙ ap (λ (a : FileAnswers). a.last) over;
-      each = subst (λ (l : List (List ℕ)). AllZip IsBlock l (reverse taken.h)) (sym whole) taken.each;
+      each = subst (λ (l : List (List ℕ)). AllZip IsBlock l (reverse taken.h)) (sym whole)
+          taken.each;
     }
 
 pub all_taken : (station : Option (List ℕ)) (first : FileAnswers) (t t' : ToCome) (r : Readings)
@@ -227,7 +235,8 @@ file_fault station first t t' r f number kind taken gives = record {
   left = taken.left;
   each = taken.each;
   split = taken.split;
-  fault = subst (λ (o : Option FileAnswers). IfSome o (λ a. FaultIsNext a kind)) taken.here gives.here;
+  fault = subst (λ (o : Option FileAnswers). IfSome o (λ a. FaultIsNext a kind)) taken.here
+      gives.here;
   counted = gives.counted ∙ ap (λ n. n + 1) taken.number;
 }
 

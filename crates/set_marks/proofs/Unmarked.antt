@@ -1,5 +1,6 @@
 -- Without the code lines, a copy is the field file.
-use Rattle.std.proofs.Common.{◌≡◌, ℕ, zero, suc, ◌-◌, ◌<◌, Bool, true, false, List, [], ◌∷◌, ◌++◌, length, take, drop, refl, sym, ap, ◌∙◌, append_assoc, All, arith}
+use Rattle.std.proofs.Common.{◌≡◌, ℕ, zero, suc, ◌-◌, ◌<◌, Bool, true, false, List, [], ◌∷◌, ◌++◌}
+use Rattle.std.proofs.Common.{length, take, drop, refl, sym, ap, ◌∙◌, append_assoc, All, arith}
 use Rattle.std.specs.Prelude.{slice_index}
 use Rattle.std.specs.List.{list_any}
 use Rattle.std.proofs.lemmas.Bool.{or_parts}
@@ -14,10 +15,12 @@ use Rattle.set_marks.specs.declared.line_end.LineEnd.TheVariants.{LineFeed, Carr
 use Rattle.set_marks.specs.Lines.{end_bytes}
 use Rattle.set_marks.specs.Marks.{line_of, text_of, star, words_text, HasRoom}
 use Rattle.set_marks.specs.Copies.{woven, AreOrdered}
-use Rattle.set_marks.specs.Unmarked.{begins_with_feed, whole_lines, is_put_in, unmarked, BeginsSomeLine}
+use Rattle.set_marks.specs.Unmarked.{begins_with_feed, whole_lines, is_put_in, unmarked}
+use Rattle.set_marks.specs.Unmarked.{BeginsSomeLine}
 use Rattle.set_marks.proofs.Identity.{ends_line}
 use Rattle.set_marks.proofs.CodeLineText.{text_has_no_end}
-use Rattle.set_marks.proofs.WholeLines.{LastEnds, last_ends, SomeLast, last_behind, one_line, unmarked_append, unmarked_without}
+use Rattle.set_marks.proofs.WholeLines.{LastEnds, last_ends, SomeLast, last_behind, one_line}
+use Rattle.set_marks.proofs.WholeLines.{unmarked_append, unmarked_without}
 
 begins_as : (wide : Bool) (code : Code) (more : List ℕ)
     → begins_with_feed ((star wide ++ words_text wide code) ++ more) ≡ false
@@ -86,7 +89,8 @@ unmarked_woven from bytes (m ∷ ms) ordered each =
     let piece = take (m.at - from) (drop from bytes) in
     let line = line_of m in
     let more = woven m.at bytes ms in
-    let last : LastEnds piece = last_ends piece (ends_line from bytes m ordered.0 ordered.1 here.begins) in
+    let last : LastEnds piece = last_ends piece
+    (ends_line from bytes m ordered.0 ordered.1 here.begins) in
     let feed = no_feed bytes m.at here.inside here.some_byte in
     let behind : drop (m.at - from) (drop from bytes) ≡ drop m.at bytes =
     drop-drop (m.at - from) from bytes ∙ ap (λ (k : ℕ). drop k bytes) (omega arith) in

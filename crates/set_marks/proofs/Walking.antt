@@ -1,12 +1,15 @@
 -- From one line of a file to the next.
-use Rattle.std.proofs.Common.{◌≡◌, ℕ, suc, ◌+◌, ◌-◌, ◌<◌, ◌≤◌, Bool, true, false, List, [], ◌∷◌, ◌++◌, length, take, drop, map, sym, ap, subst, ◌∙◌, append_assoc, arith, get_or, inl, inr, refl}
+use Rattle.std.proofs.Common.{◌≡◌, ℕ, suc, ◌+◌, ◌-◌, ◌<◌, ◌≤◌, Bool, true, false, List, [], ◌∷◌}
+use Rattle.std.proofs.Common.{◌++◌, length, take, drop, map, sym, ap, subst, ◌∙◌, append_assoc}
+use Rattle.std.proofs.Common.{arith, get_or, inl, inr, refl}
 use Rattle.std.specs.Prelude.{slice_index, not, if◌then◌else◌}
 use Rattle.std.proofs.lemmas.List.{append-nil, drop-drop, get_or-drop, length-take}
 use Rattle.gsi_file.specs.Parts.{parts, is_blank, is_line_end}
 use Rattle.set_marks.specs.declared.mark.BlockMark.{BlockMark}
 use Rattle.set_marks.specs.declared.mark.Mark.{Mark}
 use Rattle.set_marks.specs.Copies.{BeginsAt}
-use Rattle.set_marks.specs.Placing.{IsEmptyPart, placed_at, placed_from, marks_of_block, marks_after}
+use Rattle.set_marks.specs.Placing.{IsEmptyPart, placed_at, placed_from, marks_of_block}
+use Rattle.set_marks.specs.Placing.{marks_after}
 
 -- A line begins after a byte that ends one.
 pub next_begins : (bytes rest : List ℕ) (at n : ℕ) → rest ≡ drop at bytes
@@ -53,7 +56,8 @@ pub part_line : (bytes part : List ℕ) (at number : ℕ) (ms : List BlockMark) 
     (old new : List Mark) → is_blank part ≡ false
     → new ≡ old ++ map (placed_at bytes at) (marks_of_block (number + 1) ms)
     → old ++ placed_from bytes at number ms (part ∷ rest)
-    ≡ new ++ placed_from bytes (at + length part + 1) (number + 1) (marks_after (number + 1) ms) rest
+    ≡ new ++ placed_from bytes (at + length part + 1) (number + 1) (marks_after (number + 1) ms)
+    rest
 part_line bytes part at number ms rest old new blank =
     let step : suc number ≡ number + 1 = omega arith in
     subst (λ (k : ℕ). new ≡ old ++ map (placed_at bytes at) (marks_of_block k ms)
@@ -86,7 +90,8 @@ next_value bytes rest at number number' n ms ms' old new whole lt split f value 
     ap (λ (k : ℕ). new ++ placed_from bytes k number' ms' (parts (drop (n + 1) rest)))
     (sym (long at n rest lt))
     ∙ ap (λ (k : ℕ). new
-    ++ placed_from bytes (at + length (take n rest) + 1) number' ms' (parts (drop k rest))) (sym step)
+    ++ placed_from bytes (at + length (take n rest) + 1) number' ms' (parts (drop k rest)))
+    (sym step)
     ∙ sym (f (parts (drop (suc n) rest)))
     ∙ ap (λ (p : List (List ℕ)). old ++ placed_from bytes at number ms p) (sym split) ∙ value
 
@@ -101,13 +106,15 @@ last_value bytes rest at number number' ms ms' old new whole split f value =
     ∙ ap (λ (p : List (List ℕ)). old ++ placed_from bytes at number ms p) (sym split) ∙ value
 
 -- Over an empty part.
-pub over_empty : (bytes rest : List ℕ) (at number n : ℕ) (ms : List BlockMark) (old whole : List Mark)
+pub over_empty : (bytes rest : List ℕ) (at number n : ℕ) (ms : List BlockMark)
+    (old whole : List Mark)
     → IsEmptyPart rest n → old ++ placed_from bytes at number ms (parts rest) ≡ whole
     → old ++ placed_from bytes (at + n) number ms (parts (drop n rest)) ≡ whole
 over_empty bytes rest at number n ms old whole (inl none) value =
     subst (λ (k : ℕ). old ++ placed_from bytes (at + k) number ms (parts (drop k rest)) ≡ whole)
     (sym none)
-    (subst (λ (k : ℕ). old ++ placed_from bytes k number ms (parts rest) ≡ whole) (omega arith) value)
+    (subst (λ (k : ℕ). old ++ placed_from bytes k number ms (parts rest) ≡ whole) (omega arith)
+    value)
 over_empty bytes rest at number n ms old whole (inr one) value =
     subst (λ (k : ℕ). old ++ placed_from bytes (at + k) number ms (parts (drop k rest)) ≡ whole)
     (sym one.0)

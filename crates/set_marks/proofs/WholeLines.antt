@@ -1,5 +1,6 @@
 -- The lines of bytes, each with what ends it.
-use Rattle.std.proofs.Common.{◌≡◌, ℕ, cond, true, false, ◌&&◌, not, List, [], ◌∷◌, ◌++◌, filter, refl, sym, ap, subst, ◌∙◌, inl, inr}
+use Rattle.std.proofs.Common.{◌≡◌, ℕ, cond, true, false, ◌&&◌, not, List, [], ◌∷◌, ◌++◌, filter}
+use Rattle.std.proofs.Common.{refl, sym, ap, subst, ◌∙◌, inl, inr}
 use Rattle.std.specs.Prelude.{⊤, ◌==◌}
 use Rattle.std.specs.List.{flat_map, list_any}
 use Rattle.std.proofs.lemmas.Bool.{cases_Bool, and_from, and_right, or_parts}
@@ -10,7 +11,8 @@ use Rattle.set_marks.specs.declared.line_end.LineEnd.{LineEnd}
 use Rattle.set_marks.specs.declared.line_end.LineEnd.TheVariants.{LineFeed, CarriageReturn, Both}
 use Rattle.set_marks.specs.Lines.{end_bytes}
 use Rattle.set_marks.specs.Copies.{EndsLine}
-use Rattle.set_marks.specs.Unmarked.{begins_with_feed, ends_line, with_first, whole_lines, is_put_in, unmarked}
+use Rattle.set_marks.specs.Unmarked.{begins_with_feed, ends_line, with_first, whole_lines}
+use Rattle.set_marks.specs.Unmarked.{is_put_in, unmarked}
 
 -- the last of these bytes, where there is one, ends a line
 abbrev pub LastEnds : List ℕ → Type 0
@@ -18,7 +20,8 @@ LastEnds [] = ⊤
 LastEnds (b ∷ []) = is_line_end b ≡ true
 LastEnds (b ∷ c ∷ bytes) = LastEnds (c ∷ bytes)
 
-last_of_front : (front : List ℕ) (byte : ℕ) → is_line_end byte ≡ true → LastEnds (front ++ byte ∷ [])
+last_of_front : (front : List ℕ) (byte : ℕ) → is_line_end byte ≡ true
+    → LastEnds (front ++ byte ∷ [])
 last_of_front [] byte e = e
 last_of_front (a ∷ []) byte e = e
 last_of_front (a ∷ b ∷ front) byte e = last_of_front (b ∷ front) byte e
@@ -64,7 +67,8 @@ some_line b bytes = elim (cases_Bool (ends_line b bytes)) [
 
 longer : (b : ℕ) (bytes more : List ℕ) → SomeLine bytes
     → whole_lines (bytes ++ more) ≡ whole_lines bytes ++ whole_lines more
-    → with_first b (whole_lines (bytes ++ more)) ≡ with_first b (whole_lines bytes) ++ whole_lines more
+    → with_first b (whole_lines (bytes ++ more)) ≡ with_first b (whole_lines bytes)
+    ++ whole_lines more
 longer b bytes more some e =
     ap (λ ls. with_first b ls) (e ∙ ap (λ ls. ls ++ whole_lines more) some.are)
     ∙ ap (λ ls. with_first b ls ++ whole_lines more) (sym some.are)
@@ -96,7 +100,8 @@ lines_joined (b ∷ bytes) = elim (cases_Bool (ends_line b bytes)) [
   | inl h ↦ rw h (ap (λ bs. b ∷ bs) (lines_joined bytes))
   | inr h ↦ rw h (first (whole_lines bytes) ∙ ap (λ bs. b ∷ bs) (lines_joined bytes))
 ] where
-  first : (ls : List (List ℕ)) → flat_map (λ line. line) (with_first b ls) ≡ b ∷ flat_map (λ line. line) ls
+  first : (ls : List (List ℕ)) → flat_map (λ line. line) (with_first b ls) ≡ b
+      ∷ flat_map (λ line. line) ls
   first [] = refl
   first (l ∷ ls) = refl
 
@@ -120,7 +125,8 @@ none_dropped (l ∷ ls) e = let p = or_parts (is_put_in l) (list_any is_put_in l
 -- Bytes without such a line stay as they are.
 pub unmarked_without : (bytes : List ℕ) → list_any is_put_in (whole_lines bytes) ≡ false
     → unmarked bytes ≡ bytes
-unmarked_without bytes e = ap (λ ls. flat_map (λ line. line) ls) (none_dropped (whole_lines bytes) e)
+unmarked_without bytes e = ap (λ ls. flat_map (λ line. line) ls)
+    (none_dropped (whole_lines bytes) e)
     ∙ lines_joined bytes
 
 -- The lines are left out of each of two pieces.

@@ -1,14 +1,18 @@
 -- Of a set each target of which is read once in each face: no reading is the second of its target
 -- and face, and at the end each has one in the other face.
-use Rattle.std.proofs.Common.{◌≡◌, ℕ, suc, ◌+◌, ◌<◌, Bool, true, false, ◌&&◌, List, [], ◌∷◌, length, filter, Option, Some, None, is_none, is_some, refl, sym, ap, subst, ◌∙◌, inl, inr, arith}
+use Rattle.std.proofs.Common.{◌≡◌, ℕ, suc, ◌+◌, ◌<◌, Bool, true, false, ◌&&◌, List, [], ◌∷◌, length}
+use Rattle.std.proofs.Common.{filter, Option, Some, None, is_none, is_some, refl, sym, ap, subst}
+use Rattle.std.proofs.Common.{◌∙◌, inl, inr, arith}
 use Rattle.std.specs.List.{list_any}
 use Rattle.std.specs.Str.{bytes_eq}
-use Rattle.std.proofs.lemmas.Bool.{cases_Bool, and_parts, and_from, or_left, false≢true, false_from_ne_true}
+use Rattle.std.proofs.lemmas.Bool.{cases_Bool, and_parts, and_from, or_left, false≢true}
+use Rattle.std.proofs.lemmas.Bool.{false_from_ne_true}
 use Rattle.std.proofs.lemmas.Slice.Eq.{bytes_eq-Decides}
 use Rattle.gsi_word.specs.Blocks.{GsiBlock}
 use Rattle.station_book.specs.declared.face.Face.{Face}
 use Rattle.station_book.specs.Blocks.{is_opening, has_direction, target, is_of_face, other_face}
-use Rattle.station_book.specs.Places.{History, Place, places, passes_at, target_at, reading_in, is_reading, is_open, is_empty, is_same, before, opening, last}
+use Rattle.station_book.specs.Places.{History, Place, places, passes_at, target_at, reading_in}
+use Rattle.station_book.specs.Places.{is_reading, is_open, is_empty, is_same, before, opening, last}
 use Rattle.station_book.specs.Faults.{face, face_at, open_readings, has_one_face, is_face_taken}
 use Rattle.station_book.proofs.lists.Elements.{In, any_from, any_to, contains_in, of_filter}
 use Rattle.set_marks.specs.MarkedBlocks.{reads_target, HasWholePairs}
@@ -86,7 +90,8 @@ found_any name f ((b ∷ past) ∷ rs) = elim (cases_Bool (is_it name f b)) [
 pub not_taken : (all done rest : List GsiBlock) (past : History) (b : GsiBlock)
     → HasWholePairs all → turned done (b ∷ rest) ≡ all → AreOpenReadings done past
     → has_direction b ≡ true → is_of_face (face b) b ≡ true → is_face_taken b past ≡ false
-not_taken all done rest past b whole e held sees faced = false_from_ne_true (is_face_taken b past) (λ t.
+not_taken all done rest past b whole e held sees faced = false_from_ne_true (is_face_taken b past)
+    (λ t.
     let p = reads_target (target b) (face b) in
     let here : p b ≡ true = and_from (has_direction b) (is_it (target b) (face b) b) sees
     (and_from (bytes_eq (target b) (target b)) (is_of_face (face b) b)
@@ -106,7 +111,8 @@ open_placed : (r : Place) (past : History) → In r (open_readings past)
     → passes_at has_direction r ≡ true
 open_placed r past h = (and_parts (passes_at has_direction r) (is_open (before r))
     (and_parts (is_reading r) (is_same (last is_opening (before r)) (opening past))
-    (of_filter (λ place. is_reading place && is_same (last is_opening (before place)) (opening past))
+    (of_filter
+    (λ place. is_reading place && is_same (last is_opening (before place)) (opening past))
     r (places past) h).1).0).0
 
 none_some : {X : Type 0} (o : Option X) → is_none o ≡ true → is_some o ≡ false
@@ -127,7 +133,8 @@ alone rs b = is_none (reading_in (other_face (face b)) (target b) rs)
 pub may_close : (all done : List GsiBlock) (past : History) → HasWholePairs all
     → turned done [] ≡ all → AreOpenReadings done past → MayClose past
 may_close all done past whole e held = record {
-  some = ap (λ v. is_open past && v) (not_empty (open_readings past) has_some) ∙ never (is_open past);
+  some = ap (λ v. is_open past && v) (not_empty (open_readings past) has_some)
+      ∙ never (is_open past);
   both = ap (λ v. is_open past && v) (false_from_ne_true (has_one_face (open_readings past)) lone)
       ∙ never (is_open past);
 } where
@@ -141,7 +148,8 @@ may_close all done past whole e held = record {
 
   has_some : list_any (λ r. passes_at (λ b. true) r) (open_readings past) ≡ true
   has_some = held.same (λ b. true) ∙ with_true done (kept_some has_direction done
-      (let n = some_kept has_direction all whole.some in let m = counted has_direction in omega arith))
+      (let n = some_kept has_direction all whole.some in let m = counted has_direction in omega
+      arith))
     where
       with_true : (bs : List GsiBlock) → list_any has_direction bs ≡ true
           → list_any (λ b. has_direction b && true) bs ≡ true
@@ -159,7 +167,8 @@ may_close all done past whole e held = record {
   lone : has_one_face (open_readings past) ≡ true → ⊥
   lone t =
       let rs = open_readings past in
-      let (r, inside, test) = any_to (λ r. is_none (reading_in (other_face (face_at r)) (target_at r) rs)) rs t in
+      let (r, inside, test) = any_to
+      (λ r. is_none (reading_in (other_face (face_at r)) (target_at r) rs)) rs t in
       let there = any_from (λ r. passes_at (alone rs) r) r rs inside
       (at_blocks (λ r. is_none (reading_in (other_face (face_at r)) (target_at r) rs)) (alone rs) r
       (open_placed r past inside) (λ b before. refl) test) in

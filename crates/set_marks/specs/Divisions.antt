@@ -1,8 +1,8 @@
--- Where the sets of a station begin and end, by its readings alone (profile). Sets begin at the 1st,
--- 3rd, 5th .. reading of the opening target, which is that of the first reading. In a set each target
--- is read once in each face, either all of them in one face and then in the other, or each in both
--- faces before the next. All sets are read the same way, all end with one target, and most targets of
--- each are targets of the first.
+-- Where the sets of a station begin and end, by its readings alone (profile). Sets begin at the
+-- 1st, 3rd, 5th .. reading of the opening target, which is that of the first reading. In a set each
+-- target is read once in each face, either all of them in one face and then in the other, or each
+-- in both faces before the next. All sets are read the same way, all end with one target, and most
+-- targets of each are targets of the first.
 use Rattle.std.specs.Prelude.{ℕ, suc, ◌-◌, ◌*◌, ◌/◌, Bool, true, false, ◌&&◌, ◌||◌, not}
 use Rattle.std.specs.Prelude.{nat_lt, nat_le, List, [], ◌∷◌, length, filter, take, drop}
 use Rattle.std.specs.Prelude.{if◌then◌else◌, Option, Some, None, is_none, slice_get}
@@ -99,8 +99,8 @@ last_target (r ∷ []) = r.target
 last_target (r ∷ s ∷ rs) = last_target (s ∷ rs)
 
 -- What is wrong with the readings of a set by themselves, the first that stands: a target is read
--- again in one face; there are more readings than 100 targets have in two faces; a target is read in
--- one face alone.
+-- again in one face; there are more readings than 100 targets have in two faces; a target is read
+-- in one face alone.
 abbrev pub readings_flaw : List Sight → Option Flaw
 readings_flaw rs = first_of (
     flaw_found kinds.ReadTwice (again_in (take (suc MOST_READINGS) rs))
@@ -108,9 +108,9 @@ readings_flaw rs = first_of (
     ∷ flaw_found kinds.FaceMissing (alone_in rs)
     ∷ [])
 
--- What is wrong with a set as a whole, where `first` is the station's first set: there are fewer than
--- two targets; it is read neither by faces nor by targets, or another way than the first set; it ends
--- with another target than the first set.
+-- What is wrong with a set as a whole, where `first` is the station's first set: there are fewer
+-- than two targets; it is read neither by faces nor by targets, or another way than the first set;
+-- it ends with another target than the first set.
 abbrev pub order_flaw : List Sight → List Sight → Option Flaw
 order_flaw first rs = first_of (
     flaw_when (nat_lt (length rs) 4) kinds.OneTarget (slice_get rs 0)
@@ -195,8 +195,8 @@ abbrev pub first_set : List ℕ → List Sight → List Sight
 first_set [] rs = []
 first_set (from ∷ starts) rs = part from (next_of (length rs) starts) rs
 
--- What is wrong first in the sets that begin at these places, after so many sets, where `first` is the
--- station's first set, and the last of them ends at `end`.
+-- What is wrong first in the sets that begin at these places, after so many sets, where `first` is
+-- the station's first set, and the last of them ends at `end`.
 abbrev pub sets_flaw : List Sight → ℕ → ℕ → List ℕ → List Sight → Option Flaw
 sets_flaw first count end [] rs = None
 sets_flaw first count end (from ∷ starts) rs = first_of (
@@ -240,8 +240,8 @@ abbrev pub latest_flaw : List Sight → Option Flaw
 latest_flaw rs =
     later (later (later (flaw_of rs 0) (flaw_of rs 1)) (flaw_of rs 2)) (flaw_of rs 3)
 
--- The sets may be shifted by the leading readings: one of these is in face II and none of its target
--- in face I, or one is of the target that ends the sets and does not begin them.
+-- The sets may be shifted by the leading readings: one of these is in face II and none of its
+-- target in face I, or one is of the target that ends the sets and does not begin them.
 abbrev pub may_be_shifted : List Sight → List Sight → Bool
 may_be_shifted leading set =
     list_any (λ r. r.second && not (list_any (λ s. is_pair r s) leading)) leading

@@ -1,6 +1,7 @@
 -- Where the book finds the readings of a file, and which faults come of code lines.
 use Rattle.std.specs.Prelude.{◌≡◌, ℕ, Bool, true, false, ◌==◌, List, [], ◌∷◌, ◌++◌}
 use Rattle.std.specs.Prelude.{if◌then◌else◌, Option, Some, None, IfSome, ⊤}
+use Rattle.gsi_word.specs.declared.index.TheConstants.{CODE_INFORMATION}
 use Rattle.station_book.specs.declared.fault.BookKind.{BookKind}
 use Rattle.station_book.specs.declared.fault.BookKind.TheVariants as kinds
 use Rattle.station_book.specs.Limits.{FaceLimits}
@@ -31,7 +32,7 @@ found_in (b ∷ past) = found_in past ++ (if has_direction b then found_after pa
 abbrev pub is_of_codes : BookKind → Bool
 is_of_codes kinds.EmptySet = true
 is_of_codes kinds.OneFace = true
-is_of_codes (kinds.WordTwice index) = index == 42
+is_of_codes (kinds.WordTwice index) = index == CODE_INFORMATION
 is_of_codes kinds.StationName = true
 is_of_codes kinds.SetOutside = true
 is_of_codes kinds.SetNumber = true

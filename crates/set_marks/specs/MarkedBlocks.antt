@@ -3,6 +3,7 @@ use Rattle.std.specs.Prelude.{◌≡◌, ℕ, suc, Bool, true, false, ◌&&◌, 
 use Rattle.std.specs.Prelude.{length, filter, map, Option, Some, None, Contains, ⊤}
 use Rattle.std.specs.List.{AllByRecursion, flat_map, list_any}
 use Rattle.std.specs.Str.{bytes_eq}
+use Rattle.gsi_word.specs.declared.index.TheConstants.{CODE_INFORMATION}
 use Rattle.gsi_word.specs.Blocks.{GsiBlock}
 use Rattle.station_book.specs.declared.face.Face.{Face}
 use Rattle.station_book.specs.declared.face.Face.TheVariants.{One, Two}
@@ -61,7 +62,7 @@ HaveNoCode blocks = AllByRecursion (λ b. is_opening b ≡ false) blocks
 -- a set of this number
 pub record IsMarkedSet (n : ℕ) (s : MarkedSet) : Type 0 where
   pub opens : opens_set s.code ≡ true
-  pub one_word : has_two 42 s.code ≡ false
+  pub one_word : has_two CODE_INFORMATION s.code ≡ false
   pub numbered : number s.code ≡ Some n
   pub uncoded : HaveNoCode s.blocks
   pub whole : HasWholePairs s.blocks
@@ -79,7 +80,7 @@ IsOutside (b ∷ bs) = (closes_set b ≡ true) × HaveNoCode bs
 -- a station whose name is none of these, with sets from 1 on
 pub record IsMarkedStation (names : List (List ℕ)) (s : MarkedStation) : Type 0 where
   pub opens : opens_station s.code ≡ true
-  pub one_word : has_two 42 s.code ≡ false
+  pub one_word : has_two CODE_INFORMATION s.code ≡ false
   pub is_named : named s.code ≡ Some s.name
   pub new : is_among names s.name ≡ false
   pub sets : AreMarkedSets 1 s.sets

@@ -63,8 +63,8 @@ AreBlocksOf bytes h = AllZip IsBlock (numbered_lines bytes) (reverse h)
 
 -- The book finds in the blocks of a copy what the division says of the file: each reading of a set
 -- at its station and in its set, by their name and number, and each other reading in no set. No
--- block, and not the end, has a fault that comes of the code lines: so no set is empty, and each has
--- its readings in both faces.
+-- block, and not the end, has a fault that comes of the code lines: so no set is empty, and each
+-- has its readings in both faces.
 pub record IsFoundAsDivided (station : Option (List ℕ)) (h copy : History) : Type 0 where
   pub found : found_in copy ≡ in_file station h
   pub faults : (limits : FaceLimits) → HasNoFaultOfCodes limits copy

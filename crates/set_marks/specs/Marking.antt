@@ -43,8 +43,8 @@ abbrev pub names_after : List (List ℕ) → Occupation → Divided → List (Li
 names_after names s (Sets leading) = names ++ s.name ∷ []
 names_after names s d = names
 
--- The fault of the first station that has one, after the stations of these names that have sets; or,
--- where no station has sets, that of the end of the file, with this number.
+-- The fault of the first station that has one, after the stations of these names that have sets;
+-- or, where no station has sets, that of the end of the file, with this number.
 abbrev pub fault_of_stations : ℕ → List (List ℕ) → List Occupation → Option Flaw
 fault_of_stations end names [] =
     if is_empty names then Some (record { block = end; kind = kinds.NoSets }) else None
@@ -58,7 +58,8 @@ abbrev pub as_fault : Option Flaw → Option MarkFault
 as_fault None = None
 as_fault (Some f) = Some (At f.block f.kind)
 
--- The first fault of a file that has no fault of its lines: that of a block, else that of a station.
+-- The first fault of a file that has no fault of its lines: that of a block, else that of a
+-- station.
 abbrev pub fault_of : Option (List ℕ) → History → Option MarkFault
 fault_of station h = first_of (
     fault_of_blocks station h
@@ -81,8 +82,8 @@ abbrev pub close_mark : Bool → List Sight → List BlockMark
 close_mark in_set rs = if in_set then mark_at (slice_get rs 0) Close else []
 
 -- A station with sets, after so many leading readings, where a set of an earlier station is open or
--- not: code 30 before the leading readings, which are in no set; code 10 and 20 before the first set;
--- code 20 before each other one; and code 30 after the last, where readings stand behind it.
+-- not: code 30 before the leading readings, which are in no set; code 10 and 20 before the first
+-- set; code 20 before each other one; and code 30 after the last, where readings stand behind it.
 abbrev pub sets_marks : Bool → Occupation → ℕ → List BlockMark
 sets_marks in_set s leading =
     close_mark (in_set && nat_lt 0 leading) s.sights

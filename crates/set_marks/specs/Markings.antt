@@ -1,4 +1,5 @@
--- What a field file comes to where codes are to be put in: a copy that has them, or its first fault.
+-- What a field file comes to where codes are to be put in: a copy that has them, or its first
+-- fault.
 use Rattle.std.specs.Prelude.{◌≡◌, ℕ, ◌+◌, List, ◌++◌, All, length, reverse, Option, Some}
 use Rattle.std.specs.Prelude.{None, Result, Ok, Err, ⊤}
 use Rattle.std.specs.List.{AllZip}

@@ -2,6 +2,8 @@
 use Rattle.std.specs.Prelude.{ℕ, ◌+◌, ◌-◌, ◌/◌, ◌%◌, ◌≤◌, ◌<◌, Bool, List, [], ◌∷◌, ◌++◌, length}
 use Rattle.std.specs.Prelude.{if◌then◌else◌, replicate, codes, map, false, ⊤}
 use Rattle.std.specs.List.{join_with_byte}
+use Rattle.gsi_word.specs.declared.index.TheConstants.{CODE_NUMBER, CODE_INFORMATION}
+use Rattle.gsi_word.specs.Bytes.{blank, zero_digit}
 use Rattle.gsi_word.specs.Words.{GsiWord, spelled}
 use Rattle.gsi_word.specs.Blocks.{GsiBlock}
 use Rattle.adjust_kernel.specs.Names.{IsName}
@@ -17,7 +19,7 @@ width_of wide = if wide then 16 else 8
 
 -- A content: the name, filled with zeros from the left, as the instrument fills it.
 abbrev pub filled : ℕ → List ℕ → List ℕ
-filled width name = replicate (width - length name) 48 ++ name
+filled width name = replicate (width - length name) zero_digit ++ name
 
 -- A word that is put in: its information is four points.
 abbrev pub word_of : ℕ → ℕ → List ℕ → GsiWord
@@ -30,14 +32,16 @@ word_of width index name = record {
 
 -- The number of a set in two digits.
 abbrev pub digits : ℕ → List ℕ
-digits n = (48 + n / 10) ∷ (48 + n % 10) ∷ []
+digits n = (zero_digit + n / 10) ∷ (zero_digit + n % 10) ∷ []
 
 -- The words of a code line: code 10 with the name of the station, code 20 with the number of the
 -- set, or code 30.
 abbrev pub words_of : ℕ → Code → List GsiWord
-words_of width (Station name) = word_of width 41 (codes "10") ∷ word_of width 42 name ∷ []
-words_of width (Set number) = word_of width 41 (codes "20") ∷ word_of width 42 (digits number) ∷ []
-words_of width Close = word_of width 41 (codes "30") ∷ []
+words_of width (Station name) =
+    word_of width CODE_NUMBER (codes "10") ∷ word_of width CODE_INFORMATION name ∷ []
+words_of width (Set number) =
+    word_of width CODE_NUMBER (codes "20") ∷ word_of width CODE_INFORMATION (digits number) ∷ []
+words_of width Close = word_of width CODE_NUMBER (codes "30") ∷ []
 
 -- The block that a code line is, in a line of GSI-16 or GSI-8.
 abbrev pub code_block : Bool → Code → GsiBlock
@@ -49,7 +53,7 @@ star wide = if wide then codes "*" else []
 
 -- The words of a code line, with single blanks between them.
 abbrev pub words_text : Bool → Code → List ℕ
-words_text wide code = join_with_byte 32 (map spelled (words_of (width_of wide) code))
+words_text wide code = join_with_byte blank (map spelled (words_of (width_of wide) code))
 
 -- The bytes of a code line before its end.
 abbrev pub text_of : Mark → List ℕ

@@ -1,5 +1,5 @@
--- How targets are looked for without comparing each with all, and lines passed over that get no code
--- lines: what the code finds on the way.
+-- How targets are looked for without comparing each with all, and lines passed over that get no
+-- code lines: what the code finds on the way.
 use Rattle.std.specs.Prelude.{◌≡◌, ℕ, Bool, true, false, ◌&&◌, List, [], ◌∷◌, if◌then◌else◌}
 use Rattle.std.specs.List.{list_any}
 use Rattle.station_book.specs.Places.{is_among}

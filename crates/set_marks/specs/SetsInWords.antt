@@ -24,8 +24,8 @@ one_after_another sets = flat_map (λ set. set) sets
 
 -- The readings of a station, of which so many stand outside before its sets. The readings are the
 -- leading ones, then those of the sets, one set after another, and then those after the last set:
--- none is missing, and none is in two sets. There is a set, and there are 40 at most. A single set is
--- not read by targets, and of each set more than half of the targets are targets of the first.
+-- none is missing, and none is in two sets. There is a set, and there are 40 at most. A single set
+-- is not read by targets, and of each set more than half of the targets are targets of the first.
 pub record AreSets (rs : List Sight) (leading : ℕ) : Type 0 where
   pub some : 1 ≤ length (sets_of (drop leading rs))
   pub few : length (sets_of (drop leading rs)) ≤ MOST_SETS

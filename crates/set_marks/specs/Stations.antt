@@ -7,6 +7,7 @@ use Rattle.std.specs.Prelude.{ℕ, ◌+◌, ◌-◌, ◌==◌, Bool, ◌&&◌, n
 use Rattle.std.specs.Prelude.{length, take, drop, if◌then◌else◌, Option, Some, None, is_some}
 use Rattle.std.specs.List.{list_any}
 use Rattle.std.specs.Option.{option_map}
+use Rattle.gsi_word.specs.declared.index.TheConstants.{HORIZONTAL_DIRECTION, VERTICAL_ANGLE}
 use Rattle.gsi_word.specs.Blocks.{GsiBlock}
 use Rattle.gsi_word.specs.Names.{name_of}
 use Rattle.station_book.specs.declared.face.Face.TheVariants.{Two}
@@ -35,12 +36,12 @@ has_set_up_word b = list_any (λ index. not (lacks index b)) set_up_words
 -- The same, and neither a vertical angle nor a distance: a block that has one of them measures a
 -- height, though it may have the height of the instrument too.
 unfoldable pub tells_set_up : GsiBlock → Bool
-tells_set_up b = has_set_up_word b && (lacks 22 b && lacks 31 b)
+tells_set_up b = has_set_up_word b && (lacks VERTICAL_ANGLE b && lacks 31 b)
 
 -- a set-up line: a measurement without a direction, a vertical angle and a distance, with one of
 -- these words
 abbrev pub sets_up : GsiBlock → Bool
-sets_up b = is_measurement (role_of b) && (lacks 21 b && tells_set_up b)
+sets_up b = is_measurement (role_of b) && (lacks HORIZONTAL_DIRECTION b && tells_set_up b)
 
 -- the reading in the block of this number, if it is a measurement with a direction
 abbrev pub sight_in : ℕ → GsiBlock → List Sight
@@ -83,8 +84,8 @@ occupations (s ∷ t ∷ later) rs =
     record { name = s.name; sights = take (t.from - s.from) (drop s.from rs) }
     ∷ occupations (t ∷ later) rs
 
--- How the stations of a file begin: one of the name that is stated, without zeros before it, with the
--- first reading; else by its set-up lines.
+-- How the stations of a file begin: one of the name that is stated, without zeros before it, with
+-- the first reading; else by its set-up lines.
 abbrev pub begun : Option (List ℕ) → History → List SetUp
 begun (Some name) h = record { name = name_of name; from = 0 } ∷ []
 begun None h = set_ups_of h
@@ -110,7 +111,8 @@ fault_as Station stated begun number b = Some (At number kinds.HasCodes)
 fault_as Set stated begun number b = Some (At number kinds.HasCodes)
 fault_as Close stated begun number b = Some (At number kinds.HasCodes)
 fault_as Measurement stated begun number b =
-    if lacks 21 b then (if tells_set_up b && stated then Some (At number kinds.HasSetUp) else None)
+    if lacks HORIZONTAL_DIRECTION b
+    then (if tells_set_up b && stated then Some (At number kinds.HasSetUp) else None)
     else reading_fault begun number b
 fault_as Other stated begun number b = None
 

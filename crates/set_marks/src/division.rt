@@ -7,9 +7,13 @@ ghost use Rattle.std.specs.List.{list_any};
 ghost use Rattle.set_marks.specs.declared.sight.Sight.{Sight};
 ghost use Rattle.set_marks.specs.Leading.{IsLeading};
 ghost use Rattle.set_marks.specs.Searching.{KnowsTargetsOf};
-ghost use Rattle.set_marks.specs.Divisions.{is_of, part, next_of, end_of, end_by, end_in, starts_of, first_set, sets_flaw, flaw_of, later, targets_of, begins_in_two};
-ghost use Rattle.set_marks.specs.Divisions.{is_pair, may_be_shifted, last_target, first_target, divided, parts_at};
-ghost use Rattle.set_marks.specs.Divisions.{is_one_by_targets, known_in, is_mostly_known, stranger_among, flaw_found, doubt_after, doubt_flaw};
+ghost use Rattle.set_marks.specs.Divisions.{is_of, part, next_of, end_of, end_by, end_in};
+ghost use Rattle.set_marks.specs.Divisions.{starts_of, first_set, sets_flaw, flaw_of, later};
+ghost use Rattle.set_marks.specs.Divisions.{targets_of, begins_in_two};
+ghost use Rattle.set_marks.specs.Divisions.{is_pair, may_be_shifted, last_target, first_target};
+ghost use Rattle.set_marks.specs.Divisions.{divided, parts_at};
+ghost use Rattle.set_marks.specs.Divisions.{is_one_by_targets, known_in, is_mostly_known};
+ghost use Rattle.set_marks.specs.Divisions.{stranger_among, flaw_found, doubt_after, doubt_flaw};
 ghost use Rattle.set_marks.specs.declared.fault.MarkKind.TheVariants.{OtherTargets};
 
 use crate::bounds::{MOST_READINGS, MOST_SETS};
@@ -45,7 +49,7 @@ enum Leading {
 }
 
 /// The readings after the first so many.
-pub(crate) fn behind(count: usize, sights: &[Sight]) -> &[Sight]
+pub(crate) fn rest_after(count: usize, sights: &[Sight]) -> &[Sight]
     ensures { result.now ≡ drop count sights.now }
 {
     if count < sights.len() {
@@ -59,10 +63,10 @@ pub(crate) fn behind(count: usize, sights: &[Sight]) -> &[Sight]
 pub(crate) fn part(from: usize, to: usize, sights: &[Sight]) -> &[Sight]
     ensures { result.now ≡ part from to sights.now }
 {
-    front(to.saturating_sub(from), behind(from, sights))
+    front(to.saturating_sub(from), rest_after(from, sights))
 }
 
-/// After the last of these readings whose target is known: it is looked for from behind.
+/// After the last of these readings whose target is known: it is looked for from the end.
 fn end_of(known: &mut Known, sights: &[Sight]) -> usize
     ensures { (sets : List Sight) → KnowsTargetsOf sets known.old
         → result ≡ end_of (targets_of sets) 0 0 sights.now }
@@ -175,7 +179,7 @@ fn sets_flaw(alloc: Global, starts: &[usize], sights: &[Sight]) -> Result<Option
 fn flaw_of(alloc: Global, sights: &[Sight], leading: usize) -> Result<Option<Flaw>, AllocError>
     ensures { IfOk result (λ o. o ≡ flaw_of sights.now leading) }
 {
-    let rest = behind(leading, sights);
+    let rest = rest_after(leading, sights);
     let Some(opening) = rest.first() else {
         return Ok(Some(Flaw {
             block: 0,
@@ -220,7 +224,8 @@ fn find_leading(alloc: Global, sights: &[Sight]) -> Result<Leading, AllocError>
 
 /// Whether a leading reading is in face II, and none of them is its pair.
 fn has_lone_second(leading: &[Sight]) -> bool
-    ensures { result ≡ list_any (λ r. r.second && not (list_any (λ s. is_pair r s) leading.now)) leading.now }
+    ensures { result
+        ≡ list_any (λ r. r.second && not (list_any (λ s. is_pair r s) leading.now)) leading.now }
 {
     leading.iter().any(|r| r.second && !has_pair(r, leading))
 }
@@ -341,7 +346,7 @@ fn doubt_after(
 fn doubt_of(alloc: Global, sights: &[Sight], leading: usize) -> Result<Option<Flaw>, AllocError>
     ensures { IfOk result (λ o. o ≡ doubt_flaw sights.now leading) }
 {
-    doubt_after(alloc, front(leading, sights), behind(leading, sights))
+    doubt_after(alloc, front(leading, sights), rest_after(leading, sights))
 }
 
 /// What a station's readings are.

@@ -8,7 +8,7 @@ ghost use Rattle.set_marks.specs.BeginsAndEnds.{begins_set, places_from, EndsLas
 ghost use Rattle.set_marks.specs.SetsInWords.{AreSets};
 
 /// Where sets are recognized, each reads each of its targets once in each face, and one after
-/// another they are the readings between the leading ones and those behind.
+/// another they are the readings between the leading ones and those after the sets.
 pub fn sets_in_words()
     ensures { (rs : List Sight) (leading : ℕ) → divided rs ≡ Sets leading → AreSets rs leading }
 {}

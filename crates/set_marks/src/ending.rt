@@ -1,10 +1,11 @@
 //! How the stations of a field file end, one after another.
 //!
-//! A station ends where the next is set up, or with the file. Its code lines are found then, and its
-//! readings are dropped. So no more than one station's readings lie in memory, and they are still
-//! near at hand when they are divided into sets.
+//! A station ends where the next is set up, or with the file. Its code lines are found then, and
+//! its readings are dropped. So no more than one station's readings lie in memory, and they are
+//! still near at hand when they are divided into sets.
 
-ghost use Rattle.std.specs.Prelude.{◌≡◌, ◌+◌, [], ℕ, All, IfErr, IfOk, List, None, OnOk, Option, length};
+ghost use Rattle.std.specs.Prelude.{◌≡◌, ◌+◌, [], ℕ, All, IfErr, IfOk, List, None, OnOk, Option};
+ghost use Rattle.std.specs.Prelude.{length};
 ghost use Rattle.station_book.specs.Places.{History};
 ghost use Rattle.set_marks.specs.Marks.{IsRoomy};
 ghost use Rattle.set_marks.specs.Stations.{stations_of};

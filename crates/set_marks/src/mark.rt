@@ -2,6 +2,8 @@
 
 ghost use Rattle.std.specs.Prelude.{◌≡◌, ◌<◌, ◌≤◌, ◌+◌, ◌-◌, ◌++◌, ◌∷◌, length, replicate};
 ghost use Rattle.arrayvec.specs.ArrayVec.{array_vec_len};
+ghost use Rattle.gsi_word.specs.declared.index.TheConstants.{CODE_NUMBER, CODE_INFORMATION};
+ghost use Rattle.gsi_word.specs.Bytes.{blank, zero_digit};
 ghost use Rattle.gsi_word.specs.Words.{spelled};
 ghost use Rattle.set_marks.specs.Marks.{width_of, word_of, digits, HasRoom, line_of, words_text};
 
@@ -68,7 +70,7 @@ pub(crate) fn width(wide: bool) -> usize
 /// Zeros, at most 16.
 fn zeros(count: usize) -> &'static [u8]
     requires { count ≤ 16 }
-    ensures { result.now ≡ replicate count 48 }
+    ensures { result.now ≡ replicate count zero_digit }
 {
     &ZEROS[..count]
 }
@@ -87,7 +89,7 @@ fn add_word(line: &mut CodeLine, front: &[u8], wide: bool, name: &[u8])
     requires name { length name.now ≤ width_of wide }
     requires room { array_vec_len line.old + length front.now + 16 ≤ LONGEST_CODE_LINE }
     ensures items { line.new.items ≡ line.old.items
-        ++ (front.now ++ (replicate (width_of wide - length name.now) 48 ++ name.now)) }
+        ++ (front.now ++ (replicate (width_of wide - length name.now) zero_digit ++ name.now)) }
     ensures len { array_vec_len line.new ≤ array_vec_len line.old + length front.now + 16 }
 {
     add(line, front);
@@ -100,7 +102,7 @@ fn add_code(line: &mut CodeLine, wide: bool, code: &[u8])
     requires code { length code.now ≡ 2 }
     requires room { array_vec_len line.old + LONGEST_CODE_WORD ≤ LONGEST_CODE_LINE }
     ensures items { line.new.items
-        ≡ line.old.items ++ spelled (word_of (width_of wide) 41 code.now) }
+        ≡ line.old.items ++ spelled (word_of (width_of wide) CODE_NUMBER code.now) }
     ensures len { array_vec_len line.new ≤ array_vec_len line.old + LONGEST_CODE_WORD }
 {
     add_word(line, b"41....+", wide, code);
@@ -111,7 +113,7 @@ fn add_information(line: &mut CodeLine, wide: bool, name: &[u8])
     requires name { length name.now ≤ width_of wide }
     requires room { array_vec_len line.old + 1 + LONGEST_CODE_WORD ≤ LONGEST_CODE_LINE }
     ensures items { line.new.items
-        ≡ line.old.items ++ 32 ∷ spelled (word_of (width_of wide) 42 name.now) }
+        ≡ line.old.items ++ blank ∷ spelled (word_of (width_of wide) CODE_INFORMATION name.now) }
     ensures len { array_vec_len line.new ≤ array_vec_len line.old + 1 + LONGEST_CODE_WORD }
 {
     add_word(line, b" 42....+", wide, name);

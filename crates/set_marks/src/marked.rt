@@ -21,8 +21,8 @@ pub struct Marked {
     pub stations: Vec<Recognized>,
 }
 
-/// Finds where codes are put into a field file: 10 where a station begins, 20 where a set begins, 30
-/// before the first reading after a set that is in none.
+/// Finds where codes are put into a field file: 10 where a station begins, 20 where a set begins,
+/// 30 before the first reading after a set that is in none.
 ///
 /// `bytes` are those of the file; where `fails`, a read failed after them. `station` is the name of
 /// the file's one station, where its lines set none up.

@@ -1,15 +1,17 @@
 //! The code lines of a file's stations, and what is told of them.
 
-ghost use Rattle.std.specs.Prelude.{◌≡◌, ◌<◌, ◌≤◌, ◌+◌, ◌++◌, ◌∷◌, [], All, IfNone, IfOk, IfSome, OnOk, length, drop, false, option_map, slice_get, nat_lt, ◌&&◌};
+ghost use Rattle.std.specs.Prelude.{◌≡◌, ◌<◌, ◌≤◌, ◌+◌, ◌++◌, ◌∷◌, [], All, IfNone, IfOk, IfSome};
+ghost use Rattle.std.specs.Prelude.{OnOk, length, drop, false, option_map, slice_get, nat_lt, ◌&&◌};
 ghost use Rattle.set_marks.specs.declared.bounds.TheConstants.{MOST_SETS};
 ghost use Rattle.set_marks.specs.declared.division.Divided.TheVariants.{NoSets, Sets};
 ghost use Rattle.set_marks.specs.Divisions.{divided, starts_of, end_in};
 ghost use Rattle.station_book.specs.Places.{is_among};
 ghost use Rattle.set_marks.specs.Marks.{HasRoom, IsRoomy};
-ghost use Rattle.set_marks.specs.Marking.{is_too_long, station_fault, mark_at, set_marks, close_mark, sets_marks};
+ghost use Rattle.set_marks.specs.Marking.{is_too_long, station_fault, mark_at, set_marks};
+ghost use Rattle.set_marks.specs.Marking.{close_mark, sets_marks};
 ghost use Rattle.set_marks.specs.Keeping.{TakesStation};
 
-use crate::division::{Divided, behind, divide, end_by, part};
+use crate::division::{Divided, divide, end_by, part, rest_after};
 use crate::fault::MarkKind;
 use crate::flaw::{Flaw, first_flaw, flaw_when};
 use crate::known::count_targets;
@@ -158,14 +160,15 @@ fn put_station(
     ensures put { OnOk result (marks.new.items ≡ marks.old.items
         ++ sets_marks in_set (record { name = name.now; sights = sights.now }) leading) }
 {
-    let rest = behind(leading, sights);
+    let rest = rest_after(leading, sights);
+    // For the proof alone: a name keeps the rules of names.
     name.recall();
     put_close(marks, is_left_open(in_set, leading), sights)?;
     let opening = sight_at(sights, leading);
     put(marks, opening, Code::Station(*name))?;
     put_sets(marks, starts, rest)?;
-    let behind_sets = sight_at(rest, end);
-    put(marks, behind_sets, Code::Close)?;
+    let after_sets = sight_at(rest, end);
+    put(marks, after_sets, Code::Close)?;
     Ok(())
 }
 
@@ -225,7 +228,7 @@ impl Marking {
         ensures takes { OnOk result (TakesStation (record { name = name.now; sights = sights.now })
             (Sets leading) self.old self.new) }
     {
-        let rest = behind(leading, sights);
+        let rest = rest_after(leading, sights);
         let starts = starts_of(alloc, rest)?;
         let end = end_by(alloc, &starts, rest)?;
         put_station(

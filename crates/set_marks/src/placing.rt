@@ -1,10 +1,12 @@
 //! Where code lines are put in: at the places where the lines of their blocks begin.
 
-ghost use Rattle.std.specs.Prelude.{◌≡◌, ◌≤◌, ◌+◌, ◌++◌, ◌∷◌, [], ℕ, List, All, IfOk, IfNone, IfSome, length, map, drop};
+ghost use Rattle.std.specs.Prelude.{◌≡◌, ◌≤◌, ◌+◌, ◌++◌, ◌∷◌, [], ℕ, List, All, IfOk, IfNone};
+ghost use Rattle.std.specs.Prelude.{IfSome, length, map, drop};
 ghost use Rattle.std.specs.Bool.{OnFalse};
 ghost use Rattle.gsi_file.specs.Parts.{parts};
 ghost use Rattle.set_marks.specs.Marks.{IsRoomy};
-ghost use Rattle.set_marks.specs.Placing.{IsEmptyPart, IsFirstEnd, placed, placed_from, placed_at, marks_of_block, marks_after};
+ghost use Rattle.set_marks.specs.Placing.{IsEmptyPart, IsFirstEnd, placed, placed_from, placed_at};
+ghost use Rattle.set_marks.specs.Placing.{marks_of_block, marks_after};
 ghost use Rattle.set_marks.specs.Searching.{HasNoMark};
 ghost use Rattle.set_marks.specs.Copies.{AreOrdered, BeginsAt, BeginsLine};
 

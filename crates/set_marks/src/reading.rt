@@ -1,6 +1,7 @@
 //! How the blocks of a field file are read.
 
-ghost use Rattle.std.specs.Prelude.{◌≡◌, ◌≤◌, ◌++◌, ◌∷◌, [], All, IfErr, IfOk, OnOk, None, Some, not, nat_lt, ◌&&◌};
+ghost use Rattle.std.specs.Prelude.{◌≡◌, ◌≤◌, ◌++◌, ◌∷◌, [], All, IfErr, IfOk, OnOk, None, Some};
+ghost use Rattle.std.specs.Prelude.{not, nat_lt, ◌&&◌};
 ghost use Rattle.station_book.specs.declared.bounds.TheConstants.{CIRCLE, HALF_CIRCLE};
 ghost use Rattle.gsi_word.specs.BlockViews.{block_of};
 ghost use Rattle.gsi_file.specs.FileAnswers.{file_answers};

@@ -3,9 +3,12 @@
 ghost use Rattle.std.specs.Prelude.{◌≡◌, IfSome, IfNone, IfOk, [], take, option_map, slice_get};
 ghost use Rattle.std.specs.List.{list_any};
 ghost use Rattle.std.specs.Str.{bytes_eq};
-ghost use Rattle.set_marks.specs.Divisions.{is_of, is_again, is_pair, is_same_face, again_in, alone_in, are_in_face};
-ghost use Rattle.set_marks.specs.Divisions.{is_by_faces, is_by_targets, are_read_alike, first_target, last_target};
-ghost use Rattle.set_marks.specs.Divisions.{readings_flaw, order_flaw, set_flaw, is_set, is_in_one_face};
+ghost use Rattle.set_marks.specs.Divisions.{is_of, is_again, is_pair, is_same_face, again_in};
+ghost use Rattle.set_marks.specs.Divisions.{alone_in, are_in_face};
+ghost use Rattle.set_marks.specs.Divisions.{is_by_faces, is_by_targets, are_read_alike};
+ghost use Rattle.set_marks.specs.Divisions.{first_target, last_target};
+ghost use Rattle.set_marks.specs.Divisions.{readings_flaw, order_flaw, set_flaw, is_set};
+ghost use Rattle.set_marks.specs.Divisions.{is_in_one_face};
 ghost use Rattle.set_marks.specs.Searching.{repeats, KeepsFaces};
 
 use crate::bounds::{FEW_READINGS, MOST_READINGS};
@@ -181,10 +184,12 @@ fn ends_alike(first: &[Sight], set: &[Sight]) -> bool
         (Some(a), Some(b)) => a.is_same(&b),
         (None, None) => true,
         (Some(a), None) => {
+            // For the proof alone: a name has a byte, so that no name is none.
             a.recall();
             false
         }
         (None, Some(b)) => {
+            // The same of the other name.
             b.recall();
             false
         }

@@ -4,7 +4,8 @@
 //! the entries that it has, so it keeps no other state. Each entry is tested when it is taken and
 //! never again: the entries of a draft keep the rules of a sheet's.
 
-ghost use Rattle.std.specs.Prelude.{◌≡◌, ◌≤◌, if◌then◌else◌, length, None, Some, IfErr, IfNone, IfSome, OnOk};
+ghost use Rattle.std.specs.Prelude.{◌≡◌, ◌≤◌, if◌then◌else◌, length, None, Some, IfErr, IfNone};
+ghost use Rattle.std.specs.Prelude.{IfSome, OnOk};
 ghost use Rattle.adjust_kernel.specs.Sheets.{IsSheet, SheetValue};
 ghost use Rattle.csv.specs.Records.{fields_of};
 ghost use Rattle.sheet_format.specs.Columns.{columns_view};
@@ -20,7 +21,7 @@ use crate::row_type::RowType;
 use crate::version::Version;
 use adjust_kernel::{Direction, MOST_ROWS, MOST_SETS, MOST_TARGETS, Orientation, Row, Sheet};
 use csv::ByteRecord;
-use std::alloc::{AllocFailed, Global};
+use std::alloc::{AllocError, AllocFailed, Global};
 use std::marker::Model;
 
 /// Why a row was not taken.
@@ -37,6 +38,14 @@ impl From<RowKind> for Refusal {
 
     fn from(kind: RowKind) -> Refusal {
         Refusal::Fault(kind)
+    }
+}
+
+impl From<AllocError> for Refusal {
+    ghost from_gives = { λ _ refusal. refusal ≡ Memory };
+
+    fn from(_: AllocError) -> Refusal {
+        Refusal::Memory
     }
 }
 
@@ -224,6 +233,18 @@ impl Draft {
         Ok(())
     }
 
+    /// Makes room for the rows of all observations where the first of them comes, as many as a
+    /// sheet of these targets and sets may have: so none is copied as they grow.
+    fn make_room(&mut self) -> Result<(), AllocError>
+        ensures { self.new ≡ self.old }
+    {
+        if !self.rows.is_empty() {
+            return Ok(());
+        }
+        self.rows
+            .reserve(self.directions.len() * self.orientations.len())
+    }
+
     fn take_obs(&mut self, columns: &Columns<'_>) -> Result<(), Refusal>
         ensures faultless { OnOk result
             (faults.columns_fault (spec.said_by_draft self.old) row_type.Obs
@@ -239,6 +260,7 @@ impl Draft {
         if self.rows.len() >= MOST_ROWS {
             return Err(Refusal::Fault(RowKind::TooMany));
         }
+        self.make_room()?;
         self.rows.push(row)?;
         Ok(())
     }

@@ -1,6 +1,7 @@
 //! The entry that each kind of row states: its columns are tested in a fixed order.
 
-ghost use Rattle.std.specs.Prelude.{◌≡◌, ◌<◌, true, false, None, Some, IfErr, IfNone, IfOk, IfSome, OnOk, OnSome};
+ghost use Rattle.std.specs.Prelude.{◌≡◌, ◌<◌, true, false, None, Some, IfErr, IfNone, IfOk, IfSome};
+ghost use Rattle.std.specs.Prelude.{OnOk, OnSome};
 ghost use Rattle.adjust_kernel.specs.Names.{IsName};
 ghost use Rattle.adjust_kernel.specs.Sheets.{IsDirection, IsOrientation, IsRow, IsSetNumber};
 ghost use Rattle.adjust_kernel.specs.Within.{IsWithin};

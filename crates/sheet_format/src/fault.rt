@@ -37,7 +37,7 @@ pub enum RowKind {
     #[error("a number is out of range")]
     Range,
     /// There are as many rows of its kind before it as a sheet may have: leave out what is more.
-    #[error("more than {targets} targets, {sets} sets or {rows} observations", targets = MOST_TARGETS, sets = MOST_SETS, rows = MOST_ROWS)]
+    #[error("more than {MOST_TARGETS} targets, {MOST_SETS} sets or {MOST_ROWS} observations")]
     TooMany,
     /// The sheet ends before this row, and its last row is no observation: see whether it was cut.
     #[error("the sheet ends before its observations")]

@@ -7,7 +7,8 @@ ghost use Rattle.sheet_format.specs.Rows.{IsSheetText};
 ghost use Rattle.sheet_format.specs.Texts as spec;
 ghost use Rattle.sheet_format.specs.declared.fault.SheetFault.{SheetFault};
 ghost use Rattle.sheet_format.specs.declared.reading.TheConstants.{LONGEST_SHEET};
-ghost use Rattle.sheet_format.specs.declared.version.TheConstants.{LARGEST_ANGLE_OF_ONE, LARGEST_DENOMINATOR_OF_ONE};
+ghost use Rattle.sheet_format.specs.declared.version.TheConstants.{LARGEST_ANGLE_OF_ONE};
+ghost use Rattle.sheet_format.specs.declared.version.TheConstants.{LARGEST_DENOMINATOR_OF_ONE};
 
 /// Bytes stand for one sheet at most.
 pub fn one_sheet()

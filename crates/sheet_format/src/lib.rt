@@ -33,6 +33,7 @@ mod entry;
 mod fault;
 pub mod laws;
 mod number;
+mod number_texts;
 mod reading;
 mod row_type;
 mod text;

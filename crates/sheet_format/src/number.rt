@@ -3,7 +3,8 @@
 //! A short field, as nearly all are, is tested and read in one pass, digit by digit, in 64 bits.
 //! The number of a longer one is read where its range is asked for.
 
-ghost use Rattle.std.specs.Prelude.{◌≡◌, ◌≤◌, ◌<◌, ◌^◌, ◌≤ℤ◌, length, pos, true, false, IfSome, IfNone, OnSome};
+ghost use Rattle.std.specs.Prelude.{◌≡◌, ◌≤◌, ◌<◌, ◌^◌, ◌≤ℤ◌, length, pos, true, false, IfSome};
+ghost use Rattle.std.specs.Prelude.{IfNone, OnSome};
 ghost use Rattle.std.specs.Char.{is_ascii_digit};
 ghost use Rattle.std.specs.List.{list_all};
 ghost use Rattle.std.specs.Str.Parse.{digits_value};

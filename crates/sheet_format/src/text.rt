@@ -10,6 +10,7 @@ ghost use Rattle.sheet_format.specs.Texts as spec;
 ghost use Rattle.sheet_format.specs.declared.fault.WriteFault.TheVariants.{Memory};
 
 use crate::fault::WriteFault;
+use crate::number_texts::{SetNumber, turn_text};
 use crate::version::Version;
 use adjust_kernel::{Direction, Name, Orientation, Row, Sheet};
 use csv::{Writer, WriterBuilder};
@@ -154,7 +155,7 @@ fn push_obs<W: Write + Drop>(writer: &mut Writer<W>, rows: &[Row]) -> Result<(),
     ensures { OnOk result (spec.Writes W.contents writer.old writer.new
         (spec.rows_text (map obs_fields rows.now))) }
 {
-    let mut number = Buffer::new();
+    let mut number = SetNumber::new();
     let mut value = Buffer::new();
     let mut turn = Buffer::new();
     for row in rows {
@@ -162,10 +163,10 @@ fn push_obs<W: Write + Drop>(writer: &mut Writer<W>, rows: &[Row]) -> Result<(),
             writer,
             &[
                 b"obs".as_slice(),
-                number.format(row.set).as_bytes(),
+                number.text(row.set),
                 row.target.bytes(),
                 value.format(row.value).as_bytes(),
-                turn.format(row.turn).as_bytes(),
+                turn_text(row.turn, &mut turn),
             ],
         )?;
     }

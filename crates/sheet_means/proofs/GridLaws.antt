@@ -11,9 +11,9 @@ use Rattle.std.proofs.lemmas.List.{take_all}
 use Rattle.adjust_kernel.specs.Sums.{int_sum_by, int_sum_where}
 use Rattle.adjust_kernel.specs.TurnedObservations.{TurnedObservation}
 use Rattle.adjust_kernel.specs.Residuals.{unrolled}
+use Rattle.adjust_kernel.proofs.SumLaws.{int_sum_by_more}
 use Rattle.sheet_means.specs.Totals.{observation_at, target_total, set_total, whole_total}
 use Rattle.sheet_means.proofs.Products.{over_sum}
-use Rattle.sheet_means.proofs.PlaceLaws.{int_sum_by_more}
 use native.Mathlib.Decide.{ℕ_discrete}
 
 -- The sum f 0 + .. + f (n - 1).

@@ -1,5 +1,4 @@
 pub mod Products
-pub mod PlaceLaws
 pub mod CompleteLaws
 pub mod GridLaws
 pub mod BalanceOfMeans

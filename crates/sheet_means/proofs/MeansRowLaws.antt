@@ -11,7 +11,7 @@ use Rattle.adjust_kernel.specs.Pairs.{turned_by, turned_by_rows}
 use Rattle.adjust_kernel.specs.TurnedObservations.{TurnedObservation}
 use Rattle.adjust_kernel.specs.Residuals.{unrolled}
 use Rattle.adjust_kernel.specs.Stations.{StationValue, IsStation}
-use Rattle.sheet_means.proofs.PlaceLaws.{length-turned_by_rows, get_or-turned_by_rows}
+use Rattle.adjust_kernel.proofs.ObservationLaws.{length-turned_by_rows, get_or-turned_by_rows}
 use Rattle.sheet_means.specs.Complete.{IsComplete}
 use Rattle.sheet_means.specs.Parts.{AreMeansRows}
 use Rattle.sheet_means.proofs.CompleteLaws.{any_obs, at_place, full_where_complete}

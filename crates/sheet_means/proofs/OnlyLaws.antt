@@ -13,7 +13,7 @@ use Rattle.adjust_kernel.specs.Matching.{Key, key_of_row, key_of_obs}
 use Rattle.adjust_kernel.specs.Pairs.{turned_by_rows}
 use Rattle.adjust_kernel.specs.Sheets.{SheetValue}
 use Rattle.adjust_kernel.specs.Stations.{StationValue}
-use Rattle.sheet_means.proofs.PlaceLaws.{length-turned_by_rows, get_or-turned_by_rows}
+use Rattle.adjust_kernel.proofs.ObservationLaws.{length-turned_by_rows, get_or-turned_by_rows}
 use Rattle.sheet_means.specs.Means.{IsMeansSheet}
 use Rattle.sheet_means.specs.Totals.{target_total, set_total, whole_total}
 use Rattle.sheet_means.specs.Turning.{IsInHalfCircle, IsTurned, angle_difference}

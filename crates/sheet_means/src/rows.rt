@@ -39,7 +39,7 @@ pub fn rows_of(alloc: Global, station: &Station) -> Result<Vec<Row>, AllocError>
 {
     let mut rows = Vec::with_capacity(alloc, station.obs().len())?;
     for obs in station.obs() {
-        rows.push(row_of(station, obs))?;
+        rows.push_reserved(row_of(station, obs));
     }
     Ok(rows)
 }

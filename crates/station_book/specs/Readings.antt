@@ -2,6 +2,7 @@
 use Rattle.std.specs.Prelude.{ℕ, ◌&&◌, nat_lt, is_none, List, [], ◌∷◌, Option, Some, None, Result}
 use Rattle.std.specs.Prelude.{Ok, Err, if◌then◌else◌, unwrap_or}
 use Rattle.std.specs.Option.{option_map}
+use Rattle.gsi_word.specs.declared.index.TheConstants.{HORIZONTAL_DIRECTION, VERTICAL_ANGLE}
 use Rattle.gsi_word.specs.Blocks.{GsiBlock}
 use Rattle.station_book.specs.declared.bounds.TheConstants.{CIRCLE, HALF_CIRCLE}
 use Rattle.station_book.specs.declared.face.Face.{Face}
@@ -21,11 +22,11 @@ face_of zenith =
 -- the faults of a measurement with a direction, in themselves
 abbrev pub own_faults : GsiBlock → List (Option BookKind)
 own_faults b =
-    when (has_two 21 b) (kinds.WordTwice 21)
-    ∷ when (has_two 22 b) (kinds.WordTwice 22)
-    ∷ when (lacks 22 b) kinds.NoZenith
-    ∷ option_map kinds.Hz (angle_fault 21 b)
-    ∷ option_map kinds.Zenith (angle_fault 22 b)
+    when (has_two HORIZONTAL_DIRECTION b) (kinds.WordTwice HORIZONTAL_DIRECTION)
+    ∷ when (has_two VERTICAL_ANGLE b) (kinds.WordTwice VERTICAL_ANGLE)
+    ∷ when (lacks VERTICAL_ANGLE b) kinds.NoZenith
+    ∷ option_map kinds.Hz (angle_fault HORIZONTAL_DIRECTION b)
+    ∷ option_map kinds.Zenith (angle_fault VERTICAL_ANGLE b)
     ∷ when (is_none (face_of (angles b).zenith)) kinds.FaceUnclear
     ∷ []
 
@@ -44,4 +45,6 @@ unless_fault (Some k) s = Err k
 
 -- what a measurement says: nothing without word 21, else its first fault or its reading
 abbrev pub read : GsiBlock → Result (Option Reading) BookKind
-read b = if lacks 21 b then Ok None else unless_fault (first_of (own_faults b)) (reading b)
+read b =
+    if lacks HORIZONTAL_DIRECTION b then Ok None
+    else unless_fault (first_of (own_faults b)) (reading b)

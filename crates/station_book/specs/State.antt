@@ -8,12 +8,12 @@ use Rattle.station_book.specs.declared.angles.Reading.{Reading}
 use Rattle.station_book.specs.declared.stage.Stage.{Stage}
 use Rattle.station_book.specs.declared.stage.Stage.TheVariants.{Outside, Station, BetweenSets}
 use Rattle.station_book.specs.declared.stage.Stage.TheVariants.{InSet}
-use Rattle.station_book.specs.Faults.{when, first_of, station_faults}
+use Rattle.station_book.specs.Faults.{first_of, twice_informed, station_faults}
 use Rattle.gsi_word.specs.Blocks.{GsiBlock}
 use Rattle.station_book.specs.declared.role.Role.{Role}
 use Rattle.station_book.specs.declared.role.Role.TheVariants.{Station as AsStation, Set, Close}
 use Rattle.station_book.specs.declared.role.Role.TheVariants.{Measurement, Other}
-use Rattle.station_book.specs.Blocks.{role_of, has_two, named, number}
+use Rattle.station_book.specs.Blocks.{role_of, named, number}
 use Rattle.station_book.specs.Readings.{read}
 use Rattle.station_book.specs.Slots.{closing_faults}
 use Rattle.station_book.specs.StationState.{with_set, state_faults, with_reading}
@@ -90,15 +90,27 @@ with_measured (Err k) so_far = so_far
 with_measured (Ok None) so_far = so_far
 with_measured (Ok (Some s)) so_far = change_last (with_reading s) so_far
 
+-- the fault of a block of code 10: it ends the set that is open, and has to name its station
+abbrev pub station_fault_of : State → GsiBlock → Option BookKind
+station_fault_of k b = then_fault (ending k.stage k.stations) (first_of (station_faults b))
+
+-- the fault of a block of code 20: it ends the set that is open, has its number once, and opens a
+-- set of this number
+abbrev pub set_fault_of : State → GsiBlock → Option BookKind
+set_fault_of k b = then_fault (ending k.stage k.stations)
+    (then_fault (twice_informed b) (opening_fault k.stage k.stations (number b)))
+
+-- the fault of a measurement, which has one in an open set alone
+abbrev pub measurement_fault_of : State → GsiBlock → Option BookKind
+measurement_fault_of k b =
+    if has_open_set k.stage then measured k.limits k.stations (read b) else None
+
 -- the fault of a block with this role
 abbrev pub fault_as : Role → State → GsiBlock → Option BookKind
-fault_as AsStation k b = then_fault (ending k.stage k.stations) (first_of (station_faults b))
-fault_as Set k b = then_fault (ending k.stage k.stations)
-    (then_fault (when (has_two 42 b) (kinds.WordTwice 42))
-    (opening_fault k.stage k.stations (number b)))
+fault_as AsStation k b = station_fault_of k b
+fault_as Set k b = set_fault_of k b
 fault_as Close k b = ending k.stage k.stations
-fault_as Measurement k b = if has_open_set k.stage then measured k.limits k.stations
-    (read b) else None
+fault_as Measurement k b = measurement_fault_of k b
 fault_as Other k b = None
 
 -- the fault of a block

@@ -52,6 +52,7 @@ impl EarlierStation {
         ensures station { IfOk result (λ s. s ≡ survey_of (name, self)) }
         ensures named { IfOk result (λ s. IsName s.station.name) }
     {
+        // For the proof alone: a name keeps the rules of names.
         name.recall();
         let EarlierStation {
             targets,

@@ -4,10 +4,9 @@ ghost use Rattle.std.specs.Prelude.{◌≡◌, ◌<◌, None, Some, IfOk, IfErr,
 ghost use Rattle.gsi_word.specs.BlockViews.{block_of};
 ghost use Rattle.adjust_kernel.specs.Sheets.{IsSetNumber};
 ghost use Rattle.gsi_word.specs.Names.{name_of};
-ghost use Rattle.station_book.specs.Faults.{when, first_of, station_faults};
-ghost use Rattle.station_book.specs.Blocks.{has_two, named, number, number_of_name, target};
+ghost use Rattle.station_book.specs.Faults.{twice_informed, first_of, station_faults};
+ghost use Rattle.station_book.specs.Blocks.{named, number, number_of_name, target};
 ghost use Rattle.station_book.specs.Readings.{face_of, read};
-ghost use Rattle.station_book.specs.declared.fault.BookKind.TheVariants as kinds;
 ghost use Rattle.station_book.specs.TwoFaces.{AreOnCircle};
 
 use crate::angles::{Angles, Reading};
@@ -58,10 +57,8 @@ fn number_of(name: &[u8]) -> Option<u16>
 pub(crate) fn set_number(block: &Block<'_>) -> Result<Option<u16>, BookKind>
     ensures ok { IfOk result (λ n. n ≡ number (block_of block.now)) }
     ensures valid { IfOk result (λ n. IfSome n IsSetNumber) }
-    ensures clean { OnOk result
-        (when (has_two 42 (block_of block.now)) (kinds.WordTwice 42) ≡ None) }
-    ensures fault { IfErr result
-        (λ k. when (has_two 42 (block_of block.now)) (kinds.WordTwice 42) ≡ Some k) }
+    ensures clean { OnOk result (twice_informed (block_of block.now) ≡ None) }
+    ensures fault { IfErr result (λ k. twice_informed (block_of block.now) ≡ Some k) }
 {
     match block.find(CODE_INFORMATION) {
         Found::Twice => Err(BookKind::WordTwice(u32::from(CODE_INFORMATION))),

@@ -4,9 +4,12 @@ ghost use Rattle.std.specs.Prelude.{◌≡◌, ◌≤◌, ◌<◌, ◌+◌, ◌+
 ghost use Rattle.std.specs.Vec.{vec_capacity};
 ghost use Rattle.std.specs.List.{list_any, list_all};
 ghost use Rattle.std.specs.Option.{option_to_list};
-ghost use Rattle.adjust_kernel.specs.declared.bounds.TheConstants.{MOST_TARGETS};
+ghost use Rattle.adjust_kernel.specs.declared.bounds.TheConstants.{MOST_SETS, MOST_TARGETS};
 ghost use Rattle.station_book.specs.Faults.{first_of};
-ghost use Rattle.station_book.specs.Slots.{face_reading, with_face_reading, empty_slot, slot_faults, pair_fault, closing_faults, is_unread, is_single, IsKeptSlot, obs_at, obs_of, faces_at, faces_of};
+ghost use Rattle.station_book.specs.Slots.{face_reading, with_face_reading, empty_slot};
+ghost use Rattle.station_book.specs.Slots.{slot_faults, pair_fault, closing_faults, is_unread};
+ghost use Rattle.station_book.specs.Slots.{is_single, IsKeptSlot, obs_at, obs_of, faces_at};
+ghost use Rattle.station_book.specs.Slots.{faces_of};
 ghost use Rattle.station_book.specs.TwoFaces.{AreOnCircle};
 
 use crate::angles::{Angles, Reading};
@@ -15,7 +18,7 @@ use crate::faces::Faces;
 use crate::fault::BookKind;
 use crate::limits::Limits;
 use crate::pair::{direction_of, faces_of, has_no_two_c, has_no_two_i};
-use adjust_kernel::Obs;
+use adjust_kernel::{MOST_SETS, Obs};
 use std::alloc::AllocError;
 
 /// The readings of one target in a set.
@@ -157,6 +160,53 @@ fn push_pair(set: u32, target: u32, slot: Slot, obs: &mut Vec<Obs>, faces: &mut 
     };
     obs.push_reserved(one);
     faces.push_reserved(faces_of(first, second));
+}
+
+/// How many sets a small station has at most. Its lists of observations get room for so many at
+/// once, and then for more sets, and at last for all: so few observations are copied as the lists
+/// grow, and many small stations take little memory.
+const FEW_SETS: usize = 2;
+
+/// For how many sets there is room next.
+const SOME_SETS: usize = 4;
+
+/// For how many sets there is room after that.
+const MANY_SETS: usize = 12;
+
+/// For how many sets the lists of a station get room that has so many sets.
+fn sets_with_room(sets: usize) -> usize
+    requires { sets ≤ MOST_SETS }
+    ensures enough { sets ≤ result }
+    ensures bound { result ≤ MOST_SETS }
+{
+    if sets <= FEW_SETS {
+        FEW_SETS
+    } else if sets <= SOME_SETS {
+        SOME_SETS
+    } else if sets <= MANY_SETS {
+        MANY_SETS
+    } else {
+        MOST_SETS
+    }
+}
+
+/// Makes room for the observations of a set of these targets that ends after so many earlier ones,
+/// and for those of further sets, for one opens now.
+pub(crate) fn make_room(
+    earlier: usize,
+    targets: usize,
+    obs: &mut Vec<Obs>,
+    faces: &mut Vec<Faces>,
+) -> Result<(), AllocError>
+    requires sets { earlier + 2 ≤ MOST_SETS }
+    requires targets { targets ≤ MOST_TARGETS }
+    ensures obs { obs.new.items ≡ obs.old.items }
+    ensures faces { faces.new.items ≡ faces.old.items }
+{
+    let room = (sets_with_room(earlier + 2) - earlier) * targets;
+    obs.reserve(room)?;
+    faces.reserve(room)?;
+    Ok(())
 }
 
 /// Appends the observations of a set and their face differences. All growths come first.

@@ -1,15 +1,15 @@
 //! A station that has sets.
 
-ghost use Rattle.std.specs.Prelude.{◌≡◌, ◌<◌, None, length, IfOk, IfErr, OnOk, OnErr, false, nat_le, ◌==◌, [], ◌∷◌};
+ghost use Rattle.std.specs.Prelude.{◌≡◌, ◌<◌, None, length, IfOk, IfErr, OnOk, OnErr, false, ◌==◌};
 ghost use Rattle.std.specs.List.{list_any};
 ghost use Rattle.adjust_kernel.specs.Sheets.{IsSetNumber};
 ghost use Rattle.adjust_kernel.specs.declared.bounds.TheConstants.{MOST_SETS};
 ghost use Rattle.station_book.specs.StationStates.{more_set_faults};
-ghost use Rattle.std.specs.Str.{bytes_eq};
-ghost use Rattle.station_book.specs.Faults.{first_of, when};
+ghost use Rattle.station_book.specs.Faults.{first_of};
 ghost use Rattle.station_book.specs.Slots.{closing_faults};
 ghost use Rattle.station_book.specs.TwoFaces.{AreOnCircle};
-ghost use Rattle.station_book.specs.StationState.{MayEnd, begun, with_set, state_faults, with_reading, with_reading_at};
+ghost use Rattle.station_book.specs.StationState.{MayEnd, begun, with_set, state_faults};
+ghost use Rattle.station_book.specs.StationState.{with_reading};
 ghost use Rattle.station_book.specs.declared.fault.BookKind.TheVariants as kinds;
 
 use crate::angles::Reading;
@@ -17,8 +17,8 @@ use crate::earlier_station::EarlierStation;
 use crate::faces::Faces;
 use crate::fault::BookKind;
 use crate::limits::Limits;
-use crate::slot::{end_fault, push_pairs, slot_fault};
-use crate::targets::Targets;
+use crate::slot::{end_fault, make_room, push_pairs, slot_fault};
+use crate::targets::{Placed, Targets};
 use adjust_kernel::{MOST_SETS, Obs};
 use std::alloc::{AllocError, Global};
 use std::marker::Model;
@@ -102,8 +102,10 @@ impl StationSoFar {
         ensures unchanged { OnErr result (self.new ≡ self.old) }
     {
         self.sets.reserve(1)?;
-        let last = self.sets.len() as u32 - 1;
-        push_pairs(last, self.targets.slots(), &mut self.obs, &mut self.faces)?;
+        let last = self.sets.len() - 1;
+        let slots = self.targets.slots();
+        make_room(last, slots.len(), &mut self.obs, &mut self.faces)?;
+        push_pairs(last as u32, slots, &mut self.obs, &mut self.faces)?;
         self.sets.push_reserved(number);
         self.targets.empty_slots();
         Ok(())
@@ -124,9 +126,13 @@ impl StationSoFar {
             face,
             angles,
         } = reading;
-        let Some(place) = self.targets.find_or_add(target, face, angles)? else {
-            target.recall();
-            return Ok(());
+        let place = match self.targets.find_or_add(target, face, angles)? {
+            Placed::Known(place) => place,
+            Placed::Added => {
+                // For the proof alone: a name keeps the rules of names.
+                target.recall();
+                return Ok(());
+            }
         };
         let slot = self.targets.slot(place);
         if let Some(kind) = slot_fault(limits, slot, reading) {

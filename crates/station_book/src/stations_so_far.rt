@@ -1,11 +1,14 @@
 //! The stations that have sets, by name.
 
-ghost use Rattle.std.specs.Prelude.{◌≡◌, ◌<◌, ◌≤◌, ◌+◌, ◌++◌, ◌∷◌, [], false, length, None, IfErr, IfOk, OnOk, OnErr, reverse, ◌==◌};
+ghost use Rattle.std.specs.Prelude.{◌≡◌, ◌<◌, ◌≤◌, ◌+◌, ◌++◌, ◌∷◌, [], false, length, None, IfErr};
+ghost use Rattle.std.specs.Prelude.{IfOk, OnOk, OnErr, reverse, ◌==◌};
 ghost use Rattle.std.specs.List.{list_any};
 ghost use Rattle.std.specs.Str.{bytes_eq};
 ghost use Rattle.adjust_kernel.specs.Sheets.{IsSetNumber};
 ghost use Rattle.adjust_kernel.specs.declared.bounds.TheConstants.{MOST_SETS};
-ghost use Rattle.station_book.specs.StationStates.{none_so_far, surveys_of, with_station, LastMayEnd, first_set_faults, last_of, change_last, is_known, more_set_faults};
+ghost use Rattle.station_book.specs.StationStates.{none_so_far, surveys_of, with_station};
+ghost use Rattle.station_book.specs.StationStates.{LastMayEnd, first_set_faults, last_of};
+ghost use Rattle.station_book.specs.StationStates.{change_last, is_known, more_set_faults};
 ghost use Rattle.station_book.specs.Faults.{first_of};
 ghost use Rattle.station_book.specs.Slots.{closing_faults};
 ghost use Rattle.station_book.specs.TwoFaces.{AreOnCircle};
@@ -37,7 +40,8 @@ pub(crate) struct StationsSoFar {
 }
 
 impl Model for StationsSoFar {
-    ghost use Rattle.station_book.specs.StationStates.{StationStates, OlderMayEnd, states_of, IsAfter};
+    ghost use Rattle.station_book.specs.StationStates.{StationStates, OlderMayEnd, states_of};
+    ghost use Rattle.station_book.specs.StationStates.{IsAfter};
 
     ghost Value = { StationStates };
 

@@ -1,11 +1,12 @@
 //! The targets of a station with their readings in its last set, and the place at which one is
 //! found.
 
-ghost use Rattle.std.specs.Prelude.{◌≡◌, ◌≢◌, ◌<◌, AllPairs, None, Some, slice_get, slice_set, length, replicate, IfErr, IfNone, IfOk, IfSome, OnErr, []};
+ghost use Rattle.std.specs.Prelude.{◌≡◌, ◌≢◌, ◌<◌, AllPairs, None, Some, slice_get, slice_set};
+ghost use Rattle.std.specs.Prelude.{length, replicate, IfErr, IfOk, IfSome, OnErr, []};
 ghost use Rattle.adjust_kernel.specs.declared.bounds.TheConstants.{MOST_TARGETS};
 ghost use Rattle.station_book.specs.StationState.{is_named, place_of, new_target_fault};
 ghost use Rattle.station_book.specs.Slots.{slot_at, empty_slot, with_face_reading};
-ghost use Rattle.station_book.specs.Targets.{with_first};
+ghost use Rattle.station_book.specs.Targets.{IsPlaced};
 
 use crate::angles::Angles;
 use crate::face::Face;
@@ -42,6 +43,15 @@ impl Model for Targets {
     } };
 
     ghost invariant = { λ t. MOST_TARGETS ≤ length t.slots.entries + spare t.slots };
+}
+
+/// Where the target of a reading stands.
+#[derive(Clone, Copy)]
+pub(crate) enum Placed {
+    /// At this place: the station has it.
+    Known(usize),
+    /// After all others: it was added with this reading.
+    Added,
 }
 
 /// The place beside this one: in face II the one before it, else the one after it. Whatever it
@@ -115,11 +125,8 @@ impl Targets {
     /// none of this name and there may be one more, it is added with this first reading.
     // Apart from its caller, so that the usual way, a target beside the last one, stays small.
     #[inline(never)]
-    fn search_or_add(&mut self, name: Name, first: Slot) -> Result<Option<usize>, BookKind>
-        ensures place { IfOk result (λ place. place ≡ place_of name self.old.names) }
-        ensures inside { IfOk result (λ place. IfSome place (λ i. i < length self.old.names)) }
-        ensures room { IfOk result (λ place. IfNone place (length self.old.names < MOST_TARGETS)) }
-        ensures targets { IfOk result (λ place. self.new ≡ with_first place name first self.old) }
+    fn search_or_add(&mut self, name: Name, first: Slot) -> Result<Placed, BookKind>
+        ensures placed { IfOk result (IsPlaced name first self.old self.new) }
         ensures absent { OnErr result (place_of name self.old.names ≡ None) }
         ensures fault { IfErr result (λ kind. new_target_fault self.old.names ≡ Some kind) }
         ensures unchanged { OnErr result (self.new ≡ self.old) }
@@ -130,14 +137,14 @@ impl Targets {
                 .slots
                 .get_index_of(&name)
                 .ok_or(BookKind::TooManyTargets)?;
-            return Ok(Some(place));
+            return Ok(Placed::Known(place));
         }
         match self.slots.entry(name).unwrap() {
-            Entry::Occupied(target) => Ok(Some(target.index())),
+            Entry::Occupied(target) => Ok(Placed::Known(target.index())),
             Entry::Vacant(target) => {
                 target.insert(first);
                 self.last = count;
-                Ok(None)
+                Ok(Placed::Added)
             }
         }
     }
@@ -150,19 +157,16 @@ impl Targets {
         name: Name,
         face: Face,
         angles: Angles,
-    ) -> Result<Option<usize>, BookKind>
+    ) -> Result<Placed, BookKind>
         requires { AllPairs (λ a b. a ≢ b) self.old.names }
-        ensures place { IfOk result (λ place. place ≡ place_of name self.old.names) }
-        ensures inside { IfOk result (λ place. IfSome place (λ i. i < length self.old.names)) }
-        ensures room { IfOk result (λ place. IfNone place (length self.old.names < MOST_TARGETS)) }
-        ensures targets { IfOk result (λ place. self.new
-            ≡ with_first place name (with_face_reading face angles empty_slot) self.old) }
+        ensures placed { IfOk result
+            (IsPlaced name (with_face_reading face angles empty_slot) self.old self.new) }
         ensures absent { OnErr result (place_of name self.old.names ≡ None) }
         ensures fault { IfErr result (λ kind. new_target_fault self.old.names ≡ Some kind) }
         ensures unchanged { OnErr result (self.new ≡ self.old) }
     {
         if let Some(place) = self.place_beside(&name, face) {
-            return Ok(Some(place));
+            return Ok(Placed::Known(place));
         }
         let first = empty_slot().with_reading(face, angles);
         self.search_or_add(name, first)

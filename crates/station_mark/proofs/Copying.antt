@@ -1,5 +1,6 @@
 -- A copy that is printed piece by piece.
-use Rattle.std.proofs.Common.{◌≡◌, ℕ, ◌-◌, List, [], ◌∷◌, ◌++◌, take, drop, Option, Result, Ok, Err, refl, ap}
+use Rattle.std.proofs.Common.{◌≡◌, ℕ, ◌-◌, List, [], ◌∷◌, ◌++◌, take, drop, Option, Result, Ok, Err}
+use Rattle.std.proofs.Common.{refl, ap}
 use Rattle.std.proofs.Common.{sym, ◌∙◌, length, arith}
 use Rattle.std.specs.Prelude.{OnOk, OnErr}
 use Rattle.std.proofs.lemmas.List.{append-nil, length-drop, take_all}

@@ -1,11 +1,13 @@
 -- What a reader gave is all of the file, or enough for its answers.
-use Rattle.std.proofs.Common.{◌≡◌, ℕ, ◌<◌, Bool, true, false, List, [], ◌++◌, length, Option, None, Some}
+use Rattle.std.proofs.Common.{◌≡◌, ℕ, ◌<◌, Bool, true, false, List, [], ◌++◌, length, Option, None}
+use Rattle.std.proofs.Common.{Some}
 use Rattle.std.proofs.Common.{Result, Ok, Err, ap, sym, subst, ◌∙◌, inl, inr, ◌⊎◌, refl}
 use Rattle.std.specs.Prelude.{IfOk}
 use Rattle.std.proofs.lemmas.List.{append-nil}
 use Rattle.byte_ends.proofs.Coming.{left_is}
 use Rattle.byte_ends.specs.Came.{IsReadOut, HasBroken, Leaves, NoReadFailed}
-use Rattle.byte_ends.specs.Source.{Told, ReaderChange, MayGive, HasGiven, given_then, ended, broken_off}
+use Rattle.byte_ends.specs.Source.{Told, ReaderChange, MayGive, HasGiven, given_then, ended}
+use Rattle.byte_ends.specs.Source.{broken_off}
 use Rattle.gsi_file.specs.FileAnswers.{FileAnswers, file_answers, answers_within}
 use Rattle.gsi_file.specs.ToCome.{FaultIsNext, only}
 use Rattle.gsi_file.specs.declared.bounds.TheConstants.{LONGEST_FILE}
@@ -32,7 +34,8 @@ all_of : (bytes : List ℕ) (fails : Bool) (told : Option Told) (left : Told)
     → told ≡ Some (told_of [] fails) → MayGive told left
     → file_answers (given_then bytes left) ≡ file_answers (told_of bytes fails)
 all_of bytes fails told left e may =
-    ap (λ (t : Told). file_answers (given_then bytes t)) (left_is told (told_of [] fails) left e may)
+    ap (λ (t : Told). file_answers (given_then bytes t))
+    (left_is told (told_of [] fails) left e may)
     ∙ ap (λ (b : List ℕ). file_answers (told_of b fails)) (append-nil bytes)
 
 -- Whatever is left, the file's answers are those of the bytes that were kept.

@@ -1,5 +1,6 @@
 -- The answers of a file by its first bytes, where these break a limit already.
-use Rattle.std.proofs.Common.{◌≡◌, ℕ, suc, ◌<◌, Bool, true, false, cond, List, [], ◌∷◌, ◌++◌, length}
+use Rattle.std.proofs.Common.{◌≡◌, ℕ, suc, ◌<◌, Bool, true, false, cond, List, [], ◌∷◌, ◌++◌}
+use Rattle.std.proofs.Common.{length}
 use Rattle.std.proofs.Common.{Option, None, Some, refl, sym, ap, ◌∙◌, arith, subst, ◌&&◌, not}
 use Rattle.std.proofs.lemmas.Bool.Decides.{nat_tests}
 use Rattle.std.proofs.lemmas.List.{append-nil}
@@ -50,7 +51,8 @@ pub past_limit : (room : ℕ) (bytes rest : List ℕ) (fails fails' : Bool) → 
     → answers_within room (bytes ++ rest) fails ≡ answers_within room bytes fails'
 past_limit room bytes rest fails fails' lt =
     let front = front_among (breaks room) bytes
-    (too_many (length bytes) room (list_all (λ part. nat_le (length part) 1024) (parts bytes)) lt) in
+    (too_many (length bytes) room (list_all (λ part. nat_le (length part) 1024) (parts bytes)) lt)
+    in
     same_answers room (bytes ++ rest) fails
     ∙ ap (answers_by room (bytes ++ rest) fails) (front.1 rest)
     ∙ sym (ap (answers_by room bytes fails')

@@ -1,7 +1,7 @@
 //! The copy of a field file, on its way to a writer.
 //!
-//! It is never made in memory: the file's bytes are printed from where they lie, with each code line
-//! before its place.
+//! It is never made in memory: the file's bytes are printed from where they lie, with each code
+//! line before its place.
 
 ghost use Rattle.std.specs.Prelude.{◌≡◌, true, OnOk, OnErr, length};
 ghost use Rattle.std.specs.Io.KnownBytes.{Appends};

@@ -14,8 +14,8 @@ use gsi_file::LONGEST_FILE;
 use set_marks::{MarkFault, mark_file};
 use std::alloc::Global;
 
-/// Finds where codes are put into a field file: 10 where a station begins, 20 where a set begins, 30
-/// before the first reading after a set that is in none. `station` is the name of the file's one
+/// Finds where codes are put into a field file: 10 where a station begins, 20 where a set begins,
+/// 30 before the first reading after a set that is in none. `station` is the name of the file's one
 /// station, where its lines set none up.
 ///
 /// The file is read whole first, whatever its lines are.

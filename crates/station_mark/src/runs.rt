@@ -16,7 +16,7 @@ use crate::refused::refusal_line;
 use adjust_kernel::Name;
 use byte_ends::{Sink, Source};
 use set_marks::MarkFault;
-use station_check::{DONE, REFUSED};
+use station_check::{DONE, refuse_by};
 use std::alloc::Global;
 
 /// Prints a copy of a field file with codes put in, and answers the exit status: 0 where all of the
@@ -67,7 +67,5 @@ fn refuse<E: Sink>(fault: PrintFault, err: &mut E) -> u8
     ensures line { WritesOrFails (refusal_line fault)
         (writer_change E.failed E.holds E.handed_on err.old err.new) }
 {
-    // Where `err` fails, the line is lost.
-    let _ = err.write_all(refusal_line(fault).as_slice());
-    REFUSED
+    refuse_by(refusal_line(fault).as_slice(), err)
 }

@@ -190,8 +190,8 @@ fn a_write_of_any_length_is_one_call(rt: HostRuntime) -> Result<(), Fail> {
     Ok(())
 }
 
-/// A reader or writer that moves whole pieces, fails or moves no byte once after so many bytes, then
-/// goes on, and counts its calls and bytes.
+/// A reader or writer that moves whole pieces, fails or moves no byte once after so many bytes,
+/// then goes on, and counts its calls and bytes.
 #[derive(Drop)]
 struct StopsAfter {
     bytes: usize,

@@ -1,7 +1,7 @@
 //! Stated directions of stations worked by hand.
 
-use adjust_kernel::{Name, Obs, Station};
-use directions_apart::CIRCLE;
+use adjust_kernel::{MOST_TARGETS, Name, Obs, Station};
+use directions_apart::{CIRCLE, PARTS};
 use exact_adjustment::{AdjustError, AdjustFault};
 use least_directions::{apart_from_least, rounded_directions};
 use std::alloc::Global;
@@ -41,6 +41,7 @@ fn station_of(
     Ok(station.expect(rt, "a station"))
 }
 
+/// How far stated directions in units of 0.000000001 gon are apart.
 fn apart(
     rt: &impl Abort,
     alloc: Global,
@@ -48,7 +49,12 @@ fn apart(
     stated: &[i64],
 ) -> Result<u32, AdjustError> {
     assert_eq!(rt; stated.len(), station.targets().len());
-    apart_from_least(alloc, station, stated)
+    assert!(rt; stated.len() <= MOST_TARGETS);
+    let mut parts = [0; MOST_TARGETS];
+    for (part, direction) in parts.iter_mut().zip(stated) {
+        *part = direction.saturating_mul(PARTS as i64);
+    }
+    apart_from_least(alloc, station, &parts[..stated.len()])
 }
 
 /// Two sets of two targets, 50 gon and some apart: 10,000,004 and 10,000,008 half units.

@@ -1,6 +1,7 @@
 -- Limbs, one more at a time.
 use Rattle.std.proofs.Common.{◌≡◌, ℕ, zero, suc, ◌+◌, ◌*◌, ◌^◌, ◌<◌, ◌≤◌, List, length}
-use Rattle.std.proofs.Common.{get_or, refl, ap, ◌∙◌, arith, add-one, get_or-set_other, get_or-set_same}
+use Rattle.std.proofs.Common.{get_or, refl, ap, ◌∙◌, arith, add-one, get_or-set_other}
+use Rattle.std.proofs.Common.{get_or-set_same}
 use Rattle.std.specs.Prelude.{set}
 use Rattle.std.proofs.Math.Nat.{mul-le-mul_right, pow-suc}
 use Rattle.wide_number.specs.Limbs.{limb_weight, value_below}
@@ -83,7 +84,8 @@ no_carry value zero w total e l = omega arith
 no_carry value (suc n) w total e l = absurd (omega arith)
 
 -- Where what is taken off is no larger, nothing is borrowed.
-pub no_borrow : (value off old borrow w : ℕ) → value + off ≡ old + borrow * w → value < w → off ≤ old
+pub no_borrow : (value off old borrow w : ℕ) → value + off ≡ old + borrow * w → value < w
+    → off ≤ old
     → value + off ≡ old
 no_borrow value off old zero w e l m = omega arith
 no_borrow value off old (suc n) w e l m = absurd (omega arith)

@@ -12,7 +12,8 @@ use Rattle.station_book.specs.Blocks.{role_of, opens_set}
 use Rattle.station_book.specs.State as states
 use Rattle.station_book.specs.Refusals.{ExplainsFault, WantsOnlyAt}
 use Rattle.station_book.specs.Places.{History}
-use Rattle.station_book.specs.Faults.{first_of, end_faults, station_faults, faults_as, fault_after, fault_at_end}
+use Rattle.station_book.specs.Faults.{first_of, end_faults, station_faults, faults_as, fault_after}
+use Rattle.station_book.specs.Faults.{fault_at_end}
 use Rattle.station_book.specs.State.{then_fault}
 use Rattle.station_book.specs.StandsFor.{StandsFor, ExplainsBlock}
 use Rattle.station_book.proofs.histories.FileEnd.{same_end}

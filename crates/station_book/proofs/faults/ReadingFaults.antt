@@ -1,5 +1,7 @@
 -- The fault of a measurement by what is kept is its fault by the blocks before it.
-use Rattle.std.proofs.Common.{◌≡◌, ℕ, Bool, true, false, cond, not, leb, ltb, ◌&&◌, ◌||◌, List, [], ◌∷◌, length, get_or, Option, Some, None, is_none, is_some, Ok, refl, sym, ap, ◌∙◌, unwrap_or}
+use Rattle.std.proofs.Common.{◌≡◌, ℕ, Bool, true, false, cond, not, leb, ltb, ◌&&◌, ◌||◌, List, []}
+use Rattle.std.proofs.Common.{◌∷◌, length, get_or, Option, Some, None, is_none, is_some, Ok, refl}
+use Rattle.std.proofs.Common.{sym, ap, ◌∙◌, unwrap_or}
 use Rattle.std.specs.List.{AllByRecursion}
 use Rattle.std.specs.Option.{option_map}
 use Rattle.std.specs.Str.{bytes_eq}
@@ -14,8 +16,10 @@ use Rattle.station_book.specs.Limits.{FaceLimits}
 use Rattle.station_book.specs.declared.role.Role.TheVariants as roles
 use Rattle.station_book.specs.declared.angles.Reading.{Reading}
 use Rattle.station_book.specs.declared.stage.Stage.{Stage}
-use Rattle.station_book.specs.declared.stage.Stage.TheVariants.{Outside, Station, BetweenSets, InSet}
-use Rattle.station_book.specs.Faults.{when, first_of, has_no_two_c, has_no_two_i, open_readings, face, is_apart, reading_faults, faults_as, IsWithoutFault}
+use Rattle.station_book.specs.declared.stage.Stage.TheVariants.{Outside, Station, BetweenSets}
+use Rattle.station_book.specs.declared.stage.Stage.TheVariants.{InSet}
+use Rattle.station_book.specs.Faults.{when, first_of, has_no_two_c, has_no_two_i, open_readings}
+use Rattle.station_book.specs.Faults.{face, is_apart, reading_faults, faults_as, IsWithoutFault}
 use Rattle.station_book.specs.State.{then_fault}
 use Rattle.station_book.specs.Readings as said
 use Rattle.station_book.specs.Slots.{face_reading, slot_at}
@@ -24,9 +28,11 @@ use Rattle.station_book.specs.StationState.{StationState, place_of}
 use Rattle.station_book.specs.StationStates.{StationStates, last_of}
 use Rattle.station_book.specs.State as states
 use Rattle.gsi_word.specs.Blocks.{GsiBlock}
-use Rattle.station_book.specs.Blocks.{has_two, lacks, angle_fault, is_of_face, other_face, angles, target}
+use Rattle.station_book.specs.Blocks.{has_two, lacks, angle_fault, is_of_face, other_face, angles}
+use Rattle.station_book.specs.Blocks.{target}
 use Rattle.station_book.specs.Places.{History, Place, is_among, is_open, reading_in}
-use Rattle.station_book.specs.StateOfHistory.{angles_of, slot_of, slots_of, AreStates, IsStage, stations_in}
+use Rattle.station_book.specs.StateOfHistory.{angles_of, slot_of, slots_of, AreStates, IsStage}
+use Rattle.station_book.specs.StateOfHistory.{stations_in}
 use Rattle.station_book.specs.StandsFor.{StandsFor}
 use Rattle.station_book.proofs.lists.JoinedLists.{absent}
 use Rattle.station_book.proofs.places.Steps.{open_targets}

@@ -1,5 +1,7 @@
 -- The fault of a block of code 20 by what is kept is its fault by the blocks before it.
-use Rattle.std.proofs.Common.{◌≡◌, ℕ, suc, Bool, true, false, leb, eqb, ◌&&◌, ◌||◌, List, [], ◌∷◌, ◌++◌, length, map, Option, Some, None, is_none, refl, sym, ap, ◌∙◌, inl, inr}
+use Rattle.std.proofs.Common.{◌≡◌, ℕ, suc, Bool, true, false, leb, eqb, ◌&&◌, ◌||◌, List, [], ◌∷◌}
+use Rattle.std.proofs.Common.{◌++◌, length, map, Option, Some, None, is_none, refl, sym, ap, ◌∙◌}
+use Rattle.std.proofs.Common.{inl, inr}
 use Rattle.std.specs.List.{list_any}
 use Rattle.std.specs.Str.{bytes_eq}
 use Rattle.std.proofs.lemmas.Bool.{cases_Bool, false≢true}
@@ -10,22 +12,29 @@ use Rattle.station_book.specs.declared.fault.BookKind.TheVariants as kinds
 use Rattle.station_book.specs.Limits.{FaceLimits}
 use Rattle.station_book.specs.declared.role.Role.TheVariants as roles
 use Rattle.station_book.specs.declared.stage.Stage.{Stage}
-use Rattle.station_book.specs.declared.stage.Stage.TheVariants.{Outside, Station, BetweenSets, InSet}
-use Rattle.station_book.specs.Faults.{when, first_of, open_sets, had_sets, same_name, same_number, has_set_number, end_faults, set_faults, fault_at_end, IsWithoutFault, name_at}
+use Rattle.station_book.specs.declared.stage.Stage.TheVariants.{Outside, Station, BetweenSets}
+use Rattle.station_book.specs.declared.stage.Stage.TheVariants.{InSet}
+use Rattle.station_book.specs.Faults.{when, first_of, open_sets, had_sets, same_name, same_number}
+use Rattle.station_book.specs.Faults.{has_set_number, end_faults, set_faults, fault_at_end}
+use Rattle.station_book.specs.Faults.{IsWithoutFault, name_at}
 use Rattle.station_book.specs.State.{then_fault}
 use Rattle.station_book.specs.StationState.{StationState}
-use Rattle.station_book.specs.StationStates.{StationStates, last_of, is_known, first_set_faults, more_set_faults}
+use Rattle.station_book.specs.StationStates.{StationStates, last_of, is_known, first_set_faults}
+use Rattle.station_book.specs.StationStates.{more_set_faults}
 use Rattle.station_book.specs.State as states
 use Rattle.gsi_word.specs.Blocks.{GsiBlock}
 use Rattle.station_book.specs.Blocks.{opens_station, opens_set, has_two, number}
-use Rattle.station_book.specs.Places.{number_at, History, Place, before, station, is_empty, first_sets, sets_of, station_readings}
-use Rattle.station_book.specs.StateOfHistory.{numbers_in, IsStateWith, AreStates, IsStage, stations_in}
+use Rattle.station_book.specs.Places.{number_at, History, Place, before, station, is_empty}
+use Rattle.station_book.specs.Places.{first_sets, sets_of, station_readings}
+use Rattle.station_book.specs.StateOfHistory.{numbers_in, IsStateWith, AreStates, IsStage}
+use Rattle.station_book.specs.StateOfHistory.{stations_in}
 use Rattle.station_book.specs.StandsFor.{StandsFor}
 use Rattle.station_book.proofs.lists.Elements.{same_bytes}
 use Rattle.station_book.proofs.places.Steps.{sets-other}
 use Rattle.station_book.proofs.readings.CleanBlocks.{clean_set}
 use Rattle.station_book.proofs.places.StationSets.{had_sets_by_names}
-use Rattle.station_book.proofs.histories.StateHistories.{open_has_set, length_numbers, HasOpenState, open_state}
+use Rattle.station_book.proofs.histories.StateHistories.{open_has_set, length_numbers, HasOpenState}
+use Rattle.station_book.proofs.histories.StateHistories.{open_state}
 use Rattle.station_book.proofs.names.FirstOfName.{no_had_sets}
 use Rattle.station_book.proofs.histories.FileEnd.{same_end}
 use Rattle.station_book.proofs.faults.FaultOrder.{first_append}

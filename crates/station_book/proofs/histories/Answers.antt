@@ -1,8 +1,11 @@
 -- What a book answers at the end are the stations of its blocks.
-use Rattle.std.proofs.Common.{◌≡◌, ℕ, ◌+◌, List, [], ◌∷◌, ◌++◌, length, map, reverse, Option, Some, None, refl, sym, ap, ◌∙◌, subst, arith}
+use Rattle.std.proofs.Common.{◌≡◌, ℕ, ◌+◌, List, [], ◌∷◌, ◌++◌, length, map, reverse, Option, Some}
+use Rattle.std.proofs.Common.{None, refl, sym, ap, ◌∙◌, subst, arith}
 use Rattle.std.specs.Prelude.{Result, Ok, Err, OnOk, IfOk, IfErr}
-use Rattle.std.specs.List.{AllZip, AllByRecursion, enumerate_from, filter_map, flat_map, cons_option}
-use Rattle.std.proofs.lemmas.List.{append-nil, length-reverse, map-append, reverse-append, reverse-reverse}
+use Rattle.std.specs.List.{AllZip, AllByRecursion, enumerate_from, filter_map, flat_map}
+use Rattle.std.specs.List.{cons_option}
+use Rattle.std.proofs.lemmas.List.{append-nil, length-reverse, map-append, reverse-append}
+use Rattle.std.proofs.lemmas.List.{reverse-reverse}
 use Rattle.std.proofs.lemmas.Grind.{flat_map-append}
 use Rattle.adjust_kernel.specs.declared.obs.Obs.{Obs}
 use Rattle.station_book.specs.declared.face.Face.TheVariants.{One, Two}
@@ -11,19 +14,25 @@ use Rattle.station_book.specs.declared.fault.BookFault.{BookFault}
 use Rattle.station_book.specs.declared.fault.BookFault.TheVariants.{At, Memory}
 use Rattle.station_book.specs.declared.stage.Stage.TheVariants.{Outside}
 use Rattle.station_book.specs.Limits.{FaceLimits}
-use Rattle.station_book.specs.Places.{number_at, History, Place, before, station, reading_in, readings_of, sets_of, first_sets, station_readings, targets_of}
+use Rattle.station_book.specs.Places.{number_at, History, Place, before, station, reading_in}
+use Rattle.station_book.specs.Places.{readings_of, sets_of, first_sets, station_readings}
+use Rattle.station_book.specs.Places.{targets_of}
 use Rattle.station_book.specs.Faults.{fault_at_end, angles_at, IsWithoutFault}
-use Rattle.station_book.specs.Stations.{Pair, pair_of, pairs_in, SurveyedStation, IsObserved, HasFaces, IsSurveyed, AreStations}
+use Rattle.station_book.specs.Stations.{Pair, pair_of, pairs_in, SurveyedStation, IsObserved}
+use Rattle.station_book.specs.Stations.{HasFaces, IsSurveyed, AreStations}
 use Rattle.station_book.specs.Slots as slots
 use Rattle.station_book.specs.Slots.{obs_at, obs_of, faces_at, faces_of}
 use Rattle.station_book.specs.StationStates.{none_so_far, surveys_of}
 use Rattle.station_book.specs.Refusals.{ExplainsFault}
 use Rattle.station_book.specs.State.{State, ending}
-use Rattle.station_book.specs.StateOfHistory.{in_set, angles_of, slots_of, obs_in, faces_in, numbers_in, IsComputed, stations_in}
+use Rattle.station_book.specs.StateOfHistory.{in_set, angles_of, slots_of, obs_in, faces_in}
+use Rattle.station_book.specs.StateOfHistory.{numbers_in, IsComputed, stations_in}
 use Rattle.station_book.specs.StandsFor.{StandsFor, ExplainsEnd}
 use Rattle.station_book.proofs.states.SlotObservations.{enumerate-append}
-use Rattle.station_book.proofs.two_faces.ComputedPairs.{computed_two_c, computed_two_i, computed_direction}
-use Rattle.station_book.proofs.readings.WithinLimits.{AreWithin, AllWithin, within_limits, place_on_circle}
+use Rattle.station_book.proofs.two_faces.ComputedPairs.{computed_two_c, computed_two_i}
+use Rattle.station_book.proofs.two_faces.ComputedPairs.{computed_direction}
+use Rattle.station_book.proofs.readings.WithinLimits.{AreWithin, AllWithin, within_limits}
+use Rattle.station_book.proofs.readings.WithinLimits.{place_on_circle}
 use Rattle.station_book.proofs.places.FilePlaces.{sets_readings}
 use Rattle.station_book.proofs.histories.TakenBlocks.{at_own}
 use Rattle.station_book.proofs.histories.FileEnd.{AreComputed, same_end, same_stations}

@@ -1,6 +1,7 @@
 -- The end of a set and of the file: the faults and the stations by what is kept are those by the
 -- blocks.
-use Rattle.std.proofs.Common.{◌≡◌, ℕ, true, false, ◌&&◌, ◌||◌, List, [], ◌∷◌, map, reverse, Option, Some, None, is_some, is_none, refl, sym, ap, ◌∙◌, inl, inr, subst}
+use Rattle.std.proofs.Common.{◌≡◌, ℕ, true, false, ◌&&◌, ◌||◌, List, [], ◌∷◌, map, reverse, Option}
+use Rattle.std.proofs.Common.{Some, None, is_some, is_none, refl, sym, ap, ◌∙◌, inl, inr, subst}
 use Rattle.std.specs.List.{list_any, list_all, AllByRecursion}
 use Rattle.std.specs.Str.{bytes_eq}
 use Rattle.std.proofs.lemmas.List.{reverse-reverse}
@@ -9,14 +10,18 @@ use Rattle.station_book.specs.declared.face.Face.{Face}
 use Rattle.station_book.specs.declared.face.Face.TheVariants.{One, Two}
 use Rattle.station_book.specs.declared.fault.BookKind.TheVariants as kinds
 use Rattle.station_book.specs.declared.stage.Stage.{Stage}
-use Rattle.station_book.specs.declared.stage.Stage.TheVariants.{Outside, Station, BetweenSets, InSet}
-use Rattle.station_book.specs.Faults.{when, first_of, open_readings, has_one_face, fault_at_end, face_at}
+use Rattle.station_book.specs.declared.stage.Stage.TheVariants.{Outside, Station, BetweenSets}
+use Rattle.station_book.specs.declared.stage.Stage.TheVariants.{InSet}
+use Rattle.station_book.specs.Faults.{when, first_of, open_readings, has_one_face, fault_at_end}
+use Rattle.station_book.specs.Faults.{face_at}
 use Rattle.station_book.specs.Slots.{is_unread, is_single}
 use Rattle.station_book.specs.StationStates.{StationStates, last_of, survey_of, surveys_of}
 use Rattle.station_book.specs.Stations.{SurveyedStation}
 use Rattle.station_book.specs.State.{State, ending}
-use Rattle.station_book.specs.Places.{History, Place, station, opening, is_empty, is_open, reading_in, sets_of, station_readings, target_at}
-use Rattle.station_book.specs.StateOfHistory.{in_set, angles_of, slot_of, slots_of, IsComputed, AreStates, stations_in, IsStage}
+use Rattle.station_book.specs.Places.{History, Place, station, opening, is_empty, is_open}
+use Rattle.station_book.specs.Places.{reading_in, sets_of, station_readings, target_at}
+use Rattle.station_book.specs.StateOfHistory.{in_set, angles_of, slot_of, slots_of, IsComputed}
+use Rattle.station_book.specs.StateOfHistory.{AreStates, stations_in, IsStage}
 use Rattle.station_book.specs.StandsFor.{StandsFor}
 use Rattle.station_book.proofs.lists.Elements.{In, any_to}
 use Rattle.station_book.proofs.places.Steps.{open_targets}
@@ -24,7 +29,8 @@ use Rattle.station_book.proofs.readings.FaceReadings as faces
 use Rattle.station_book.proofs.readings.FaceReadings.{IsKept, some_there}
 use Rattle.station_book.proofs.readings.CleanBlocks.{open_kept}
 use Rattle.station_book.proofs.readings.SetReadings.{open_in_set}
-use Rattle.station_book.proofs.histories.StateHistories.{open_set, open_has_set, survey_is, open_state}
+use Rattle.station_book.proofs.histories.StateHistories.{open_set, open_has_set, survey_is}
+use Rattle.station_book.proofs.histories.StateHistories.{open_state}
 use Rattle.indexmap.proofs.ReorderLemmas.{map-reverse}
 use Rattle.std.proofs.lemmas.Bool.{and_left, and_right}
 

@@ -6,7 +6,8 @@ use Rattle.adjust_kernel.specs.declared.obs.Obs.{Obs}
 use Rattle.station_book.specs.declared.faces.Faces.{Faces}
 use Rattle.station_book.specs.Limits.{FaceLimits, AreLimits}
 use Rattle.station_book.specs.Places.{History, Place}
-use Rattle.station_book.specs.Stations.{Pair, SurveyedStation, IsObserved, HasFaces, IsSurveyed, AreStations, stations_of, pairs_of}
+use Rattle.station_book.specs.Stations.{Pair, SurveyedStation, IsObserved, HasFaces, IsSurveyed}
+use Rattle.station_book.specs.Stations.{AreStations, stations_of, pairs_of}
 use Rattle.station_book.proofs.two_faces.OnePair.{one_two_c, one_two_i, one_two_face}
 
 one_zip : {A B : Type 0} (R : A → B → Type 0) → ((x : A) (y z : B) → R x y → R x z → y ≡ z)

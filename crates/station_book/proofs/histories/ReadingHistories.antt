@@ -1,9 +1,13 @@
 -- What is kept of a station stands for it after a reading.
-use Rattle.std.proofs.Common.{◌≡◌, ◌≢◌, ℕ, zero, suc, ◌+◌, ◌<◌, ◌≤◌, Bool, true, false, cond, ◌||◌, List, [], ◌∷◌, ◌++◌, length, map, filter, get_or, set, Option, Some, None, AllPairs, refl, sym, ap, ◌∙◌, inl, inr, ◌⊎◌, arith, append-nil}
+use Rattle.std.proofs.Common.{◌≡◌, ◌≢◌, ℕ, zero, suc, ◌+◌, ◌<◌, ◌≤◌, Bool, true, false, cond, ◌||◌}
+use Rattle.std.proofs.Common.{List, [], ◌∷◌, ◌++◌, length, map, filter, get_or, set, Option, Some}
+use Rattle.std.proofs.Common.{None, AllPairs, refl, sym, ap, ◌∙◌, inl, inr, ◌⊎◌, arith, append-nil}
 use Rattle.std.specs.List.{AllByRecursion, enumerate_from, filter_map}
 use Rattle.std.specs.Str.{bytes_eq}
-use Rattle.std.proofs.lemmas.Bool.{cases_Bool, false≢true, cases_eq, cases_lt, or_parts, false_from_ne_true}
-use Rattle.std.proofs.lemmas.List.{length-map, length-set, ext_get_or, get_or-set_same, get_or-set_other, map-append}
+use Rattle.std.proofs.lemmas.Bool.{cases_Bool, false≢true, cases_eq, cases_lt, or_parts}
+use Rattle.std.proofs.lemmas.Bool.{false_from_ne_true}
+use Rattle.std.proofs.lemmas.List.{length-map, length-set, ext_get_or, get_or-set_same}
+use Rattle.std.proofs.lemmas.List.{get_or-set_other, map-append}
 use Rattle.std.proofs.lemmas.List.Elements.{filter_map-append}
 use Rattle.std.proofs.lemmas.List.Folds.{list_any_at, list_any-append}
 use Rattle.std.proofs.lemmas.List.Quantifiers.{all_pairs_push, position-Some}
@@ -13,11 +17,14 @@ use Rattle.station_book.specs.declared.face.Face.TheVariants.{One, Two}
 use Rattle.station_book.specs.TwoFaces.{Angles}
 use Rattle.station_book.specs.declared.angles.Reading.{Reading}
 use Rattle.station_book.specs.declared.slot.Slot.{Slot}
-use Rattle.station_book.specs.Slots.{empty_slot, slot_at, with_face_reading, obs_at, obs_of, faces_at, faces_of}
+use Rattle.station_book.specs.Slots.{empty_slot, slot_at, with_face_reading, obs_at, obs_of}
+use Rattle.station_book.specs.Slots.{faces_at, faces_of}
 use Rattle.station_book.specs.StationState.{StationState, place_of, with_reading, with_reading_at}
 use Rattle.station_book.specs.Blocks.{is_of_face, other_face}
-use Rattle.station_book.specs.Places.{Place, opening, before, is_same, is_among, distinct, reading_in, target_at, passes_at}
-use Rattle.station_book.specs.StateOfHistory.{in_set, angles_of, slot_of, slots_of, targets_in, obs_in, faces_in, IsStateOf}
+use Rattle.station_book.specs.Places.{Place, opening, before, is_same, is_among, distinct}
+use Rattle.station_book.specs.Places.{reading_in, target_at, passes_at}
+use Rattle.station_book.specs.StateOfHistory.{in_set, angles_of, slot_of, slots_of, targets_in}
+use Rattle.station_book.specs.StateOfHistory.{obs_in, faces_in, IsStateOf}
 use Rattle.station_book.proofs.readings.SetReadings.{found_other, found_here, found_not}
 use Rattle.station_book.proofs.states.SlotObservations.{enumerate-append}
 use Rattle.station_book.proofs.states.StationInvariant.{absent_name}

@@ -1,23 +1,35 @@
 -- What is kept of a station stands for it: after its first set, after a further set, and, where
 -- another station is open, after any block.
-use Rattle.std.proofs.Common.{◌≡◌, ℕ, suc, ◌-◌, ◌<◌, ◌≤◌, Bool, true, false, cond, ◌&&◌, List, [], ◌∷◌, ◌++◌, length, map, filter, replicate, Some, refl, sym, ap, ◌∙◌, inl, inr, ◌⊎◌, subst, arith}
+use Rattle.std.proofs.Common.{◌≡◌, ℕ, suc, ◌-◌, ◌<◌, ◌≤◌, Bool, true, false, cond, ◌&&◌, List, []}
+use Rattle.std.proofs.Common.{◌∷◌, ◌++◌, length, map, filter, replicate, Some, refl, sym, ap, ◌∙◌}
+use Rattle.std.proofs.Common.{inl, inr, ◌⊎◌, subst, arith}
 use Rattle.std.specs.List.{AllByRecursion}
-use Rattle.std.proofs.lemmas.Bool.{cases_Bool, false≢true, and_parts, ne_eqb, eq-eqb, and_left, false_from_ne_true, or_parts}
+use Rattle.std.proofs.lemmas.Bool.{cases_Bool, false≢true, and_parts, ne_eqb, eq-eqb, and_left}
+use Rattle.std.proofs.lemmas.Bool.{false_from_ne_true, or_parts}
 use Rattle.std.proofs.lemmas.List.{length-append, map-append, length-map}
 use Rattle.station_book.specs.Slots.{empty_slot, obs_of, faces_of}
 use Rattle.station_book.specs.StationState.{StationState, begun, with_set, with_reading}
 use Rattle.station_book.specs.declared.angles.Reading.{Reading}
-use Rattle.station_book.proofs.histories.ReadingHistories.{Says, IsInNone, reading_state, all_filter}
+use Rattle.station_book.proofs.histories.ReadingHistories.{Says, IsInNone, reading_state}
+use Rattle.station_book.proofs.histories.ReadingHistories.{all_filter}
 use Rattle.station_book.specs.StationStates.{StationStates, survey_of, with_station, last_of}
 use Rattle.station_book.proofs.readings.SetReadings.{none_in_later}
 use Rattle.station_book.proofs.states.NewestState.{HasNewest}
 use Rattle.gsi_word.specs.Blocks.{GsiBlock}
 use Rattle.station_book.specs.Blocks.{number, opens_station, opens_set, is_opening, has_direction}
-use Rattle.station_book.specs.Places.{number_at, History, Place, places, last, before, station, opening, is_empty, is_open, is_set, is_reading, is_same, sets_of, station_readings, first_sets}
+use Rattle.station_book.specs.Places.{number_at, History, Place, places, last, before, station}
+use Rattle.station_book.specs.Places.{opening, is_empty, is_open, is_set, is_reading, is_same}
+use Rattle.station_book.specs.Places.{sets_of, station_readings, first_sets}
 use Rattle.station_book.specs.Faults.{open_sets, name_at}
-use Rattle.station_book.specs.StateOfHistory.{in_set, slots_of, targets_in, obs_in, faces_in, numbers_in, IsStateOf, IsStateWith, IsStateAt, IsComputed, stations_in, AreStates}
-use Rattle.station_book.proofs.places.Owners.{length-last, belonging-more, belonging-same, belonging-fresh, belonging-older, owners_in_order}
-use Rattle.station_book.proofs.places.Steps.{no_set_at_station, no_station_at_set, direction_opens_nothing, opens_no_station, is_open-opening, is_open-other, sets-station, sets-more, sets-other, same_station, opens_no_set}
+use Rattle.station_book.specs.StateOfHistory.{in_set, slots_of, targets_in, obs_in, faces_in}
+use Rattle.station_book.specs.StateOfHistory.{numbers_in, IsStateOf, IsStateWith, IsStateAt}
+use Rattle.station_book.specs.StateOfHistory.{IsComputed, stations_in, AreStates}
+use Rattle.station_book.proofs.places.Owners.{length-last, belonging-more, belonging-same}
+use Rattle.station_book.proofs.places.Owners.{belonging-fresh, belonging-older, owners_in_order}
+use Rattle.station_book.proofs.places.Steps.{no_set_at_station, no_station_at_set}
+use Rattle.station_book.proofs.places.Steps.{direction_opens_nothing, opens_no_station}
+use Rattle.station_book.proofs.places.Steps.{is_open-opening, is_open-other, sets-station}
+use Rattle.station_book.proofs.places.Steps.{sets-more, sets-other, same_station, opens_no_set}
 
 -- These places are all before this one.
 abbrev AllBefore : Place → List Place → Type 0

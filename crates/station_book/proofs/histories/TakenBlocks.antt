@@ -1,5 +1,7 @@
 -- After a block without fault, what is kept stands for the blocks with it.
-use Rattle.std.proofs.Common.{◌≡◌, ℕ, ◌+◌, Bool, true, false, cond, not, ltb, ◌&&◌, ◌||◌, List, [], ◌∷◌, Option, Some, None, is_none, Result, Ok, Err, refl, sym, ap, ◌∙◌, subst, arith, unwrap_or}
+use Rattle.std.proofs.Common.{◌≡◌, ℕ, ◌+◌, Bool, true, false, cond, not, ltb, ◌&&◌, ◌||◌, List, []}
+use Rattle.std.proofs.Common.{◌∷◌, Option, Some, None, is_none, Result, Ok, Err, refl, sym, ap, ◌∙◌}
+use Rattle.std.proofs.Common.{subst, arith, unwrap_or}
 use Rattle.gsi_word.specs.Names.{name_of}
 use Rattle.gsi_word.specs.declared.found.Found.{Found}
 use Rattle.gsi_word.specs.declared.found.Found.TheVariants.{One}
@@ -11,11 +13,16 @@ use Rattle.station_book.specs.declared.role.Role.{Role}
 use Rattle.station_book.specs.declared.role.Role.TheVariants as roles
 use Rattle.station_book.specs.declared.angles.Reading.{Reading}
 use Rattle.station_book.specs.declared.stage.Stage.{Stage}
-use Rattle.station_book.specs.declared.stage.Stage.TheVariants.{Outside, Station, BetweenSets, InSet}
-use Rattle.station_book.specs.Faults.{station_faults, when, first_of, open_sets, fault_after, name_at}
+use Rattle.station_book.specs.declared.stage.Stage.TheVariants.{Outside, Station, BetweenSets}
+use Rattle.station_book.specs.declared.stage.Stage.TheVariants.{InSet}
+use Rattle.station_book.specs.Faults.{station_faults, when, first_of, open_sets, fault_after}
+use Rattle.station_book.specs.Faults.{name_at}
 use Rattle.station_book.specs.State.{then_fault}
 use Rattle.gsi_word.specs.FoundWords.{is_absent, is_twice}
-use Rattle.station_book.specs.Blocks.{role_of, is_station, is_set_code, is_close, is_measurement, opens_station, opens_set, is_opening, has_direction, named, number, angles, is_of_face, other_face, found_in_block, name_found, has_two, lacks}
+use Rattle.station_book.specs.Blocks.{role_of, is_station, is_set_code, is_close, is_measurement}
+use Rattle.station_book.specs.Blocks.{opens_station, opens_set, is_opening, has_direction, named}
+use Rattle.station_book.specs.Blocks.{number, angles, is_of_face, other_face, found_in_block}
+use Rattle.station_book.specs.Blocks.{name_found, has_two, lacks}
 use Rattle.station_book.specs.StationState.{with_set, with_reading}
 use Rattle.station_book.specs.StationStates.{StationStates, change_last}
 use Rattle.station_book.specs.State as states
@@ -24,12 +31,14 @@ use Rattle.station_book.specs.Places.{History, last, station, is_empty, is_open,
 use Rattle.station_book.specs.StateOfHistory.{IsStage, AreStates, stations_in}
 use Rattle.station_book.specs.Readings as said
 use Rattle.station_book.specs.StandsFor.{StandsFor}
-use Rattle.station_book.proofs.places.Steps.{is_open-opening, is_open-other, sets-station, sets-other, same_station}
+use Rattle.station_book.proofs.places.Steps.{is_open-opening, is_open-other, sets-station}
+use Rattle.station_book.proofs.places.Steps.{sets-other, same_station}
 use Rattle.station_book.specs.Limits.{FaceLimits}
 use Rattle.station_book.proofs.readings.FaceReadings.{one_face}
 use Rattle.station_book.proofs.readings.CleanBlocks.{all_none, none_when}
 use Rattle.station_book.proofs.histories.ReadingHistories.{Says}
-use Rattle.station_book.proofs.histories.StateHistories.{states_idle, states_first, states_further, states_reading, open_has_set, newest_there}
+use Rattle.station_book.proofs.histories.StateHistories.{states_idle, states_first, states_further}
+use Rattle.station_book.proofs.histories.StateHistories.{states_reading, open_has_set, newest_there}
 use Rattle.std.proofs.lemmas.Bool.{and_right}
 
 -- what a role says of the tests

@@ -1,5 +1,6 @@
 -- Of different names each has one place, wherever it is looked for first.
-use Rattle.std.proofs.Common.{◌≡◌, ◌≢◌, ℕ, ◌<◌, ◌≤◌, true, cond, not, ltb, ◌⊎◌, inl, inr, List, [], length, get_or, AllPairs, Some, None, sym, ap, ◌∙◌, arith}
+use Rattle.std.proofs.Common.{◌≡◌, ◌≢◌, ℕ, ◌<◌, ◌≤◌, true, cond, not, ltb, ◌⊎◌, inl, inr, List, []}
+use Rattle.std.proofs.Common.{length, get_or, AllPairs, Some, None, sym, ap, ◌∙◌, arith}
 use Rattle.std.specs.Prelude.{slice_get}
 use Rattle.std.specs.List.{prefix_len}
 use Rattle.std.specs.Str.{bytes_eq}

@@ -1,10 +1,12 @@
 -- A station that has a set is the first of its name that has one.
-use Rattle.std.proofs.Common.{◌≡◌, Bool, false, ◌&&◌, ◌||◌, not, [], ◌∷◌, length, refl, sym, ap, ◌∙◌, inl, inr}
+use Rattle.std.proofs.Common.{◌≡◌, Bool, false, ◌&&◌, ◌||◌, not, [], ◌∷◌, length, refl, sym, ap}
+use Rattle.std.proofs.Common.{◌∙◌, inl, inr}
 use Rattle.std.specs.List.{list_any}
 use Rattle.std.proofs.lemmas.Bool.{cases_Bool, false≢true, eq-eqb, and_right}
 use Rattle.gsi_word.specs.Blocks.{GsiBlock}
 use Rattle.station_book.specs.Blocks.{opens_station, opens_set}
-use Rattle.station_book.specs.Places.{History, Place, places, before, is_same, is_set, station, is_empty}
+use Rattle.station_book.specs.Places.{History, Place, places, before, is_same, is_set, station}
+use Rattle.station_book.specs.Places.{is_empty}
 use Rattle.station_book.specs.Faults.{open_sets, had_sets, same_name, IsWithoutFault, name_at}
 use Rattle.station_book.specs.Limits.{FaceLimits}
 use Rattle.station_book.proofs.places.Steps.{sets-station, sets-other, same_station}

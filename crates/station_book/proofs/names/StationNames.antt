@@ -1,5 +1,6 @@
 -- No two stations of a file without fault have one name.
-use Rattle.std.proofs.Common.{◌≡◌, ◌≢◌, ◌↔◌, ℕ, arith, Bool, true, false, List, [], ◌∷◌, ◌++◌, map, reverse, Some, refl, sym, ap, ◌∙◌, inl, inr, subst, suc, cond, None}
+use Rattle.std.proofs.Common.{◌≡◌, ◌≢◌, ◌↔◌, ℕ, arith, Bool, true, false, List, [], ◌∷◌, ◌++◌, map}
+use Rattle.std.proofs.Common.{reverse, Some, refl, sym, ap, ◌∙◌, inl, inr, subst, suc, cond, None}
 use Rattle.std.specs.Str.{bytes_eq}
 use Rattle.std.specs.List.{list_any, AllByRecursion, AllZip, AllPairs, Contains}
 use Rattle.std.proofs.lemmas.List.Elements.{All-from_recursion}
@@ -11,8 +12,10 @@ use Rattle.station_book.specs.Limits.{FaceLimits}
 use Rattle.station_book.specs.Blocks.{opens_set}
 use Rattle.station_book.specs.Places.{History, Place, before, station, is_empty, first_sets}
 use Rattle.station_book.specs.Faults.{open_sets, same_name, name_at, IsWithoutFault}
-use Rattle.station_book.specs.Stations.{SurveyedStation, IsSurveyed, AreStations, stations_of, station_named}
-use Rattle.station_book.proofs.lists.Elements.{In, all_in, find_some, in_contains, contains_in, same_bytes}
+use Rattle.station_book.specs.Stations.{SurveyedStation, IsSurveyed, AreStations, stations_of}
+use Rattle.station_book.specs.Stations.{station_named}
+use Rattle.station_book.proofs.lists.Elements.{In, all_in, find_some, in_contains, contains_in}
+use Rattle.station_book.proofs.lists.Elements.{same_bytes}
 use Rattle.station_book.proofs.readings.CleanBlocks.{clean_set}
 use Rattle.station_book.proofs.places.StationSets.{had_sets_by_names}
 use Rattle.std.specs.Map.{values_of, lookup}

@@ -1,16 +1,21 @@
 -- The places of a file: the opening and the station of each are places of the file too.
-use Rattle.std.proofs.Common.{◌≡◌, ℕ, ◌<◌, Bool, true, false, ◌&&◌, List, [], ◌∷◌, length, filter, reverse, Some, refl, sym, ap, ◌∙◌, inl, inr, ◌⊎◌, subst, arith}
+use Rattle.std.proofs.Common.{◌≡◌, ℕ, ◌<◌, Bool, true, false, ◌&&◌, List, [], ◌∷◌, length, filter}
+use Rattle.std.proofs.Common.{reverse, Some, refl, sym, ap, ◌∙◌, inl, inr, ◌⊎◌, subst, arith}
 use Rattle.std.specs.List.{list_any, AllByRecursion}
 use Rattle.std.proofs.lemmas.Bool.{cases_Bool, and_parts, and_from, eq-eqb, eqb-true, false≢true}
 use Rattle.std.proofs.lemmas.Slice.Eq.{bytes_eq-Decides}
 use Rattle.gsi_word.specs.Blocks.{GsiBlock}
 use Rattle.station_book.specs.Blocks.{opens_station, opens_set, is_opening, has_direction}
-use Rattle.station_book.specs.Places.{History, Place, places, last, before, opening, station, is_open, is_set, is_reading, is_same, is_empty, first_sets, readings_of, sets_of, station_readings, passes_at}
+use Rattle.station_book.specs.Places.{History, Place, places, last, before, opening, station}
+use Rattle.station_book.specs.Places.{is_open, is_set, is_reading, is_same, is_empty, first_sets}
+use Rattle.station_book.specs.Places.{readings_of, sets_of, station_readings, passes_at}
 use Rattle.station_book.specs.Faults.{name_at, same_name}
 use Rattle.station_book.specs.Stations.{stations_of}
 use Rattle.station_book.specs.StateOfHistory.{in_set}
-use Rattle.station_book.proofs.lists.Elements.{In, any_from, any_to, all_in, all_from, in_map, of_map, in_reverse, of_reverse, of_filter}
-use Rattle.station_book.proofs.places.Steps.{no_station_at_set, is_open-opening, is_open-other, opens_no_station, same_station}
+use Rattle.station_book.proofs.lists.Elements.{In, any_from, any_to, all_in, all_from, in_map}
+use Rattle.station_book.proofs.lists.Elements.{of_map, in_reverse, of_reverse, of_filter}
+use Rattle.station_book.proofs.places.Steps.{no_station_at_set, is_open-opening, is_open-other}
+use Rattle.station_book.proofs.places.Steps.{opens_no_station, same_station}
 use Rattle.station_book.proofs.places.StationSets.{any_station}
 use Rattle.station_book.proofs.names.StationNames.{Pairwise, AreApart}
 use Rattle.station_book.proofs.readings.OneReading.{length_place}

@@ -1,5 +1,6 @@
 -- What a block does to what is looked up in the places before it; owners stand in order.
-use Rattle.std.proofs.Common.{◌≡◌, ◌≤◌, Bool, true, false, cond, ◌&&◌, List, [], ◌∷◌, length, filter, refl, ap, ◌∙◌, arith, inl, inr, ℕ, ◌<◌}
+use Rattle.std.proofs.Common.{◌≡◌, ◌≤◌, Bool, true, false, cond, ◌&&◌, List, [], ◌∷◌, length}
+use Rattle.std.proofs.Common.{filter, refl, ap, ◌∙◌, arith, inl, inr, ℕ, ◌<◌}
 use Rattle.std.proofs.lemmas.Bool.{ne_eqb, eq-eqb, and_right, cases_Bool}
 use Rattle.gsi_word.specs.Blocks.{GsiBlock}
 use Rattle.station_book.specs.Places.{History, Place, places, last, before, belonging, is_same}

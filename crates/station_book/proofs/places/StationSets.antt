@@ -1,10 +1,12 @@
 -- The stations that have sets, and a station's sets.
-use Rattle.std.proofs.Common.{◌≡◌, Bool, true, false, ◌&&◌, ◌||◌, not, List, [], ◌∷◌, filter, refl, sym, ap, ◌∙◌, inl, inr}
+use Rattle.std.proofs.Common.{◌≡◌, Bool, true, false, ◌&&◌, ◌||◌, not, List, [], ◌∷◌, filter, refl}
+use Rattle.std.proofs.Common.{sym, ap, ◌∙◌, inl, inr}
 use Rattle.std.specs.List.{list_any}
 use Rattle.std.proofs.lemmas.Bool.{and_parts, and_from, cases_Bool, false≢true}
 use Rattle.gsi_word.specs.Blocks.{GsiBlock}
 use Rattle.station_book.specs.Blocks.{opens_station, opens_set}
-use Rattle.station_book.specs.Places.{History, Place, places, last, before, belonging, is_same, is_set, station, first_sets, is_empty}
+use Rattle.station_book.specs.Places.{History, Place, places, last, before, belonging, is_same}
+use Rattle.station_book.specs.Places.{is_set, station, first_sets, is_empty}
 use Rattle.station_book.specs.Faults.{open_sets, had_sets, same_name, name_at}
 use Rattle.station_book.proofs.places.Owners.{belonging-fresh, belonging-same}
 use Rattle.station_book.proofs.lists.Elements.{In, any_from, any_to, same_test, of_filter}

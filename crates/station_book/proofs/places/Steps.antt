@@ -2,10 +2,13 @@
 use Rattle.std.proofs.Common.{◌≡◌, ℕ, true, false, cond, ◌||◌, not, List, [], ◌∷◌, map, refl, ap}
 use Rattle.std.proofs.lemmas.Bool.{and_parts, or_parts}
 use Rattle.gsi_word.specs.Blocks.{GsiBlock}
-use Rattle.station_book.specs.Blocks.{role_of, is_station, is_set_code, is_close, is_measurement, opens_station, opens_set, is_opening, has_direction, target, lacks}
+use Rattle.station_book.specs.Blocks.{role_of, is_station, is_set_code, is_close, is_measurement}
+use Rattle.station_book.specs.Blocks.{opens_station, opens_set, is_opening, has_direction, target}
+use Rattle.station_book.specs.Blocks.{lacks}
 use Rattle.station_book.specs.declared.role.Role.{Role}
 use Rattle.station_book.specs.declared.role.Role.TheVariants as roles
-use Rattle.station_book.specs.Places.{History, last, passes_at, is_open, is_set, is_reading, station, targets_of, distinct, with_new, target_at}
+use Rattle.station_book.specs.Places.{History, last, passes_at, is_open, is_set, is_reading}
+use Rattle.station_book.specs.Places.{station, targets_of, distinct, with_new, target_at}
 use Rattle.station_book.specs.Faults.{open_readings, open_sets}
 use Rattle.station_book.proofs.places.Owners.{belonging-fresh, belonging-more, belonging-same}
 

@@ -1,6 +1,7 @@
 -- What is true of a block that has no fault; and in a history without fault, each reading of the
 -- open set is kept: it has a face, and its target is listed.
-use Rattle.std.proofs.Common.{◌≡◌, ℕ, Bool, true, false, ◌||◌, not, List, [], ◌∷◌, ◌++◌, Option, Some, None, refl, sym, ap, ◌∙◌, inl, inr}
+use Rattle.std.proofs.Common.{◌≡◌, ℕ, Bool, true, false, ◌||◌, not, List, [], ◌∷◌, ◌++◌, Option}
+use Rattle.std.proofs.Common.{Some, None, refl, sym, ap, ◌∙◌, inl, inr}
 use Rattle.std.specs.List.{AllByRecursion}
 use Rattle.std.specs.Str.{bytes_eq}
 use Rattle.std.proofs.lemmas.Bool.{cases_Bool, or_cases, false≢true, and_parts, true_from_ne_false}
@@ -9,13 +10,20 @@ use Rattle.station_book.specs.declared.face.Face.TheVariants.{One, Two}
 use Rattle.station_book.specs.declared.fault.BookKind.{BookKind}
 use Rattle.station_book.specs.declared.fault.BookKind.TheVariants as kinds
 use Rattle.gsi_word.specs.Blocks.{GsiBlock}
-use Rattle.station_book.specs.Blocks.{number, target, is_of_face, role_of, is_measurement, lacks, opens_set, is_opening, has_direction}
-use Rattle.station_book.specs.Places.{History, Place, is_among, with_new, is_open, is_empty, is_reading, station}
-use Rattle.station_book.specs.Faults.{face, reading_faults, fault_after, IsWithoutFault, open_readings, when, first_of, end_faults, is_face_taken, set_faults, is_beyond, had_sets, has_no_two_c, has_set_number, has_no_two_i}
+use Rattle.station_book.specs.Blocks.{number, target, is_of_face, role_of, is_measurement, lacks}
+use Rattle.station_book.specs.Blocks.{opens_set, is_opening, has_direction}
+use Rattle.station_book.specs.Places.{History, Place, is_among, with_new, is_open, is_empty}
+use Rattle.station_book.specs.Places.{is_reading, station}
+use Rattle.station_book.specs.Faults.{face, reading_faults, fault_after, IsWithoutFault}
+use Rattle.station_book.specs.Faults.{open_readings, when, first_of, end_faults, is_face_taken}
+use Rattle.station_book.specs.Faults.{set_faults, is_beyond, had_sets, has_no_two_c, has_set_number}
+use Rattle.station_book.specs.Faults.{has_no_two_i}
 use Rattle.station_book.specs.Limits.{FaceLimits}
 use Rattle.station_book.proofs.lists.Elements.{any_from, any_to, in_left, in_right}
 use Rattle.station_book.proofs.readings.FaceReadings.{IsKept}
-use Rattle.station_book.proofs.places.Steps.{open_targets, readings-opening, readings-more, readings-other, targets-more, targets-other, opens_no_station, set_role, measurement_role}
+use Rattle.station_book.proofs.places.Steps.{open_targets, readings-opening, readings-more}
+use Rattle.station_book.proofs.places.Steps.{readings-other, targets-more, targets-other}
+use Rattle.station_book.proofs.places.Steps.{opens_no_station, set_role, measurement_role}
 
 -- where none is the first, none stands
 pub all_none : {X : Type 0} (os : List (Option X)) → first_of os ≡ None

@@ -1,8 +1,11 @@
 -- The readings of the open set by target and face.
-use Rattle.std.proofs.Common.{◌≡◌, ℕ, Bool, true, false, cond, ltb, ◌&&◌, ◌||◌, List, [], ◌∷◌, map, Option, Some, None, is_some, is_none, refl, sym, ap, ◌∙◌, inl, inr, ◌⊎◌, arith}
+use Rattle.std.proofs.Common.{◌≡◌, ℕ, Bool, true, false, cond, ltb, ◌&&◌, ◌||◌, List, [], ◌∷◌, map}
+use Rattle.std.proofs.Common.{Option, Some, None, is_some, is_none, refl, sym, ap, ◌∙◌, inl, inr}
+use Rattle.std.proofs.Common.{◌⊎◌, arith}
 use Rattle.std.specs.List.{list_any, AllByRecursion}
 use Rattle.std.specs.Str.{bytes_eq}
-use Rattle.std.proofs.lemmas.Bool.{and_parts, and_from, cases_Bool, false≢true, or_cases, ltb-true, or_right, and_left}
+use Rattle.std.proofs.lemmas.Bool.{and_parts, and_from, cases_Bool, false≢true, or_cases, ltb-true}
+use Rattle.std.proofs.lemmas.Bool.{or_right, and_left}
 use Rattle.std.proofs.lemmas.Slice.Eq.{bytes_eq-Decides}
 use Rattle.gsi_word.specs.Blocks.{GsiBlock}
 use Rattle.station_book.specs.declared.face.Face.{Face}
@@ -10,7 +13,8 @@ use Rattle.station_book.specs.declared.face.Face.TheVariants.{One, Two}
 use Rattle.station_book.specs.Blocks.{is_of_face, other_face, angles}
 use Rattle.station_book.specs.Places.{Place, reading_in, is_among, target_at, passes_at}
 use Rattle.station_book.specs.Faults.{has_one_face, face, face_at}
-use Rattle.station_book.proofs.lists.Elements.{In, any_from, any_to, find_some, find_found, all_in, same_test, in_map, of_map}
+use Rattle.station_book.proofs.lists.Elements.{In, any_from, any_to, find_some, find_found, all_in}
+use Rattle.station_book.proofs.lists.Elements.{same_test, in_map, of_map}
 
 -- what a book keeps of the open set: the readings of each target of the station, in face I and in
 -- face II

@@ -1,5 +1,6 @@
 -- A file without fault has one reading at most of a set, target and face.
-use Rattle.std.proofs.Common.{◌≡◌, ℕ, ◌≤◌, true, false, ◌&&◌, List, [], ◌∷◌, length, Option, Some, None, is_some, refl, sym, ap, ◌∙◌, inl, inr, subst, arith}
+use Rattle.std.proofs.Common.{◌≡◌, ℕ, ◌≤◌, true, false, ◌&&◌, List, [], ◌∷◌, length, Option, Some}
+use Rattle.std.proofs.Common.{None, is_some, refl, sym, ap, ◌∙◌, inl, inr, subst, arith}
 use Rattle.std.specs.Str.{bytes_eq}
 use Rattle.std.proofs.lemmas.Bool.{and_from, eq-eqb}
 use Rattle.std.proofs.lemmas.Slice.Eq.{bytes_eq-Decides}
@@ -7,7 +8,8 @@ use Rattle.gsi_word.specs.Blocks.{GsiBlock}
 use Rattle.station_book.specs.declared.face.Face.{Face}
 use Rattle.station_book.specs.Limits.{FaceLimits}
 use Rattle.station_book.specs.Blocks.{target, is_of_face, is_opening}
-use Rattle.station_book.specs.Places.{History, Place, places, last, before, opening, is_same, is_reading, target_at, passes_at, reading_in}
+use Rattle.station_book.specs.Places.{History, Place, places, last, before, opening, is_same}
+use Rattle.station_book.specs.Places.{is_reading, target_at, passes_at, reading_in}
 use Rattle.station_book.specs.Faults.{face, open_readings, fault_after, IsWithoutFault}
 use Rattle.station_book.specs.Recorded.{IsReadingOf}
 use Rattle.station_book.proofs.readings.CleanBlocks.{clean_reading}

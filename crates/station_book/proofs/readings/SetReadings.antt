@@ -1,14 +1,18 @@
 -- Which reading of a target is found among those of a set, and which readings are of the open set.
-use Rattle.std.proofs.Common.{◌≡◌, ℕ, ◌≤◌, Bool, true, false, cond, ◌&&◌, List, [], ◌∷◌, length, filter, Some, refl, sym, ap, ◌∙◌, inl, inr, arith}
+use Rattle.std.proofs.Common.{◌≡◌, ℕ, ◌≤◌, Bool, true, false, cond, ◌&&◌, List, [], ◌∷◌, length}
+use Rattle.std.proofs.Common.{filter, Some, refl, sym, ap, ◌∙◌, inl, inr, arith}
 use Rattle.std.specs.Str.{bytes_eq}
 use Rattle.std.proofs.lemmas.Bool.{cases_Bool, eq-eqb, ne_eqb, and_right}
 use Rattle.station_book.specs.declared.face.Face.{Face}
 use Rattle.station_book.specs.Blocks.{is_of_face, opens_station, is_opening}
 use Rattle.station_book.specs.StateOfHistory.{in_set}
-use Rattle.station_book.specs.Places.{History, Place, places, last, before, reading_in, is_same, is_reading, opening, station, station_readings, target_at, passes_at}
+use Rattle.station_book.specs.Places.{History, Place, places, last, before, reading_in, is_same}
+use Rattle.station_book.specs.Places.{is_reading, opening, station, station_readings, target_at}
+use Rattle.station_book.specs.Places.{passes_at}
 use Rattle.station_book.specs.Faults.{open_readings}
 use Rattle.station_book.proofs.places.Owners.{length-last, belonging-more, belonging-same}
-use Rattle.station_book.proofs.places.Steps.{readings-opening, readings-more, readings-other, opens_no_station}
+use Rattle.station_book.proofs.places.Steps.{readings-opening, readings-more, readings-other}
+use Rattle.station_book.proofs.places.Steps.{opens_no_station}
 
 -- what a reading does to the slots: nothing at other targets
 pub found_other : (f : Face) (r : Place) (name : List ℕ) (rs : List Place)

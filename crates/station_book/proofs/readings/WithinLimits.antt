@@ -1,10 +1,15 @@
 -- In a file without fault the two readings of a target in a set are within the limits.
-use Rattle.std.proofs.Common.{◌≡◌, ℕ, ◌<◌, Bool, true, false, cond, eqb, leb, ltb, ◌+◌, ◌-◌, ◌%◌, ◌&&◌, ◌||◌, not, add_comm, List, [], ◌∷◌, length, filter, Option, Some, None, Ok, Err, refl, sym, ap, subst, ◌∙◌, arith, inr, inl}
+use Rattle.std.proofs.Common.{◌≡◌, ℕ, ◌<◌, Bool, true, false, cond, eqb, leb, ltb, ◌+◌, ◌-◌, ◌%◌}
+use Rattle.std.proofs.Common.{◌&&◌, ◌||◌, not, add_comm, List, [], ◌∷◌, length, filter, Option}
+use Rattle.std.proofs.Common.{Some, None, Ok, Err, refl, sym, ap, subst, ◌∙◌, arith, inr, inl}
 use Rattle.std.specs.Str.{bytes_eq}
-use Rattle.std.proofs.lemmas.Bool.{eqb-true, leb-true, ltb-true, ltb-false, and_parts, and_cases, true_from_ne_false, cases_Bool}
+use Rattle.std.proofs.lemmas.Bool.{eqb-true, leb-true, ltb-true, ltb-false, and_parts, and_cases}
+use Rattle.std.proofs.lemmas.Bool.{true_from_ne_false, cases_Bool}
 use Rattle.std.proofs.lemmas.Slice.Eq.{bytes_eq-Decides}
 use Rattle.gsi_word.specs.Blocks.{GsiBlock}
-use Rattle.gsi_word.specs.Angles.{is_gon, is_input_mode, decimal_number, angle_within_turn, last_unit}
+use Rattle.gsi_word.specs.Angles.{is_gon, is_input_mode, decimal_number, angle_within_turn}
+use Rattle.gsi_word.specs.declared.angle.TheConstants.{LAST_UNIT}
+use Rattle.gsi_word.specs.declared.index.TheConstants.{HORIZONTAL_DIRECTION, VERTICAL_ANGLE}
 use Rattle.gsi_word.specs.declared.angle.AngleFault.TheVariants as angle_faults
 use Rattle.gsi_word.specs.declared.found.Found.{Found}
 use Rattle.gsi_word.specs.declared.found.Found.TheVariants.{Absent, One, Twice}
@@ -12,10 +17,13 @@ use Rattle.std.specs.Prelude.{slice_index}
 use Rattle.station_book.specs.declared.face.Face.TheVariants as faces
 use Rattle.station_book.specs.Limits.{FaceLimits}
 use Rattle.station_book.specs.TwoFaces.{Angles, AreOnCircle}
-use Rattle.station_book.specs.Blocks.{found_in_block, angle_found, angle_or_zero, angles, target, is_of_face}
+use Rattle.station_book.specs.Blocks.{found_in_block, angle_found, angle_or_zero, angles, target}
+use Rattle.station_book.specs.Blocks.{is_of_face}
 use Rattle.station_book.specs.StateOfHistory.{in_set}
-use Rattle.station_book.specs.Places.{History, Place, places, before, station, opening, is_same, is_reading, reading_in, station_readings}
-use Rattle.station_book.specs.Faults.{face, has_no_two_c, has_no_two_i, open_readings, angles_at, IsWithoutFault}
+use Rattle.station_book.specs.Places.{History, Place, places, before, station, opening, is_same}
+use Rattle.station_book.specs.Places.{is_reading, reading_in, station_readings}
+use Rattle.station_book.specs.Faults.{face, has_no_two_c, has_no_two_i, open_readings, angles_at}
+use Rattle.station_book.specs.Faults.{IsWithoutFault}
 use Rattle.station_book.proofs.lists.Elements.{same_test}
 use Rattle.station_book.proofs.readings.FaceReadings.{one_face, face_of}
 use Rattle.station_book.proofs.readings.CleanBlocks.{IsCleanReading, clean_reading}
@@ -24,10 +32,10 @@ use Rattle.station_book.proofs.readings.SetReadings.{open_in_set}
 -- the angle of a word is below a circle
 units_below : (o : Option ℕ) → angle_or_zero (Some (angle_within_turn o)) < 40_000_000
 units_below None = omega arith
-units_below (Some u) = by (leb u last_unit) refl where
-  by : (v : Bool) → leb u last_unit ≡ v
+units_below (Some u) = by (leb u LAST_UNIT) refl where
+  by : (v : Bool) → leb u LAST_UNIT ≡ v
       → angle_or_zero (Some (cond v (Ok u) (Err angle_faults.Range))) < 40_000_000
-  by true e = let le = leb-true u last_unit e in omega (arith, le)
+  by true e = let le = leb-true u LAST_UNIT e in omega (arith, le)
   by false e = omega arith
 
 word_below : (g m s : Bool) (o : Option ℕ) → angle_or_zero (Some
@@ -48,7 +56,10 @@ found_below Twice = omega arith
 -- what a block reads is on the circle
 pub angles_on_circle : (b : GsiBlock) → AreOnCircle (angles b)
 unfolding angles
-angles_on_circle b = record { hz = found_below (found_in_block 21 b); zenith = found_below (found_in_block 22 b) }
+angles_on_circle b = record {
+  hz = found_below (found_in_block HORIZONTAL_DIRECTION b);
+  zenith = found_below (found_in_block VERTICAL_ANGLE b);
+}
 
 -- What is read at a place is on the circle.
 pub place_on_circle : (r : Place) → AreOnCircle (angles_at r)

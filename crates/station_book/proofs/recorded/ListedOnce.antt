@@ -1,6 +1,9 @@
 -- At a station of a file without fault no set and target is listed twice.
-use Rattle.std.proofs.Common.{◌≡◌, ◌≢◌, ℕ, ◌+◌, ◌<◌, ◌≤◌, false, ◌&&◌, eqb, List, [], ◌∷◌, ◌++◌, length, map, filter, reverse, Option, Some, refl, sym, ap, ◌∙◌, inl, inr, ◌⊎◌, subst, arith}
-use Rattle.std.specs.List.{AllPairs, AllByRecursion, AllZip, Contains, enumerate_from, filter_map, flat_map, cons_option}
+use Rattle.std.proofs.Common.{◌≡◌, ◌≢◌, ℕ, ◌+◌, ◌<◌, ◌≤◌, false, ◌&&◌, eqb, List, [], ◌∷◌, ◌++◌}
+use Rattle.std.proofs.Common.{length, map, filter, reverse, Option, Some, refl, sym, ap, ◌∙◌, inl}
+use Rattle.std.proofs.Common.{inr, ◌⊎◌, subst, arith}
+use Rattle.std.specs.List.{AllPairs, AllByRecursion, AllZip, Contains, enumerate_from, filter_map}
+use Rattle.std.specs.List.{flat_map, cons_option}
 use Rattle.std.proofs.lemmas.Bool.{cases_Bool, and_parts, eqb-true, eq-eqb, false≢true}
 use Rattle.std.proofs.lemmas.List.{reverse-append, length-map}
 use Rattle.adjust_kernel.specs.declared.obs.Obs.{Obs}
@@ -8,12 +11,16 @@ use Rattle.adjust_kernel.specs.Matching.{Key, key_of_obs, observed}
 use Rattle.station_book.specs.declared.face.Face.TheVariants.{One, Two}
 use Rattle.station_book.specs.Limits.{FaceLimits}
 use Rattle.station_book.specs.Blocks.{opens_set, number}
-use Rattle.station_book.specs.Places.{History, Place, places, number_at, before, station, is_same, is_set, target_at, sets_of, station_readings, readings_of, targets_of, reading_in}
+use Rattle.station_book.specs.Places.{History, Place, places, number_at, before, station, is_same}
+use Rattle.station_book.specs.Places.{is_set, target_at, sets_of, station_readings, readings_of}
+use Rattle.station_book.specs.Places.{targets_of, reading_in}
 use Rattle.station_book.specs.Faults.{same_number, angles_at, open_sets, IsWithoutFault}
-use Rattle.station_book.specs.Stations.{Pair, SurveyedStation, pair_of, pairs_in, IsObserved, IsSurveyed, AreStations, stations_of, pairs_of}
+use Rattle.station_book.specs.Stations.{Pair, SurveyedStation, pair_of, pairs_in, IsObserved}
+use Rattle.station_book.specs.Stations.{IsSurveyed, AreStations, stations_of, pairs_of}
 use Rattle.station_book.proofs.lists.Elements.{all_from, in_contains, zip_left}
 use Rattle.station_book.proofs.readings.CleanBlocks.{clean_set}
-use Rattle.station_book.proofs.names.StationNames.{Pairwise, all_reverse, pairwise_snoc, each_false, all_pairs}
+use Rattle.station_book.proofs.names.StationNames.{Pairwise, all_reverse, pairwise_snoc, each_false}
+use Rattle.station_book.proofs.names.StationNames.{all_pairs}
 use Rattle.station_book.proofs.places.FilePlaces.{OfFile, station_placed}
 use Rattle.station_book.proofs.recorded.PairReadings.{readings_of_pair}
 use Rattle.station_book.proofs.histories.ReadingHistories.{distinct_different}

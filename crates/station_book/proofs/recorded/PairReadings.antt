@@ -1,5 +1,6 @@
 -- The pairs of a station are its readings of one set and target, one of each face.
-use Rattle.std.proofs.Common.{◌≡◌, ℕ, true, ◌&&◌, List, [], ◌∷◌, length, reverse, Option, Some, None, refl, sym, ap, ◌∙◌, inl, inr, subst}
+use Rattle.std.proofs.Common.{◌≡◌, ℕ, true, ◌&&◌, List, [], ◌∷◌, length, reverse, Option, Some}
+use Rattle.std.proofs.Common.{None, refl, sym, ap, ◌∙◌, inl, inr, subst}
 use Rattle.std.specs.Str.{bytes_eq}
 use Rattle.std.specs.List.{enumerate_from}
 use Rattle.std.proofs.lemmas.Bool.{and_parts, and_from, eq-eqb, eqb-true}
@@ -8,13 +9,20 @@ use Rattle.station_book.specs.declared.face.Face.{Face}
 use Rattle.station_book.specs.declared.face.Face.TheVariants.{One, Two}
 use Rattle.station_book.specs.Limits.{FaceLimits}
 use Rattle.station_book.specs.Blocks.{opens_station, is_opening, is_of_face}
-use Rattle.station_book.specs.Places.{History, Place, places, last, before, opening, station, is_same, is_set, is_reading, target_at, passes_at, reading_in, readings_of, sets_of, station_readings, targets_of, is_among, distinct}
+use Rattle.station_book.specs.Places.{History, Place, places, last, before, opening, station}
+use Rattle.station_book.specs.Places.{is_same, is_set, is_reading, target_at, passes_at, reading_in}
+use Rattle.station_book.specs.Places.{readings_of, sets_of, station_readings, targets_of, is_among}
+use Rattle.station_book.specs.Places.{distinct}
 use Rattle.station_book.specs.Faults.{angles_at, IsWithoutFault}
 use Rattle.station_book.specs.Stations.{Pair, pair_of, pairs_in, pairs_of}
-use Rattle.station_book.proofs.lists.Elements.{In, any_to, find_some, find_found, IsAt, in_filter, of_filter, of_reverse, in_places, of_places, in_filter_map, of_filter_map, in_flat_map, of_flat_map}
+use Rattle.station_book.proofs.lists.Elements.{In, any_to, find_some, find_found, IsAt, in_filter}
+use Rattle.station_book.proofs.lists.Elements.{of_filter, of_reverse, in_places, of_places}
+use Rattle.station_book.proofs.lists.Elements.{in_filter_map, of_filter_map, in_flat_map}
+use Rattle.station_book.proofs.lists.Elements.{of_flat_map}
 use Rattle.station_book.proofs.readings.CleanBlocks.{among_new, among_more}
 use Rattle.station_book.proofs.readings.OneReading.{IsOf, one_place}
-use Rattle.station_book.proofs.places.FilePlaces.{OfFile, same_of_file, owner_placed, set_of_reading}
+use Rattle.station_book.proofs.places.FilePlaces.{OfFile, same_of_file, owner_placed}
+use Rattle.station_book.proofs.places.FilePlaces.{set_of_reading}
 
 -- a reading of this station, set, target and face
 pub record IsRead (h : History) (st set : Place) (name : List ℕ) (f : Face)

@@ -1,5 +1,6 @@
 -- What is listed at a station is what the file recorded there: none is missing, none is added.
-use Rattle.std.proofs.Common.{◌≡◌, ◌↔◌, ℕ, true, ◌&&◌, List, [], ◌∷◌, length, map, reverse, get_or, Some, refl, sym, ap, ◌∙◌, inl, inr, subst}
+use Rattle.std.proofs.Common.{◌≡◌, ◌↔◌, ℕ, true, ◌&&◌, List, [], ◌∷◌, length, map, reverse, get_or}
+use Rattle.std.proofs.Common.{Some, refl, sym, ap, ◌∙◌, inl, inr, subst}
 use Rattle.std.specs.Prelude.{ℤ}
 use Rattle.std.specs.List.{Contains, AllZip}
 use Rattle.std.proofs.lemmas.Bool.{and_from, eq-eqb}
@@ -11,16 +12,24 @@ use Rattle.station_book.specs.declared.faces.Faces.{Faces}
 use Rattle.station_book.specs.Limits.{FaceLimits, AreLimits}
 use Rattle.station_book.specs.TwoFaces.{Angles, IsTwoC, IsTwoI, IsTwoFace}
 use Rattle.station_book.specs.Blocks.{opens_station}
-use Rattle.station_book.specs.Places.{number_at, History, Place, places, last, before, station, is_same, is_set, target_at, sets_of, station_readings, targets_of}
+use Rattle.station_book.specs.Places.{number_at, History, Place, places, last, before, station}
+use Rattle.station_book.specs.Places.{is_same, is_set, target_at, sets_of, station_readings}
+use Rattle.station_book.specs.Places.{targets_of}
 use Rattle.station_book.specs.Faults.{name_at, angles_at, IsWithoutFault}
-use Rattle.station_book.specs.Stations.{Pair, SurveyedStation, IsObserved, HasFaces, IsSurveyed, AreStations, stations_of, pairs_of}
+use Rattle.station_book.specs.Stations.{Pair, SurveyedStation, IsObserved, HasFaces, IsSurveyed}
+use Rattle.station_book.specs.Stations.{AreStations, stations_of, pairs_of}
 use Rattle.station_book.specs.Recorded.{IsReadingOf, IsRecorded, IsRecordedWith, HasSet}
-use Rattle.station_book.proofs.lists.Elements.{In, in_contains, contains_in, IsAt, place_in, in_map, of_map, in_filter, in_reverse, zip_left, zip_right, matched}
+use Rattle.station_book.proofs.lists.Elements.{In, in_contains, contains_in, IsAt, place_in, in_map}
+use Rattle.station_book.proofs.lists.Elements.{of_map, in_filter, in_reverse, zip_left, zip_right}
+use Rattle.station_book.proofs.lists.Elements.{matched}
 use Rattle.station_book.proofs.two_faces.OnePair.{one_two_face}
 use Rattle.station_book.proofs.names.StationNames.{apart}
 use Rattle.station_book.proofs.readings.OneReading.{is_of}
-use Rattle.station_book.proofs.places.FilePlaces.{OfFile, station_placed, set_station, set_of_reading, listed_station, one_named}
-use Rattle.station_book.proofs.recorded.PairReadings.{IsRead, HasItsReadings, readings_of_pair, pair_of_readings, of_station_readings, in_distinct}
+use Rattle.station_book.proofs.places.FilePlaces.{OfFile, station_placed, set_station}
+use Rattle.station_book.proofs.places.FilePlaces.{set_of_reading, listed_station, one_named}
+use Rattle.station_book.proofs.recorded.PairReadings.{IsRead, HasItsReadings, readings_of_pair}
+use Rattle.station_book.proofs.recorded.PairReadings.{pair_of_readings, of_station_readings}
+use Rattle.station_book.proofs.recorded.PairReadings.{in_distinct}
 
 reading_of : (h : History) (st set : Place) (station target name : List ℕ) (f : Face) (r : Place)
     → name_at st ≡ Some station → name ≡ target

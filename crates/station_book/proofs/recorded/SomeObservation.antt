@@ -1,5 +1,6 @@
 -- A station of a whole file has an observation: its set has a reading, and no reading is lost.
-use Rattle.std.proofs.Common.{◌≡◌, ◌≤◌, arith, Bool, true, false, cond, ◌&&◌, List, [], ◌∷◌, length, Some, None, refl, sym, ap, ◌∙◌, inl, inr, ◌⊎◌}
+use Rattle.std.proofs.Common.{◌≡◌, ◌≤◌, arith, Bool, true, false, cond, ◌&&◌, List, [], ◌∷◌, length}
+use Rattle.std.proofs.Common.{Some, None, refl, sym, ap, ◌∙◌, inl, inr, ◌⊎◌}
 use Rattle.std.specs.List.{Contains}
 use Rattle.std.proofs.lemmas.Bool.{cases_Bool, or_right, or_left}
 use Rattle.std.proofs.lemmas.List.{length-map}
@@ -8,8 +9,10 @@ use Rattle.adjust_kernel.specs.Matching.{key_of_obs, observed}
 use Rattle.station_book.specs.declared.fault.BookKind.TheVariants as kinds
 use Rattle.station_book.specs.Limits.{FaceLimits}
 use Rattle.station_book.specs.Blocks.{opens_station, opens_set, closes_set, is_opening}
-use Rattle.station_book.specs.Places.{History, Place, places, last, before, opening, station, is_open, is_empty, is_set, is_reading, passes_at}
-use Rattle.station_book.specs.Faults.{first_of, end_faults, IsWithoutFault, IsWholeFile, fault_at_end, open_readings, name_at}
+use Rattle.station_book.specs.Places.{History, Place, places, last, before, opening, station}
+use Rattle.station_book.specs.Places.{is_open, is_empty, is_set, is_reading, passes_at}
+use Rattle.station_book.specs.Faults.{first_of, end_faults, IsWithoutFault, IsWholeFile}
+use Rattle.station_book.specs.Faults.{fault_at_end, open_readings, name_at}
 use Rattle.station_book.specs.Stations.{SurveyedStation, IsSurveyed, AreStations, stations_of}
 use Rattle.station_book.specs.Recorded.{IsListed}
 use Rattle.station_book.proofs.lists.Elements.{In, in_contains, contains_in, zip_left}

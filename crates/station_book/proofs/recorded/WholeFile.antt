@@ -1,6 +1,8 @@
 -- In a whole file no reading is lost: each has one of the other face beside it, and the two are
 -- listed.
-use Rattle.std.proofs.Common.{◌≡◌, ℕ, ◌+◌, true, false, ◌&&◌, ◌||◌, List, [], ◌∷◌, ◌++◌, length, get_or, Option, Some, None, is_none, refl, sym, ap, ◌∙◌, inl, inr, ◌⊎◌, subst}
+use Rattle.std.proofs.Common.{◌≡◌, ℕ, ◌+◌, true, false, ◌&&◌, ◌||◌, List, [], ◌∷◌, ◌++◌, length}
+use Rattle.std.proofs.Common.{get_or, Option, Some, None, is_none, refl, sym, ap, ◌∙◌, inl, inr}
+use Rattle.std.proofs.Common.{◌⊎◌, subst}
 use Rattle.std.specs.List.{Contains}
 use Rattle.std.specs.Str.{bytes_eq}
 use Rattle.std.proofs.lemmas.Bool.{cases_Bool, and_parts, eqb-true, false≢true}
@@ -14,16 +16,24 @@ use Rattle.station_book.specs.declared.fault.BookKind.TheVariants as kinds
 use Rattle.station_book.specs.declared.role.Role.{Role}
 use Rattle.station_book.specs.declared.role.Role.TheVariants as roles
 use Rattle.station_book.specs.Limits.{FaceLimits}
-use Rattle.station_book.specs.Blocks.{role_of, is_station, is_set_code, is_close, opens_set, is_opening, has_direction, is_of_face, other_face}
-use Rattle.station_book.specs.Places.{History, Place, places, last, before, opening, station, is_open, is_same, is_reading, target_at, passes_at, reading_in}
-use Rattle.station_book.specs.Faults.{first_of, faults_as, end_faults, station_faults, set_faults, fault_after, fault_at_end, IsWithoutFault, IsFaultOfBlock, IsWholeFile, IsBookFault, open_readings, face_at, has_one_face, name_at}
+use Rattle.station_book.specs.Blocks.{role_of, is_station, is_set_code, is_close, opens_set}
+use Rattle.station_book.specs.Blocks.{is_opening, has_direction, is_of_face, other_face}
+use Rattle.station_book.specs.Places.{History, Place, places, last, before, opening, station}
+use Rattle.station_book.specs.Places.{is_open, is_same, is_reading, target_at, passes_at}
+use Rattle.station_book.specs.Places.{reading_in}
+use Rattle.station_book.specs.Faults.{first_of, faults_as, end_faults, station_faults, set_faults}
+use Rattle.station_book.specs.Faults.{fault_after, fault_at_end, IsWithoutFault, IsFaultOfBlock}
+use Rattle.station_book.specs.Faults.{IsWholeFile, IsBookFault, open_readings, face_at}
+use Rattle.station_book.specs.Faults.{has_one_face, name_at}
 use Rattle.station_book.specs.Stations.{SurveyedStation, IsSurveyed, AreStations, stations_of}
 use Rattle.station_book.specs.Recorded.{IsReadingOf, IsListed}
-use Rattle.station_book.proofs.lists.Elements.{In, any_from, find_some, in_contains, contains_in, in_map, of_filter, zip_right}
+use Rattle.station_book.proofs.lists.Elements.{In, any_from, find_some, in_contains, contains_in}
+use Rattle.station_book.proofs.lists.Elements.{in_map, of_filter, zip_right}
 use Rattle.station_book.proofs.places.Steps.{readings-more, readings-other, direction_opens_nothing}
 use Rattle.station_book.proofs.readings.CleanBlocks.{all_none, none_when, clean_reading}
 use Rattle.station_book.proofs.faults.FirstFault.{fault_or_none, no_first_fault, one_first_fault}
-use Rattle.station_book.proofs.places.FilePlaces.{HasItsSet, last_placed, owner_placed, same_of_file, set_of_reading, set_station}
+use Rattle.station_book.proofs.places.FilePlaces.{HasItsSet, last_placed, owner_placed}
+use Rattle.station_book.proofs.places.FilePlaces.{same_of_file, set_of_reading, set_station}
 use Rattle.station_book.proofs.recorded.PairReadings.{IsRead}
 use Rattle.station_book.proofs.recorded.Recorded.{IsPairObserved, pair_observed}
 use Rattle.station_book.proofs.places.StationSets.{right_false}

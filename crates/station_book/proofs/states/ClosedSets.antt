@@ -1,5 +1,7 @@
 -- What is kept of a station makes a station of the kernel once its last set is closed.
-use Rattle.std.proofs.Common.{◌≡◌, ℕ, zero, suc, ◌+◌, ◌<◌, ◌≤◌, false, ◌&&◌, ◌||◌, List, [], ◌∷◌, ◌++◌, length, get_or, All, Any, AllPairs, Option, Some, None, is_some, is_none, inl, inr, ◌⊎◌, refl, sym, ◌∙◌, subst, arith}
+use Rattle.std.proofs.Common.{◌≡◌, ℕ, zero, suc, ◌+◌, ◌<◌, ◌≤◌, false, ◌&&◌, ◌||◌, List, [], ◌∷◌}
+use Rattle.std.proofs.Common.{◌++◌, length, get_or, All, Any, AllPairs, Option, Some, None, is_some}
+use Rattle.std.proofs.Common.{is_none, inl, inr, ◌⊎◌, refl, sym, ◌∙◌, subst, arith}
 use Rattle.std.specs.List.{list_any, list_all, enumerate_from, filter_map, cons_option}
 use Rattle.std.proofs.lemmas.Bool.{cases_Bool, cases_lt, or_parts}
 use Rattle.std.proofs.lemmas.List.Elements.{All-cons, All-append, All-weaker}
@@ -10,7 +12,8 @@ use Rattle.station_book.specs.declared.slot.Slot.{Slot}
 use Rattle.station_book.specs.Pairs.{direction}
 use Rattle.station_book.specs.Slots.{observation_of, obs_at, obs_of, is_unread, is_single, slot_at}
 use Rattle.station_book.specs.SoFar.{AreSoFar}
-use Rattle.station_book.proofs.lists.JoinedLists.{pairs_cons, pairs_append, any_left, any_right, any_head, any_tail, any_weaker}
+use Rattle.station_book.proofs.lists.JoinedLists.{pairs_cons, pairs_append, any_left, any_right}
+use Rattle.station_book.proofs.lists.JoinedLists.{any_head, any_tail, any_weaker}
 
 -- an observation of this set and of one of the targets from `low` up to `high`
 record IsOf (set low high : ℕ) (o : Obs) : Type 0 where

@@ -1,10 +1,12 @@
 -- At the end of a file its stations are closed one by one.
-use Rattle.std.proofs.Common.{◌≡◌, ◌≢◌, ℕ, zero, suc, ◌<◌, false, ◌||◌, List, [], ◌∷◌, ◌++◌, length, map, reverse, All, AllPairs, refl, sym, ap, ◌∙◌, subst, arith}
+use Rattle.std.proofs.Common.{◌≡◌, ◌≢◌, ℕ, zero, suc, ◌<◌, false, ◌||◌, List, [], ◌∷◌, ◌++◌, length}
+use Rattle.std.proofs.Common.{map, reverse, All, AllPairs, refl, sym, ap, ◌∙◌, subst, arith}
 use Rattle.std.specs.List.{list_any, IsDistinct}
 use Rattle.std.specs.Str.{bytes_eq}
 use Rattle.std.specs.Map.{keys_of, values_of}
 use Rattle.std.proofs.Math.Seq.{get_or-append_seam}
-use Rattle.std.proofs.lemmas.List.{append-nil, append_assoc, length-append, map-append, reverse-reverse}
+use Rattle.std.proofs.lemmas.List.{append-nil, append_assoc, length-append, map-append}
+use Rattle.std.proofs.lemmas.List.{reverse-reverse}
 use Rattle.std.proofs.lemmas.List.Elements.{All-append, All-cons, All-nil}
 use Rattle.std.proofs.lemmas.Map.Made.{AllPairs-from_IsDistinct}
 use Rattle.std.proofs.lemmas.Slice.Eq.{bytes_eq-Decides}
@@ -12,7 +14,8 @@ use Rattle.indexmap.specs.IndexMap.{insert_entry}
 use Rattle.adjust_kernel.specs.Names.{IsName}
 use Rattle.station_book.specs.Stations.{SurveyedStation}
 use Rattle.station_book.specs.StationState.{StationState, MayEnd}
-use Rattle.station_book.specs.StationStates.{StationStates, LastMayEnd, OlderMayEnd, AreByName, survey_of, surveys_of}
+use Rattle.station_book.specs.StationStates.{StationStates, LastMayEnd, OlderMayEnd, AreByName}
+use Rattle.station_book.specs.StationStates.{survey_of, surveys_of}
 use Rattle.station_book.proofs.lists.NameMaps.{name_eq, name_eq-same, same-name_eq, inserted}
 use Rattle.station_book.proofs.states.NewestState.{all_in_map}
 use Rattle.std.proofs.lemmas.Bool.{or_from, false_from_ne_true}

@@ -1,13 +1,15 @@
 -- The newest of the stations that are kept: the earlier ones have the oldest first, the states the
 -- newest.
-use Rattle.std.proofs.Common.{◌≡◌, ℕ, suc, Bool, true, false, ◌||◌, List, [], ◌∷◌, ◌++◌, reverse, All, Option, Some, refl, sym, ap, ◌∙◌, subst, arith}
+use Rattle.std.proofs.Common.{◌≡◌, ℕ, suc, Bool, true, false, ◌||◌, List, [], ◌∷◌, ◌++◌, reverse}
+use Rattle.std.proofs.Common.{All, Option, Some, refl, sym, ap, ◌∙◌, subst, arith}
 use Rattle.std.specs.List.{list_any}
 use Rattle.std.specs.Str.{bytes_eq}
 use Rattle.std.proofs.lemmas.List.{reverse-append, reverse-reverse}
 use Rattle.std.proofs.lemmas.List.Elements.{All-append, All-cons, All-nil}
 use Rattle.std.proofs.lemmas.List.Folds.{list_any-append}
 use Rattle.station_book.specs.StationState.{StationState, MayEnd, begun}
-use Rattle.station_book.specs.StationStates.{StationStates, LastMayEnd, OlderMayEnd, IsAfter, states_of, with_station, is_known}
+use Rattle.station_book.specs.StationStates.{StationStates, LastMayEnd, OlderMayEnd, IsAfter}
+use Rattle.station_book.specs.StationStates.{states_of, with_station, is_known}
 
 -- the newest of these stations, and those before it
 pub record HasNewest (s : StationStates) : Type 0 where

@@ -1,10 +1,13 @@
 -- What always holds of what is kept of a station still holds after a set and after a reading; and
 -- once the last set may end, it is a station of the kernel.
-use Rattle.std.proofs.Common.{◌≡◌, ◌≢◌, ℕ, ◌+◌, ◌-◌, ◌<◌, ◌≤◌, Bool, false, eqb, Result, Err, List, [], ◌∷◌, ◌++◌, length, get_or, set, replicate, All, Any, Option, Some, None, is_none, inl, inr, ◌⊎◌, refl, sym, ap, ◌∙◌, subst, arith}
+use Rattle.std.proofs.Common.{◌≡◌, ◌≢◌, ℕ, ◌+◌, ◌-◌, ◌<◌, ◌≤◌, Bool, false, eqb, Result, Err, List}
+use Rattle.std.proofs.Common.{[], ◌∷◌, ◌++◌, length, get_or, set, replicate, All, Any, Some, None}
+use Rattle.std.proofs.Common.{is_none, inl, inr, ◌⊎◌, refl, sym, ap, ◌∙◌, subst, arith}
 use Rattle.std.specs.List.{list_any, list_all}
 use Rattle.std.specs.Str.{bytes_eq}
 use Rattle.std.proofs.lemmas.Bool.{cases_lt, cases_eq, false≢true, eq-eqb, and_right}
-use Rattle.std.proofs.lemmas.List.{length-append, length-set, get_or_append_left, get_or-append-add, get_or-set_same, get_or-set_other, length-replicate}
+use Rattle.std.proofs.lemmas.List.{length-append, length-set, get_or_append_left, get_or-append-add}
+use Rattle.std.proofs.lemmas.List.{get_or-set_same, get_or-set_other, length-replicate}
 use Rattle.std.proofs.lemmas.List.Elements.{All-push, All-weaker, All-set, All-replicate}
 use Rattle.std.proofs.lemmas.List.Quantifiers.{all_pairs_push}
 use Rattle.std.proofs.lemmas.Slice.Eq.{bytes_eq-Decides}
@@ -19,17 +22,20 @@ use Rattle.station_book.specs.TwoFaces.{Angles, AreOnCircle}
 use Rattle.station_book.specs.declared.angles.Reading.{Reading}
 use Rattle.station_book.specs.declared.slot.Slot.{Slot}
 use Rattle.station_book.specs.Faults.{when, first_of}
-use Rattle.station_book.specs.Slots.{slot_at, empty_slot, with_face_reading, is_unread, is_single, obs_of, faces_of, IsKeptSlot}
+use Rattle.station_book.specs.Slots.{slot_at, empty_slot, with_face_reading, is_unread, is_single}
+use Rattle.station_book.specs.Slots.{obs_of, faces_of, IsKeptSlot}
 use Rattle.station_book.specs.SoFar.{AreSoFar}
-use Rattle.station_book.specs.StationState.{StationState, closed, with_set, place_of, new_target_fault, state_faults_at, state_faults, with_reading_at, IsStationState, MayEnd}
-use Rattle.std.specs.Prelude.{IfErr, IfNone}
+use Rattle.station_book.specs.StationState.{StationState, closed, with_set, place_of}
+use Rattle.station_book.specs.StationState.{new_target_fault, state_faults_at, state_faults}
+use Rattle.station_book.specs.StationState.{with_reading_at, IsStationState, MayEnd}
+use Rattle.std.specs.Prelude.{IfErr}
 use Rattle.station_book.specs.Limits.{FaceLimits}
 use Rattle.station_book.specs.declared.faces.Faces.{Faces}
 use Rattle.station_book.specs.declared.fault.BookKind.{BookKind}
 use Rattle.station_book.proofs.states.ClosedSets.{closes}
 use Rattle.station_book.proofs.states.SlotObservations.{pairs_match}
 use Rattle.std.proofs.lemmas.List.Folds.{list_any_at}
-use Rattle.station_book.specs.Targets.{TargetsValue, with_first}
+use Rattle.station_book.specs.Targets.{TargetsValue, IsAdded}
 use Rattle.station_book.proofs.lists.JoinedLists.{absent}
 
 -- what is kept of a station, by the parts in which the code keeps it
@@ -249,15 +255,14 @@ target_is_state s e h new few named low = record {
       ∙ read_now s.face s.angles empty_slot)
 
 -- the same, where the target was added as the code adds it
-pub added_kept : (s : Reading) (e : StationState) (t : TargetsValue) (place : Option ℕ)
-    → place ≡ None → place ≡ place_of s.target e.targets → IfNone place (length e.targets < 100)
-    → t ≡ with_first place s.target (with_face_reading s.face s.angles empty_slot) (targets_of e)
+pub added_kept : (s : Reading) (e : StationState) (t : TargetsValue)
+    → IsAdded s.target (with_face_reading s.face s.angles empty_slot) (targets_of e) t
     → IsStationState e → IsName s.target → AreOnCircle s.angles → IsStationState
     (state_of_parts t e.sets e.obs e.faces)
-added_kept s e t (Some i) none place few is h named low = cc
-added_kept s e t None none place few is h named low = subst IsStationState
-    (λ i. state_of_parts (sym is i) e.sets e.obs e.faces)
-    (target_is_state s e h (absent (λ t. bytes_eq t s.target) e.targets (sym place)) few named low)
+added_kept s e t is h named low = subst IsStationState
+    (λ i. state_of_parts (sym is.added i) e.sets e.obs e.faces)
+    (target_is_state s e h (absent (λ t. bytes_eq t s.target) e.targets (sym is.absent)) is.room
+    named low)
 
 -- a reading more of a target, as the code notes it
 pub read_kept : (s : Reading) (e : StationState) (old t : TargetsValue) (i : ℕ) (new : Slot)

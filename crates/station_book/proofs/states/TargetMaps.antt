@@ -1,5 +1,7 @@
 -- The targets of a station, by the map that keeps them.
-use Rattle.std.proofs.Common.{◌≡◌, ℕ, suc, cond, List, [], ◌∷◌, ◌++◌, length, position, slice_set, get_or, ◌+◌, ◌<◌, ◌≤◌, Some, None, is_some, Result, Ok, IfOk, inl, inr, refl, sym, ap, ◌∙◌, subst, arith}
+use Rattle.std.proofs.Common.{◌≡◌, ℕ, suc, cond, List, [], ◌∷◌, ◌++◌, length, position, slice_set}
+use Rattle.std.proofs.Common.{get_or, ◌+◌, ◌<◌, ◌≤◌, Some, None, is_some, Result, Ok, IfOk, inl}
+use Rattle.std.proofs.Common.{inr, refl, sym, ap, ◌∙◌, subst, arith}
 use Rattle.std.specs.List.{position_or_len}
 use Rattle.std.specs.Map.{keys_of, values_of, lookup}
 use Rattle.std.proofs.lemmas.Bool.{cases_Bool, cases_eq, le-ltb, lt-ltb}

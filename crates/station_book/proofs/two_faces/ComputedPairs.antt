@@ -1,10 +1,12 @@
 -- What a book computes of two readings within the limits is their 2c, their 2i and their two-face
 -- direction.
-use Rattle.std.proofs.Common.{◌≡◌, ℕ, ◌+◌, ◌-◌, ◌*◌, ◌/◌, ◌%◌, ◌<◌, false, ltb, ◌&&◌, ◌||◌, inl, inr, ◌⊎◌, arith}
+use Rattle.std.proofs.Common.{◌≡◌, ℕ, ◌+◌, ◌-◌, ◌*◌, ◌/◌, ◌%◌, ◌<◌, false, ltb, ◌&&◌, ◌||◌, inl}
+use Rattle.std.proofs.Common.{inr, ◌⊎◌, arith}
 use Rattle.std.specs.Prelude.{ℤ, pos, ◌+ℤ◌, ◌-ℤ◌, ◌*ℤ◌}
 use Rattle.std.proofs.lemmas.Int.{ints}
 use Rattle.std.proofs.lemmas.Bool.{and_cases, ltb-false, or_parts}
-use Rattle.station_book.specs.TwoFaces.{Angles, IsAtMost, AreCongruent, AreNear, AreOnCircle, IsTwoC, IsTwoI, IsTwoFace}
+use Rattle.station_book.specs.TwoFaces.{Angles, IsAtMost, AreCongruent, AreNear, AreOnCircle}
+use Rattle.station_book.specs.TwoFaces.{IsTwoC, IsTwoI, IsTwoFace}
 use Rattle.station_book.specs.Faults.{has_no_two_c, has_no_two_i}
 use Rattle.station_book.specs.Pairs.{half_turned, two_c, two_i, direction}
 

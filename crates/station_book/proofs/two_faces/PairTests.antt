@@ -1,5 +1,6 @@
 -- The tests on two readings say whether they have a 2c, and whether they have a 2i.
-use Rattle.std.proofs.Common.{◌≡◌, ◌↔◌, ℕ, ◌+◌, ◌-◌, ◌%◌, ◌≤◌, true, false, ltb, inl, inr, ◌⊎◌, arith, ◌||◌, subst}
+use Rattle.std.proofs.Common.{◌≡◌, ◌↔◌, ℕ, ◌+◌, ◌-◌, ◌%◌, ◌≤◌, true, false, ltb, inl, inr, ◌⊎◌}
+use Rattle.std.proofs.Common.{arith, ◌||◌, subst}
 use Rattle.std.specs.Prelude.{ℤ, pos, ◌-ℤ◌, ◌+ℤ◌}
 use Rattle.std.proofs.lemmas.Int.{ints}
 use Rattle.std.proofs.lemmas.Bool.{cases_Bool, and_parts, ltb-true, or_cases}

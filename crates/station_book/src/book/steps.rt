@@ -1,17 +1,21 @@
 //! What each block does to a book, by what the book keeps.
 
-ghost use Rattle.std.specs.Prelude.{◌≡◌, ◌<◌, ◌+◌, None, Some, if◌then◌else◌, OnOk, OnErr, IfErr, IfOk, IfSome, length};
+ghost use Rattle.std.specs.Prelude.{◌≡◌, ◌<◌, ◌+◌, None, Some, if◌then◌else◌, OnOk, OnErr, IfErr};
+ghost use Rattle.std.specs.Prelude.{IfOk, IfSome, length};
 ghost use Rattle.station_book.specs.StationState.{with_set};
-ghost use Rattle.station_book.specs.StationStates.{none_so_far, with_station, last_of, change_last, first_set_faults, more_set_faults, surveys_of};
+ghost use Rattle.station_book.specs.StationStates.{none_so_far, with_station, last_of, change_last};
+ghost use Rattle.station_book.specs.StationStates.{first_set_faults, more_set_faults, surveys_of};
 ghost use Rattle.adjust_kernel.specs.Sheets.{IsSetNumber};
 ghost use Rattle.gsi_word.specs.BlockViews.{block_of};
-ghost use Rattle.station_book.specs.Blocks.{role_of, has_two, named, number, opens_set};
+ghost use Rattle.station_book.specs.Blocks.{role_of, named, number, opens_set};
 ghost use Rattle.station_book.specs.Readings.{read};
-ghost use Rattle.station_book.specs.Faults.{when, first_of, station_faults};
-ghost use Rattle.station_book.specs.State.{then_fault, ending, opening_fault, opened, at_station, closed_stage, has_open_set, measured, with_measured, fault_of, after};
+ghost use Rattle.station_book.specs.Faults.{first_of};
+ghost use Rattle.station_book.specs.State.{ending, opening_fault, opened, at_station};
+ghost use Rattle.station_book.specs.State.{closed_stage, has_open_set, with_measured};
+ghost use Rattle.station_book.specs.State.{station_fault_of, set_fault_of, measurement_fault_of};
+ghost use Rattle.station_book.specs.State.{fault_of, after};
 ghost use Rattle.station_book.specs.Refusals.{ExplainsRefusal, ExplainsFault, WantsOnlyAt};
 ghost use Rattle.station_book.specs.declared.bounds.TheConstants.{MOST_BLOCKS};
-ghost use Rattle.station_book.specs.declared.fault.BookKind.TheVariants as kinds;
 ghost use Rattle.station_book.specs.declared.stage.Stage.TheVariants.{Outside, Station, InSet};
 
 use super::{Book, Count};
@@ -82,16 +86,13 @@ impl Book {
 
     /// A block of code 10.
     fn take_station(&mut self, block: &Block<'_>) -> Result<(), BookKind>
-        ensures clean { OnOk result
-            (then_fault (ending self.old.stage self.old.stations)
-            (first_of (station_faults (block_of block.now))) ≡ None) }
+        ensures clean { OnOk result (station_fault_of self.old (block_of block.now) ≡ None) }
         ensures ok { OnOk result
             (self.new ≡ record self.old {
               stage = at_station (named (block_of block.now)) self.old.stage;
             }) }
         ensures fault { IfErr result
-            (λ k. then_fault (ending self.old.stage self.old.stations)
-            (first_of (station_faults (block_of block.now))) ≡ Some k) }
+            (λ kind. station_fault_of self.old (block_of block.now) ≡ Some kind) }
         ensures unchanged { OnErr result (self.new ≡ self.old) }
     {
         if let Some(kind) = self.end_fault() {
@@ -107,7 +108,8 @@ impl Book {
         ensures clean { OnOk result (ending self.old.stage self.old.stations ≡ None) }
         ensures ok { OnOk result
             (self.new ≡ record self.old { stage = closed_stage self.old.stage }) }
-        ensures fault { IfErr result (λ k. ending self.old.stage self.old.stations ≡ Some k) }
+        ensures fault { IfErr result
+            (λ kind. ending self.old.stage self.old.stations ≡ Some kind) }
         ensures unchanged { OnErr result (self.new ≡ self.old) }
     {
         if let Some(kind) = self.end_fault() {
@@ -121,20 +123,14 @@ impl Book {
 
     /// A block of code 20.
     fn take_set(&mut self, block: &Block<'_>) -> Result<(), Refusal>
-        ensures clean { OnOk result
-            (then_fault (ending self.old.stage self.old.stations)
-            (then_fault (when (has_two 42 (block_of block.now)) (kinds.WordTwice 42))
-            (opening_fault self.old.stage self.old.stations (number (block_of block.now))))
-            ≡ None) }
+        ensures clean { OnOk result (set_fault_of self.old (block_of block.now) ≡ None) }
         ensures ok { OnOk result
             (self.new ≡ record self.old {
               stage = InSet;
               stations = opened self.old.stage (number (block_of block.now)) self.old.stations;
             }) }
         ensures fault { IfErr result
-            (ExplainsRefusal (then_fault (ending self.old.stage self.old.stations)
-            (then_fault (when (has_two 42 (block_of block.now)) (kinds.WordTwice 42))
-            (opening_fault self.old.stage self.old.stations (number (block_of block.now)))))) }
+            (ExplainsRefusal (set_fault_of self.old (block_of block.now))) }
         ensures unchanged { OnErr result (self.new ≡ self.old) }
     {
         if let Some(kind) = self.end_fault() {
@@ -215,19 +211,15 @@ impl Book {
     /// A measurement.
     #[inline(always)]
     fn take_measurement(&mut self, block: &Block<'_>) -> Result<(), BookKind>
-        ensures clean { OnOk result
-            ((if has_open_set self.old.stage
-            then measured self.old.limits self.old.stations (read (block_of block.now))
-            else None) ≡ None) }
+        ensures clean { OnOk result (measurement_fault_of self.old (block_of block.now) ≡ None) }
         ensures ok { OnOk result
             (self.new ≡ record self.old {
               stations = if has_open_set self.old.stage
                   then with_measured (read (block_of block.now)) self.old.stations
                   else self.old.stations;
             }) }
-        ensures fault { IfErr result (λ kind. (if has_open_set self.old.stage
-            then measured self.old.limits self.old.stations (read (block_of block.now))
-            else None) ≡ Some kind) }
+        ensures fault { IfErr result
+            (λ kind. measurement_fault_of self.old (block_of block.now) ≡ Some kind) }
         ensures unchanged { OnErr result (self.new ≡ self.old) }
     {
         match self.stage {

@@ -22,7 +22,7 @@ pub returns : goal.returns
 returns g c =
     let station = c.args.station.now in
     let sheet = c.args.sheet.now in
-    let limit = c.args.residual in
+    let limit = c.args.limit in
     let of = c.verdict_of.ensures in
     record {
       verdict = of.verdict;

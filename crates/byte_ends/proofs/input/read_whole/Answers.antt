@@ -1,4 +1,5 @@
-use Rattle.std.proofs.Common.{rules, ◌≡◌, ℕ, ◌<◌, ◌≤◌, length, List, [], Option, Some, Ok, Err, refl}
+use Rattle.std.proofs.Common.{rules, ◌≡◌, ℕ, ◌<◌, ◌≤◌, length, List, [], Option, Some, Ok, Err}
+use Rattle.std.proofs.Common.{refl}
 use Rattle.std.proofs.Common.{subst, take, arith, ap, sym, ◌∙◌, ◌+◌, ◌++◌, Bool}
 use Rattle.std.specs.Prelude.{nat_lt, true, false}
 use Rattle.std.proofs.lemmas.List.{length-append, append-nil}
@@ -11,7 +12,8 @@ use Rattle.byte_ends.proofs.input.read_whole.Goals as goal
 
 -- Where nothing is left, the bytes are all.
 ended_at : (limit : ℕ) (bytes : List ℕ) (told : Option Told) (left : Told) → length bytes ≤ limit
-    → told ≡ Some ended → MayGive told left → input_within limit (given_then bytes left) ≡ Ended bytes
+    → told ≡ Some ended → MayGive told left
+    → input_within limit (given_then bytes left) ≡ Ended bytes
 ended_at limit bytes told left le e may =
     let s : nat_lt limit (length bytes) ≡ false = grind arith in
     ap (λ (t : Told). input_within limit (given_then bytes t)) (left_is told ended left e may)
@@ -52,7 +54,8 @@ returns-in-Ok-eq0-clause-came g c =
       given = bytes;
       by_reads = given_still (reader_change told failed gave old new) bytes (take n c.read.new.buf)
           (ap (λ (n : ℕ). take n c.read.new.buf) c.in-Ok-eq0.field-0-test)
-          (given_on told failed gave old now new bytes (take n c.read.new.buf) c.reading.invariant.given
+          (given_on told failed gave old now new bytes (take n c.read.new.buf)
+          c.reading.invariant.given
           (given_by_read {E = Failed} told failed gave now new (Ok n) c.read.new.buf
           c.in-Ok-eq0.ensures.reads c.in-Ok-eq0.ensures.adds));
       so = λ left may. ended_at c.args.most bytes (told new) left (search rules)
@@ -116,8 +119,10 @@ reading-preserved g c =
     let items : c.extend_from_slice.new.self.items ≡ bytes ++ take n c.read.new.buf =
     search rules in
     record {
-      given = subst (λ (b : List ℕ). HasGiven (reader_change told failed gave old new) b) (sym items)
-          (given_on told failed gave old now new bytes (take n c.read.new.buf) c.reading.invariant.given
+      given = subst (λ (b : List ℕ). HasGiven (reader_change told failed gave old new) b)
+          (sym items)
+          (given_on told failed gave old now new bytes (take n c.read.new.buf)
+          c.reading.invariant.given
           (given_by_read {E = Failed} told failed gave now new (Ok n) c.read.new.buf
           c.in-Ok.ensures.reads c.in-Ok.ensures.adds));
       unfailed = c.in-Ok.ensures.failed ∙ c.reading.invariant.unfailed;

@@ -18,7 +18,8 @@ returns-clause-fault c =
       c.requires.tied,
       (λ other turns each some sums limited.
           above_is_not_kept station a LARGEST_RESIDUAL_LIMIT place exact.each greatest
-          (keeps_limit_too station a c.obs.ensures.valid c.requires.tied exact nearest other turns each some sums
+          (keeps_limit_too station a c.obs.ensures.valid c.requires.tied exact nearest other turns
+          each some sums
           limited)),
       (
         place,
@@ -44,7 +45,8 @@ returns-then-not-are_nearest-clause-fault c =
       tied = c.requires.tied;
       found = Some c.in-Some.found;
       said = search rules;
-      refused = λ answer. above_is_not_kept station a LARGEST_RESIDUAL_LIMIT place exact.each greatest
+      refused = λ answer. above_is_not_kept station a LARGEST_RESIDUAL_LIMIT place exact.each
+          greatest
           (subst (λ x. KeepsLimit station x LARGEST_RESIDUAL_LIMIT)
           (sym c.in-Some-new.ensures.some) answer.1);
     }

@@ -21,5 +21,8 @@ loop-set-preserved c = one_more (λ n. set_sum
     (c.if-not-is_set_even.ensures.0 refl)
 
 pub returns-then-not-is_set_even : goal.returns-then-not-is_set_even
-returns-then-not-is_set_even c =
-    (λ t. absurd cc, λ all. c.if-not-is_set_even.ensures.1 (all c.loop-set.set c.loop-set-test.true))
+returns-then-not-is_set_even c = (
+  λ t. absurd cc,
+  λ all. c.if-not-is_set_even.ensures.1
+      (all c.loop-set.set c.loop-set-test.true),
+)

@@ -21,5 +21,8 @@ loop-target-preserved c = one_more (λ n. target_sum
     (c.if-not-is_target_even.ensures.0 refl)
 
 pub returns-then-not-is_target_even : goal.returns-then-not-is_target_even
-returns-then-not-is_target_even c =
-    (λ t. absurd cc, λ all. c.if-not-is_target_even.ensures.1 (all c.loop-target.target c.loop-target-test.true))
+returns-then-not-is_target_even c = (
+  λ t. absurd cc,
+  λ all. c.if-not-is_target_even.ensures.1
+      (all c.loop-target.target c.loop-target-test.true),
+)

@@ -17,7 +17,8 @@ use Rattle.exact_adjustment.specs.Sides.{turned}
 use Rattle.exact_adjustment.proofs.SideLaws.{length-turned, get_or-turned, get_or-pos, same_inside}
 use Rattle.exact_adjustment.proofs.SideLaws.{sides_step, bound_step, equal_sides}
 use Rattle.exact_adjustment.proofs.certificate.is_target_even.Goals as goal
-use Rattle.exact_adjustment.proofs.certificate.is_target_even.Goals.{then-one-target, else-one-target}
+use Rattle.exact_adjustment.proofs.certificate.is_target_even.Goals.{then-one-target}
+use Rattle.exact_adjustment.proofs.certificate.is_target_even.Goals.{else-one-target}
 
 pub loop-place-preserved : goal.loop-place-preserved
 loop-place-preserved c =
@@ -60,14 +61,17 @@ loop-place-preserved c =
           w.index-orientations-one.is ∙ same_inside oris one.set _ 0 placed.set in
           let g = sides_step l.left l.right a b c.args.denominator.now one.value w.lifted.result _
           w.add_sides.new.left w.add_sides.new.right k (rw (← ea) w.add_sides.ensures.left)
-          (rw (← eb) w.add_sides.ensures.right) (w.lifted.ensures.value ∙ ap (λ z. (pos one.value +ℤ pos TURN *ℤ z) +ℤ pos LIFT)
+          (rw (← eb) w.add_sides.ensures.right)
+          (w.lifted.ensures.value ∙ ap (λ z. (pos one.value +ℤ pos TURN *ℤ z) +ℤ pos LIFT)
           (to_z-of_z w8 k fits)) in
           record {
-            sum = rw (w.left-is, w.right-is) (g ∙ ap₂ (λ x y. x +ℤ y) l.invariant.sum (sym f) ∙ sym e);
+            sum = rw (w.left-is, w.right-is)
+                (g ∙ ap₂ (λ x y. x +ℤ y) l.invariant.sum (sym f) ∙ sym e);
             left_in = rw w.left-is (bound_step l.left a c.args.denominator.now LIFT l.place _
                 (rw (← ea) w.add_sides.ensures.left) l.invariant.left_in
                 (c.requires.directions one.target 0 placed.target) (omega arith));
-            right_in = rw w.right-is (bound_step l.right b c.args.denominator.now w.lifted.result l.place _
+            right_in = rw w.right-is
+                (bound_step l.right b c.args.denominator.now w.lifted.result l.place _
                 (rw (← eb) w.add_sides.ensures.right) l.invariant.right_in
                 (c.requires.orientations one.set 0 placed.set) w.lifted.ensures.bound);
           }

@@ -27,7 +27,8 @@ loop-place-preserved c =
     let fits : FitsSigned w8 k = omega (arith, ints, low, high) in
     let left = rw c.obs-obs.ensures.value at c.disagreement.ensures in
     let whole = left
-    ∙ ap (λ z. residual angles (turned_by (get_or station.obs l.place o) z)) (to_z-of_z w8 k fits) in
+    ∙ ap (λ z. residual angles (turned_by (get_or station.obs l.place o) z)) (to_z-of_z w8 k fits)
+    in
     let in_range = c.disagreement.type_inv in
     let same : to_z w128 (of_z w128 c.disagreement.result) ≡ c.disagreement.result =
     grind (arith, ints, to_z-of_z) in

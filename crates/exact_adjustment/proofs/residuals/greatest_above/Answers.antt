@@ -39,14 +39,16 @@ loop-place-preserved c =
       | then-is_below w ↦
           let more = c.is_below.ensures.0 w.if-is_below.true in
           record {
-            most = rw w.greatest-is (below_more (λ n. size_at station a n ≤ c.residual_size-size.result)
+            most = rw w.greatest-is
+                (below_more (λ n. size_at station a n ≤ c.residual_size-size.result)
                 l.place (λ n h. omega (arith, l.invariant.most n h, more)) (omega (arith, here)));
             first = rw (w.greatest-is, w.at-is) (λ n h. omega (arith, l.invariant.most n h, more));
             is = rw (w.greatest-is, w.at-is) (λ p. (omega arith, here));
           }
       | else-is_below w ↦
           let no_more : l.greatest < c.residual_size-size.result → ⊥ =
-          λ more. let e : false ≡ true = sym w.if-is_below.false ∙ c.is_below.ensures.1 more in cc in
+          λ more. let e : false ≡ true = sym w.if-is_below.false
+          ∙ c.is_below.ensures.1 more in cc in
           record {
             most = rw w.greatest-is (below_more (λ n. size_at station a n ≤ l.greatest) l.place
                 l.invariant.most (omega (arith, here, no_more)));

@@ -1,317 +1,183 @@
-use Rattle.std.proofs.Common.{ap, not, false, Some, sym, subst, ◌∙◌, arith, rules}
-use Rattle.byte_ends.proofs.Coming.{through_so, through_then}
+use Rattle.std.proofs.Common.{ap, false, true, not, sym, subst, ◌∙◌, arith, rules}
+use Rattle.byte_ends.proofs.Coming.{at_last, through_so, through_then}
 use Rattle.gsi_file.specs.declared.search.FoundLine.{FoundLine}
-use Rattle.gsi_file.specs.Finding.{HasFound}
+use Rattle.gsi_file.specs.Finding.{FindsLine, IsFound}
 use Rattle.gsi_file.specs.Parts.{is_blank}
-use Rattle.gsi_file.proofs.Finding.{Searching, breaks_off, fails, file_too_long, line_too_long}
-use Rattle.gsi_file.proofs.Finding.{still_same, goes_on, found_ended, found_at_end, passes, ends_by, none_plain}
+use Rattle.gsi_file.proofs.Finding.{Searching, further, ends_by, fails, file_too_long}
+use Rattle.gsi_file.proofs.Finding.{line_too_long, passes, none_plain, found_ended, finds_ended}
+use Rattle.gsi_file.proofs.Finding.{found_at_end, still_same, goes_on}
 use Rattle.gsi_file.proofs.search.find_line.Goals as goal
 
-pub returns-then-not-is_blank-clause-finds : goal.returns-then-not-is_blank-clause-finds
-returns-then-not-is_blank-clause-finds g c =
-    let told = g.R.Source.told in
+pub returns-then-not-is_blank-clause-found : goal.returns-then-not-is_blank-clause-found
+returns-then-not-is_blank-clause-found g c =
     let line = c.line_end-end.result.place in
     let h = c.search.buffer in
-    let s : Searching (told c.args.reader.now) (told c.search.reader) c.args.room c.args.buffer.now
-    c.search.left line h = record {
-      short = omega arith;
-      inside = omega arith;
-      fits = omega arith;
-      most = c.search.invariant.searching.most;
-      plain = rw c.bytes.ensures at c.line_end-end.ensures.plain;
-      same = c.search.invariant.searching.same;
-    } in
-    subst (λ (f : FoundLine). HasFound (told c.args.reader.now) (told c.search.reader) c.args.room
-    c.args.buffer.now h f) (sym c.ended.ensures)
-    (found_ended _ _ _ _ c.search.left line c.next_line_start-used.result
-    c.line_end-end.result.printable
-    h (omega arith) (omega arith) (omega (arith, c.next_line_start-used.ensures.within))
+    let s : Searching c.args.room c.search.left line h =
+    further c.args.room c.search.left c.search.searched line h (omega arith) (omega arith)
+    (omega arith) (rw c.bytes.ensures at c.line_end-end.ensures.plain)
+    c.search.invariant.searching in
+    subst (λ (f : FoundLine). IsFound c.args.room h f) (sym c.ended.ensures)
+    (found_ended c.args.room c.search.left line c.next_line_start-used.result
+    c.line_end-end.result.printable h (omega (arith, c.next_line_start-used.ensures.within))
     (omega (arith, c.next_line_start-used.ensures.within))
-    (rw c.bytes.ensures at (c.line_end-end.ensures.end c.if-searched-seen.true))
-    (ap not (sym (c.is_blank.ensures ∙ ap is_blank c.front.ensures) ∙ c.if-not-is_blank.true))
+    (ap not (sym (c.is_blank.ensures ∙ ap is_blank c.front.ensures)
+    ∙ c.if-not-is_blank.true))
     (rw c.bytes.ensures at c.line_end-end.ensures.printable)
     (rw c.bytes-then-not-is_blank.ensures at c.next_line_start-used.ensures.next) s)
 
 pub returns-then-not-is_blank-clause-through : goal.returns-then-not-is_blank-clause-through
 returns-then-not-is_blank-clause-through g c =
-    through_so _ _ _ c.search.invariant.through
-    (λ first after same.
-    let told = g.R.Source.told in
     let line = c.line_end-end.result.place in
     let h = c.search.buffer in
-    let s : Searching (Some first) (Some after) c.args.room c.args.buffer.now c.search.left line h =
-    record {
-      short = omega arith;
-      inside = omega arith;
-      fits = omega arith;
-      most = c.search.invariant.searching.most;
-      plain = rw c.bytes.ensures at c.line_end-end.ensures.plain;
-      same = same;
-    } in
-    subst (λ (f : FoundLine). HasFound (Some first) (Some after) c.args.room c.args.buffer.now h f)
-    (sym c.ended.ensures)
-    (found_ended _ _ _ _ c.search.left line c.next_line_start-used.result
-    c.line_end-end.result.printable h (omega arith) (omega arith)
+    let s : Searching c.args.room c.search.left line h =
+    further c.args.room c.search.left c.search.searched line h (omega arith) (omega arith)
+    (omega arith) (rw c.bytes.ensures at c.line_end-end.ensures.plain)
+    c.search.invariant.searching in
+    through_so _ _ _ c.search.invariant.through
+    (λ before after same.
+    subst (λ (f : FoundLine). FindsLine before after c.args.room c.args.buffer.now h f.line f.used
+    f.room f.last) (sym c.ended.ensures)
+    (finds_ended before after c.args.room c.args.buffer.now c.search.left line
+    c.next_line_start-used.result h (omega arith) (omega arith)
     (omega (arith, c.next_line_start-used.ensures.within))
     (omega (arith, c.next_line_start-used.ensures.within))
     (rw c.bytes.ensures at (c.line_end-end.ensures.end c.if-searched-seen.true))
     (ap not (sym (c.is_blank.ensures ∙ ap is_blank c.front.ensures)
-    ∙ c.if-not-is_blank.true)) (rw c.bytes.ensures at c.line_end-end.ensures.printable)
-    (rw c.bytes-then-not-is_blank.ensures at c.next_line_start-used.ensures.next)
-    s))
+    ∙ c.if-not-is_blank.true))
+    (rw c.bytes-then-not-is_blank.ensures at c.next_line_start-used.ensures.next) s same))
 
 pub search-preserved-then-searched-seen : goal.search-preserved-then-searched-seen
 search-preserved-then-searched-seen g c =
-    let told = g.R.Source.told in
     let line = c.line_end-end.result.place in
     let h = c.search.buffer in
-    let s : Searching (told c.args.reader.now) (told c.search.reader) c.args.room c.args.buffer.now
-    c.search.left line h = record {
-      short = omega arith;
-      inside = omega arith;
-      fits = omega arith;
-      most = c.search.invariant.searching.most;
-      plain = rw c.bytes.ensures at c.line_end-end.ensures.plain;
-      same = c.search.invariant.searching.same;
-    } in
-    let h' = c.drop_front.new.self in
+    let s : Searching c.args.room c.search.left line h =
+    further c.args.room c.search.left c.search.searched line h (omega arith) (omega arith)
+    (omega arith) (rw c.bytes.ensures at c.line_end-end.ensures.plain)
+    c.search.invariant.searching in
     record {
       searching = record {
         short = omega arith;
         inside = omega arith;
         fits = omega arith;
         most = omega (arith, c.search.invariant.searching.most);
-        plain = none_plain h';
-        same = rw c.drop_front.ensures (passes _ _ _ _ c.search.left line h (omega arith)
-            (omega arith)
-            (rw c.bytes.ensures at (c.line_end-end.ensures.end c.if-searched-seen.true))
-            (ap not (sym (c.is_blank.ensures ∙ ap is_blank c.front.ensures)
-            ∙ c.if-not-is_blank.false)) s);
+        plain = none_plain c.drop_front.new.self;
       };
       through = through_so _ _ _ c.search.invariant.through
-          (λ first after same.
-          let t : Searching (Some first) (Some after) c.args.room c.args.buffer.now c.search.left line
-          h = record {
-            short = omega arith;
-            inside = omega arith;
-            fits = omega arith;
-            most = c.search.invariant.searching.most;
-            plain = rw c.bytes.ensures at c.line_end-end.ensures.plain;
-            same = same;
-          } in
-          rw c.drop_front.ensures (passes (Some first) (Some after) _ _ c.search.left line
-          h (omega arith) (omega arith)
+          (λ before after same.
+          rw c.drop_front.ensures (passes before after c.args.room c.args.buffer.now c.search.left
+          line h (omega arith) (omega arith)
           (rw c.bytes.ensures at (c.line_end-end.ensures.end c.if-searched-seen.true))
           (ap not (sym (c.is_blank.ensures ∙ ap is_blank c.front.ensures)
-          ∙ c.if-not-is_blank.false)) t));
+          ∙ c.if-not-is_blank.false)) s same));
       unfailed = c.search.invariant.unfailed;
     }
-
-pub returns-then-searched-gt-LONGEST_LINE-clause-finds :
-    goal.returns-then-searched-gt-LONGEST_LINE-clause-finds
-returns-then-searched-gt-LONGEST_LINE-clause-finds g c = (
-  line_too_long _ _ _ _ c.search.left c.search.searched c.line_end-end.result.place c.search.buffer
-      c.if-searched-gt-LONGEST_LINE.true (omega arith) (omega arith)
-      (rw c.bytes.ensures at c.line_end-end.ensures.plain)
-      c.search.invariant.searching,
-  λ other. absurd other,
-)
 
 pub returns-then-searched-gt-LONGEST_LINE-clause-through :
     goal.returns-then-searched-gt-LONGEST_LINE-clause-through
 returns-then-searched-gt-LONGEST_LINE-clause-through g c =
     through_so _ _ _ c.search.invariant.through
-    (λ first after same.
-    let before = c.search.invariant.searching in
-    let s : Searching (Some first) (Some after) c.args.room c.args.buffer.now c.search.left
-    c.search.searched c.search.buffer = record {
-      short = before.short;
-      inside = before.inside;
-      fits = before.fits;
-      most = before.most;
-      plain = before.plain;
-      same = same;
-    } in (
-      line_too_long _ _ _ _ c.search.left c.search.searched c.line_end-end.result.place
-          c.search.buffer c.if-searched-gt-LONGEST_LINE.true (omega arith) (omega arith)
-          (rw c.bytes.ensures at c.line_end-end.ensures.plain) s,
-      λ other. absurd other,
-    ))
-
-pub returns-then-searched-len-clause-finds : goal.returns-then-searched-len-clause-finds
-returns-then-searched-len-clause-finds g c =
-    let told = g.R.Source.told in
-    let line = c.line_end-end.result.place in
-    let h = c.search.buffer in
-    let s : Searching (told c.args.reader.now) (told c.search.reader) c.args.room c.args.buffer.now
-    c.search.left line h = record {
-      short = omega arith;
-      inside = omega arith;
-      fits = omega arith;
-      most = c.search.invariant.searching.most;
-      plain = rw c.bytes.ensures at c.line_end-end.ensures.plain;
-      same = c.search.invariant.searching.same;
-    } in (
-      file_too_long _ _ _ _ c.search.left line h (omega arith) (omega arith) s,
-      λ other. absurd other,
-    )
+    (λ before after same.
+    line_too_long before after c.args.room c.args.buffer.now c.search.left
+    c.line_end-end.result.place c.search.buffer c.if-searched-gt-LONGEST_LINE.true (omega arith)
+    (omega arith) (rw c.bytes.ensures at c.line_end-end.ensures.plain) same)
 
 pub returns-then-searched-len-clause-through : goal.returns-then-searched-len-clause-through
 returns-then-searched-len-clause-through g c =
+    let line = c.line_end-end.result.place in
+    let h = c.search.buffer in
+    let s : Searching c.args.room c.search.left line h =
+    further c.args.room c.search.left c.search.searched line h (omega arith) (omega arith)
+    (omega arith) (rw c.bytes.ensures at c.line_end-end.ensures.plain)
+    c.search.invariant.searching in
     through_so _ _ _ c.search.invariant.through
-    (λ first after same.
-    let told = g.R.Source.told in
-    let line = c.line_end-end.result.place in
-    let h = c.search.buffer in
-    let s : Searching (Some first) (Some after) c.args.room c.args.buffer.now c.search.left line h =
-    record {
-      short = omega arith;
-      inside = omega arith;
-      fits = omega arith;
-      most = c.search.invariant.searching.most;
-      plain = rw c.bytes.ensures at c.line_end-end.ensures.plain;
-      same = same;
-    } in (
-      file_too_long _ _ _ _ c.search.left line h (omega arith) (omega arith) s,
-      λ other. absurd other,
-    ))
+    (λ before after same.
+    file_too_long before after c.args.room c.args.buffer.now c.search.left line h (omega arith)
+    (omega arith) s same)
 
-pub returns-then-not-is_blank-2-clause-finds : goal.returns-then-not-is_blank-2-clause-finds
-returns-then-not-is_blank-2-clause-finds g c =
-    let told = g.R.Source.told in
+pub returns-then-not-is_blank-2-clause-found : goal.returns-then-not-is_blank-2-clause-found
+returns-then-not-is_blank-2-clause-found g c =
     let line = c.line_end-end.result.place in
     let h = c.search.buffer in
-    let s : Searching (told c.args.reader.now) (told c.search.reader) c.args.room c.args.buffer.now
-    c.search.left line h = record {
-      short = omega arith;
-      inside = omega arith;
-      fits = omega arith;
-      most = c.search.invariant.searching.most;
-      plain = rw c.bytes.ensures at c.line_end-end.ensures.plain;
-      same = c.search.invariant.searching.same;
-    } in
-    subst (λ (f : FoundLine). HasFound (told c.args.reader.now) (told c.fill.new.from) c.args.room
-    c.args.buffer.now c.fill.new.self f) (sym c.at_end.ensures)
-    (found_at_end (told c.args.reader.now) (told c.search.reader) (told c.fill.new.from) _ _
-    c.search.left line h c.fill.new.self c.in-Ok-eq0.field-0 (omega arith)
-    c.in-Ok-eq0.field-0-test (ap not (sym (c.is_blank-in-Ok-eq0.ensures
-    ∙ ap is_blank c.front-in-Ok-eq0.ensures) ∙ c.if-not-is_blank-2.true))
-    s
-    c.in-Ok-eq0.ensures.fills)
+    let s : Searching c.args.room c.search.left line h =
+    further c.args.room c.search.left c.search.searched line h (omega arith) (omega arith)
+    (omega arith) (rw c.bytes.ensures at c.line_end-end.ensures.plain)
+    c.search.invariant.searching in
+    let grown = at_last _ _ c.in-Ok-eq0.ensures.through in
+    subst (λ (f : FoundLine). IsFound c.args.room c.fill.new.self f) (sym c.at_end.ensures)
+    (found_at_end grown.1.0 grown.0 c.args.room c.search.left line h c.fill.new.self
+    c.in-Ok-eq0.field-0 (omega arith)
+    (ap not (sym (c.is_blank-in-Ok-eq0.ensures ∙ ap is_blank c.front-in-Ok-eq0.ensures)
+    ∙ c.if-not-is_blank-2.true)) s grown.1.2)
 
 pub returns-then-not-is_blank-2-clause-through : goal.returns-then-not-is_blank-2-clause-through
 returns-then-not-is_blank-2-clause-through g c =
-    through_then g.R.Source.told g.R.Source.failed g.R.Source.gave _ _ _ _ _ _ c.search.invariant.through c.in-Ok-eq0.ensures.through
-    (λ first middle after same filled.
-    let told = g.R.Source.told in
     let line = c.line_end-end.result.place in
     let h = c.search.buffer in
-    let s : Searching (Some first) (Some middle) c.args.room c.args.buffer.now c.search.left line h =
-    record {
-      short = omega arith;
-      inside = omega arith;
-      fits = omega arith;
-      most = c.search.invariant.searching.most;
-      plain = rw c.bytes.ensures at c.line_end-end.ensures.plain;
-      same = same;
-    } in
-    subst (λ (f : FoundLine). HasFound (Some first) (Some after) c.args.room c.args.buffer.now
-    c.fill.new.self f) (sym c.at_end.ensures)
-    (found_at_end (Some first) (Some middle) (Some after) _ _ c.search.left line h c.fill.new.self
-    c.in-Ok-eq0.field-0 (omega arith) c.in-Ok-eq0.field-0-test
-    (ap not (sym (c.is_blank-in-Ok-eq0.ensures ∙ ap is_blank c.front-in-Ok-eq0.ensures)
-    ∙ c.if-not-is_blank-2.true)) s filled))
-
-pub returns-in-Ok-eq0-clause-finds : goal.returns-in-Ok-eq0-clause-finds
-returns-in-Ok-eq0-clause-finds g c =
+    let s : Searching c.args.room c.search.left line h =
+    further c.args.room c.search.left c.search.searched line h (omega arith) (omega arith)
+    (omega arith) (rw c.bytes.ensures at c.line_end-end.ensures.plain)
+    c.search.invariant.searching in
     let told = g.R.Source.told in
-    let line = c.line_end-end.result.place in
-    let h = c.search.buffer in
-    let s : Searching (told c.args.reader.now) (told c.search.reader) c.args.room c.args.buffer.now
-    c.search.left line h = record {
-      short = omega arith;
-      inside = omega arith;
-      fits = omega arith;
-      most = c.search.invariant.searching.most;
-      plain = rw c.bytes.ensures at c.line_end-end.ensures.plain;
-      same = c.search.invariant.searching.same;
-    } in
-    ends_by (told c.args.reader.now) (told c.search.reader) (told c.fill.new.from) _ _ c.search.left
-    line h c.fill.new.self c.in-Ok-eq0.field-0 false (omega arith) c.in-Ok-eq0.field-0-test
+    let failed = g.R.Source.failed in
+    let gave = g.R.Source.gave in
+    through_then told failed gave _ _ _ _ _ _ c.search.invariant.through
+    c.in-Ok-eq0.ensures.through
+    (λ before between after same filled.
+    subst (λ (f : FoundLine). FindsLine before after c.args.room c.args.buffer.now c.fill.new.self
+    f.line f.used f.room f.last) (sym c.at_end.ensures)
+    (ends_by before between after c.args.room c.args.buffer.now c.search.left line h
+    c.fill.new.self c.in-Ok-eq0.field-0 true (omega arith) c.in-Ok-eq0.field-0-test
     (ap not (sym (c.is_blank-in-Ok-eq0.ensures ∙ ap is_blank c.front-in-Ok-eq0.ensures)
-    ∙ c.if-not-is_blank-2.false)) s
-    c.in-Ok-eq0.ensures.fills
+    ∙ c.if-not-is_blank-2.true)) s same filled))
 
 pub returns-in-Ok-eq0-clause-through : goal.returns-in-Ok-eq0-clause-through
 returns-in-Ok-eq0-clause-through g c =
-    through_then g.R.Source.told g.R.Source.failed g.R.Source.gave _ _ _ _ _ _ c.search.invariant.through c.in-Ok-eq0.ensures.through
-    (λ first middle after same filled.
-    let told = g.R.Source.told in
     let line = c.line_end-end.result.place in
     let h = c.search.buffer in
-    let s : Searching (Some first) (Some middle) c.args.room c.args.buffer.now c.search.left line h =
-    record {
-      short = omega arith;
-      inside = omega arith;
-      fits = omega arith;
-      most = c.search.invariant.searching.most;
-      plain = rw c.bytes.ensures at c.line_end-end.ensures.plain;
-      same = same;
-    } in
-    ends_by (Some first) (Some middle) (Some after) _ _ c.search.left line h c.fill.new.self
-    c.in-Ok-eq0.field-0 false (omega arith) c.in-Ok-eq0.field-0-test
+    let s : Searching c.args.room c.search.left line h =
+    further c.args.room c.search.left c.search.searched line h (omega arith) (omega arith)
+    (omega arith) (rw c.bytes.ensures at c.line_end-end.ensures.plain)
+    c.search.invariant.searching in
+    let told = g.R.Source.told in
+    let failed = g.R.Source.failed in
+    let gave = g.R.Source.gave in
+    through_then told failed gave _ _ _ _ _ _ c.search.invariant.through
+    c.in-Ok-eq0.ensures.through
+    (λ before between after same filled.
+    ends_by before between after c.args.room c.args.buffer.now c.search.left line h
+    c.fill.new.self c.in-Ok-eq0.field-0 false (omega arith) c.in-Ok-eq0.field-0-test
     (ap not (sym (c.is_blank-in-Ok-eq0.ensures ∙ ap is_blank c.front-in-Ok-eq0.ensures)
-    ∙ c.if-not-is_blank-2.false)) s filled)
-
-pub returns-in-Err-clause-finds : goal.returns-in-Err-clause-finds
-returns-in-Err-clause-finds g c =
-    let told = g.R.Source.told in
-    let line = c.line_end-end.result.place in
-    let h = c.search.buffer in
-    let s : Searching (told c.args.reader.now) (told c.search.reader) c.args.room c.args.buffer.now
-    c.search.left line h = record {
-      short = omega arith;
-      inside = omega arith;
-      fits = omega arith;
-      most = c.search.invariant.searching.most;
-      plain = rw c.bytes.ensures at c.line_end-end.ensures.plain;
-      same = c.search.invariant.searching.same;
-    } in (
-      fails (told c.args.reader.now) (told c.search.reader) (told c.fill.new.from) _ _ c.search.left
-          line h (omega arith) s c.in-Err.ensures.fills.1,
-      λ read. breaks_off (told c.args.reader.now) (told c.search.reader) (told c.fill.new.from) _
-          _ c.search.left line h s c.in-Err.ensures.fills.1,
-    )
+    ∙ c.if-not-is_blank-2.false)) s same filled)
 
 pub returns-in-Err-clause-through : goal.returns-in-Err-clause-through
 returns-in-Err-clause-through g c =
-    through_then g.R.Source.told g.R.Source.failed g.R.Source.gave _ _ _ _ _ _ c.search.invariant.through c.in-Err.ensures.through
-    (λ first middle after same filled.
-    let told = g.R.Source.told in
     let line = c.line_end-end.result.place in
     let h = c.search.buffer in
-    let s : Searching (Some first) (Some middle) c.args.room c.args.buffer.now c.search.left line h =
-    record {
-      short = omega arith;
-      inside = omega arith;
-      fits = omega arith;
-      most = c.search.invariant.searching.most;
-      plain = rw c.bytes.ensures at c.line_end-end.ensures.plain;
-      same = same;
-    } in (
-      fails (Some first) (Some middle) (Some after) _ _ c.search.left line h (omega arith) s
-          filled.1,
-      λ read. breaks_off (Some first) (Some middle) (Some after) _ _ c.search.left line h s
-          filled.1,
-    ))
+    let s : Searching c.args.room c.search.left line h =
+    further c.args.room c.search.left c.search.searched line h (omega arith) (omega arith)
+    (omega arith) (rw c.bytes.ensures at c.line_end-end.ensures.plain)
+    c.search.invariant.searching in
+    let told = g.R.Source.told in
+    let failed = g.R.Source.failed in
+    let gave = g.R.Source.gave in
+    through_then told failed gave _ _ _ _ _ _ c.search.invariant.through c.in-Err.ensures.through
+    (λ before between after same filled.
+    fails before between after c.args.room c.args.buffer.now c.search.left line h (omega arith) s
+    same filled.1)
 
 pub search-preserved : goal.search-preserved
-search-preserved g c = record {
-  searching = goes_on _ _ _ _ _ _ _ _ _ _ c.in-Ok.field-0 (omega arith) (omega arith) (omega arith)
-      (rw c.bytes.ensures at c.line_end-end.ensures.plain) c.search.invariant.searching
-      c.in-Ok.ensures.fills;
-  through = through_then g.R.Source.told g.R.Source.failed g.R.Source.gave _ _ _ _ _ _ c.search.invariant.through c.in-Ok.ensures.through
-      (λ first middle after same filled.
-      still_same _ _ _ _ _ c.in-Ok.field-0 first middle after same filled);
-  unfailed = search rules;
-}
+search-preserved g c =
+    let told = g.R.Source.told in
+    let failed = g.R.Source.failed in
+    let gave = g.R.Source.gave in
+    let grown = at_last _ _ c.in-Ok.ensures.through in
+    record {
+      searching = goes_on grown.1.0 grown.0 _ _ _ _ _ _ c.in-Ok.field-0 (omega arith) (omega arith)
+          (omega arith) (rw c.bytes.ensures at c.line_end-end.ensures.plain)
+          c.search.invariant.searching grown.1.2;
+      through = through_then told failed gave _ _ _ _ _ _ c.search.invariant.through
+          c.in-Ok.ensures.through
+          (λ before between after same filled.
+          still_same _ _ _ _ _ c.in-Ok.field-0 before between after same filled);
+      unfailed = search rules;
+    }

@@ -13,7 +13,8 @@ returns-in_err-number-clause-none c =
 
 pub returns-in_err-fraction-clause-none : goal.returns-in_err-fraction-clause-none
 returns-in_err-fraction-clause-none c =
-    rw c.from_residual-in_err-fraction.ensures (number-no-fraction c.args.bytes.now _ _ _ _ (record {
+    rw c.from_residual-in_err-fraction.ensures
+    (number-no-fraction c.args.bytes.now _ _ _ _ (record {
       mark = c.mark_of.ensures.value;
       before = c.split_at.ensures.front;
       after = c.split_at.ensures.back;

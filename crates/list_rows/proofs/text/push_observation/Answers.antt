@@ -18,7 +18,7 @@ returns g c =
     c.bytes-2.ensures.value ∙ c.index-targets-observation.is
     ∙ ap (λ (ts : List (List ℕ)). get_or ts place it) c.targets.ensures.value
     ∙ same-at c.args.station.now.targets place it [] c.requires.target_in in
-    let direction = c.as_slice.ensures.value ∙ c.in_ok-push_gon.ensures
+    let direction = c.as_slice.ensures.value ∙ c.in_ok-push_gon.ensures.added
     ∙ ap (λ (t : List ℕ). t ++ direction_text 6 (5_000 * c.from.result)) c.clear.ensures.items
     ∙ ap (λ (n : ℕ). direction_text 6 (5_000 * n)) c.from.ensures in
     let two_c : c.as_slice-2.result.now ≡ short_mgon_text c.args.differences.two_c = search rules in

@@ -19,7 +19,8 @@ stations-preserved g c text h =
           rw w.writer-is
           (subst (λ (t : List ℕ). HasWritten {W = g.row.W.Denot} g.W.Write.contents
           w.push_surveyed.new.writer t) more
-          (w.in_ok-push_surveyed.ensures (text ++ rows_text (flat_map rows_of (take place stations)))
+          (w.in_ok-push_surveyed.ensures
+          (text ++ rows_text (flat_map rows_of (take place stations)))
           (c.stations.invariant text h)))
       | in_default w ↦
           let inside : place < length stations = search rules in

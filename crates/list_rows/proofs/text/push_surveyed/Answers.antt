@@ -23,7 +23,8 @@ observations-preserved g c text h =
     let pairs = zip (observed s.station) s.faces in
     let before = text ++ rows_text (map (row_of s.station.name) (take place pairs)) in
     let written = rw station_is at c.in_ok-push_observation.ensures in
-    let more = pair-joined (key_of_obs s.station.sets s.station.targets) (row_of s.station.name) text
+    let more = pair-joined (key_of_obs s.station.sets s.station.targets) (row_of s.station.name)
+    text
     s.station.obs s.faces place observation differences o f in
     subst (λ (t : List ℕ). HasWritten {W = g.row.W.Denot} g.W.Write.contents
     c.push_observation.new.writer t) more (written before (c.observations.invariant text h))

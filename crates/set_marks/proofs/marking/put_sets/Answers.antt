@@ -10,7 +10,8 @@ pub sets-preserved : goal.sets-preserved
 sets-preserved c =
     let split : c.sets.left.now ≡ c.in-Some.from.now ∷ c.in-Some.rest.now = search rules in
     let put : c.put.new.marks.items ≡ c.sets.marks.items
-    ++ mark_at (slice_get c.args.sights.now c.in-Some.from.now) (Set c.sets.number) = search rules in
+    ++ mark_at (slice_get c.args.sights.now c.in-Some.from.now) (Set c.sets.number) = search rules
+    in
     let long : length c.sets.left.now ≡ length c.in-Some.rest.now + 1 = search rules in
     let few = c.sets.invariant.few in
     record {

@@ -2,7 +2,8 @@ use Rattle.std.proofs.Common.{◌≡◌, ◌+◌, ◌-◌, ◌++◌, ℕ, List, 
 use Rattle.std.proofs.lemmas.List.{length-drop}
 use Rattle.gsi_file.specs.Parts.{parts}
 use Rattle.set_marks.specs.Placing.{placed_from}
-use Rattle.set_marks.proofs.Walking.{next_value, last_value, next_begins, next_rest, over_empty, empty_inside, rest_of_empty, begins_after_empty}
+use Rattle.set_marks.proofs.Walking.{next_value, last_value, next_begins, next_rest, over_empty}
+use Rattle.set_marks.proofs.Walking.{empty_inside, rest_of_empty, begins_after_empty}
 use Rattle.set_marks.proofs.Ordering.{up_to}
 use Rattle.set_marks.proofs.placing.placed.Goals as goal
 
@@ -31,7 +32,8 @@ parts-preserved c =
     record {
       value = ap (λ (l : List _). found ++ placed_from c.args.bytes.now (at + k)
           c.in_ok-next.next.0 c.in_ok-next.next.1.now (parts l)) last
-          ∙ over_empty c.args.bytes.now next at c.in_ok-next.next.0 k c.in_ok-next.next.1.now found _
+          ∙ over_empty c.args.bytes.now next at c.in_ok-next.next.0 k c.in_ok-next.next.1.now found
+          _
           c.empty_part-empty.ensures
           (ap (λ (l : List _). found ++ placed_from c.args.bytes.now at
           c.in_ok-next.next.0 c.in_ok-next.next.1.now (parts l)) rest

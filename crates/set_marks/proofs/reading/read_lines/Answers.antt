@@ -6,7 +6,8 @@ use Rattle.gsi_file.specs.ToCome.{ToCome}
 use Rattle.gsi_file.specs.declared.bounds.TheConstants.{LONGEST_FILE}
 use Rattle.set_marks.specs.declared.fault.MarkFault.TheVariants.{File, Memory}
 use Rattle.set_marks.specs.Keeping.{AnswersReadings}
-use Rattle.set_marks.proofs.Taking.{AreTaken, none_taken, line_taken, all_taken, fault_taken, file_refused}
+use Rattle.set_marks.proofs.Taking.{AreTaken, none_taken, line_taken, all_taken, fault_taken}
+use Rattle.set_marks.proofs.Taking.{file_refused}
 use Rattle.set_marks.proofs.reading.read_lines.Goals as goal
 
 pub lines-init : goal.lines-init
@@ -58,7 +59,8 @@ returns-in-Some-fault g c =
           (λ first then after before line.
           fault_taken c.args.station (file_answers first) _ _ c.lines.readings c.in-Some-fault.fault
           (subst (λ (f : _).
-          AreTaken c.args.station (file_answers first) (to_come (gives then) c.lines.lines) c.lines.readings f)
+          AreTaken c.args.station (file_answers first) (to_come (gives then) c.lines.lines)
+          c.lines.readings f)
           c.in-Some-fault.is before) line);
       room = search rules;
     }
@@ -73,7 +75,8 @@ returns-in-None g c =
           (λ first then after before line.
           all_taken c.args.station (file_answers first) _ _ c.lines.readings
           (subst (λ (f : _).
-          AreTaken c.args.station (file_answers first) (to_come (gives then) c.lines.lines) c.lines.readings f)
+          AreTaken c.args.station (file_answers first) (to_come (gives then) c.lines.lines)
+          c.lines.readings f)
           c.in-None.is before) line);
       room = c.lines.invariant.room;
     }

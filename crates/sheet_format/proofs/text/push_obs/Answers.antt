@@ -11,14 +11,12 @@ use Rattle.sheet_format.proofs.text.push_obs.Goals as goal
 pub loop-row-preserved : goal.loop-row-preserved
 loop-row-preserved g c text h =
     let fits : FitsSigned w8 c.row-item.result.turn = search rules in
-    let number = c.as_bytes.ensures.value ∙ c.format.ensures.text in
-    let value = c.as_bytes-in-loop-row.ensures.value ∙ c.format-in-loop-row.ensures.text in
-    let turn = c.as_bytes-in-loop-row-2.ensures.value ∙ c.format-in-loop-row-2.ensures.text
-    ∙ ap signed_decimal (to_z-of_z w8 c.row-item.result.turn fits) in
+    let turn = c.turn_text.ensures ∙ ap signed_decimal (to_z-of_z w8 c.row-item.result.turn fits) in
+    let value = c.as_bytes.ensures.value ∙ c.format.ensures.text in
     let before = text ++ rows_text (map obs_fields (take c.loop-row.row-index c.args.rows.now)) in
     let row = rw (
       c.as_slice.ensures,
-      number,
+      c.text.ensures,
       c.bytes.ensures.value,
       value,
       turn,

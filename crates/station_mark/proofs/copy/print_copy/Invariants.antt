@@ -5,7 +5,8 @@ use Rattle.station_mark.proofs.copy.print_copy.Given as goal
 
 abbrev pub invariant-marks : goal.invariant-marks
 invariant-marks g l = record {
-  text : Partway (woven 0 l.bytes l.marks) (woven l.from l.bytes l.left) (g.W.Sink.holds l.fn.writer)
+  text : Partway (woven 0 l.bytes l.marks) (woven l.from l.bytes l.left)
+      (g.W.Sink.holds l.fn.writer)
       l.fn.page (g.W.Sink.holds l.writer) l.page;
   ordered : AreOrdered l.from (length l.bytes) l.left;
   failed : g.W.Sink.failed l.writer ≡ g.W.Sink.failed l.fn.writer;

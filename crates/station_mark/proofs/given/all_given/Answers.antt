@@ -1,4 +1,5 @@
-use Rattle.std.proofs.Common.{rules, ◌≡◌, ℕ, List, [], Ok, Err, refl, subst, take, ap, sym, ◌∙◌, ◌++◌}
+use Rattle.std.proofs.Common.{rules, ◌≡◌, ℕ, List, [], Ok, Err, refl, subst, take, ap, sym, ◌∙◌}
+use Rattle.std.proofs.Common.{◌++◌}
 use Rattle.std.proofs.Common.{inl, inr, Result}
 use Rattle.std.specs.Prelude.{IfErr}
 use Rattle.std.proofs.lemmas.List.{append-nil}
@@ -78,7 +79,8 @@ reading-preserved g c =
     let items : c.extend_from_slice.new.self.items ≡ bytes ++ take n c.read.new.buf =
     search rules in
     record {
-      given = subst (λ (b : List ℕ). HasGiven (reader_change told failed gave old new) b) (sym items)
+      given = subst (λ (b : List ℕ). HasGiven (reader_change told failed gave old new) b)
+          (sym items)
           (given_on told failed gave old now new bytes (take n c.read.new.buf)
           c.reading.invariant.given
           (given_by_read {E = Failed} told failed gave now new (Ok n) c.read.new.buf

@@ -61,7 +61,8 @@ returns-in-Ok-write_copy g c =
           printed = (
             refl,
             record {
-              got = rw (c.deref-2.ensures.value, c.deref-3.ensures.value) at c.in-Ok-write_copy.ensures.ok;
+              got = rw (c.deref-2.ensures.value, c.deref-3.ensures.value) at
+                  c.in-Ok-write_copy.ensures.ok;
               unfailed = c.in-Ok-write_copy.ensures.failed;
             },
             c.in-Ok-write_copy.ensures.handed_on,
@@ -84,7 +85,8 @@ returns g c = (
       printed = (
         refl,
         record {
-          got = rw (c.deref-2.ensures.value, c.deref-3.ensures.value) at c.in-Err-write_copy.ensures.cut_short;
+          got = rw (c.deref-2.ensures.value, c.deref-3.ensures.value) at
+              c.in-Err-write_copy.ensures.cut_short;
           call_failed = c.in-Err-write_copy.ensures.failed;
         },
       );

@@ -1,6 +1,7 @@
 use Rattle.std.proofs.Common.{rules, ◌<◌, ◌∙◌, length, refl, arith, get_or-set_other}
 use Rattle.wide_number.proofs.LimbLaws.{value_below-zero, value_below-suc, value_below-set}
-use Rattle.wide_number.proofs.LimbLaws.{limb_weight-zero, limb_weight-suc, subtract_step, below_step}
+use Rattle.wide_number.proofs.LimbLaws.{limb_weight-zero, limb_weight-suc, subtract_step}
+use Rattle.wide_number.proofs.LimbLaws.{below_step}
 use Rattle.wide_number.proofs.limbs.subtract.Goals as goal
 
 pub loop-i-init : goal.loop-i-init

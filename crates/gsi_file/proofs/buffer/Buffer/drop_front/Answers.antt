@@ -1,5 +1,5 @@
 use Rattle.std.proofs.Common.{◌≤◌, ◌+◌, length, drop, ◌∙◌, ap, arith}
-use Rattle.gsi_file.proofs.ReadsAfter.{slice_range_behind, range_length}
+use Rattle.gsi_file.proofs.ReadsAfter.{slice_range_after, range_length}
 use Rattle.gsi_file.proofs.buffer.Buffer.drop_front.Goals as goal
 
 pub returns : goal.returns
@@ -12,4 +12,4 @@ returns c =
       c.requires,
       c.self.invariant,
     ) in
-    slice_range_behind w.room.value w.start w.end c.args.n le ∙ ap (drop c.args.n) c.self.view_is
+    slice_range_after w.room.value w.start w.end c.args.n le ∙ ap (drop c.args.n) c.self.view_is

@@ -5,7 +5,7 @@ use Rattle.sheet_format.proofs.draft.Draft.take_obs.Goals as goal
 
 pub invariant_of-self-2 : goal.invariant_of-self-2
 invariant_of-self-2 c =
-    let kept = c.self.invariant in
+    let kept = c.self-2.invariant in
     record {
       header = kept.header;
       directions = kept.directions;

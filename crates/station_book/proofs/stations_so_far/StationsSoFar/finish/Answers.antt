@@ -3,7 +3,8 @@ use Rattle.std.proofs.lemmas.List.{reverse-reverse}
 use Rattle.station_book.specs.Stations.{SurveyedStation}
 use Rattle.station_book.specs.StationState.{StationState}
 use Rattle.station_book.specs.StationStates.{OlderMayEnd}
-use Rattle.station_book.proofs.states.ClosingStates.{IsClosing, begins, next_may, next_inserted, all_closed}
+use Rattle.station_book.proofs.states.ClosingStates.{IsClosing, begins, next_may, next_inserted}
+use Rattle.station_book.proofs.states.ClosingStates.{all_closed}
 use Rattle.station_book.proofs.stations_so_far.StationsSoFar.finish.Goals as goal
 
 pub stations-init : goal.stations-init

@@ -7,7 +7,8 @@ pub returns-else-carry-eq0-clause-none : goal.returns-else-carry-eq0-clause-none
 unfolding WIDE_LIMIT
 returns-else-carry-eq0-clause-none c =
     let e : value_below c.add_product-carry.new.limbs 13
-    + c.add_product-carry.result * limb_weight 13 ≡ c.args.addend + c.args.self.now * c.args.factor =
+    + c.add_product-carry.result * limb_weight 13
+    ≡ c.args.addend + c.args.self.now * c.args.factor =
     rw (← c.new-sum.ensures, ← c.sum.view_is, ← c.self.view_is) c.add_product-carry.ensures.value in
     carried _ c.add_product-carry.result (limb_weight 13) c.args.addend _ e c.if-carry-eq0.false
 
