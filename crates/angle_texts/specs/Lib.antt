@@ -1,2 +1,3 @@
 -- The public definitions, which public contracts cite.
+pub mod Beginnings
 pub mod MgonTexts

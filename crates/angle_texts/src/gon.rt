@@ -1,5 +1,6 @@
 //! A direction in gon.
-ghost use Rattle.std.specs.Prelude.{◌≡◌, ◌++◌, OnOk};
+ghost use Rattle.std.specs.Prelude.{◌≡◌, ◌++◌, OnOk, OnErr};
+ghost use Rattle.angle_texts.specs.Beginnings.{IsBegun};
 ghost use Rattle.direction_table.specs.Texts.{direction_text};
 
 use crate::digit::digit;
@@ -14,9 +15,12 @@ const GON: u64 = 1_000_000_000;
 ///
 /// The only error is that memory was refused; then a beginning of it may have been added.
 // Results have many rows, and digits at stated places take a third of the time of `push_direction`.
+#[tactic(auto, using(crate::proofs::Begun::first_part))]
 pub fn push_gon(text: &mut Vec<u8>, direction: u64) -> Result<(), AllocError>
-    ensures { OnOk result
+    ensures added { OnOk result
         (text.new.items ≡ text.old.items ++ direction_text 6 direction) }
+    ensures begun { OnErr result
+        (IsBegun (direction_text 6 direction) text.old.items text.new.items) }
 {
     let mut gons = Buffer::new();
     text.extend_from_slice(gons.format(direction / GON).as_bytes())?;

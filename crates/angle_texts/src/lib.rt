@@ -1,10 +1,12 @@
-//! Angles as text, as results state them: directions in gon, face differences and residuals in mgon.
+//! Angles as text, as results state them: directions in gon, face differences and residuals in
+//! mgon.
 //!
 //! | Call | Adds to a text |
 //! |---|---|
 //! | `push_gon` | a direction in gon, with six decimals |
 //! | `push_mgon` | an angle in mgon, with three decimals |
 //! | `push_short_mgon` | an angle in mgon, with two decimals |
+//! | `push_thousandths` | a number with three decimals |
 #![tactic(auto)]
 
 mod digit;
@@ -12,4 +14,4 @@ mod gon;
 mod mgon;
 
 pub use gon::push_gon;
-pub use mgon::{push_mgon, push_short_mgon};
+pub use mgon::{push_mgon, push_short_mgon, push_thousandths};

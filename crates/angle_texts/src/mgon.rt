@@ -1,5 +1,6 @@
 //! A small angle in mgon.
-ghost use Rattle.std.specs.Prelude.{◌≡◌, ◌++◌, OnOk};
+ghost use Rattle.std.specs.Prelude.{◌≡◌, ◌++◌, OnOk, OnErr};
+ghost use Rattle.angle_texts.specs.Beginnings.{IsBegun};
 ghost use Rattle.angle_texts.specs.MgonTexts as spec;
 
 use crate::digit::digit;
@@ -10,8 +11,10 @@ use std::alloc::AllocError;
 /// the whole, a point and three decimals.
 ///
 /// The only error is that memory was refused; then a beginning of it may have been added.
+#[tactic(auto, using(crate::proofs::Begun::of_first, crate::proofs::Begun::of_second))]
 pub fn push_mgon(text: &mut Vec<u8>, units: i32) -> Result<(), AllocError>
-    ensures { OnOk result (text.new.items ≡ text.old.items ++ spec.mgon_text units) }
+    ensures added { OnOk result (text.new.items ≡ text.old.items ++ spec.mgon_text units) }
+    ensures begun { OnErr result (IsBegun (spec.mgon_text units) text.old.items text.new.items) }
 {
     push_sign(text, units)?;
     push_thousandths(text, units.unsigned_abs())
@@ -21,8 +24,11 @@ pub fn push_mgon(text: &mut Vec<u8>, units: i32) -> Result<(), AllocError>
 /// the whole, a point and two decimals.
 ///
 /// The only error is that memory was refused; then a beginning of it may have been added.
+#[tactic(auto, using(crate::proofs::Begun::of_first, crate::proofs::Begun::of_second))]
 pub fn push_short_mgon(text: &mut Vec<u8>, units: i32) -> Result<(), AllocError>
-    ensures { OnOk result (text.new.items ≡ text.old.items ++ spec.short_mgon_text units) }
+    ensures added { OnOk result (text.new.items ≡ text.old.items ++ spec.short_mgon_text units) }
+    ensures begun { OnErr result
+        (IsBegun (spec.short_mgon_text units) text.old.items text.new.items) }
 {
     push_sign(text, units)?;
     push_hundredths(text, units.unsigned_abs())
@@ -30,7 +36,8 @@ pub fn push_short_mgon(text: &mut Vec<u8>, units: i32) -> Result<(), AllocError>
 
 /// Adds what stands before a number.
 fn push_sign(text: &mut Vec<u8>, number: i32) -> Result<(), AllocError>
-    ensures { OnOk result (text.new.items ≡ text.old.items ++ spec.sign_text number) }
+    ensures added { OnOk result (text.new.items ≡ text.old.items ++ spec.sign_text number) }
+    ensures begun { OnErr result (IsBegun (spec.sign_text number) text.old.items text.new.items) }
 {
     if number < 0 {
         text.push(b'-')?;
@@ -38,10 +45,15 @@ fn push_sign(text: &mut Vec<u8>, number: i32) -> Result<(), AllocError>
     Ok(())
 }
 
-/// Adds a number of thousandths: the whole, a point and three decimals.
-fn push_thousandths(text: &mut Vec<u8>, number: u32) -> Result<(), AllocError>
-    ensures { OnOk result
-        (text.new.items ≡ text.old.items ++ spec.thousandths_text number) }
+/// Adds a number of thousandths to a text, as a limit in units of 0.001 mgon is one of a mgon: the
+/// whole, a point and three decimals.
+///
+/// The only error is that memory was refused; then a beginning of it may have been added.
+#[tactic(auto, using(crate::proofs::Begun::first_part))]
+pub fn push_thousandths(text: &mut Vec<u8>, number: u32) -> Result<(), AllocError>
+    ensures added { OnOk result (text.new.items ≡ text.old.items ++ spec.thousandths_text number) }
+    ensures begun { OnErr result
+        (IsBegun (spec.thousandths_text number) text.old.items text.new.items) }
 {
     let number = u64::from(number);
     let mut whole = Buffer::new();
@@ -51,9 +63,11 @@ fn push_thousandths(text: &mut Vec<u8>, number: u32) -> Result<(), AllocError>
 }
 
 /// Adds a number of hundredths: the whole, a point and two decimals.
+#[tactic(auto, using(crate::proofs::Begun::first_part))]
 fn push_hundredths(text: &mut Vec<u8>, number: u32) -> Result<(), AllocError>
-    ensures { OnOk result
-        (text.new.items ≡ text.old.items ++ spec.hundredths_text number) }
+    ensures added { OnOk result (text.new.items ≡ text.old.items ++ spec.hundredths_text number) }
+    ensures begun { OnErr result
+        (IsBegun (spec.hundredths_text number) text.old.items text.new.items) }
 {
     let number = u64::from(number);
     let mut whole = Buffer::new();

@@ -2,17 +2,17 @@
 use Rattle.std.proofs.Common.{◌≡◌, ℕ, true, false, List, [], ◌∷◌, ◌++◌, Some, None, refl}
 use Rattle.std.specs.Prelude.{codes, pos, negsuc}
 use Rattle.csv.proofs.OnLiterals.{csv_on_literals}
-use Rattle.direction_table.specs.Faults.{are_titles, fault_at, fault_between, row_fault}
+use Rattle.direction_table.specs.Faults.{fault_at, fault_between, row_fault}
 use Rattle.direction_table.specs.Faults.{stating_fault}
-use Rattle.direction_table.specs.FewestDecimals.{fewest_decimals, usual_within}
-use Rattle.direction_table.specs.FieldForms.{named, tidy, without_blanks}
-use Rattle.direction_table.specs.Gons.{count_of_decimals, direction_value, is_direction}
-use Rattle.direction_table.specs.Gons.{is_on_circle}
+use Rattle.direction_table.specs.FieldForms.{named, tidy}
+use Rattle.direction_table.specs.Directions.{direction_value, is_direction, is_on_circle}
 use Rattle.direction_table.specs.Separators.{rows_of, separator_of}
 use Rattle.direction_table.specs.Tables.{stated_by}
+use Rattle.direction_table.specs.UsualLimits.{usual_within}
 use Rattle.direction_table.specs.declared.fault.RowKind.TheVariants as fault
-use Rattle.direction_table.specs.declared.separator.Separator.TheVariants.{Comma, Semicolon, Tab}
+use Rattle.direction_table.specs.declared.separator.Separator.TheVariants.{Comma, Semicolon}
 use Rattle.direction_table.specs.declared.separator.Separator.TheVariants.{Blanks}
+use Rattle.direction_table.specs.declared.unit.AngleUnit.TheVariants.{Gon, Degrees}
 
 abbrev targets : List (List ℕ)
 targets = codes "P3" ∷ codes "P5" ∷ []
@@ -21,35 +21,66 @@ abbrev line : List ℕ → List ℕ
 line text = text ++ (10 ∷ [])
 
 -- Numbers.
-decimal-comma : direction_value (codes "64,52134") ≡ pos 64521340000
+decimal-comma : direction_value Gon (codes "64,52134") ≡ pos 5226228540000
 decimal-comma = refl
 
-minus : direction_value (codes "-.5") ≡ negsuc 499999999
+minus : direction_value Gon (codes "-.5") ≡ negsuc 40499999999
 minus = refl
 
-plus : direction_value (codes "+7.") ≡ pos 7000000000
+plus : direction_value Gon (codes "+7.") ≡ pos 567000000000
 plus = refl
 
-many-decimals : direction_value (codes "50.0000300000") ≡ pos 50000030000
+many-decimals : direction_value Gon (codes "50.0000300000") ≡ pos 4050002430000
 many-decimals = refl
 
-tenth-decimal : is_direction (codes "50.0000000001") ≡ false
+tenth-decimal : is_direction Gon (codes "50.0000000001") ≡ false
 tenth-decimal = refl
 
-no-digit : is_direction (codes ".") ≡ false
+no-digit : is_direction Gon (codes ".") ≡ false
 no-digit = refl
 
-exponent : is_direction (codes "1e-05") ≡ false
+exponent : is_direction Gon (codes "1e-05") ≡ false
 exponent = refl
 
-full-circle : direction_value (codes "-400.0000") ≡ pos 0
+full-circle : direction_value Gon (codes "-400.0000") ≡ pos 0
 full-circle = refl
 
-on-circle : is_on_circle (codes "400") ≡ true
+on-circle : is_on_circle Gon (codes "400") ≡ true
 on-circle = refl
 
-above : is_on_circle (codes "400.000000001") ≡ false
+above : is_on_circle Gon (codes "400.000000001") ≡ false
 above = refl
+
+-- Degrees.
+seconds : direction_value Degrees (codes "-000-00-00.0000010000") ≡ negsuc 24
+seconds = refl
+
+seventh-decimal : is_direction Degrees (codes "59-04-09.1800001") ≡ false
+seventh-decimal = refl
+
+one-digit : is_direction Degrees (codes "59-4-09.18") ≡ false
+one-digit = refl
+
+no-minutes : is_direction Degrees (codes "59-09.18") ≡ false
+no-minutes = refl
+
+sign-alone : is_direction Degrees (codes "59" ++ (194 ∷ 176 ∷ [])) ≡ false
+sign-alone = refl
+
+no-second-sign : is_direction Degrees (codes "59" ++ (194 ∷ 176 ∷ codes "04'09.18")) ≡ false
+no-second-sign = refl
+
+other-sign : is_direction Degrees (codes "59" ++ (194 ∷ 180 ∷ codes "04'09.18\"")) ≡ false
+other-sign = refl
+
+both-forms : is_direction Degrees (codes "59" ++ (194 ∷ 176 ∷ codes "04-09.18\"")) ≡ false
+both-forms = refl
+
+no-degrees : is_direction Degrees (codes "-04-09.18") ≡ false
+no-degrees = refl
+
+circle-in-degrees : is_on_circle Degrees (codes "360.000000001") ≡ false
+circle-in-degrees = refl
 
 -- Names.
 around : named targets (codes " P3 ") ≡ codes "P3"
@@ -87,29 +118,26 @@ of-a-name = refl
 abbrev german : List ℕ
 german = line (codes "Punkt;Hz") ++ (line (codes "P5;64,5213") ++ line (codes "P3;400,000;"))
 
-german-rows : stated_by (rows_of targets german) targets
-    ≡ Some (pos 0) ∷ Some (pos 64521300000) ∷ []
+german-rows : stated_by Gon (rows_of targets german) targets
+    ≡ Some (pos 0) ∷ Some (pos 5226225300000) ∷ []
 unfolding csv_on_literals separator_of rows_of
 german-rows = refl
 
-german-titles : fault_at targets (rows_of targets german) 0 ≡ None
+german-titles : fault_at Gon targets (rows_of targets german) 0 ≡ None
 unfolding csv_on_literals separator_of rows_of row_fault stating_fault fault_between
 german-titles = refl
 
-german-decimals : fewest_decimals (rows_of targets german) ≡ Some 3
+german-limit : usual_within Gon (rows_of targets german) ≡ 501
 unfolding csv_on_literals separator_of rows_of
-german-decimals = refl
-
-four-decimals : usual_within (Some 4) ≡ 51
-four-decimals = refl
+german-limit = refl
 
 abbrev twice : List ℕ
 twice = line (codes "P3 1") ++ line (codes " P3  2")
 
-second-row : fault_at targets (rows_of targets twice) 1 ≡ Some fault.Twice
+second-row : fault_at Gon targets (rows_of targets twice) 1 ≡ Some fault.Twice
 unfolding csv_on_literals separator_of rows_of row_fault stating_fault fault_between
 second-row = refl
 
-no-titles : fault_at targets (rows_of targets (line (codes "P3,5 gon"))) 0 ≡ Some fault.Number
+no-titles : fault_at Gon targets (rows_of targets (line (codes "P3,5 gon"))) 0 ≡ Some fault.Number
 unfolding csv_on_literals separator_of rows_of row_fault stating_fault fault_between
 no-titles = refl

@@ -19,6 +19,7 @@ use Rattle.direction_table.specs.declared.fault.TableFault.TheVariants.{Memory}
 use Rattle.direction_table.specs.declared.reading.TheConstants.{LONGEST_TABLE}
 use Rattle.direction_table.proofs.RowsRead.{clean-end, clean-more, first-here}
 use Rattle.direction_table.proofs.StatedDirections.{not-before}
+use Rattle.direction_table.specs.declared.unit.AngleUnit.{AngleUnit}
 
 -- The directions are what is stated.
 same-directions : (a b : List ℤ) → map Some a ≡ map Some b → a ≡ b
@@ -31,9 +32,9 @@ same-directions (x ∷ xs) (y ∷ ys) e =
     rw (first, same-directions xs ys rest) refl
 
 -- Bytes are a table of one list of directions at most.
-pub one-table : (targets : List (List ℕ)) (bytes : List ℕ) (a b : List ℤ)
-    → IsTableText targets bytes a → IsTableText targets bytes b → a ≡ b
-one-table targets bytes a b s t = same-directions a b (sym s.stated ∙ t.stated)
+pub one-table : (unit : AngleUnit) (targets : List (List ℕ)) (bytes : List ℕ) (a b : List ℤ)
+    → IsTableText unit targets bytes a → IsTableText unit targets bytes b → a ≡ b
+one-table unit targets bytes a b s t = same-directions a b (sym s.stated ∙ t.stated)
 
 -- Where all is stated, nothing is missing.
 not-missing : (stated : List (Option ℤ)) (directions : List ℤ) (place : ℕ)
@@ -53,20 +54,21 @@ not-missing stated directions place same inside none =
     )
 
 -- Bytes that are a table have no fault.
-pub never-both : (targets : List (List ℕ)) (bytes : List ℕ) (directions : List ℤ)
-    (fault : TableFault) → IsTableText targets bytes directions → IsTableFault targets bytes fault
+pub never-both : (unit : AngleUnit) (targets : List (List ℕ)) (bytes : List ℕ) (directions : List ℤ)
+    (fault : TableFault) → IsTableText unit targets bytes directions
+    → IsTableFault unit targets bytes fault
     → ⊥
-never-both targets bytes directions TooLong text fault = omega (arith, text.short, fault)
-never-both targets bytes directions (Row number kind) text fault =
+never-both unit targets bytes directions TooLong text fault = omega (arith, text.short, fault)
+never-both unit targets bytes directions (Row number kind) text fault =
     let (short, place, counted, found) = fault in
     none-some kind (sym (text.faultless place) ∙ found.here)
-never-both targets bytes directions (Missing number) text fault =
+never-both unit targets bytes directions (Missing number) text fault =
     let (short, clean, missing_at) = fault in
     let (place, counted, first) = missing_at in
-    not-missing (stated_by
+    not-missing (stated_by unit
     (rows_of targets bytes) targets) directions place text.stated first.inside
     first.here
-never-both targets bytes directions Memory text fault = absurd fault
+never-both unit targets bytes directions Memory text fault = absurd fault
 
 -- The first place of two.
 one-place : (P : ℕ → Type 0) (p q : ℕ) → P p → P q → ((m : ℕ) → m < p → P m → ⊥)
@@ -76,113 +78,122 @@ one-place P p q one two before after =
     let not_after : q < p → ⊥ = λ below. before q below two in
     omega (arith, not_before, not_after)
 
-abbrev HasFaultAt : List (List ℕ) → List (List (List ℕ)) → ℕ → Type 0
-HasFaultAt targets rows place = (k : RowKind) × (fault_at targets rows place ≡ Some k)
+abbrev HasFaultAt : AngleUnit → List (List ℕ) → List (List (List ℕ)) → ℕ → Type 0
+HasFaultAt unit targets rows place = (k : RowKind) × (fault_at unit targets rows place ≡ Some k)
 
-same-place : (targets : List (List ℕ)) (rows : List (List (List ℕ))) (p q : ℕ) (j k : RowKind)
-    → IsFirstFaultOfTable targets rows p j → IsFirstFaultOfTable targets rows q k → p ≡ q
-same-place targets rows p q j k one two =
-    one-place (HasFaultAt targets rows) p q (j, one.here) (k, two.here)
+same-place : (unit : AngleUnit) (targets : List (List ℕ)) (rows : List (List (List ℕ))) (p q : ℕ)
+    (j k : RowKind)
+    → IsFirstFaultOfTable unit targets rows p j → IsFirstFaultOfTable unit targets rows q k → p ≡ q
+same-place unit targets rows p q j k one two =
+    one-place (HasFaultAt unit targets rows) p q (j, one.here) (k, two.here)
     (λ m below found. none-some found.0 (sym (one.before m below) ∙ found.1))
     (λ m below found. none-some found.0 (sym (two.before m below) ∙ found.1))
 
-same-kind : (targets : List (List ℕ)) (rows : List (List (List ℕ))) (p q : ℕ) (j k : RowKind)
-    → IsFirstFaultOfTable targets rows p j → IsFirstFaultOfTable targets rows q k → p ≡ q → j ≡ k
-same-kind targets rows p q j k one two same =
-    let both : Some j ≡ Some k = sym one.here ∙ ap (fault_at targets rows) same ∙ two.here in
+same-kind : (unit : AngleUnit) (targets : List (List ℕ)) (rows : List (List (List ℕ))) (p q : ℕ)
+    (j k : RowKind)
+    → IsFirstFaultOfTable unit targets rows p j → IsFirstFaultOfTable unit targets rows q k → p ≡ q
+    → j ≡ k
+same-kind unit targets rows p q j k one two same =
+    let both : Some j ≡ Some k = sym one.here ∙ ap (fault_at unit targets rows) same ∙ two.here in
     cc both
 
 -- Bytes have one fault at most.
-pub one-fault : (targets : List (List ℕ)) (bytes : List ℕ) (f g : TableFault)
-    → IsTableFault targets bytes f → IsTableFault targets bytes g → f ≡ g
-one-fault targets bytes TooLong TooLong a b = refl
-one-fault targets bytes TooLong (Row n k) a b = absurd (omega (arith, a, b.0))
-one-fault targets bytes TooLong (Missing n) a b = absurd (omega (arith, a, b.0))
-one-fault targets bytes TooLong Memory a b = absurd b
-one-fault targets bytes (Row n j) TooLong a b = absurd (omega (arith, b, a.0))
-one-fault targets bytes (Row n j) (Row m k) a b =
+pub one-fault : (unit : AngleUnit) (targets : List (List ℕ)) (bytes : List ℕ) (f g : TableFault)
+    → IsTableFault unit targets bytes f → IsTableFault unit targets bytes g → f ≡ g
+one-fault unit targets bytes TooLong TooLong a b = refl
+one-fault unit targets bytes TooLong (Row n k) a b = absurd (omega (arith, a, b.0))
+one-fault unit targets bytes TooLong (Missing n) a b = absurd (omega (arith, a, b.0))
+one-fault unit targets bytes TooLong Memory a b = absurd b
+one-fault unit targets bytes (Row n j) TooLong a b = absurd (omega (arith, b, a.0))
+one-fault unit targets bytes (Row n j) (Row m k) a b =
     let (short, p, at_p, one) = a in
     let (short2, q, at_q, two) = b in
-    let place = same-place targets (rows_of targets bytes) p q j k one two in
+    let place = same-place unit targets (rows_of targets bytes) p q j k one two in
     let number : n ≡ m = omega (arith, at_p, at_q, place) in
-    rw (number, same-kind targets (rows_of targets bytes) p q j k one two place) refl
-one-fault targets bytes (Row n j) (Missing m) a b =
+    rw (number, same-kind unit targets (rows_of targets bytes) p q j k one two place) refl
+one-fault unit targets bytes (Row n j) (Missing m) a b =
     let (short, p, at_p, one) = a in
     absurd (none-some j (sym (b.1 p) ∙ one.here))
-one-fault targets bytes (Row n j) Memory a b = absurd b
-one-fault targets bytes (Missing n) TooLong a b = absurd (omega (arith, b, a.0))
-one-fault targets bytes (Missing n) (Row m k) a b =
+one-fault unit targets bytes (Row n j) Memory a b = absurd b
+one-fault unit targets bytes (Missing n) TooLong a b = absurd (omega (arith, b, a.0))
+one-fault unit targets bytes (Missing n) (Row m k) a b =
     let (short, p, at_p, one) = b in
     absurd (none-some k (sym (a.1 p) ∙ one.here))
-one-fault targets bytes (Missing n) (Missing m) a b =
+one-fault unit targets bytes (Missing n) (Missing m) a b =
     let (p, at_p, one) = a.2 in
     let (q, at_q, two) = b.2 in
-    let place = one-place (IsNoneAt (stated_by
+    let place = one-place (IsNoneAt (stated_by unit
     (rows_of targets bytes) targets)) p q one.here two.here
     one.before two.before in
     let number : n ≡ m = omega (arith, at_p, at_q, place) in
     rw number refl
-one-fault targets bytes (Missing n) Memory a b = absurd b
-one-fault targets bytes Memory g a b = absurd a
+one-fault unit targets bytes (Missing n) Memory a b = absurd b
+one-fault unit targets bytes Memory g a b = absurd a
 
 -- An answer that is right whenever it is a table or a fault is the one that the bytes have, or
 -- memory ran out.
-pub answers-table : {V : Type 0} (items : V → List ℤ) (targets : List (List ℕ)) (bytes : List ℕ)
-    (r : Result V TableFault) → IfOk r (λ v. IsTableText targets bytes (items v))
-    → IfErr r (IsFaultOrMemory targets bytes)
-    → (directions : List ℤ) → IsTableText targets bytes directions
+pub answers-table : (unit : AngleUnit) {V : Type 0} (items : V → List ℤ) (targets : List (List ℕ))
+    (bytes : List ℕ)
+    (r : Result V TableFault) → IfOk r (λ v. IsTableText unit targets bytes (items v))
+    → IfErr r (IsFaultOrMemory unit targets bytes)
+    → (directions : List ℤ) → IsTableText unit targets bytes directions
     → MatchResult r (λ v. items v ≡ directions) (λ fault. fault ≡ Memory)
-answers-table items targets bytes (Ok v) ok err directions text =
-    one-table targets bytes (items v) directions ok text
-answers-table items targets bytes (Err f) ok err directions text = elim err [
-  | inl fault ↦ absurd (never-both targets bytes directions f text fault)
+answers-table unit items targets bytes (Ok v) ok err directions text =
+    one-table unit targets bytes (items v) directions ok text
+answers-table unit items targets bytes (Err f) ok err directions text = elim err [
+  | inl fault ↦ absurd (never-both unit targets bytes directions f text fault)
   | inr memory ↦ memory
 ]
 
 -- Where the bytes have a fault, a right answer is that fault, or that memory ran out.
-pub answers-fault : {V : Type 0} (items : V → List ℤ) (targets : List (List ℕ)) (bytes : List ℕ)
-    (r : Result V TableFault) → IfOk r (λ v. IsTableText targets bytes (items v))
-    → IfErr r (IsFaultOrMemory targets bytes)
-    → (fault : TableFault) → IsTableFault targets bytes fault → (r ≡ Err fault) ⊎ (r ≡ Err Memory)
-answers-fault items targets bytes (Ok v) ok err f fault =
-    absurd (never-both targets bytes (items v) f ok fault)
-answers-fault items targets bytes (Err g) ok err f fault = elim err [
-  | inl same ↦ inl (ap (λ (x : TableFault). Err x) (one-fault targets bytes g f same fault))
+pub answers-fault : (unit : AngleUnit) {V : Type 0} (items : V → List ℤ) (targets : List (List ℕ))
+    (bytes : List ℕ)
+    (r : Result V TableFault) → IfOk r (λ v. IsTableText unit targets bytes (items v))
+    → IfErr r (IsFaultOrMemory unit targets bytes)
+    → (fault : TableFault) → IsTableFault unit targets bytes fault → (r ≡ Err fault)
+    ⊎ (r ≡ Err Memory)
+answers-fault unit items targets bytes (Ok v) ok err f fault =
+    absurd (never-both unit targets bytes (items v) f ok fault)
+answers-fault unit items targets bytes (Err g) ok err f fault = elim err [
+  | inl same ↦ inl (ap (λ (x : TableFault). Err x) (one-fault unit targets bytes g f same fault))
   | inr memory ↦ inr (ap (λ (x : TableFault). Err x) memory)
 ]
 
 -- Where no row has a fault and all targets have directions, the bytes are a table of these.
-pub whole-table : {V : Type 0} (items : V → List ℤ) (targets : List (List ℕ)) (bytes : List ℕ)
+pub whole-table : (unit : AngleUnit) {V : Type 0} (items : V → List ℤ) (targets : List (List ℕ))
+    (bytes : List ℕ)
     (stated : List (Option ℤ)) (r : Result V TableFault) → length bytes ≤ LONGEST_TABLE
-    → HasNoFault targets (rows_of targets bytes)
-    → stated ≡ stated_by (rows_of targets bytes) targets → IfOk r (λ v. stated ≡ map Some (items v))
-    → IfOk r (λ v. IsTableText targets bytes (items v))
-whole-table items targets bytes stated (Ok v) short clean same all = record {
+    → HasNoFault unit targets (rows_of targets bytes)
+    → stated ≡ stated_by unit (rows_of targets bytes) targets
+    → IfOk r (λ v. stated ≡ map Some (items v))
+    → IfOk r (λ v. IsTableText unit targets bytes (items v))
+whole-table unit items targets bytes stated (Ok v) short clean same all = record {
   short = short;
   faultless = clean;
   stated = sym same ∙ all;
 }
-whole-table items targets bytes stated (Err f) short clean same all = tt
+whole-table unit items targets bytes stated (Err f) short clean same all = tt
 
 -- Where no row has a fault, the first target that is missing is the fault of the bytes.
-pub missing-fault : {V : Type 0} (targets : List (List ℕ)) (bytes : List ℕ)
+pub missing-fault : (unit : AngleUnit) {V : Type 0} (targets : List (List ℕ)) (bytes : List ℕ)
     (stated : List (Option ℤ)) (r : Result V TableFault) → length bytes ≤ LONGEST_TABLE
-    → HasNoFault targets (rows_of targets bytes)
-    → stated ≡ stated_by (rows_of targets bytes) targets → IfErr r (IsMissingOrMemory stated)
-    → IfErr r (IsFaultOrMemory targets bytes)
-missing-fault targets bytes stated (Ok v) short clean same none = tt
-missing-fault targets bytes stated (Err f) short clean same none = elim none [
+    → HasNoFault unit targets (rows_of targets bytes)
+    → stated ≡ stated_by unit (rows_of targets bytes) targets → IfErr r (IsMissingOrMemory stated)
+    → IfErr r (IsFaultOrMemory unit targets bytes)
+missing-fault unit targets bytes stated (Ok v) short clean same none = tt
+missing-fault unit targets bytes stated (Err f) short clean same none = elim none [
   | inl first ↦
       let (number, is, found) = first in
-      inl (subst (IsTableFault targets bytes) (sym is)
+      inl (subst (IsTableFault unit targets bytes) (sym is)
       (short, clean, subst (λ (all : List (Option ℤ)). IsFirstMissing all number) same found))
   | inr memory ↦ inr memory
 ]
 
 -- Bytes are a table or have a fault.
-abbrev pub TableOrFault : List (List ℕ) → List ℕ → Type 0
-TableOrFault targets bytes = ((directions : List ℤ) × IsTableText targets bytes directions)
-    ⊎ ((fault : TableFault) × IsTableFault targets bytes fault)
+abbrev pub TableOrFault : AngleUnit → List (List ℕ) → List ℕ → Type 0
+TableOrFault unit targets bytes = ((directions : List ℤ)
+    × IsTableText unit targets bytes directions)
+    ⊎ ((fault : TableFault) × IsTableFault unit targets bytes fault)
 
 at-seam : (before rest : List (Option ℤ)) → get_or (before ++ (None ∷ rest)) (length before) None
     ≡ None
@@ -228,41 +239,45 @@ all-or-first stated (None ∷ rest) items e =
       ),
     )
 
-decided-rows : (targets : List (List ℕ)) (bytes : List ℕ) → length bytes ≤ LONGEST_TABLE
+decided-rows : (unit : AngleUnit) (targets : List (List ℕ)) (bytes : List ℕ)
+    → length bytes ≤ LONGEST_TABLE
     → (before rest : List (List (List ℕ))) → rows_of targets bytes ≡ before ++ rest
-    → NoFaultBefore targets (rows_of targets bytes) (length before) → TableOrFault targets bytes
-decided-rows targets bytes short before [] whole clean =
-    let none = clean-end targets (rows_of targets bytes) before (whole ∙ append-nil before) clean in
-    elim (all-or-first (stated_by (rows_of targets bytes) targets)
-    (stated_by (rows_of targets bytes) targets) [] refl) [
+    → NoFaultBefore unit targets (rows_of targets bytes) (length before)
+    → TableOrFault unit targets bytes
+decided-rows unit targets bytes short before [] whole clean =
+    let none = clean-end unit targets (rows_of targets bytes) before
+    (whole ∙ append-nil before) clean in
+    elim (all-or-first (stated_by unit (rows_of targets bytes) targets)
+    (stated_by unit (rows_of targets bytes) targets) [] refl) [
       | inl all ↦ inl (all.0, record { short = short; faultless = none; stated = all.1 })
       | inr first ↦ inr (Missing first.0, (short, none, first.1))
     ]
-decided-rows targets bytes short before (row ∷ rest) whole clean =
-    by (row_fault targets before row) refl (decided-rows targets bytes short (before
+decided-rows unit targets bytes short before (row ∷ rest) whole clean =
+    by (row_fault unit targets before row) refl (decided-rows unit targets bytes short (before
     ++ (row ∷ [])) rest)
   where
-    by : (o : Option RowKind) → row_fault targets before row ≡ o
+    by : (o : Option RowKind) → row_fault unit targets before row ≡ o
         → (rows_of targets bytes ≡ (before ++ (row ∷ [])) ++ rest
-        → NoFaultBefore targets (rows_of targets bytes) (length (before ++ (row ∷ [])))
-        → TableOrFault targets bytes) → TableOrFault targets bytes
+        → NoFaultBefore unit targets (rows_of targets bytes) (length (before ++ (row ∷ [])))
+        → TableOrFault unit targets bytes) → TableOrFault unit targets bytes
     by None e later = later (whole ∙ sym (append_assoc before (row ∷ []) rest))
-        (clean-more targets (rows_of targets bytes) before rest row whole clean e)
+        (clean-more unit targets (rows_of targets bytes) before rest row whole clean e)
     by (Some k) e later = inr (
       Row (length before + 1) k,
       (
         short,
         length before,
         refl,
-        first-here targets
+        first-here unit targets
             (rows_of targets bytes) before rest row k whole clean e,
       ),
     )
 
 -- Bytes are a table of the targets or have a fault.
-pub table-or-fault : (targets : List (List ℕ)) (bytes : List ℕ) → TableOrFault targets bytes
-table-or-fault targets bytes = elim (cases_lt LONGEST_TABLE (length bytes)) [
+pub table-or-fault : (unit : AngleUnit) (targets : List (List ℕ)) (bytes : List ℕ)
+    → TableOrFault unit targets bytes
+table-or-fault unit targets bytes = elim (cases_lt LONGEST_TABLE (length bytes)) [
   | inl long ↦ inr (TooLong, long)
-  | inr short ↦ decided-rows targets bytes short [] (rows_of targets bytes) refl
+  | inr short ↦ decided-rows unit targets bytes short [] (rows_of targets bytes) refl
       (λ earlier below. absurd (omega (arith, below)))
 ]

@@ -1,30 +1,29 @@
 -- A direction that is written plainly is read as what it writes, and has nothing loose.
-use Rattle.std.proofs.Common.{◌≡◌, ◌∙◌, ℕ, zero, suc, ◌+◌, ◌-◌, ◌*◌, ◌^◌, ◌<◌, ◌≤◌, Bool, true}
-use Rattle.std.proofs.Common.{false, List, [], ◌∷◌, ◌++◌, length, get_or, take, drop, refl, ap, sym}
-use Rattle.std.proofs.Common.{arith, length-append, ℤ, pos}
-use Rattle.std.specs.Prelude.{◌==◌, ◌&&◌, ◌||◌, not, nat_le, nat_lt, if◌then◌else◌, unwrap_or}
-use Rattle.std.specs.Prelude.{Option}
+use Rattle.std.proofs.Common.{◌≡◌, ◌∙◌, ℕ, suc, ◌+◌, ◌-◌, ◌*◌, ◌^◌, ◌≤◌, Bool, true}
+use Rattle.std.proofs.Common.{false, List, [], ◌∷◌, ◌++◌, length, get_or, take, refl, ap, sym}
+use Rattle.std.proofs.Common.{arith, ℤ, pos}
+use Rattle.std.specs.Prelude.{not, nat_le, nat_lt, if◌then◌else◌, unwrap_or}
 use Rattle.std.specs.Prelude.{Some, None}
 use Rattle.std.specs.Char.{is_ascii_digit, is_ascii_whitespace}
 use Rattle.std.specs.Int.{IsInRange}
-use Rattle.std.specs.List.{list_all, position_or_len, prefix_len, suffix_len}
+use Rattle.std.specs.List.{list_all, position_or_len, suffix_len}
 use Rattle.std.specs.Str.Parse.{digits_value}
 use Rattle.std.proofs.Math.Seq.{drop-append_seam, take-append_seam}
 use Rattle.std.proofs.lemmas.Bool.{and_from, and_parts, ltb-false, ne_eqb}
 use Rattle.std.proofs.lemmas.Bool.Decides.{nat_tests}
-use Rattle.std.proofs.lemmas.List.{append-nil, drop_all, take_all}
+use Rattle.std.proofs.lemmas.List.{drop_all, take_all}
 use Rattle.std.proofs.lemmas.List.Folds.{list_all-append}
 use Rattle.std.proofs.lemmas.List.Sums.{AllPass-from_list_all, prefix_len-le-length}
 use Rattle.std.proofs.lemmas.List.Sums.{suffix_len-take_no}
 use Rattle.direction_table.specs.FieldForms.{without_blanks, without_blanks_after}
 use Rattle.direction_table.specs.FieldForms.{without_blanks_before}
-use Rattle.direction_table.specs.Gons.{after_first, direction_value, is_direction, is_mark}
-use Rattle.direction_table.specs.Gons.{is_negative}
-use Rattle.direction_table.specs.Gons.{is_on_circle, is_size, mark_of, on_circle, signed}
+use Rattle.direction_table.specs.Directions.{direction_value, is_direction, is_on_circle, on_circle}
+use Rattle.direction_table.specs.Gons.{after_first, is_mark, is_negative, is_size, mark_of, signed}
 use Rattle.direction_table.specs.Gons.{size_value}
-use Rattle.direction_table.specs.Gons.{unsigned, fraction_value, is_fraction, is_whole}
+use Rattle.direction_table.specs.Gons.{unsigned, fraction_value, is_fraction}
 use Rattle.direction_table.specs.PlainTables.{IsPlainDirection, after_point, minus, plain_size}
-use Rattle.direction_table.proofs.Sizes.{Parts, parts-size, parts-value, size-both}
+use Rattle.direction_table.proofs.Sizes.{Parts, parts-value, size-both}
+use Rattle.direction_table.specs.declared.unit.AngleUnit.TheVariants.{Gon}
 
 -- Tests of numbers.
 pub at-most : (n most : ℕ) → n ≤ most → nat_le n most ≡ true
@@ -137,7 +136,7 @@ module _ (field : List ℕ) (direction : ℤ) (p : IsPlainDirection field direct
       ∙ ap (λ n. digits_value 10 p.whole * 10 ^ 9 + n) (counted-value p.decimals p.few)
 
   -- It has the form of a direction.
-  pub plain-form : is_direction field ≡ true
+  pub plain-form : is_direction Gon field ≡ true
   plain-form = ap is_size is-unsigned
       ∙ size-both bare p.whole (after_point p.decimals) p.decimals (length p.whole) mine
       (at-most 1 (length p.whole + length p.decimals) (omega (arith, p.some)))
@@ -145,17 +144,17 @@ module _ (field : List ℕ) (direction : ℤ) (p : IsPlainDirection field direct
       (all-counted p.decimals p.few p.decimal_digits)
 
   -- It is on the circle.
-  pub plain-range : is_on_circle field ≡ true
-  plain-range = ap (λ n. nat_le n 400000000000) size-is
-      ∙ at-most (plain_size p.whole p.decimals) 400000000000 (omega (arith, p.below))
+  pub plain-range : is_on_circle Gon field ≡ true
+  plain-range = ap (λ n. nat_le (81 * n) 32400000000000) size-is
+      ∙ at-most (81 * plain_size p.whole p.decimals) 32400000000000 (omega (arith, p.below))
 
   -- It is read as what it writes.
-  pub plain-value : direction_value field ≡ direction
+  pub plain-value : direction_value Gon field ≡ direction
   plain-value =
-      ap (λ b. on_circle b (size_value (unsigned field))) sign-is
-      ∙ ap (λ n. on_circle p.negative n) size-is
-      ∙ ap (λ b. if b then pos 0 else signed p.negative (plain_size p.whole p.decimals))
-      (ne_eqb (plain_size p.whole p.decimals) 400000000000
+      ap (λ b. on_circle b (81 * size_value (unsigned field))) sign-is
+      ∙ ap (λ n. on_circle p.negative (81 * n)) size-is
+      ∙ ap (λ b. if b then pos 0 else signed p.negative (81 * plain_size p.whole p.decimals))
+      (ne_eqb (81 * plain_size p.whole p.decimals) 32400000000000
       (λ q. absurd (omega (arith, p.below, q))))
       ∙ sym p.value
 

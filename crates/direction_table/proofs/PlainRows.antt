@@ -1,23 +1,21 @@
 -- A plain table is a table of the same targets and directions.
-use Rattle.std.proofs.Common.{◌≡◌, ◌∙◌, ℕ, zero, suc, ◌+◌, ◌<◌, ◌≤◌, Bool, true, false, List, []}
-use Rattle.std.proofs.Common.{◌∷◌, length, map, get_or, take, drop, All, ℤ, Option, Some, None}
+use Rattle.std.proofs.Common.{◌≡◌, ◌∙◌, ℕ, ◌≤◌, Bool, true, false, List, []}
+use Rattle.std.proofs.Common.{◌∷◌, length, map, get_or, take, All, ℤ, Option, Some, None}
 use Rattle.std.proofs.Common.{refl, ap, sym, subst, arith}
 use Rattle.std.specs.Prelude.{◌&&◌, if◌then◌else◌, not}
 use Rattle.std.specs.Option.{option_or}
 use Rattle.std.proofs.Math.Seq.{drop-cons}
 use Rattle.std.proofs.lemmas.List.{map-id}
 use Rattle.std.proofs.lemmas.List.Elements.{All-head, All-tail}
-use Rattle.std.proofs.lemmas.Option.{none-some}
 use Rattle.adjust_kernel.specs.Stations.{AreTargets}
 use Rattle.sheet_format.specs.Rows.{records_of}
 use Rattle.sheet_format.specs.Faults.{is_name}
 use Rattle.direction_table.specs.Faults.{HasNoFault, are_titles, direction_fault, fault_at}
 use Rattle.direction_table.specs.Faults.{fault_between, is_first, row_fault, stating_fault, unless}
 use Rattle.direction_table.specs.FieldForms.{has_name, named, tidy, without_blanks}
-use Rattle.direction_table.specs.Gons.{is_direction}
 use Rattle.direction_table.specs.PlainTables.{IsPlainRow, IsPlainTable}
-use Rattle.direction_table.specs.Rows.{beside_name, name_of}
-use Rattle.direction_table.specs.Separators.{begins_with_target, first_of, is_wide, rows_by}
+use Rattle.direction_table.specs.Rows.{name_of}
+use Rattle.direction_table.specs.Separators.{begins_with_target, first_of, rows_by}
 use Rattle.direction_table.specs.Separators.{rows_of}
 use Rattle.direction_table.specs.Separators.{separator_of}
 use Rattle.direction_table.specs.Tables.{IsTableText, stated_by}
@@ -27,6 +25,7 @@ use Rattle.direction_table.specs.declared.separator.Separator.{Separator}
 use Rattle.direction_table.specs.declared.separator.Separator.TheVariants.{Comma}
 use Rattle.direction_table.proofs.FirstRows.{comma-named, is-chosen, named_by, wide_by}
 use Rattle.direction_table.proofs.PlainDirections.{no-blanks, plain-form}
+use Rattle.direction_table.specs.declared.unit.AngleUnit.TheVariants.{Gon}
 
 -- Where the second of two faults, and the first, are none.
 both-none : (a b : Option RowKind) → option_or a b ≡ None → b ≡ None
@@ -43,22 +42,24 @@ either-none (Some k) b e = cc e
 
 -- A plain row without a fault names a target.
 known : (targets : List (List ℕ)) (before : List (List (List ℕ))) (row : List (List ℕ))
-    → IsPlainRow row → row_fault targets before row ≡ None → has_name targets (name_of row) ≡ true
+    → IsPlainRow row → row_fault Gon targets before row ≡ None → has_name targets (name_of row)
+    ≡ true
 unfolding row_fault stating_fault
 known targets before [] p e = absurd (let two = p.two in omega (arith, two))
 known targets before (a ∷ []) p e = absurd (let two = p.two in omega (arith, two))
 known targets before (a ∷ b ∷ c ∷ rest) p e = absurd (let two = p.two in omega (arith, two))
 known targets before (a ∷ b ∷ []) p e =
     let form = plain-form b p.direction p.plain in
-    let untitled : (is_first before && are_titles targets (a ∷ b ∷ [])) ≡ false =
+    let untitled : (is_first before && are_titles Gon targets (a ∷ b ∷ [])) ≡ false =
     ap (λ (d : Bool). is_first before && (true && (not (has_name targets a) && not d))) form
     ∙ none (is_first before) (has_name targets a) in
-    let stating : stating_fault targets before (a ∷ b ∷ []) ≡ None =
-    ap (λ (t : Bool). if t then None else stating_fault targets before (a ∷ b ∷ [])) (sym untitled)
+    let stating : stating_fault Gon targets before (a ∷ b ∷ []) ≡ None =
+    ap (λ (t : Bool). if t then None else stating_fault Gon targets before (a ∷ b ∷ []))
+    (sym untitled)
     ∙ e in
     let entry = either-none _ _ stating in
     met (has_name targets a) fault.Unknown
-    (both-none (direction_fault b) _ (both-none (unless (is_name a) fault.Name) _ entry))
+    (both-none (direction_fault Gon b) _ (both-none (unless (is_name a) fault.Name) _ entry))
   where
     none : (first named : Bool) → (first && (true && (not named && false))) ≡ false
     none true true = refl
@@ -67,11 +68,11 @@ known targets before (a ∷ b ∷ []) p e =
 
 -- So each row of a plain table does.
 each-known : (targets : List (List ℕ)) (rows : List (List (List ℕ))) → All IsPlainRow rows
-    → HasNoFault targets rows → All (λ row. has_name targets (name_of row) ≡ true) rows
+    → HasNoFault Gon targets rows → All (λ row. has_name targets (name_of row) ≡ true) rows
 unfolding fault_between
 each-known targets rows plain clean k d below =
-    let here : fault_at targets rows k ≡ row_fault targets (take k rows) (get_or rows k d) =
-    ap (fault_between targets (take k rows)) (drop-cons rows k d below) in
+    let here : fault_at Gon targets rows k ≡ row_fault Gon targets (take k rows) (get_or rows k d) =
+    ap (fault_between Gon targets (take k rows)) (drop-cons rows k d below) in
     known targets (take k rows) (get_or rows k d) (plain k d below) (sym here ∙ clean k)
 
 -- Such a row has nothing loose.
@@ -113,13 +114,13 @@ by-commas targets bytes e =
 
 -- Some row is there where a target's direction is stated.
 no-row : (targets : List (List ℕ)) (directions : List ℤ) → 1 ≤ length targets
-    → stated_by [] targets ≡ map Some directions → ⊥
+    → stated_by Gon [] targets ≡ map Some directions → ⊥
 no-row [] directions some e = omega (arith, some)
 no-row (target ∷ targets) [] some e = cc e
 no-row (target ∷ targets) (d ∷ ds) some e = cc e
 
 begins-rows : (targets : List (List ℕ)) (directions : List ℤ) (rows : List (List (List ℕ)))
-    → 1 ≤ length targets → stated_by rows targets ≡ map Some directions → All IsPlainRow rows
+    → 1 ≤ length targets → stated_by Gon rows targets ≡ map Some directions → All IsPlainRow rows
     → All (λ row. has_name targets (name_of row) ≡ true) rows
     → begins_with_target targets (first_of rows) ≡ true
 begins-rows targets directions [] some stated p e =
@@ -143,12 +144,12 @@ same-rows targets bytes directions ok t =
 -- A plain table is a table of the same targets and directions.
 pub plain-stands : (targets : List (List ℕ)) (bytes : List ℕ) (directions : List ℤ)
     → AreTargets targets → IsPlainTable targets bytes directions
-    → IsTableText targets bytes directions
+    → IsTableText Gon targets bytes directions
 plain-stands targets bytes directions ok t =
     let same = sym (same-rows targets bytes directions ok t) in
     record {
       short = t.short;
-      faultless = subst (HasNoFault targets) same t.faultless;
-      stated = ap (λ (rows : List (List (List ℕ))). stated_by rows targets) (sym same)
+      faultless = subst (HasNoFault Gon targets) same t.faultless;
+      stated = ap (λ (rows : List (List (List ℕ))). stated_by Gon rows targets) (sym same)
           ∙ t.stated;
     }

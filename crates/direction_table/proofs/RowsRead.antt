@@ -1,6 +1,6 @@
 -- The rows that were read: none of them has a fault, and what the next row or the end says of the
 -- whole.
-use Rattle.std.specs.Prelude.{if◌then◌else◌, ◌&&◌, not}
+use Rattle.std.specs.Prelude.{if◌then◌else◌, ◌&&◌, not, max}
 use Rattle.std.specs.Str.{bytes_eq}
 use Rattle.std.proofs.Common.{◌≡◌, ◌≢◌, ◌∙◌, ℕ, ◌≤◌, ◌+◌, All, map, get_or, Bool, true, false, List}
 use Rattle.std.proofs.Common.{[], ◌∷◌, ◌++◌, length}
@@ -19,33 +19,36 @@ use Rattle.direction_table.specs.ByteSteps.{config_with}
 use Rattle.direction_table.specs.Faults.{HasNoFault, IsFirstFaultOfTable, NoFaultBefore, fault_at}
 use Rattle.direction_table.specs.Faults.{are_titles, fault_between, is_first, row_fault}
 use Rattle.direction_table.specs.Faults.{stating_fault}
-use Rattle.direction_table.specs.FewestDecimals.{counted, fewer, fewest_decimals, row_decimals}
 use Rattle.direction_table.specs.FieldForms.{has_name, tidy}
-use Rattle.direction_table.specs.Gons.{count_of_decimals}
+use Rattle.direction_table.specs.Directions.{step_in}
 use Rattle.direction_table.specs.Rows.{beside_name, name_of}
 use Rattle.direction_table.specs.Separators.{byte_of, config_of, kept, rows_by, rows_of}
 use Rattle.direction_table.specs.Separators.{separator_of}
 use Rattle.direction_table.specs.Tables.{stated_by}
+use Rattle.direction_table.specs.UsualLimits.{limit_of_step, row_limit, usual_within}
 use Rattle.direction_table.specs.declared.separator.Separator.{Separator}
 use Rattle.direction_table.specs.declared.fault.RowKind.{RowKind}
+use Rattle.direction_table.specs.declared.unit.AngleUnit.{AngleUnit}
 
 -- The fault at the place where these rows part.
-fault_at-seam : (targets : List (List ℕ)) (before rest : List (List (List ℕ)))
-    → fault_at targets (before ++ rest) (length before) ≡ fault_between targets before rest
-fault_at-seam targets before rest =
+fault_at-seam : (unit : AngleUnit) (targets : List (List ℕ)) (before rest : List (List (List ℕ)))
+    → fault_at unit targets (before ++ rest) (length before)
+    ≡ fault_between unit targets before rest
+fault_at-seam unit targets before rest =
     rw (take-append_seam before rest, drop-append_seam before rest) refl
 
 -- Where no row before has a fault, and this one has none, none of that many has.
-pub clean-more : (targets : List (List ℕ)) (all before rest : List (List (List ℕ)))
+pub clean-more : (unit : AngleUnit) (targets : List (List ℕ))
+    (all before rest : List (List (List ℕ)))
     (row : List (List ℕ)) → all ≡ before ++ (row ∷ rest)
-    → NoFaultBefore targets all (length before) → row_fault targets before row ≡ None
-    → NoFaultBefore targets all (length (before ++ (row ∷ [])))
+    → NoFaultBefore unit targets all (length before) → row_fault unit targets before row ≡ None
+    → NoFaultBefore unit targets all (length (before ++ (row ∷ [])))
 unfolding fault_between
-clean-more targets all before rest row whole none here earlier below =
+clean-more unit targets all before rest row whole none here earlier below =
     elim (cases_Bool (earlier == length before)) [
-      | inl same ↦ ap (fault_at targets all) (eqb-true _ _ same)
-          ∙ ap (λ (rows : List (List (List ℕ))). fault_at targets rows (length before)) whole
-          ∙ fault_at-seam targets before (row ∷ rest) ∙ here
+      | inl same ↦ ap (fault_at unit targets all) (eqb-true _ _ same)
+          ∙ ap (λ (rows : List (List (List ℕ))). fault_at unit targets rows (length before)) whole
+          ∙ fault_at-seam unit targets before (row ∷ rest) ∙ here
       | inr other ↦ none earlier (let not = eqb-false _ _ other in
           omega (arith, not, below, length-append before (row ∷ [])))
     ]
@@ -77,58 +80,56 @@ ended s targets d left own none =
     ap (λ (rows : List (List (List ℕ))). map (tidy targets) (map (kept s) rows))
     (ap (λ (b : ℕ). records (config_with b) left) (sym own) ∙ none)
 
--- The fewer of two numbers, where the second is none.
-fewer-none : (a : Option ℕ) → fewer a None ≡ a
-fewer-none None = refl
-fewer-none (Some a) = refl
+-- The usual limit is 10 at least.
+usual-some : (unit : AngleUnit) (rows : List (List (List ℕ))) → 10 ≤ usual_within unit rows
+usual-some unit [] = omega arith
+usual-some unit (row ∷ rows) =
+    let rest = usual-some unit rows in
+    omega (arith, rest)
 
-fewer-assoc : (a b c : Option ℕ) → fewer (fewer a b) c ≡ fewer a (fewer b c)
-fewer-assoc None b c = refl
-fewer-assoc (Some a) None c = refl
-fewer-assoc (Some a) (Some b) None = refl
-fewer-assoc (Some a) (Some b) (Some c) = ap (λ (n : ℕ). Some n) (omega arith)
-
--- The fewest decimals with one more row.
-fewest-more : (before : List (List (List ℕ))) (row : List (List ℕ))
-    → fewest_decimals (before ++ (row ∷ [])) ≡ fewer (fewest_decimals before) (row_decimals row)
-fewest-more [] row = fewer-none (row_decimals row)
-fewest-more (first ∷ before) row =
-    ap (fewer (row_decimals first)) (fewest-more before row)
-    ∙ sym (fewer-assoc (row_decimals first) (fewest_decimals before) (row_decimals row))
+-- The usual limit with one more row.
+usual-more : (unit : AngleUnit) (before : List (List (List ℕ))) (row : List (List ℕ))
+    → usual_within unit (before ++ (row ∷ [])) ≡ max (usual_within unit before) (row_limit unit row)
+usual-more unit [] row = omega arith
+usual-more unit (first ∷ before) row =
+    let rest = usual-more unit before row in
+    omega (arith, rest)
 
 -- So many rows were read, none of which has a fault, and these are left.
-pub record HasRead (targets : List (List ℕ)) (all : List (List (List ℕ)))
-    (stated : List (Option ℤ)) (decimals : Option ℕ) (number : ℕ)
+pub record HasRead (unit : AngleUnit) (targets : List (List ℕ)) (all : List (List (List ℕ)))
+    (stated : List (Option ℤ)) (limit number : ℕ)
     (rest : List (List (List ℕ))) : Type 0 where
   pub before : List (List (List ℕ))
   pub whole : all ≡ before ++ rest
   pub count : number ≡ length before
-  pub clean : NoFaultBefore targets all (length before)
-  pub each : stated ≡ stated_by before targets
-  pub fewest : decimals ≡ fewest_decimals before
+  pub clean : NoFaultBefore unit targets all (length before)
+  pub each : stated ≡ stated_by unit before targets
+  pub usual : limit ≡ usual_within unit before
 
 -- The next record is the row that stands first of those that are left.
-pub row-first : (s : Separator) (targets : List (List ℕ)) (d e : ℕ) (before after : List ℕ)
+pub row-first : (unit : AngleUnit) (s : Separator) (targets : List (List ℕ)) (d e : ℕ)
+    (before after : List ℕ)
     (raw fields : List (List ℕ)) (all : List (List (List ℕ))) (stated : List (Option ℤ))
-    (decimals : Option ℕ) (number : ℕ) → d ≡ byte_of s → e ≡ d → fields ≡ kept s raw
+    (limit number : ℕ) → d ≡ byte_of s → e ≡ d → fields ≡ kept s raw
     → records (config_with d) before ≡ raw ∷ records (config_with e) after
-    → HasRead targets all stated decimals number (rows_left s targets before)
-    → HasRead targets all stated decimals number (tidy targets fields ∷ rows_left s targets after)
-row-first s targets d e before after raw fields all stated decimals number own same counts next =
-    subst (HasRead targets all stated decimals number)
+    → HasRead unit targets all stated limit number (rows_left s targets before)
+    → HasRead unit targets all stated limit number (tidy targets fields ∷ rows_left s targets after)
+row-first unit s targets d e before after raw fields all stated limit number own same counts next =
+    subst (HasRead unit targets all stated limit number)
     (left-more s targets d e before after raw own same next
     ∙ ap (λ (fs : List (List ℕ)). tidy targets fs ∷ rows_left s targets after) (sym counts))
 
 -- Before the first row none was read, and all are left.
-pub read-begin : (targets : List (List ℕ)) (all : List (List (List ℕ))) (stated : List (Option ℤ))
-    → stated ≡ stated_by [] targets → HasRead targets all stated None 0 all
-read-begin targets all stated none = record {
+pub read-begin : (unit : AngleUnit) (targets : List (List ℕ)) (all : List (List (List ℕ)))
+    (stated : List (Option ℤ))
+    → stated ≡ stated_by unit [] targets → HasRead unit targets all stated 10 0 all
+read-begin unit targets all stated none = record {
   before = [];
   whole = refl;
   count = refl;
   clean = λ earlier below. absurd (omega (arith, below));
   each = none;
-  fewest = refl;
+  usual = refl;
 }
 
 -- Whether no row is before, by their number.
@@ -138,40 +139,45 @@ first-number number [] e = eq-eqb (number + 1) 1 (omega (arith, e))
 first-number number (row ∷ rows) e = ne_eqb (number + 1) 1 (λ same. absurd (omega (arith, e, same)))
 
 -- A row of titles in the first place has no fault, and any other that of what it states.
-titles-fault : (targets : List (List ℕ)) (before : List (List (List ℕ))) (row : List (List ℕ))
-    → (is_first before && are_titles targets row) ≡ true → row_fault targets before row ≡ None
+titles-fault : (unit : AngleUnit) (targets : List (List ℕ)) (before : List (List (List ℕ)))
+    (row : List (List ℕ))
+    → (is_first before && are_titles unit targets row) ≡ true → row_fault unit targets before row
+    ≡ None
 unfolding row_fault
-titles-fault targets before row e =
-    ap (λ (b : Bool). if b then None else stating_fault targets before row) e
+titles-fault unit targets before row e =
+    ap (λ (b : Bool). if b then None else stating_fault unit targets before row) e
 
-other-fault : (targets : List (List ℕ)) (before : List (List (List ℕ))) (row : List (List ℕ))
-    → (is_first before && are_titles targets row) ≡ false
-    → row_fault targets before row ≡ stating_fault targets before row
+other-fault : (unit : AngleUnit) (targets : List (List ℕ)) (before : List (List (List ℕ)))
+    (row : List (List ℕ))
+    → (is_first before && are_titles unit targets row) ≡ false
+    → row_fault unit targets before row ≡ stating_fault unit targets before row
 unfolding row_fault
-other-fault targets before row e =
-    ap (λ (b : Bool). if b then None else stating_fault targets before row) e
+other-fault unit targets before row e =
+    ap (λ (b : Bool). if b then None else stating_fault unit targets before row) e
 
 -- Whether the next row is one of titles, by its number.
-by-number : (targets : List (List ℕ)) (number : ℕ) (before : List (List (List ℕ)))
+by-number : (unit : AngleUnit) (targets : List (List ℕ)) (number : ℕ)
+    (before : List (List (List ℕ)))
     (row : List (List ℕ)) (titled : Bool) → number ≡ length before
-    → titled ≡ ((number + 1 == 1) && are_titles targets row)
-    → (is_first before && are_titles targets row) ≡ titled
-by-number targets number before row titled count e =
-    ap (λ (b : Bool). b && are_titles targets row) (sym (first-number number before count)) ∙ sym e
+    → titled ≡ ((number + 1 == 1) && are_titles unit targets row)
+    → (is_first before && are_titles unit targets row) ≡ titled
+by-number unit targets number before row titled count e =
+    ap (λ (b : Bool). b && are_titles unit targets row) (sym (first-number number before count))
+    ∙ sym e
 
 -- A row that names none of these targets states nothing of them.
-states-none : (row : List (List ℕ)) (names : List (List ℕ))
+states-none : (unit : AngleUnit) (row : List (List ℕ)) (names : List (List ℕ))
     → All (λ name. name_of row ≢ name) names
-    → stated_by (row ∷ []) names ≡ stated_by [] names
-states-none row [] others = refl
-states-none row (name ∷ names) others =
+    → stated_by unit (row ∷ []) names ≡ stated_by unit [] names
+states-none unit row [] others = refl
+states-none unit row (name ∷ names) others =
     let differ : bytes_eq (name_of row) name ≡ false =
     false_from_ne_true (bytes_eq (name_of row) name)
     (λ same. All-head (λ other. name_of row ≢ other) name names others
     ((bytes_eq-Decides (name_of row) name).0 same)) in
     rw (
       differ,
-      states-none row names (All-tail
+      states-none unit row names (All-tail
           (λ other. name_of row ≢ other) name names others),
     ) refl
 
@@ -195,98 +201,106 @@ only-first true true e = (refl, refl)
 only-first true false e = cc e
 only-first false titles e = cc e
 
-titles-state : (targets : List (List ℕ)) (before : List (List (List ℕ))) (row : List (List ℕ))
-    → (is_first before && are_titles targets row) ≡ true
-    → stated_by (before ++ (row ∷ [])) targets ≡ stated_by before targets
-titles-state targets [] row e =
-    states-none row targets (no-target targets (name_of row)
+titles-state : (unit : AngleUnit) (targets : List (List ℕ)) (before : List (List (List ℕ)))
+    (row : List (List ℕ))
+    → (is_first before && are_titles unit targets row) ≡ true
+    → stated_by unit (before ++ (row ∷ [])) targets ≡ stated_by unit before targets
+titles-state unit targets [] row e =
+    states-none unit row targets (no-target targets (name_of row)
     (titles-apart _ _ _ e).0)
-titles-state targets (first ∷ before) row e = cc e
+titles-state unit targets (first ∷ before) row e = cc e
 
-titles-decimals : (targets : List (List ℕ)) (before : List (List (List ℕ))) (row : List (List ℕ))
-    → (is_first before && are_titles targets row) ≡ true → row_decimals row ≡ None
-titles-decimals targets before row e =
-    ap (λ (b : Bool). if b then counted (count_of_decimals (beside_name row)) else None)
-    (titles-apart _ _ _ (only-first (is_first before) (are_titles targets row) e).1).1
+titles-limit : (unit : AngleUnit) (targets : List (List ℕ)) (before : List (List (List ℕ)))
+    (row : List (List ℕ)) → (is_first before && are_titles unit targets row) ≡ true
+    → row_limit unit row ≡ 0
+titles-limit unit targets before row e =
+    ap (λ (b : Bool). if b then limit_of_step (step_in unit (beside_name row)) else 0)
+    (titles-apart _ _ _ (only-first (is_first before) (are_titles unit targets row) e).1).1
 
 -- A row of titles is read, and those after it are left.
-pub read-titles : (targets : List (List ℕ)) (all : List (List (List ℕ)))
-    (stated : List (Option ℤ)) (decimals : Option ℕ) (number : ℕ) (row : List (List ℕ))
-    (rest : List (List (List ℕ))) → HasRead targets all stated decimals number (row ∷ rest)
-    → ((number + 1 == 1) && are_titles targets row) ≡ true
-    → HasRead targets all stated decimals (number + 1) rest
-read-titles targets all stated decimals number row rest read titled =
-    let here = by-number targets number read.before row true read.count (sym titled) in
+pub read-titles : (unit : AngleUnit) (targets : List (List ℕ)) (all : List (List (List ℕ)))
+    (stated : List (Option ℤ)) (limit number : ℕ) (row : List (List ℕ))
+    (rest : List (List (List ℕ))) → HasRead unit targets all stated limit number (row ∷ rest)
+    → ((number + 1 == 1) && are_titles unit targets row) ≡ true
+    → HasRead unit targets all stated limit (number + 1) rest
+read-titles unit targets all stated limit number row rest read titled =
+    let here = by-number unit targets number read.before row true read.count (sym titled) in
     record {
       before = read.before ++ (row ∷ []);
       whole = read.whole ∙ sym (append_assoc read.before (row ∷ []) rest);
       count = omega (arith, read.count, length-append read.before (row ∷ []));
-      clean = clean-more targets all read.before rest row read.whole read.clean
-          (titles-fault targets read.before row here);
-      each = read.each ∙ sym (titles-state targets read.before row here);
-      fewest = read.fewest ∙ sym (fewer-none (fewest_decimals read.before))
-          ∙ ap (fewer (fewest_decimals read.before)) (sym
-          (titles-decimals targets read.before row here))
-          ∙ sym (fewest-more read.before row);
+      clean = clean-more unit targets all read.before rest row read.whole read.clean
+          (titles-fault unit targets read.before row here);
+      each = read.each ∙ sym (titles-state unit targets read.before row here);
+      usual =
+          (let none = titles-limit unit targets read.before row here in
+          let more = usual-more unit read.before row in
+          let is = read.usual in
+          omega (arith, none, more, is));
     }
 
 -- A row without a fault is read, and those after it are left.
-pub read-more : (targets : List (List ℕ)) (all : List (List (List ℕ)))
-    (stated next : List (Option ℤ)) (decimals few : Option ℕ) (number written : ℕ)
+pub read-more : (unit : AngleUnit) (targets : List (List ℕ)) (all : List (List (List ℕ)))
+    (stated next : List (Option ℤ)) (limit larger number own : ℕ)
     (row : List (List ℕ)) (rest : List (List (List ℕ)))
-    → HasRead targets all stated decimals number (row ∷ rest)
-    → ((number + 1 == 1) && are_titles targets row) ≡ false
-    → ((before : List (List (List ℕ))) → stated ≡ stated_by before targets
-    → stating_fault targets before row ≡ None)
-    → ((before : List (List (List ℕ))) → stated ≡ stated_by before targets
-    → next ≡ stated_by (before ++ (row ∷ [])) targets)
-    → row_decimals row ≡ counted written → few ≡ fewer decimals (counted written)
-    → HasRead targets all next few (number + 1) rest
-read-more targets all stated next decimals few number written row rest read other none more own is =
-    let here = by-number targets number read.before row false read.count (sym other) in
+    → HasRead unit targets all stated limit number (row ∷ rest)
+    → ((number + 1 == 1) && are_titles unit targets row) ≡ false
+    → ((before : List (List (List ℕ))) → stated ≡ stated_by unit before targets
+    → stating_fault unit targets before row ≡ None)
+    → ((before : List (List (List ℕ))) → stated ≡ stated_by unit before targets
+    → next ≡ stated_by unit (before ++ (row ∷ [])) targets)
+    → own ≡ row_limit unit row → larger ≡ max limit own
+    → HasRead unit targets all next larger (number + 1) rest
+read-more unit targets all stated next limit larger number own row rest read other none more rows is
+    =
+    let here = by-number unit targets number read.before row false read.count (sym other) in
     record {
       before = read.before ++ (row ∷ []);
       whole = read.whole ∙ sym (append_assoc read.before (row ∷ []) rest);
       count = omega (arith, read.count, length-append read.before (row ∷ []));
-      clean = clean-more targets all read.before rest row read.whole read.clean
-          (other-fault targets read.before row here ∙ none read.before read.each);
+      clean = clean-more unit targets all read.before rest row read.whole read.clean
+          (other-fault unit targets read.before row here ∙ none read.before read.each);
       each = more read.before read.each;
-      fewest = is ∙ ap (λ (o : Option ℕ). fewer o (counted written)) read.fewest
-          ∙ ap (fewer (fewest_decimals read.before)) (sym own)
-          ∙ sym (fewest-more read.before row);
+      usual =
+          (let most = usual-more unit read.before row in
+          let before = read.usual in
+          omega (arith, most, before, rows, is));
     }
 
 -- Where no row before has a fault, and this one has, it is the first of the table.
-pub first-here : (targets : List (List ℕ)) (all before rest : List (List (List ℕ)))
+pub first-here : (unit : AngleUnit) (targets : List (List ℕ))
+    (all before rest : List (List (List ℕ)))
     (row : List (List ℕ)) (k : RowKind) → all ≡ before ++ (row ∷ rest)
-    → NoFaultBefore targets all (length before) → row_fault targets before row ≡ Some k
-    → IsFirstFaultOfTable targets all (length before) k
+    → NoFaultBefore unit targets all (length before) → row_fault unit targets before row ≡ Some k
+    → IsFirstFaultOfTable unit targets all (length before) k
 unfolding fault_between
-first-here targets all before rest row k whole clean found = record {
-  here = ap (λ (rows : List (List (List ℕ))). fault_at targets rows (length before)) whole
-      ∙ fault_at-seam targets before (row ∷ rest) ∙ found;
+first-here unit targets all before rest row k whole clean found = record {
+  here = ap (λ (rows : List (List (List ℕ))). fault_at unit targets rows (length before)) whole
+      ∙ fault_at-seam unit targets before (row ∷ rest) ∙ found;
   before = clean;
 }
 
 -- The fault of the next row is the first of the table, at the number of the rows before it.
-pub read-fault : (targets : List (List ℕ)) (all : List (List (List ℕ))) (stated : List (Option ℤ))
-    (decimals : Option ℕ) (number : ℕ) (row : List (List ℕ)) (rest : List (List (List ℕ)))
-    (k : RowKind) → HasRead targets all stated decimals number (row ∷ rest)
-    → ((number + 1 == 1) && are_titles targets row) ≡ false
-    → ((before : List (List (List ℕ))) → stated ≡ stated_by before targets
-    → stating_fault targets before row ≡ Some k)
-    → IsFirstFaultOfTable targets all number k
-read-fault targets all stated decimals number row rest k read other found =
-    let here = by-number targets number read.before row false read.count (sym other) in
-    subst (λ (n : ℕ). IsFirstFaultOfTable targets all n k) (sym read.count)
-    (first-here targets all read.before rest row k read.whole read.clean
-    (other-fault targets read.before row here ∙ found read.before read.each))
+pub read-fault : (unit : AngleUnit) (targets : List (List ℕ)) (all : List (List (List ℕ)))
+    (stated : List (Option ℤ))
+    (limit number : ℕ) (row : List (List ℕ)) (rest : List (List (List ℕ)))
+    (k : RowKind) → HasRead unit targets all stated limit number (row ∷ rest)
+    → ((number + 1 == 1) && are_titles unit targets row) ≡ false
+    → ((before : List (List (List ℕ))) → stated ≡ stated_by unit before targets
+    → stating_fault unit targets before row ≡ Some k)
+    → IsFirstFaultOfTable unit targets all number k
+read-fault unit targets all stated limit number row rest k read other found =
+    let here = by-number unit targets number read.before row false read.count (sym other) in
+    subst (λ (n : ℕ). IsFirstFaultOfTable unit targets all n k) (sym read.count)
+    (first-here unit targets all read.before rest row k read.whole read.clean
+    (other-fault unit targets read.before row here ∙ found read.before read.each))
 
 -- Where no row before the end has a fault, no row has.
-pub clean-end : (targets : List (List ℕ)) (all before : List (List (List ℕ))) → all ≡ before
-    → NoFaultBefore targets all (length before) → HasNoFault targets all
+pub clean-end : (unit : AngleUnit) (targets : List (List ℕ)) (all before : List (List (List ℕ)))
+    → all ≡ before
+    → NoFaultBefore unit targets all (length before) → HasNoFault unit targets all
 unfolding fault_between
-clean-end targets all before whole none place = elim (cases_lt place (length before)) [
+clean-end unit targets all before whole none place = elim (cases_lt place (length before)) [
   | inl inside ↦ none place inside
   | inr past ↦ let long : length all ≤ place =
       omega (arith, past, ap (λ (rows : List (List (List ℕ))). length rows) whole) in
@@ -294,26 +308,29 @@ clean-end targets all before whole none place = elim (cases_lt place (length bef
 ]
 
 -- Where no row is left, none has a fault.
-pub read-clean : (targets : List (List ℕ)) (all : List (List (List ℕ))) (stated : List (Option ℤ))
-    (decimals : Option ℕ) (number : ℕ) → HasRead targets all stated decimals number []
-    → HasNoFault targets all
-read-clean targets all stated decimals number read = clean-end targets all read.before (read.whole
+pub read-clean : (unit : AngleUnit) (targets : List (List ℕ)) (all : List (List (List ℕ)))
+    (stated : List (Option ℤ))
+    (limit number : ℕ) → HasRead unit targets all stated limit number []
+    → HasNoFault unit targets all
+read-clean unit targets all stated limit number read = clean-end unit targets all read.before
+    (read.whole
     ∙ append-nil read.before) read.clean
 
 -- Where no row is left, what is stated is what all rows state of the targets.
-pub read-each : (targets : List (List ℕ)) (all : List (List (List ℕ))) (stated : List (Option ℤ))
-    (decimals : Option ℕ) (number : ℕ) → HasRead targets all stated decimals number []
-    → stated ≡ stated_by all targets
-read-each targets all stated decimals number read = read.each
-    ∙ ap (λ (rows : List (List (List ℕ))). stated_by rows targets) (sym (read.whole
+pub read-each : (unit : AngleUnit) (targets : List (List ℕ)) (all : List (List (List ℕ)))
+    (stated : List (Option ℤ))
+    (limit number : ℕ) → HasRead unit targets all stated limit number []
+    → stated ≡ stated_by unit all targets
+read-each unit targets all stated limit number read = read.each
+    ∙ ap (λ (rows : List (List (List ℕ))). stated_by unit rows targets) (sym (read.whole
     ∙ append-nil read.before))
 
--- And the fewest decimals are those of all rows.
-pub read-decimals : (targets : List (List ℕ)) (all : List (List (List ℕ)))
-    (stated : List (Option ℤ)) (decimals : Option ℕ) (number : ℕ)
-    → HasRead targets all stated decimals number [] → decimals ≡ fewest_decimals all
-read-decimals targets all stated decimals number read = read.fewest
-    ∙ ap fewest_decimals (sym (read.whole ∙ append-nil read.before))
+-- And the limit is that of all rows.
+pub read-usual : (unit : AngleUnit) (targets : List (List ℕ)) (all : List (List (List ℕ)))
+    (stated : List (Option ℤ)) (limit number : ℕ)
+    → HasRead unit targets all stated limit number [] → limit ≡ usual_within unit all
+read-usual unit targets all stated limit number read = read.usual
+    ∙ ap (usual_within unit) (sym (read.whole ∙ append-nil read.before))
 
 -- Without a byte order mark a text is no longer.
 pub strip-short : (bytes : List ℕ) → length (strip_bom bytes) ≤ length bytes
@@ -334,11 +351,13 @@ written-back xs new n size same =
     ap (λ (k : ℕ). take k (new ++ drop (length new) xs)) (size ∙ sym same)
     ∙ take-append_seam new (drop (length new) xs)
 
-none-each : (targets : List (List ℕ)) → replicate (length targets) None ≡ stated_by [] targets
-none-each [] = refl
-none-each (target ∷ targets) = ap (λ (rest : List (Option ℤ)). None ∷ rest) (none-each targets)
+none-each : (unit : AngleUnit) (targets : List (List ℕ)) → replicate (length targets) None
+    ≡ stated_by unit [] targets
+none-each unit [] = refl
+none-each unit (target ∷ targets) = ap (λ (rest : List (Option ℤ)). None ∷ rest)
+    (none-each unit targets)
 
 -- Before any row nothing is stated.
-pub nothing-stated : (targets : List (List ℕ)) (stated : List (Option ℤ))
-    → stated ≡ replicate (length targets) None → stated ≡ stated_by [] targets
-nothing-stated targets stated e = e ∙ none-each targets
+pub nothing-stated : (unit : AngleUnit) (targets : List (List ℕ)) (stated : List (Option ℤ))
+    → stated ≡ replicate (length targets) None → stated ≡ stated_by unit [] targets
+nothing-stated unit targets stated e = e ∙ none-each unit targets

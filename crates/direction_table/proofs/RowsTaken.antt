@@ -11,66 +11,73 @@ use Rattle.std.proofs.lemmas.List.{ext_get_or, get_or-map, length-map}
 use Rattle.std.proofs.lemmas.Slice.Eq.{bytes_eq-Decides}
 use Rattle.adjust_kernel.specs.Stations.{AreTargets}
 use Rattle.direction_table.specs.Faults.{columns_fault, entry_fault, stating_fault, unless}
-use Rattle.direction_table.specs.FewestDecimals.{counted, row_decimals}
-use Rattle.direction_table.specs.Gons.{count_of_decimals, direction_value, is_direction}
+use Rattle.direction_table.specs.Directions.{direction_value, is_direction, step_in}
 use Rattle.direction_table.specs.Rows.{Fields, beside_name, columns_of, direction_in}
 use Rattle.direction_table.specs.Rows.{name_of}
 use Rattle.direction_table.specs.FieldForms.{has_name}
+use Rattle.direction_table.specs.UsualLimits.{limit_of_step, row_limit}
 use Rattle.direction_table.specs.declared.fault.RowKind.{RowKind}
 use Rattle.direction_table.specs.declared.fault.RowKind.TheVariants as fault
 use Rattle.direction_table.proofs.TwoColumns.{direction-column, name-column}
+use Rattle.direction_table.specs.declared.unit.AngleUnit.{AngleUnit}
 
 -- Where the rows state a direction of a name, one of them has the name.
-earlier-some : (rows : List (List (List ℕ))) (name : List ℕ) (v : ℤ)
-    → direction_in rows name ≡ Some v → has_name (map name_of rows) name ≡ true
-earlier-some [] name v e = cc e
-earlier-some (row ∷ rows) name v e = by (bytes_eq (name_of row) name) e (earlier-some rows name v)
+earlier-some : (unit : AngleUnit) (rows : List (List (List ℕ))) (name : List ℕ) (v : ℤ)
+    → direction_in unit rows name ≡ Some v → has_name (map name_of rows) name ≡ true
+earlier-some unit [] name v e = cc e
+earlier-some unit (row ∷ rows) name v e = by (bytes_eq (name_of row) name) e
+    (earlier-some unit rows name v)
   where
     by : (b : Bool)
-        → (if b then Some (direction_value (beside_name row)) else direction_in rows name) ≡ Some v
-        → (direction_in rows name ≡ Some v → has_name (map name_of rows) name ≡ true)
+        → (if b then Some (direction_value unit (beside_name row)) else direction_in unit rows name)
+        ≡ Some v
+        → (direction_in unit rows name ≡ Some v → has_name (map name_of rows) name ≡ true)
         → (b || has_name (map name_of rows) name) ≡ true
     by true q later = refl
     by false q later = later q
 
 -- Where the rows state no direction of a name, none of them has the name.
-earlier-none : (rows : List (List (List ℕ))) (name : List ℕ) → direction_in rows name ≡ None
+earlier-none : (unit : AngleUnit) (rows : List (List (List ℕ))) (name : List ℕ)
+    → direction_in unit rows name ≡ None
     → has_name (map name_of rows) name ≡ false
-earlier-none [] name e = refl
-earlier-none (row ∷ rows) name e = by (bytes_eq (name_of row) name) e (earlier-none rows name)
+earlier-none unit [] name e = refl
+earlier-none unit (row ∷ rows) name e = by (bytes_eq (name_of row) name) e
+    (earlier-none unit rows name)
   where
     by : (b : Bool)
-        → (if b then Some (direction_value (beside_name row)) else direction_in rows name) ≡ None
-        → (direction_in rows name ≡ None → has_name (map name_of rows) name ≡ false)
+        → (if b then Some (direction_value unit (beside_name row)) else direction_in unit rows name)
+        ≡ None
+        → (direction_in unit rows name ≡ None → has_name (map name_of rows) name ≡ false)
         → (b || has_name (map name_of rows) name) ≡ false
     by true q later = cc q
     by false q later = later q
 
 -- A row states nothing of other names.
-more-other : (rows : List (List (List ℕ))) (row : List (List ℕ)) (name : List ℕ)
-    → bytes_eq (name_of row) name ≡ false → direction_in (rows ++ (row ∷ [])) name
-    ≡ direction_in rows name
-more-other [] row name e = ap (λ (b : Bool). if b then Some
-    (direction_value (beside_name row)) else None) e
-more-other (first ∷ rows) row name e = ap (λ (o : Option ℤ). if bytes_eq
-    (name_of first) name then Some (direction_value (beside_name first)) else o)
-    (more-other rows row name e)
+more-other : (unit : AngleUnit) (rows : List (List (List ℕ))) (row : List (List ℕ)) (name : List ℕ)
+    → bytes_eq (name_of row) name ≡ false → direction_in unit (rows ++ (row ∷ [])) name
+    ≡ direction_in unit rows name
+more-other unit [] row name e = ap (λ (b : Bool). if b then Some
+    (direction_value unit (beside_name row)) else None) e
+more-other unit (first ∷ rows) row name e = ap (λ (o : Option ℤ). if bytes_eq
+    (name_of first) name then Some (direction_value unit (beside_name first)) else o)
+    (more-other unit rows row name e)
 
 -- A row states its own direction of its name, where no row before has that name.
-more-same : (rows : List (List (List ℕ))) (row : List (List ℕ)) (name : List ℕ)
-    → bytes_eq (name_of row) name ≡ true → direction_in rows name ≡ None
-    → direction_in (rows ++ (row ∷ [])) name ≡ Some (direction_value (beside_name row))
-more-same [] row name e none = ap (λ (b : Bool). if b then Some
-    (direction_value (beside_name row)) else None) e
-more-same (first ∷ rows) row name e none = by (bytes_eq (name_of first) name) none
-    (more-same rows row name e)
+more-same : (unit : AngleUnit) (rows : List (List (List ℕ))) (row : List (List ℕ)) (name : List ℕ)
+    → bytes_eq (name_of row) name ≡ true → direction_in unit rows name ≡ None
+    → direction_in unit (rows ++ (row ∷ [])) name ≡ Some (direction_value unit (beside_name row))
+more-same unit [] row name e none = ap (λ (b : Bool). if b then Some
+    (direction_value unit (beside_name row)) else None) e
+more-same unit (first ∷ rows) row name e none = by (bytes_eq (name_of first) name) none
+    (more-same unit rows row name e)
   where
     by : (b : Bool)
-        → (if b then Some (direction_value (beside_name first)) else direction_in rows name) ≡ None
-        → (direction_in rows name ≡ None → direction_in (rows ++ (row ∷ [])) name
-        ≡ Some (direction_value (beside_name row)))
-        → (if b then Some (direction_value (beside_name first)) else direction_in (rows
-        ++ (row ∷ [])) name) ≡ Some (direction_value (beside_name row))
+        → (if b then Some (direction_value unit (beside_name first)) else direction_in unit rows
+        name) ≡ None
+        → (direction_in unit rows name ≡ None → direction_in unit (rows ++ (row ∷ [])) name
+        ≡ Some (direction_value unit (beside_name row)))
+        → (if b then Some (direction_value unit (beside_name first)) else direction_in unit (rows
+        ++ (row ∷ [])) name) ≡ Some (direction_value unit (beside_name row))
     by true q later = cc q
     by false q later = later q
 
@@ -82,53 +89,60 @@ pub record Taken (targets : List (List ℕ)) (row : List (List ℕ)) (place : �
   pub name : get_or targets place [] ≡ c.name
 
 -- What is kept at the place is what the rows before state of the row's name.
-pub kept : (targets : List (List ℕ)) (before : List (List (List ℕ))) (directions : List (Option ℤ))
+pub kept : (unit : AngleUnit) (targets : List (List ℕ)) (before : List (List (List ℕ)))
+    (directions : List (Option ℤ))
     (row : List (List ℕ)) (place : ℕ) (c : Fields) (d : Option ℤ)
-    → Taken targets row place c → directions ≡ map (direction_in before) targets
-    → get_or directions place d ≡ direction_in before c.name
-kept targets before directions row place c d t same =
+    → Taken targets row place c → directions ≡ map (direction_in unit before) targets
+    → get_or directions place d ≡ direction_in unit before c.name
+kept unit targets before directions row place c d t same =
     ap (λ (all : List (Option ℤ)). get_or all place d) same
-    ∙ get_or-map (direction_in before) targets place [] d t.inside
-    ∙ ap (direction_in before) t.name
+    ∙ get_or-map (direction_in unit before) targets place [] d t.inside
+    ∙ ap (direction_in unit before) t.name
 
 -- A row that is right in itself, but whose name a row before has, is the second of one target.
-pub twice : (targets : List (List ℕ)) (before : List (List (List ℕ))) (row : List (List ℕ))
+pub twice : (unit : AngleUnit) (targets : List (List ℕ)) (before : List (List (List ℕ)))
+    (row : List (List ℕ))
     (place : ℕ) (c : Fields) (v : ℤ)
-    → Taken targets row place c → entry_fault targets c ≡ None
-    → direction_in before c.name ≡ Some v → stating_fault targets before row ≡ Some fault.Twice
+    → Taken targets row place c → entry_fault unit targets c ≡ None
+    → direction_in unit before c.name ≡ Some v → stating_fault unit targets before row
+    ≡ Some fault.Twice
 unfolding stating_fault
-twice targets before row place c v t clean there =
-    ap (columns_fault targets (map name_of before)) t.columns
+twice unit targets before row place c v t clean there =
+    ap (columns_fault unit targets (map name_of before)) t.columns
     ∙ ap (λ (o : Option RowKind). option_or o
     (unless (not (has_name (map name_of before) c.name)) fault.Twice)) clean
-    ∙ ap (λ (b : Bool). unless (not b) fault.Twice) (earlier-some before c.name v there)
+    ∙ ap (λ (b : Bool). unless (not b) fault.Twice) (earlier-some unit before c.name v there)
 
 -- A row that is right in itself and whose name no row before has is without a fault.
-pub faultless : (targets : List (List ℕ)) (before : List (List (List ℕ))) (row : List (List ℕ))
+pub faultless : (unit : AngleUnit) (targets : List (List ℕ)) (before : List (List (List ℕ)))
+    (row : List (List ℕ))
     (place : ℕ) (c : Fields)
-    → Taken targets row place c → entry_fault targets c ≡ None → direction_in before c.name ≡ None
-    → stating_fault targets before row ≡ None
+    → Taken targets row place c → entry_fault unit targets c ≡ None
+    → direction_in unit before c.name ≡ None
+    → stating_fault unit targets before row ≡ None
 unfolding stating_fault
-faultless targets before row place c t clean none =
-    ap (columns_fault targets (map name_of before)) t.columns
+faultless unit targets before row place c t clean none =
+    ap (columns_fault unit targets (map name_of before)) t.columns
     ∙ ap (λ (o : Option RowKind). option_or o
     (unless (not (has_name (map name_of before) c.name)) fault.Twice)) clean
-    ∙ ap (λ (b : Bool). unless (not b) fault.Twice) (earlier-none before c.name none)
+    ∙ ap (λ (b : Bool). unless (not b) fault.Twice) (earlier-none unit before c.name none)
 
 -- A row that has not two columns has that fault.
-pub columns-refused : (targets : List (List ℕ)) (before : List (List (List ℕ)))
+pub columns-refused : (unit : AngleUnit) (targets : List (List ℕ)) (before : List (List (List ℕ)))
     (row : List (List ℕ)) → columns_of row ≡ None
-    → stating_fault targets before row ≡ Some fault.Fields
+    → stating_fault unit targets before row ≡ Some fault.Fields
 unfolding stating_fault
-columns-refused targets before row none = ap (columns_fault targets (map name_of before)) none
+columns-refused unit targets before row none = ap
+    (columns_fault unit targets (map name_of before)) none
 
 -- The fault of a row's columns in themselves is the fault of the row.
-pub entry-refused : (targets : List (List ℕ)) (before : List (List (List ℕ))) (row : List (List ℕ))
-    (c : Fields) (k : RowKind) → columns_of row ≡ Some c → entry_fault targets c ≡ Some k
-    → stating_fault targets before row ≡ Some k
+pub entry-refused : (unit : AngleUnit) (targets : List (List ℕ)) (before : List (List (List ℕ)))
+    (row : List (List ℕ))
+    (c : Fields) (k : RowKind) → columns_of row ≡ Some c → entry_fault unit targets c ≡ Some k
+    → stating_fault unit targets before row ≡ Some k
 unfolding stating_fault
-entry-refused targets before row c k columns found =
-    ap (columns_fault targets (map name_of before)) columns
+entry-refused unit targets before row c k columns found =
+    ap (columns_fault unit targets (map name_of before)) columns
     ∙ ap (λ (o : Option RowKind). option_or o
     (unless (not (has_name (map name_of before) c.name)) fault.Twice)) found
 
@@ -141,51 +155,51 @@ other-name targets i place ok inside at other same = elim (cases_lt i place) [
 ]
 
 -- A row's direction, put at the place of its target, makes what the rows with that one state.
-pub taken : (targets : List (List ℕ)) (before : List (List (List ℕ)))
+pub taken : (unit : AngleUnit) (targets : List (List ℕ)) (before : List (List (List ℕ)))
     (directions : List (Option ℤ)) (row : List (List ℕ)) (place : ℕ) (c : Fields) (v : ℤ)
     → AreTargets targets → Taken targets row place c
-    → directions ≡ map (direction_in before) targets → direction_in before c.name ≡ None
-    → v ≡ direction_value c.direction
-    → slice_set directions place (Some v) ≡ map (direction_in (before ++ (row ∷ []))) targets
-taken targets before directions row place c v ok t same none value =
+    → directions ≡ map (direction_in unit before) targets → direction_in unit before c.name ≡ None
+    → v ≡ direction_value unit c.direction
+    → slice_set directions place (Some v) ≡ map (direction_in unit (before ++ (row ∷ []))) targets
+taken unit targets before directions row place c v ok t same none value =
     ext_get_or None (slice_set directions place (Some v))
-    (map (direction_in (before ++ (row ∷ []))) targets) long at
+    (map (direction_in unit (before ++ (row ∷ []))) targets) long at
   where
     size : length directions ≡ length targets
     size = ap (λ (all : List (Option ℤ)). length all) same
-        ∙ length-map targets (direction_in before)
+        ∙ length-map targets (direction_in unit before)
 
     long : length (slice_set directions place (Some v))
-        ≡ length (map (direction_in (before ++ (row ∷ []))) targets)
+        ≡ length (map (direction_in unit (before ++ (row ∷ []))) targets)
     long = length-set directions place (Some v) ∙ size
-        ∙ sym (length-map targets (direction_in (before ++ (row ∷ []))))
+        ∙ sym (length-map targets (direction_in unit (before ++ (row ∷ []))))
 
     name : name_of row ≡ c.name
     name = name-column row c t.columns
 
     at : (i : ℕ) → i < length (slice_set directions place (Some v))
         → get_or (slice_set directions place (Some v)) i None
-        ≡ get_or (map (direction_in (before ++ (row ∷ []))) targets) i None
+        ≡ get_or (map (direction_in unit (before ++ (row ∷ []))) targets) i None
     at i below = elim (cases_Bool (i == place)) [
       | inl here ↦
           let is : i ≡ place = eqb-true _ _ here in
           let own : name_of row ≡ get_or targets i [] = name ∙ sym t.name
           ∙ ap (λ (n : ℕ). get_or targets n []) (sym is) in
-          let bare : direction_in before (get_or targets i []) ≡ None =
-          ap (direction_in before) (ap (λ (n : ℕ). get_or targets n []) is ∙ t.name) ∙ none in
-          let stated = more-same before row (get_or targets i [])
+          let bare : direction_in unit before (get_or targets i []) ≡ None =
+          ap (direction_in unit before) (ap (λ (n : ℕ). get_or targets n []) is ∙ t.name) ∙ none in
+          let stated = more-same unit before row (get_or targets i [])
           ((bytes_eq-Decides (name_of row) (get_or targets i [])).1 own) bare in
           ap (λ (n : ℕ). get_or (slice_set directions place (Some v)) n None) is
           ∙ get_or-set_same directions place (Some v) None (omega (arith, size, t.inside))
           ∙ ap (λ (z : ℤ). Some z) (value
-          ∙ ap direction_value (sym (direction-column row c t.columns)))
-          ∙ sym (get_or-map (direction_in (before ++ (row ∷ []))) targets i [] None
+          ∙ ap (direction_value unit) (sym (direction-column row c t.columns)))
+          ∙ sym (get_or-map (direction_in unit (before ++ (row ∷ []))) targets i [] None
           (omega (
             arith,
             below,
             long,
             length-map targets
-                (direction_in (before ++ (row ∷ []))),
+                (direction_in unit (before ++ (row ∷ []))),
           )) ∙ stated)
       | inr other ↦
           let apart : i ≢ place = eqb-false _ _ other in
@@ -194,7 +208,7 @@ taken targets before directions row place c v ok t same none value =
             below,
             long,
             length-map targets
-                (direction_in (before ++ (row ∷ []))),
+                (direction_in unit (before ++ (row ∷ []))),
           ) in
           let differ : bytes_eq (name_of row) (get_or targets i []) ≡ false =
           false_from_ne_true (bytes_eq (name_of row) (get_or targets i []))
@@ -202,9 +216,9 @@ taken targets before directions row place c v ok t same none value =
           ∙ (bytes_eq-Decides (name_of row) (get_or targets i [])).0 e)) in
           get_or-set_other directions place i (Some v) None apart
           ∙ ap (λ (all : List (Option ℤ)). get_or all i None) same
-          ∙ get_or-map (direction_in before) targets i [] None inside
-          ∙ sym (get_or-map (direction_in (before ++ (row ∷ []))) targets i [] None inside
-          ∙ more-other before row (get_or targets i []) differ)
+          ∙ get_or-map (direction_in unit before) targets i [] None inside
+          ∙ sym (get_or-map (direction_in unit (before ++ (row ∷ []))) targets i [] None inside
+          ∙ more-other unit before row (get_or targets i []) differ)
     ]
 
 -- What an error is handed on with says what follows from what was known of it.
@@ -229,12 +243,12 @@ pub lifted-cases : {T E : Type 0} (r : Result T E) (P Q : E → Type 0) (R : T �
 lifted-cases (Ok x) P Q R h f = cc (h.0)
 lifted-cases (Err k) P Q R h f = f k h.1
 
--- The decimals of a row are those of its direction.
-pub decimals-taken : (row : List (List ℕ)) (c : Fields) (decimals : ℕ) → columns_of row ≡ Some c
-    → is_direction c.direction ≡ true → decimals ≡ count_of_decimals c.direction
-    → row_decimals row ≡ counted decimals
-decimals-taken row c decimals columns form count =
-    ap (λ (f : List ℕ). if is_direction f then counted (count_of_decimals f) else None)
-    (direction-column row c columns)
-    ∙ ap (λ (b : Bool). if b then counted (count_of_decimals c.direction) else None) form
-    ∙ ap counted (sym count)
+-- The limit of a row is that of the step of its direction.
+pub limit-taken : (unit : AngleUnit) (row : List (List ℕ)) (c : Fields) (limit : ℕ)
+    → columns_of row ≡ Some c → is_direction unit c.direction ≡ true
+    → limit ≡ limit_of_step (step_in unit c.direction) → limit ≡ row_limit unit row
+limit-taken unit row c limit columns form is =
+    is
+    ∙ ap (λ (b : Bool). if b then limit_of_step (step_in unit c.direction) else 0) (sym form)
+    ∙ ap (λ (f : List ℕ). if is_direction unit f then limit_of_step (step_in unit f) else 0)
+    (sym (direction-column row c columns))

@@ -1,8 +1,8 @@
 -- The text of a table of all targets is a table of them and of their directions.
 use Rattle.std.specs.Prelude.{◌&&◌, if◌then◌else◌}
-use Rattle.std.proofs.Common.{◌≡◌, ◌≢◌, ◌∙◌, ℕ, suc, ◌+◌, ◌<◌, Bool, true, false, List, [], ◌∷◌}
-use Rattle.std.proofs.Common.{◌++◌, map, length, get_or, All, AllPairs, Some, None, refl, ap, sym}
-use Rattle.std.proofs.Common.{pos, subst, arith, append_assoc, length-append}
+use Rattle.std.proofs.Common.{◌≡◌, ◌≢◌, ◌∙◌, ℕ, suc, ◌+◌, ◌*◌, ◌<◌, Bool, true, false, List, []}
+use Rattle.std.proofs.Common.{◌∷◌, ◌++◌, map, length, get_or, All, AllPairs, Some, None, refl, ap}
+use Rattle.std.proofs.Common.{pos, subst, sym, arith, append_assoc, length-append}
 use Rattle.std.specs.Str.{bytes_eq}
 use Rattle.std.proofs.lemmas.Bool.{false_from_ne_true, ne_eqb}
 use Rattle.std.proofs.lemmas.List.{append-nil, get_or_append_left, get_or-map, length-map}
@@ -31,6 +31,7 @@ use Rattle.direction_table.proofs.RowsRead.{clean-end, clean-more}
 use Rattle.direction_table.proofs.TableLengths.{IsWritten, table-short}
 use Rattle.direction_table.proofs.PlainRows.{plain-stands}
 use Rattle.direction_table.proofs.WrittenDirections.{text-form, text-plain, text-range, text-value}
+use Rattle.direction_table.specs.declared.unit.AngleUnit.TheVariants.{Gon}
 
 -- A text that begins with a name, in quotes or not, has no byte order mark.
 unmarked : (a : ℕ) (text : List ℕ) → a < 128 → strip_bom (a ∷ text) ≡ a ∷ text
@@ -82,11 +83,11 @@ not-found names name others =
 
 -- A row that states a direction without a fault has none.
 none-then : (targets : List (List ℕ)) (before : List (List (List ℕ))) (row : List (List ℕ))
-    → stating_fault targets before row ≡ None → row_fault targets before row ≡ None
+    → stating_fault Gon targets before row ≡ None → row_fault Gon targets before row ≡ None
 unfolding row_fault
-none-then targets before row e = by (is_first before && are_titles targets row)
+none-then targets before row e = by (is_first before && are_titles Gon targets row)
   where
-    by : (b : Bool) → (if b then None else stating_fault targets before row) ≡ None
+    by : (b : Bool) → (if b then None else stating_fault Gon targets before row) ≡ None
     by true = refl
     by false = e
 
@@ -94,7 +95,7 @@ none-then targets before row e = by (is_first before && are_titles targets row)
 clean-row : (targets : List (List ℕ)) (before : List (List (List ℕ))) (count : ℕ)
     (row : TargetDirection) → AreDecimals count → IsWritten count row
     → has_name targets row.name ≡ true → has_name (map name_of before) row.name ≡ false
-    → row_fault targets before (row_of count row) ≡ None
+    → row_fault Gon targets before (row_of count row) ≡ None
 unfolding stating_fault
 clean-row targets before count row few ok known new =
     none-then targets before (row_of count row) (rw (
@@ -137,10 +138,10 @@ next-name targets before rest name ok same =
 clean-from : (targets : List (List ℕ)) (all before : List (List (List ℕ))) (count : ℕ)
     (rest : List TargetDirection) → AreTargets targets → AreDecimals count
     → targets ≡ map name_of before ++ names_of rest → all ≡ before ++ map (row_of count) rest
-    → All (IsWritten count) rest → NoFaultBefore targets all (length before)
-    → HasNoFault targets all
+    → All (IsWritten count) rest → NoFaultBefore Gon targets all (length before)
+    → HasNoFault Gon targets all
 clean-from targets all before count [] ok few names whole written clean =
-    clean-end targets all before (whole ∙ append-nil before) clean
+    clean-end Gon targets all before (whole ∙ append-nil before) clean
 clean-from targets all before count (row ∷ rest) ok few names whole written clean =
     let next = next-name targets (map name_of before) (names_of rest) row.name ok names in
     let none = clean-row targets before count row few
@@ -151,12 +152,13 @@ clean-from targets all before count (row ∷ rest) ok few names whole written cl
     (sym (map-append name_of before (row_of count row ∷ []))))
     (whole ∙ sym (append_assoc before (row_of count row ∷ []) (map (row_of count) rest)))
     (All-tail (IsWritten count) row rest written)
-    (clean-more targets all before (map (row_of count) rest) (row_of count row) whole clean none)
+    (clean-more Gon targets all before (map (row_of count) rest)
+    (row_of count row) whole clean none)
 
 -- A row says nothing of other names.
 passed-over : (row : List (List ℕ)) (rows : List (List (List ℕ))) (names : List (List ℕ))
-    → All (λ name. name_of row ≢ name) names → map (direction_in (row ∷ rows)) names
-    ≡ map (direction_in rows) names
+    → All (λ name. name_of row ≢ name) names → map (direction_in Gon (row ∷ rows)) names
+    ≡ map (direction_in Gon rows) names
 passed-over row rows [] others = refl
 passed-over row rows (name ∷ names) others =
     let differ : bytes_eq (name_of row) name ≡ false =
@@ -172,7 +174,7 @@ passed-over row rows (name ∷ names) others =
 -- The rows of targets state their directions.
 stated-again : (count : ℕ) (stated : List TargetDirection) → AreDecimals count
     → AllPairs (λ a b. a ≢ b) (names_of stated) → All (IsWritten count) stated
-    → map (direction_in (map (row_of count) stated)) (names_of stated)
+    → map (direction_in Gon (map (row_of count) stated)) (names_of stated)
     ≡ map Some (directions_of stated)
 stated-again count [] few different written = refl
 stated-again count (row ∷ rest) few different written =
@@ -210,7 +212,7 @@ each-plain count stated few ok k d below =
     get_or-map (row_of count) stated k (record { name = []; direction = 0 }) d inside in
     subst IsPlainRow (sym same) (record {
       two = refl;
-      direction = pos row.direction;
+      direction = pos (81 * row.direction);
       plain = text-plain count row.direction few
           (ok k (record { name = []; direction = 0 }) inside).exact;
     })
@@ -234,8 +236,8 @@ table-plain targets count stated ok names few exact =
       plain = subst (All IsPlainRow) (sym rows) (each-plain count stated few each);
       faultless = clean-from targets (records_of (table_text count stated)) [] count stated ok few
           (sym names) rows each (λ earlier below. absurd (omega (arith, below)));
-      stated = ap (λ (all : List (List (List ℕ))). stated_by all targets) rows
-          ∙ ap (λ (all : List (List ℕ)). map (direction_in (map (row_of count) stated)) all)
+      stated = ap (λ (all : List (List (List ℕ))). stated_by Gon all targets) rows
+          ∙ ap (λ (all : List (List ℕ)). map (direction_in Gon (map (row_of count) stated)) all)
           (sym names)
           ∙ stated-again count stated few mine.different each;
     }
@@ -244,7 +246,7 @@ table-plain targets count stated ok names few exact =
 pub table-again : (targets : List (List ℕ)) (count : ℕ) (stated : List TargetDirection)
     → AreTargets targets → names_of stated ≡ targets → AreDecimals count
     → All (λ row. IsWhole count row.direction) stated
-    → IsTableText targets (table_text count stated) (directions_of stated)
+    → IsTableText Gon targets (table_text count stated) (directions_of stated)
 table-again targets count stated ok names few exact =
     plain-stands targets (table_text count stated) (directions_of stated) ok
     (table-plain targets count stated ok names few exact)

@@ -8,10 +8,11 @@ use Rattle.std.proofs.lemmas.Bool.Decides.{nat_tests}
 use Rattle.csv.specs.Records.{field_at}
 use Rattle.direction_table.specs.Faults.{are_titles}
 use Rattle.direction_table.specs.FieldForms.{has_name, is_blank, named, tidy, without_blanks}
-use Rattle.direction_table.specs.Gons.{is_direction}
+use Rattle.direction_table.specs.Directions.{is_direction}
 use Rattle.direction_table.specs.Rows.{Fields, beside_name, columns_of, name_of}
 use Rattle.direction_table.specs.Separators.{begins_with_target}
 use Rattle.direction_table.proofs.FieldsAt.{at}
+use Rattle.direction_table.specs.declared.unit.AngleUnit.{AngleUnit}
 
 at-most : (least n : ℕ) → least ≤ n → nat_le least n ≡ true
 at-most least n h = grind (arith, nat_tests)
@@ -47,22 +48,23 @@ two targets (a ∷ b ∷ rest) some e =
     ∷ (if blank then [] else rest))) e
 
 -- A row of fewer than two fields has no titles.
-pub few-titles : (targets fs : List (List ℕ)) → length fs < 2
-    → are_titles targets (tidy targets fs) ≡ false
-few-titles targets [] few = refl
-few-titles targets (a ∷ []) few = refl
-few-titles targets (a ∷ b ∷ rest) few = absurd (omega (arith, few))
+pub few-titles : (unit : AngleUnit) (targets fs : List (List ℕ)) → length fs < 2
+    → are_titles unit targets (tidy targets fs) ≡ false
+few-titles unit targets [] few = refl
+few-titles unit targets (a ∷ []) few = refl
+few-titles unit targets (a ∷ b ∷ rest) few = absurd (omega (arith, few))
 
 -- Any other has titles by its first two fields.
-pub titles-by : (targets fs : List (List ℕ)) → 2 ≤ length fs → are_titles targets (tidy targets fs)
+pub titles-by : (unit : AngleUnit) (targets fs : List (List ℕ)) → 2 ≤ length fs
+    → are_titles unit targets (tidy targets fs)
     ≡ (not (has_name targets (named targets (at fs 0)))
-    && not (is_direction (without_blanks (at fs 1))))
+    && not (is_direction unit (without_blanks (at fs 1))))
 unfolding field_at
-titles-by targets [] some = absurd (omega (arith, some))
-titles-by targets (a ∷ []) some = absurd (omega (arith, some))
-titles-by targets (a ∷ b ∷ rest) some =
+titles-by unit targets [] some = absurd (omega (arith, some))
+titles-by unit targets (a ∷ []) some = absurd (omega (arith, some))
+titles-by unit targets (a ∷ b ∷ rest) some =
     ap (λ (wide : Bool). wide && (not (has_name targets (named targets a))
-    && not (is_direction (without_blanks b)))) (at-most 2 _ (omega arith))
+    && not (is_direction unit (without_blanks b)))) (at-most 2 _ (omega arith))
 
 -- A row that has a field begins with a target's name where that field names one.
 pub begins-at : (targets fs : List (List ℕ)) → 1 ≤ length fs

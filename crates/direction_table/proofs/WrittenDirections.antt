@@ -2,25 +2,23 @@
 use Rattle.std.proofs.Common.{◌≡◌, ◌∙◌, ℕ, zero, suc, true, false, List, [], ◌∷◌, ◌++◌, length}
 use Rattle.std.proofs.Common.{refl, ap, sym, arith, length-append, pos, ◌<◌, ◌≤◌, ◌+◌, ◌-◌, ◌*◌}
 use Rattle.std.proofs.Common.{◌^◌, ◌/◌, ◌%◌}
-use Rattle.std.specs.Prelude.{◌==◌, nat_lt, nat_le}
 use Rattle.std.specs.Char.{digit_value, is_ascii_digit}
 use Rattle.std.specs.Fmt.{decimal}
-use Rattle.std.specs.Int.{IsInRange}
-use Rattle.std.specs.List.{list_all, position_or_len}
+use Rattle.std.specs.List.{list_all}
 use Rattle.std.specs.Str.Parse.{digits_value}
-use Rattle.std.proofs.Math.Seq.{drop-append_seam, take-append_seam}
-use Rattle.std.proofs.lemmas.Bool.{and_from, and_parts, ne_eqb}
+use Rattle.std.proofs.lemmas.Bool.{and_from}
 use Rattle.std.proofs.lemmas.Bool.Decides.{nat_tests}
 use Rattle.std.proofs.lemmas.Fmt.{decimal_is_IsNumeral, length-decimal-le}
 use Rattle.std.proofs.lemmas.Int.Digits.{digits_value_push}
 use Rattle.std.proofs.lemmas.List.Folds.{list_all-append}
 use Rattle.std.proofs.lemmas.Str.{digit_value_digit}
 use Rattle.sheet_format.proofs.CanonicalDecimals.{numerals}
-use Rattle.direction_table.specs.Gons.{direction_value, is_direction, is_on_circle}
+use Rattle.direction_table.specs.Directions.{direction_value, is_direction, is_on_circle}
 use Rattle.direction_table.specs.PlainTables.{IsPlainDirection, after_point, plain_size}
 use Rattle.direction_table.specs.Texts.{AreDecimals, IsWhole, decimals_of, direction_text}
 use Rattle.direction_table.proofs.PlainDirections.{digit-range, plain-form, plain-range}
 use Rattle.direction_table.proofs.PlainDirections.{plain-value}
+use Rattle.direction_table.specs.declared.unit.AngleUnit.TheVariants.{Gon}
 
 -- Tests of numbers.
 digit-glyph : (d : ℕ) → d < 10 → is_ascii_digit (48 + d) ≡ true
@@ -118,7 +116,7 @@ text-size k d few-decimals exact =
     ∙ whole k d few-decimals.0 few-decimals.1 exact.1
 
 pub text-plain : (k d : ℕ) → AreDecimals k → IsWhole k d
-    → IsPlainDirection (direction_text k d) (pos d)
+    → IsPlainDirection (direction_text k d) (pos (81 * d))
 text-plain k d few-decimals exact =
     let f = front-of (d / 10 ^ 9) (gons-below d exact.0) in
     let size = many k d in
@@ -135,22 +133,24 @@ text-plain k d few-decimals exact =
       whole_digits = f.digits;
       decimal_digits = all-digits k d;
       below = omega (arith, number, exact.0);
-      value = ap pos (sym number);
+      value = ap (λ (n : ℕ). pos (81 * n)) (sym number);
     }
 
 -- So it has the form of a direction, is on the circle, and is read as that direction.
-pub text-form : (k d : ℕ) → AreDecimals k → IsWhole k d → is_direction (direction_text k d) ≡ true
+pub text-form : (k d : ℕ) → AreDecimals k → IsWhole k d → is_direction Gon (direction_text k d)
+    ≡ true
 text-form k d few-decimals exact =
-    plain-form (direction_text k d) (pos d) (text-plain k d few-decimals exact)
+    plain-form (direction_text k d) (pos (81 * d)) (text-plain k d few-decimals exact)
 
-pub text-range : (k d : ℕ) → AreDecimals k → IsWhole k d → is_on_circle (direction_text k d) ≡ true
+pub text-range : (k d : ℕ) → AreDecimals k → IsWhole k d → is_on_circle Gon (direction_text k d)
+    ≡ true
 text-range k d few-decimals exact =
-    plain-range (direction_text k d) (pos d) (text-plain k d few-decimals exact)
+    plain-range (direction_text k d) (pos (81 * d)) (text-plain k d few-decimals exact)
 
-pub text-value : (k d : ℕ) → AreDecimals k → IsWhole k d → direction_value (direction_text k d)
-    ≡ pos d
+pub text-value : (k d : ℕ) → AreDecimals k → IsWhole k d → direction_value Gon (direction_text k d)
+    ≡ pos (81 * d)
 text-value k d few-decimals exact =
-    plain-value (direction_text k d) (pos d) (text-plain k d few-decimals exact)
+    plain-value (direction_text k d) (pos (81 * d)) (text-plain k d few-decimals exact)
 
 -- The text of a direction has at most 12 bytes: three digits, a point and eight decimals.
 pub text-length : (k d : ℕ) → AreDecimals k → IsWhole k d → length (direction_text k d) ≤ 12

@@ -1,11 +1,10 @@
--- Directions in gon, as programs print them.
-use Rattle.std.specs.Prelude.{ℕ, ◌+◌, ◌-◌, ◌*◌, ◌^◌, Bool, true, false, ◌&&◌, ◌||◌, ◌==◌, nat_le}
+-- Decimal numbers, as programs print directions in gon, and those in degrees without minutes.
+use Rattle.std.specs.Prelude.{ℕ, ◌+◌, ◌-◌, ◌*◌, ◌^◌, Bool, false, ◌&&◌, ◌||◌, ◌==◌, nat_le}
 use Rattle.std.specs.Prelude.{if◌then◌else◌, List, [], ◌∷◌, length, take, drop, ℤ, pos, unwrap_or}
 use lib.IntN.{neg_ℤ}
 use Rattle.std.specs.Char.{is_ascii_digit}
 use Rattle.std.specs.List.{list_all, position}
 use Rattle.std.specs.Str.Parse.{digits_value}
-use Rattle.direction_table.specs.declared.gon.TheConstants.{CIRCLE}
 
 -- A decimal point, or a decimal comma.
 abbrev pub is_mark : ℕ → Bool
@@ -47,7 +46,7 @@ is_size bytes =
 abbrev pub fraction_value : List ℕ → ℕ
 fraction_value digits = digits_value 10 (take 9 digits) * 10 ^ (9 - length (take 9 digits))
 
--- The number that such bytes write, in units of the ninth decimal of a gon.
+-- The number that such bytes write, in units of the ninth decimal.
 abbrev pub size_value : List ℕ → ℕ
 size_value bytes =
     digits_value 10 (whole_part bytes) * 10 ^ 9 + fraction_value (decimals_part bytes)
@@ -62,26 +61,6 @@ abbrev pub is_negative : List ℕ → Bool
 is_negative [] = false
 is_negative (b ∷ bytes) = b == 45
 
--- A field is a direction: such a number, with an optional sign before it.
-abbrev pub is_direction : List ℕ → Bool
-is_direction field = is_size (unsigned field)
-
 -- A number with its sign.
 abbrev pub signed : Bool → ℕ → ℤ
 signed negative size = if negative then neg_ℤ (pos size) else pos size
-
--- A direction on the circle: a full circle, either way, is 0.
-abbrev pub on_circle : Bool → ℕ → ℤ
-on_circle negative size = if size == CIRCLE then pos 0 else signed negative size
-
--- The direction that a field writes, in units of the ninth decimal of a gon.
-abbrev pub direction_value : List ℕ → ℤ
-direction_value field = on_circle (is_negative field) (size_value (unsigned field))
-
--- A direction is a full circle at most, either way.
-abbrev pub is_on_circle : List ℕ → Bool
-is_on_circle field = nat_le (size_value (unsigned field)) CIRCLE
-
--- How many decimals a field writes.
-abbrev pub count_of_decimals : List ℕ → ℕ
-count_of_decimals field = length (decimals_part (unsigned field))

@@ -1,17 +1,19 @@
--- Plain tables: commas between names and directions, a decimal point, at most nine decimals, and
--- nothing loose. So the program itself writes tables.
-use Rattle.std.specs.Prelude.{◌≡◌, ℕ, ◌+◌, ◌-◌, ◌*◌, ◌^◌, ◌≤◌, ◌<◌, Bool, true, false, List, []}
+-- Plain tables: commas between names and directions in gon, a decimal point, at most nine decimals,
+-- and nothing loose. So the program itself writes tables.
+use Rattle.std.specs.Prelude.{◌≡◌, ℕ, ◌+◌, ◌-◌, ◌*◌, ◌^◌, ◌≤◌, ◌<◌, Bool, true, List, []}
 use Rattle.std.specs.Prelude.{◌∷◌, ◌++◌, length, map, All, ℤ, Some, if◌then◌else◌}
 use Rattle.std.specs.Char.{is_ascii_digit}
 use Rattle.std.specs.List.{list_all}
 use Rattle.std.specs.Str.Parse.{digits_value}
 use Rattle.sheet_format.specs.Rows.{records_of}
 use Rattle.direction_table.specs.Faults.{HasNoFault}
-use Rattle.direction_table.specs.Gons.{direction_value, signed}
+use Rattle.direction_table.specs.Gons.{signed}
 use Rattle.direction_table.specs.Rows.{beside_name}
 use Rattle.direction_table.specs.Tables.{stated_by}
+use Rattle.direction_table.specs.declared.direction.TheConstants.{GON_PARTS}
 use Rattle.direction_table.specs.declared.gon.TheConstants.{CIRCLE}
 use Rattle.direction_table.specs.declared.reading.TheConstants.{LONGEST_TABLE}
+use Rattle.direction_table.specs.declared.unit.AngleUnit.TheVariants.{Gon}
 
 -- A minus, or nothing.
 abbrev pub minus : Bool → List ℕ
@@ -28,7 +30,7 @@ plain_size whole decimals =
     digits_value 10 whole * 10 ^ 9 + digits_value 10 decimals * 10 ^ (9 - length decimals)
 
 -- A field writes a direction plainly: an optional minus, 1 to 3 digits, and optionally a point and
--- 1 to 9 digits; it is less than a full circle in size.
+-- 1 to 9 digits; it is less than a full circle in size. The direction is in parts.
 pub record IsPlainDirection (field : List ℕ) (direction : ℤ) : Type 0 where
   pub negative : Bool
   pub whole : List ℕ
@@ -40,7 +42,7 @@ pub record IsPlainDirection (field : List ℕ) (direction : ℤ) : Type 0 where
   pub whole_digits : list_all is_ascii_digit whole ≡ true
   pub decimal_digits : list_all is_ascii_digit decimals ≡ true
   pub below : plain_size whole decimals < CIRCLE
-  pub value : direction ≡ signed negative (plain_size whole decimals)
+  pub value : direction ≡ signed negative (GON_PARTS * plain_size whole decimals)
 
 -- A row is plain: it has two fields, and the second writes a direction plainly.
 pub record IsPlainRow (row : List (List ℕ)) : Type 0 where
@@ -54,5 +56,5 @@ pub record IsPlainTable (targets : List (List ℕ)) (bytes : List ℕ) (directio
     : Type 0 where
   pub short : length bytes ≤ LONGEST_TABLE
   pub plain : All IsPlainRow (records_of bytes)
-  pub faultless : HasNoFault targets (records_of bytes)
-  pub stated : stated_by (records_of bytes) targets ≡ map Some directions
+  pub faultless : HasNoFault Gon targets (records_of bytes)
+  pub stated : stated_by Gon (records_of bytes) targets ≡ map Some directions

@@ -1,8 +1,9 @@
 -- The rows of a table of directions.
 use Rattle.std.specs.Prelude.{ℕ, if◌then◌else◌, List, [], ◌∷◌, ℤ, Option, Some, None}
 use Rattle.std.specs.Str.{bytes_eq}
-use Rattle.direction_table.specs.Gons.{direction_value}
+use Rattle.direction_table.specs.Directions.{direction_value}
 use Rattle.direction_table.specs.declared.columns.Columns.{Columns}
+use Rattle.direction_table.specs.declared.unit.AngleUnit.{AngleUnit}
 
 -- The fields of a row that has two columns.
 pub record Fields : Type 0 where
@@ -29,10 +30,10 @@ beside_name [] = []
 beside_name (name ∷ []) = []
 beside_name (name ∷ field ∷ others) = field
 
--- The direction that the first of these rows with a name states, in units of the ninth decimal of a
--- gon; none where no row has this name.
-abbrev pub direction_in : List (List (List ℕ)) → List ℕ → Option ℤ
-direction_in [] name = None
-direction_in (row ∷ rows) name =
-    if bytes_eq (name_of row) name then Some (direction_value (beside_name row))
-    else direction_in rows name
+-- The direction that the first of these rows with a name states, in parts; none where no row has
+-- this name.
+abbrev pub direction_in : AngleUnit → List (List (List ℕ)) → List ℕ → Option ℤ
+direction_in unit [] name = None
+direction_in unit (row ∷ rows) name =
+    if bytes_eq (name_of row) name then Some (direction_value unit (beside_name row))
+    else direction_in unit rows name

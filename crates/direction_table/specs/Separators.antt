@@ -1,5 +1,5 @@
 -- By what the fields of a table's rows are separated: its first row tells.
-use Rattle.std.specs.Prelude.{ℕ, Bool, true, false, not, ◌==◌, if◌then◌else◌, List, [], ◌∷◌, map}
+use Rattle.std.specs.Prelude.{ℕ, Bool, false, List, [], ◌∷◌, map}
 use Rattle.std.specs.Prelude.{filter, find, length, nat_le, unwrap_or}
 use Rattle.csv.specs.Reading.{default_config, records, strip_bom}
 use Rattle.csv.specs.declared.parser.Config.{Config}

@@ -1,7 +1,8 @@
 -- The text of a table of directions, as it is written.
-use Rattle.std.specs.Prelude.{ℕ, List, [], ◌∷◌, map, ℤ, pos}
+use Rattle.std.specs.Prelude.{ℕ, ◌*◌, List, [], ◌∷◌, map, ℤ, pos}
 use Rattle.sheet_format.specs.Texts.{rows_text}
 use Rattle.direction_table.specs.Texts.{direction_text}
+use Rattle.direction_table.specs.declared.direction.TheConstants.{GON_PARTS}
 use Rattle.direction_table.specs.declared.table.TargetDirection.{TargetDirection}
 
 -- The row of a target: its name, and its direction with so many decimals.
@@ -16,6 +17,6 @@ table_text count stated = rows_text (map (row_of count) stated)
 abbrev pub names_of : List TargetDirection → List (List ℕ)
 names_of stated = map (λ row. row.name) stated
 
--- Their directions, as they are read.
+-- Their directions, as they are read: in parts.
 abbrev pub directions_of : List TargetDirection → List ℤ
-directions_of stated = map (λ row. pos row.direction) stated
+directions_of stated = map (λ row. pos (GON_PARTS * row.direction)) stated

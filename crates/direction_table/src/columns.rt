@@ -6,8 +6,9 @@ ghost use Rattle.direction_table.specs.Faults as faults;
 ghost use Rattle.direction_table.specs.FieldForms.{tidy};
 ghost use Rattle.direction_table.specs.Rows.{columns_of, columns_view};
 
+use crate::direction::Direction;
 use crate::field::{are_blank_from, field, has_target, named, without_blanks};
-use crate::gon::Gons;
+use crate::unit::AngleUnit;
 use adjust_kernel::Name;
 use csv::ByteRecord;
 
@@ -42,8 +43,8 @@ impl<'a> Columns<'a> {
 
 /// Whether a row is one of titles: it has two columns or more, the first of which is no target's
 /// name and the second no direction.
-pub(crate) fn are_titles(targets: &[Name], row: &ByteRecord) -> bool
-    ensures { result ≡ faults.are_titles targets.now (tidy targets.now (fields_of row.now)) }
+pub(crate) fn are_titles(unit: AngleUnit, targets: &[Name], row: &ByteRecord) -> bool
+    ensures { result ≡ faults.are_titles unit targets.now (tidy targets.now (fields_of row.now)) }
 {
     if row.len() < COLUMNS {
         return false;
@@ -51,5 +52,5 @@ pub(crate) fn are_titles(targets: &[Name], row: &ByteRecord) -> bool
     if has_target(targets, named(targets, field(row, 0))) {
         return false;
     }
-    Gons::of(without_blanks(field(row, 1))).is_none()
+    Direction::of(unit, without_blanks(field(row, 1))).is_none()
 }

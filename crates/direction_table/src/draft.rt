@@ -1,48 +1,49 @@
 //! The directions of the targets as far as the rows of a table were read.
 
-ghost use Rattle.std.specs.Prelude.{◌≡◌, ◌++◌, ◌∷◌, [], ℕ, List, map, length, None, Some, IfErr, IfOk, OnOk};
+ghost use Rattle.std.specs.Prelude.{◌≡◌, ◌++◌, ◌∷◌, [], map, length, None, Some, IfErr, IfOk, OnOk};
 ghost use Rattle.csv.specs.Records.{fields_of};
 ghost use Rattle.adjust_kernel.specs.Stations.{AreTargets};
+ghost use Rattle.direction_table.specs.Drafts.{OfRowsBefore};
 ghost use Rattle.direction_table.specs.Faults as faults;
-ghost use Rattle.direction_table.specs.FewestDecimals.{counted, row_decimals};
 ghost use Rattle.direction_table.specs.FieldForms.{tidy};
 ghost use Rattle.direction_table.specs.Rows.{direction_in};
+ghost use Rattle.direction_table.specs.UsualLimits.{row_limit};
 
 use crate::columns::Columns;
 use crate::entry::entry_of;
 use crate::fault::RowKind;
+use crate::limit::limit_of_step;
+use crate::unit::AngleUnit;
 use adjust_kernel::Name;
 use csv::ByteRecord;
 
-/// Takes the next row: its direction becomes that of its target. Gives how many decimals it is
-/// written with.
+/// Takes the next row: its direction becomes that of its target. Gives the limit for the step to
+/// which the row rounds it.
 pub(crate) fn take_row(
+    unit: AngleUnit,
     directions: &mut [Option<i64>],
     targets: &[Name],
     row: &ByteRecord,
-) -> Result<usize, RowKind>
+) -> Result<u32, RowKind>
     requires different { AreTargets targets.now }
     requires long { length directions.old ≡ length targets.now }
-    ensures faultless { OnOk result ((before : List (List (List ℕ)))
-        → directions.old ≡ map (direction_in before) targets.now
-        → faults.stating_fault targets.now before (tidy targets.now (fields_of row.now))
-        ≡ None) }
-    ensures taken { OnOk result ((before : List (List (List ℕ)))
-        → directions.old ≡ map (direction_in before) targets.now
-        → directions.new
-        ≡ map (direction_in (before ++ (tidy targets.now (fields_of row.now) ∷ []))) targets.now) }
-    ensures decimals { IfOk result
-        (λ decimals. row_decimals (tidy targets.now (fields_of row.now)) ≡ counted decimals) }
-    ensures fault { IfErr result (λ kind. (before : List (List (List ℕ)))
-        → directions.old ≡ map (direction_in before) targets.now
-        → faults.stating_fault targets.now before (tidy targets.now (fields_of row.now))
-        ≡ Some kind) }
+    ensures faultless { OnOk result (OfRowsBefore unit targets.now directions.old (λ before.
+        faults.stating_fault unit targets.now before (tidy targets.now (fields_of row.now))
+        ≡ None)) }
+    ensures taken { OnOk result (OfRowsBefore unit targets.now directions.old (λ before.
+        directions.new ≡ map (direction_in unit
+        (before ++ (tidy targets.now (fields_of row.now) ∷ []))) targets.now)) }
+    ensures limit { IfOk result
+        (λ limit. limit ≡ row_limit unit (tidy targets.now (fields_of row.now))) }
+    ensures fault { IfErr result (λ kind. OfRowsBefore unit targets.now directions.old (λ before.
+        faults.stating_fault unit targets.now before (tidy targets.now (fields_of row.now))
+        ≡ Some kind)) }
 {
     let columns = Columns::of(targets, row).ok_or(RowKind::Fields)?;
-    let entry = entry_of(&columns, targets)?;
+    let entry = entry_of(unit, &columns, targets)?;
     if directions[entry.place].is_some() {
         return Err(RowKind::Twice);
     }
     directions[entry.place] = Some(entry.stated.direction);
-    Ok(entry.stated.decimals)
+    Ok(limit_of_step(entry.stated.step))
 }

@@ -1,18 +1,20 @@
 //! What a row states: its columns are tested in a fixed order.
 
-ghost use Rattle.std.specs.Prelude.{◌≡◌, ◌<◌, [], length, pos, slice_index_or, true, false, None, Some, IfErr, IfNone, IfOk, IfSome, OnOk, OnSome};
+ghost use Rattle.std.specs.Prelude.{◌≡◌, ◌<◌, ◌≤◌, [], length, pos, slice_index_or, true, false};
+ghost use Rattle.std.specs.Prelude.{None, Some, IfErr, IfNone, IfOk, IfSome, OnOk, OnSome};
 ghost use Rattle.std.specs.List.{position};
 ghost use Rattle.std.specs.Str.{bytes_eq};
 ghost use Rattle.adjust_kernel.specs.Within.{IsWithin};
 ghost use Rattle.sheet_format.specs.Faults.{is_name};
 ghost use Rattle.direction_table.specs.Faults as faults;
-ghost use Rattle.direction_table.specs.Gons as spec;
+ghost use Rattle.direction_table.specs.Directions as spec;
 ghost use Rattle.direction_table.specs.FieldForms.{has_name};
 ghost use Rattle.direction_table.specs.Rows.{columns_view};
 
 use crate::columns::Columns;
+use crate::direction::{CIRCLE_PARTS, COARSEST_STEP, Direction};
 use crate::fault::RowKind;
-use crate::gon::{CIRCLE, Gons};
+use crate::unit::AngleUnit;
 use adjust_kernel::Name;
 
 /// The direction that a row states, and the place of its target.
@@ -25,10 +27,10 @@ pub(crate) struct Entry {
 /// A direction as a row states it.
 #[derive(Clone, Copy)]
 pub(crate) struct Stated {
-    /// In units of the ninth decimal of a gon.
+    /// In parts.
     pub(crate) direction: i64,
-    /// How many decimals are written.
-    pub(crate) decimals: usize,
+    /// The step to which it is rounded as it is written, in parts; 0 for a whole number.
+    pub(crate) step: u64,
 }
 
 /// The name of a field.
@@ -41,19 +43,20 @@ fn name_of(field: &[u8]) -> Option<Name>
 }
 
 /// The direction of a field, or what is wrong with it.
-fn direction_of(field: &[u8]) -> Result<Stated, RowKind>
-    ensures form { OnOk result (spec.is_direction field.now ≡ true) }
-    ensures value { IfOk result (λ stated. stated.direction ≡ spec.direction_value field.now) }
-    ensures decimals { IfOk result (λ stated. stated.decimals ≡ spec.count_of_decimals field.now) }
-    ensures small { IfOk result (λ stated. IsWithin (pos CIRCLE) stated.direction) }
-    ensures faultless { OnOk result (faults.direction_fault field.now ≡ None) }
-    ensures fault { IfErr result (λ kind. faults.direction_fault field.now ≡ Some kind) }
+fn direction_of(unit: AngleUnit, field: &[u8]) -> Result<Stated, RowKind>
+    ensures form { OnOk result (spec.is_direction unit field.now ≡ true) }
+    ensures value { IfOk result (λ stated. stated.direction ≡ spec.direction_value unit field.now) }
+    ensures step { IfOk result (λ stated. stated.step ≡ spec.step_in unit field.now) }
+    ensures small { IfOk result (λ stated. IsWithin (pos CIRCLE_PARTS) stated.direction) }
+    ensures small_step { IfOk result (λ stated. stated.step ≤ COARSEST_STEP) }
+    ensures faultless { OnOk result (faults.direction_fault unit field.now ≡ None) }
+    ensures fault { IfErr result (λ kind. faults.direction_fault unit field.now ≡ Some kind) }
 {
-    let gons = Gons::of(field).ok_or(RowKind::Number)?;
-    let direction = gons.on_circle().ok_or(RowKind::Range)?;
+    let read = Direction::of(unit, field).ok_or(RowKind::Number)?;
+    let direction = read.on_circle().ok_or(RowKind::Range)?;
     Ok(Stated {
         direction,
-        decimals: gons.decimals,
+        step: read.step(),
     })
 }
 
@@ -75,24 +78,29 @@ fn place_of(targets: &[Name], name: &Name) -> Option<usize>
 }
 
 /// What the columns of a row state, or their first fault.
-pub(crate) fn entry_of(columns: &Columns<'_>, targets: &[Name]) -> Result<Entry, RowKind>
+pub(crate) fn entry_of(
+    unit: AngleUnit,
+    columns: &Columns<'_>,
+    targets: &[Name],
+) -> Result<Entry, RowKind>
     ensures faultless { OnOk result
-        (faults.entry_fault targets.now (columns_view columns.now) ≡ None) }
+        (faults.entry_fault unit targets.now (columns_view columns.now) ≡ None) }
     ensures inside { IfOk result (λ entry. entry.place < length targets.now) }
     ensures name { IfOk result
         (λ entry. slice_index_or targets.now entry.place [] ≡ (columns_view columns.now).name) }
     ensures form { OnOk result
-        (spec.is_direction (columns_view columns.now).direction ≡ true) }
+        (spec.is_direction unit (columns_view columns.now).direction ≡ true) }
     ensures direction { IfOk result (λ entry. entry.stated.direction
-        ≡ spec.direction_value (columns_view columns.now).direction) }
-    ensures decimals { IfOk result (λ entry. entry.stated.decimals
-        ≡ spec.count_of_decimals (columns_view columns.now).direction) }
-    ensures small { IfOk result (λ entry. IsWithin (pos CIRCLE) entry.stated.direction) }
+        ≡ spec.direction_value unit (columns_view columns.now).direction) }
+    ensures step { IfOk result (λ entry. entry.stated.step
+        ≡ spec.step_in unit (columns_view columns.now).direction) }
+    ensures small { IfOk result (λ entry. IsWithin (pos CIRCLE_PARTS) entry.stated.direction) }
+    ensures small_step { IfOk result (λ entry. entry.stated.step ≤ COARSEST_STEP) }
     ensures fault { IfErr result
-        (λ kind. faults.entry_fault targets.now (columns_view columns.now) ≡ Some kind) }
+        (λ kind. faults.entry_fault unit targets.now (columns_view columns.now) ≡ Some kind) }
 {
     let name = name_of(columns.name).ok_or(RowKind::Name)?;
-    let stated = direction_of(columns.direction)?;
+    let stated = direction_of(unit, columns.direction)?;
     let place = place_of(targets, &name).ok_or(RowKind::Unknown)?;
     Ok(Entry { place, stated })
 }

@@ -1,10 +1,10 @@
-//! Directions in gon as text.
+//! Decimal numbers as text, as directions in gon are written, and those in degrees without minutes.
 
-ghost use Rattle.std.specs.Prelude.{◌≡◌, ◌==◌, ◌<◌, ◌≤◌, ◌^◌, ◌*◌, ◌+◌, ◌-◌, drop, length, pos, true, false, IfSome, IfNone, OnSome};
+ghost use Rattle.std.specs.Prelude.{◌≡◌, ◌==◌, ◌<◌, ◌≤◌, ◌^◌, ◌*◌, ◌+◌, ◌-◌, drop, length, true};
+ghost use Rattle.std.specs.Prelude.{false, IfSome, IfNone, OnSome};
 ghost use Rattle.std.specs.Char.{is_ascii_digit};
 ghost use Rattle.std.specs.List.{list_all, position};
 ghost use Rattle.std.specs.Str.Parse.{digits_value};
-ghost use Rattle.adjust_kernel.specs.Within.{IsWithin};
 ghost use Rattle.direction_table.specs.Gons as spec;
 
 use sheet_format::of_digits;
@@ -15,7 +15,7 @@ pub(crate) const GON: u64 = 1_000_000_000;
 /// A full circle of 400 gon, in units of the ninth decimal.
 pub const CIRCLE: u64 = 400 * GON;
 
-/// The most decimals of a direction that count: those after them are 0.
+/// The most decimals of a number that count: those after them are 0.
 pub(crate) const MOST_DECIMALS: usize = 9;
 
 /// The most digits before the point.
@@ -32,8 +32,8 @@ fn few_digits(digits: &[u8]) -> Option<u64>
     of_digits(digits)
 }
 
-/// The whole gon, if they are of so few digits.
-fn whole_of(digits: &[u8]) -> Option<u64>
+/// The whole gon or degrees before the point, or minutes, if they are of so few digits.
+pub(crate) fn whole_of(digits: &[u8]) -> Option<u64>
     ensures value { IfSome result (λ number. number ≡ digits_value 10 digits.now) }
     ensures bound { IfSome result (λ number. number < 10 ^ 9) }
     ensures some { OnSome result (spec.is_whole digits.now ≡ true) }
@@ -97,7 +97,7 @@ fn mark_of(bytes: &[u8]) -> usize
 }
 
 /// What follows the first byte.
-fn after_first(bytes: &[u8]) -> &[u8]
+pub(crate) fn after_first(bytes: &[u8]) -> &[u8]
     ensures value { result.now ≡ spec.after_first bytes.now }
 {
     match bytes {
@@ -106,18 +106,22 @@ fn after_first(bytes: &[u8]) -> &[u8]
     }
 }
 
-/// A number without its sign.
+/// A decimal number without a sign.
 #[derive(Clone, Copy)]
-struct Size {
-    /// In units of the ninth decimal of a gon.
-    value: u64,
+pub(crate) struct Size {
+    /// In units of the ninth decimal.
+    pub(crate) value: u64,
+    /// How many digits stand before the point.
+    pub(crate) whole_digits: usize,
     /// How many decimals are written.
-    decimals: usize,
+    pub(crate) decimals: usize,
 }
 
 /// The number that bytes write without a sign.
-fn size_of(bytes: &[u8]) -> Option<Size>
+pub(crate) fn size_of(bytes: &[u8]) -> Option<Size>
     ensures value { IfSome result (λ size. size.value ≡ spec.size_value bytes.now) }
+    ensures whole_digits { IfSome result
+        (λ size. size.whole_digits ≡ length (spec.whole_part bytes.now)) }
     ensures decimals { IfSome result
         (λ size. size.decimals ≡ length (spec.decimals_part bytes.now)) }
     ensures some { OnSome result (spec.is_size bytes.now ≡ true) }
@@ -132,68 +136,7 @@ fn size_of(bytes: &[u8]) -> Option<Size>
     let fraction = fraction_of(decimals)?;
     Some(Size {
         value: gon * GON + fraction,
+        whole_digits: whole.len(),
         decimals: decimals.len(),
     })
-}
-
-/// A field that is a direction, taken apart.
-#[derive(Clone, Copy)]
-pub(crate) struct Gons {
-    is_negative: bool,
-    size: u64,
-    /// How many decimals are written.
-    pub(crate) decimals: usize,
-}
-
-/// A number with this sign, if these bytes are one.
-fn gons_of(is_negative: bool, bytes: &[u8]) -> Option<Gons>
-    ensures size { IfSome result (λ gons. gons.size ≡ spec.size_value bytes.now) }
-    ensures sign { IfSome result (λ gons. gons.is_negative ≡ is_negative) }
-    ensures decimals { IfSome result
-        (λ gons. gons.decimals ≡ length (spec.decimals_part bytes.now)) }
-    ensures some { OnSome result (spec.is_size bytes.now ≡ true) }
-    ensures none { IfNone result (spec.is_size bytes.now ≡ false) }
-{
-    let size = size_of(bytes)?;
-    Some(Gons {
-        is_negative,
-        size: size.value,
-        decimals: size.decimals,
-    })
-}
-
-impl Gons {
-    /// The direction of a field, if it is one, however large.
-    pub(crate) fn of(field: &[u8]) -> Option<Gons>
-        ensures size { IfSome result
-            (λ gons. gons.size ≡ spec.size_value (spec.unsigned field.now)) }
-        ensures sign { IfSome result (λ gons. gons.is_negative ≡ spec.is_negative field.now) }
-        ensures decimals { IfSome result
-            (λ gons. gons.decimals ≡ spec.count_of_decimals field.now) }
-        ensures some { OnSome result (spec.is_direction field.now ≡ true) }
-        ensures none { IfNone result (spec.is_direction field.now ≡ false) }
-    {
-        match field {
-            [b'-', bytes @ ..] => gons_of(true, bytes),
-            [b'+', bytes @ ..] => gons_of(false, bytes),
-            _ => gons_of(false, field),
-        }
-    }
-
-    /// The direction, if it is a full circle at most; a full circle is 0.
-    pub(crate) fn on_circle(self) -> Option<i64>
-        ensures value { IfSome result (λ value. value ≡ spec.on_circle self.is_negative self.size) }
-        ensures small { IfSome result (λ value. IsWithin (pos CIRCLE) value) }
-        ensures some { OnSome result (self.size ≤ CIRCLE) }
-        ensures none { IfNone result (CIRCLE < self.size) }
-    {
-        if self.size > CIRCLE {
-            return None;
-        }
-        if self.size == CIRCLE {
-            return Some(0);
-        }
-        let size = self.size as i64;
-        Some(if self.is_negative { -size } else { size })
-    }
 }

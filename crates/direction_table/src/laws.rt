@@ -1,53 +1,61 @@
 //! Laws of the definitions that contracts cite. The functions do nothing.
 
-ghost use Rattle.std.specs.Prelude.{◌≡◌, ◌⊎◌, ◌≤◌, ◌+◌, ◌*◌, All, List, ℕ, ℤ, None, Some, pos, true};
+ghost use Rattle.std.specs.Prelude.{◌≡◌, ◌⊎◌, ◌≤◌, ◌+◌, ◌*◌, ◌++◌, ◌∷◌, All, List, ℕ, ℤ, codes};
+ghost use Rattle.std.specs.Prelude.{false, neg_ℤ, pos, true};
 ghost use Rattle.adjust_kernel.specs.Stations.{AreTargets};
-ghost use Rattle.direction_table.specs.Gons.{direction_value, is_direction, is_on_circle};
-ghost use Rattle.direction_table.specs.FewestDecimals.{usual_within};
+ghost use Rattle.direction_table.specs.Degrees.{seconds_step};
+ghost use Rattle.direction_table.specs.Directions.{direction_value, is_direction, is_on_circle};
 ghost use Rattle.direction_table.specs.PlainTables.{IsPlainTable};
 ghost use Rattle.direction_table.specs.TableTexts.{directions_of, names_of, table_text};
 ghost use Rattle.direction_table.specs.Tables.{IsTableFault, IsTableText};
 ghost use Rattle.direction_table.specs.Texts as spec;
+ghost use Rattle.direction_table.specs.UsualLimits.{limit_of_step};
+ghost use Rattle.direction_table.specs.declared.decimals.TheConstants.{MOST_WRITTEN};
+ghost use Rattle.direction_table.specs.declared.degrees.TheConstants.{DEGREE};
+ghost use Rattle.direction_table.specs.declared.direction.TheConstants.{CIRCLE_PARTS, GON_PARTS};
 ghost use Rattle.direction_table.specs.declared.fault.TableFault.{TableFault};
 ghost use Rattle.direction_table.specs.declared.gon.TheConstants.{CIRCLE};
+ghost use Rattle.direction_table.specs.declared.limit.TheConstants.{USUAL_WITHIN};
 ghost use Rattle.direction_table.specs.declared.reading.TheConstants.{LONGEST_TABLE};
 ghost use Rattle.direction_table.specs.declared.table.TargetDirection.{TargetDirection};
+ghost use Rattle.direction_table.specs.declared.unit.AngleUnit.{AngleUnit};
+ghost use Rattle.direction_table.specs.declared.unit.AngleUnit.TheVariants.{Gon, Degrees};
 
 /// Bytes are a table of one list of directions at most.
 pub fn one_table()
-    ensures { (targets : List (List ℕ)) (bytes : List ℕ) (a b : List ℤ)
-        → IsTableText targets bytes a → IsTableText targets bytes b → a ≡ b }
+    ensures { (unit : AngleUnit) (targets : List (List ℕ)) (bytes : List ℕ) (a b : List ℤ)
+        → IsTableText unit targets bytes a → IsTableText unit targets bytes b → a ≡ b }
 {}
 
 /// Bytes have one first fault at most.
 pub fn one_fault()
-    ensures { (targets : List (List ℕ)) (bytes : List ℕ) (a b : TableFault)
-        → IsTableFault targets bytes a → IsTableFault targets bytes b → a ≡ b }
+    ensures { (unit : AngleUnit) (targets : List (List ℕ)) (bytes : List ℕ) (a b : TableFault)
+        → IsTableFault unit targets bytes a → IsTableFault unit targets bytes b → a ≡ b }
 {}
 
 /// Bytes that are a table have no fault.
 pub fn never_both()
-    ensures { (targets : List (List ℕ)) (bytes : List ℕ) (directions : List ℤ)
-        (fault : TableFault) → IsTableText targets bytes directions
-        → ¬ IsTableFault targets bytes fault }
+    ensures { (unit : AngleUnit) (targets : List (List ℕ)) (bytes : List ℕ) (directions : List ℤ)
+        (fault : TableFault) → IsTableText unit targets bytes directions
+        → ¬ IsTableFault unit targets bytes fault }
 {}
 
 /// Bytes are a table or have a fault.
 pub fn some_answer()
-    ensures { (targets : List (List ℕ)) (bytes : List ℕ)
-        → ((directions : List ℤ) × IsTableText targets bytes directions)
-        ⊎ ((fault : TableFault) × IsTableFault targets bytes fault) }
+    ensures { (unit : AngleUnit) (targets : List (List ℕ)) (bytes : List ℕ)
+        → ((directions : List ℤ) × IsTableText unit targets bytes directions)
+        ⊎ ((fault : TableFault) × IsTableFault unit targets bytes fault) }
 {}
 
-/// The text of a direction that its decimals write exactly is a direction, below a full circle, and
-/// is read as the same number.
+/// The text of a direction that its decimals write exactly is a direction in gon, below a full
+/// circle, and is read as the same direction.
 pub fn direction_reads_back()
     ensures form { (count direction : ℕ) → spec.AreDecimals count → spec.IsWhole count direction
-        → is_direction (spec.direction_text count direction) ≡ true }
+        → is_direction Gon (spec.direction_text count direction) ≡ true }
     ensures small { (count direction : ℕ) → spec.AreDecimals count → spec.IsWhole count direction
-        → is_on_circle (spec.direction_text count direction) ≡ true }
+        → is_on_circle Gon (spec.direction_text count direction) ≡ true }
     ensures value { (count direction : ℕ) → spec.AreDecimals count → spec.IsWhole count direction
-        → direction_value (spec.direction_text count direction) ≡ pos direction }
+        → direction_value Gon (spec.direction_text count direction) ≡ pos (GON_PARTS * direction) }
 {}
 
 /// The text of the table of all targets, in their order, is a table of them and of the directions
@@ -56,7 +64,7 @@ pub fn table_reads_back()
     ensures { (targets : List (List ℕ)) (count : ℕ) (stated : List TargetDirection)
         → AreTargets targets → names_of stated ≡ targets → spec.AreDecimals count
         → All (λ row. spec.IsWhole count row.direction) stated
-        → IsTableText targets (table_text count stated) (directions_of stated) }
+        → IsTableText Gon targets (table_text count stated) (directions_of stated) }
 {}
 
 /// Every plain table is a table of the same targets and directions, so nothing that is written
@@ -64,21 +72,46 @@ pub fn table_reads_back()
 pub fn plain_tables_stand()
     ensures { (targets : List (List ℕ)) (bytes : List ℕ) (directions : List ℤ)
         → AreTargets targets → IsPlainTable targets bytes directions
-        → IsTableText targets bytes directions }
+        → IsTableText Gon targets bytes directions }
 {}
 
-/// The usual limit is half a step of one to four decimals and one unit, where a unit is 0.000001
-/// gon, and 10 for more decimals and where all directions are whole.
+/// The limits in digits, in units of 0.000001 gon: for 1 to 4 decimals of a gon half a step and one
+/// unit, for more of them no more than 10; and for seconds without decimals, and with one and two.
 pub fn usual_limits()
     ensures few { (decimals : ℕ) → 1 ≤ decimals → decimals ≤ 4
-        → 2_000 * usual_within (Some decimals) ≡ spec.step_of decimals + 2_000 }
-    ensures many { (decimals : ℕ) → 5 ≤ decimals → usual_within (Some decimals) ≡ 10 }
-    ensures whole { usual_within None ≡ 10 }
+        → 2_000 * limit_of_step (GON_PARTS * spec.step_of decimals)
+        ≡ spec.step_of decimals + 2_000 }
+    ensures many { (decimals : ℕ) → 5 ≤ decimals
+        → limit_of_step (GON_PARTS * spec.step_of decimals) ≤ 10 }
+    ensures whole { limit_of_step 0 ≡ 1 }
+    ensures seconds { limit_of_step (seconds_step 0) ≡ 156 }
+    ensures one_decimal { limit_of_step (seconds_step 1) ≡ 17 }
+    ensures two_decimals { limit_of_step (seconds_step 2) ≡ 3 }
 {}
 
-/// The bounds of a table in digits: its bytes, and a full circle in units of the ninth decimal of a
-/// gon.
+/// Examples of directions in degrees, in parts: with hyphens, with signs, with decimals and
+/// without; and that minutes of 60 are none.
+pub fn degrees()
+    ensures hyphens { direction_value Degrees (codes "59-04-09.18") ≡ pos 5_316_229_500_000 }
+    // The sign of degrees is the bytes 194 and 176.
+    ensures signs { direction_value Degrees (codes "59" ++ (194 ∷ 176 ∷ codes "04'09.18\""))
+        ≡ pos 5_316_229_500_000 }
+    ensures decimals { direction_value Degrees (codes "59,069216667") ≡ pos 5_316_229_500_030 }
+    ensures whole { direction_value Degrees (codes "-90")
+        ≡ neg_ℤ (pos (100 * 1_000_000_000 * GON_PARTS)) }
+    ensures circle { direction_value Degrees (codes "360-00-00") ≡ pos 0 }
+    ensures sixty { is_direction Degrees (codes "59-60-09.18") ≡ false }
+    ensures gon { is_direction Gon (codes "59-04-09.18") ≡ false }
+{}
+
+/// The bounds of a table in digits: its bytes; a full circle in units of the ninth decimal of a gon
+/// and in parts, and that it has 360 degrees; the most decimals that are written; and the least
+/// usual limit, in units of 0.000001 gon.
 pub fn bounds()
     ensures bytes { LONGEST_TABLE ≡ 1_048_576 }
     ensures circle { CIRCLE ≡ 400_000_000_000 }
+    ensures parts { CIRCLE_PARTS ≡ 32_400_000_000_000 }
+    ensures degrees { 360 * DEGREE ≡ CIRCLE_PARTS }
+    ensures decimals { MOST_WRITTEN ≡ 8 }
+    ensures usual_within { USUAL_WITHIN ≡ 10 }
 {}

@@ -2,11 +2,14 @@
 //!
 //! A table has two columns, names and directions, one row for each target of a station, in any
 //! order; titles may stand in the first row. Commas, semicolons, tabs or blanks separate the
-//! columns, as the first row tells. A direction is in gon, with a decimal point or comma.
+//! columns, as the first row tells. A direction is in gon or in degrees, with a decimal point or
+//! comma; degrees may have their minutes and seconds.
 #![tactic(auto)]
 
 mod columns;
 mod decimals;
+mod degrees;
+mod direction;
 mod draft;
 mod entry;
 mod fault;
@@ -19,11 +22,14 @@ mod records;
 mod separator;
 mod table;
 mod text;
+mod unit;
 
 pub use decimals::{Decimals, MOST_WRITTEN};
+pub use direction::{CIRCLE_PARTS, GON_PARTS};
 pub use fault::{RowKind, TableFault};
 pub use gon::CIRCLE;
-pub use limit::{USUAL_WITHIN, usual_within};
+pub use limit::USUAL_WITHIN;
 pub use reading::{LONGEST_TABLE, StatedTable, read_stated_table, read_table};
 pub use table::{TargetDirection, table_text};
 pub use text::push_direction;
+pub use unit::AngleUnit;

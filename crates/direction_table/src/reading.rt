@@ -3,23 +3,27 @@
 //! The rows are read one by one into one record, which is used again. The first row with a fault
 //! ends the reading; then a target without a row is looked for.
 
-ghost use Rattle.std.specs.Prelude.{◌≡◌, ◌==◌, ◌&&◌, ◌≤◌, ◌⊎◌, List, ℤ, Some, length, map, Err, IfErr, IfOk, MatchResult};
+ghost use Rattle.std.specs.Prelude.{◌≡◌, ◌==◌, ◌&&◌, ◌≤◌, ◌⊎◌, List, ℤ, Some, length, map, Err};
+ghost use Rattle.std.specs.Prelude.{IfErr, IfOk, MatchResult};
 ghost use Rattle.adjust_kernel.specs.Stations.{AreTargets};
 ghost use Rattle.csv.specs.Records.{fields_of};
 ghost use Rattle.direction_table.specs.Faults as faults;
 ghost use Rattle.direction_table.specs.Faults.{HasNoFault};
 ghost use Rattle.direction_table.specs.FieldForms.{tidy};
-ghost use Rattle.direction_table.specs.FewestDecimals as spec;
 ghost use Rattle.direction_table.specs.Separators.{rows_of};
-ghost use Rattle.direction_table.specs.Tables.{IsFaultOrMemory, IsMissingOrMemory, IsTableFault, IsTableText, stated_by};
+ghost use Rattle.direction_table.specs.Tables.{IsFaultOrMemory, IsMissingOrMemory, IsTableFault};
+ghost use Rattle.direction_table.specs.Tables.{IsTableText, stated_by};
+ghost use Rattle.direction_table.specs.UsualLimits as spec;
 ghost use Rattle.direction_table.specs.declared.fault.TableFault.{TableFault};
 ghost use Rattle.direction_table.specs.declared.fault.TableFault.TheVariants.{Memory};
 
 use crate::columns::are_titles;
 use crate::draft::take_row;
 use crate::fault::TableFault;
+use crate::limit::USUAL_WITHIN;
 use crate::records::Records;
 use crate::separator::{kept_row, separator_of};
+use crate::unit::AngleUnit;
 use adjust_kernel::{MOST_TARGETS, Name};
 use csv::ByteRecord;
 use std::alloc::{AllocError, Global};
@@ -27,55 +31,64 @@ use std::alloc::{AllocError, Global};
 /// The most bytes of a table.
 pub const LONGEST_TABLE: usize = 1_048_576;
 
-/// The directions of a station's targets, in their order, that these bytes are a table of, in units
-/// of the ninth decimal of a gon; or the first fault of the bytes.
+/// The directions of a station's targets, in their order, that these bytes are a table of; or the
+/// first fault of the bytes. The table states them in a unit; they are given in parts, 81 of which
+/// are 0.000000001 gon.
 ///
 /// Memory that is refused is answered as such, in place of either.
-pub fn read_table(alloc: Global, targets: &[Name], bytes: &[u8]) -> Result<Vec<i64>, TableFault>
+pub fn read_table(
+    alloc: Global,
+    unit: AngleUnit,
+    targets: &[Name],
+    bytes: &[u8],
+) -> Result<Vec<i64>, TableFault>
     requires { AreTargets targets.now }
     ensures table { IfOk result (λ directions.
-        IsTableText targets.now bytes.now directions.items) }
-    ensures fault { IfErr result (IsFaultOrMemory targets.now bytes.now) }
+        IsTableText unit targets.now bytes.now directions.items) }
+    ensures fault { IfErr result (IsFaultOrMemory unit targets.now bytes.now) }
 
     // Bytes that are a table, and bytes with a fault, get no other answer, unless memory ran out.
-    ensures stands { (directions : List ℤ) → IsTableText targets.now bytes.now directions
+    ensures stands { (directions : List ℤ) → IsTableText unit targets.now bytes.now directions
         → MatchResult result (λ read. read.items ≡ directions) (λ fault. fault ≡ Memory) }
-    ensures refused { (fault : TableFault) → IsTableFault targets.now bytes.now fault
+    ensures refused { (fault : TableFault) → IsTableFault unit targets.now bytes.now fault
         → (result ≡ Err fault) ⊎ (result ≡ Err Memory) }
 {
-    let table = read_stated_table(alloc, targets, bytes)?;
+    let table = read_stated_table(alloc, unit, targets, bytes)?;
     Ok(table.directions)
 }
 
 /// What a table states.
 #[derive(Debug, Drop)]
 pub struct StatedTable {
-    /// The directions of the targets, in their order, in units of the ninth decimal of a gon.
+    /// The directions of the targets, in their order, in parts, 81 of which are 0.000000001 gon.
     pub directions: Vec<i64>,
-    /// The fewest decimals of its rows, but for those of whole gon; none where all are whole.
-    pub decimals: Option<usize>,
+    /// The limit of a comparison that is usual for the steps to which its rows round their
+    /// directions, in units of 0.000001 gon: 10, or half the coarsest step, rounded up, and 1,
+    /// where that is more. A whole number of gon or degrees is taken as it stands.
+    pub usual_within: u32,
 }
 
-/// The same as [`read_table`] gives, and the fewest decimals of the rows.
+/// The same as [`read_table`] gives, and the limit that is usual for the rows.
 pub fn read_stated_table(
     alloc: Global,
+    unit: AngleUnit,
     targets: &[Name],
     bytes: &[u8],
 ) -> Result<StatedTable, TableFault>
     requires { AreTargets targets.now }
     ensures table { IfOk result (λ stated.
-        IsTableText targets.now bytes.now stated.directions.items) }
-    ensures decimals { IfOk result (λ stated.
-        stated.decimals ≡ spec.fewest_decimals (rows_of targets.now bytes.now)) }
-    ensures fault { IfErr result (IsFaultOrMemory targets.now bytes.now) }
+        IsTableText unit targets.now bytes.now stated.directions.items) }
+    ensures usual_within { IfOk result (λ stated.
+        stated.usual_within ≡ spec.usual_within unit (rows_of targets.now bytes.now)) }
+    ensures fault { IfErr result (IsFaultOrMemory unit targets.now bytes.now) }
 {
     if bytes.len() > LONGEST_TABLE {
         return Err(TableFault::TooLong);
     }
-    let stated = read_rows(alloc, targets, bytes)?;
+    let stated = read_rows(alloc, unit, targets, bytes)?;
     Ok(StatedTable {
         directions: all_stated(alloc, &stated.directions)?,
-        decimals: stated.decimals,
+        usual_within: stated.usual_within,
     })
 }
 
@@ -84,26 +97,31 @@ pub fn read_stated_table(
 struct StatedRows {
     /// Of each target its direction, as far as a row states it.
     directions: Vec<Option<i64>>,
-    /// The fewest decimals of a row that has any.
-    decimals: Option<usize>,
+    /// The limit that is usual for the rows.
+    usual_within: u32,
 }
 
 /// What the rows of bytes that are not too many state of each target, or their first fault.
-fn read_rows(alloc: Global, targets: &[Name], bytes: &[u8]) -> Result<StatedRows, TableFault>
+fn read_rows(
+    alloc: Global,
+    unit: AngleUnit,
+    targets: &[Name],
+    bytes: &[u8],
+) -> Result<StatedRows, TableFault>
     requires targets { AreTargets targets.now }
     requires short { length bytes.now ≤ LONGEST_TABLE }
-    ensures faultless { IfOk result (λ stated. HasNoFault targets.now
+    ensures faultless { IfOk result (λ stated. HasNoFault unit targets.now
         (rows_of targets.now bytes.now)) }
     ensures stated { IfOk result (λ stated. stated.directions.items
-        ≡ stated_by (rows_of targets.now bytes.now) targets.now) }
-    ensures decimals { IfOk result (λ stated. stated.decimals
-        ≡ spec.fewest_decimals (rows_of targets.now bytes.now)) }
-    ensures fault { IfErr result (IsFaultOrMemory targets.now bytes.now) }
+        ≡ stated_by unit (rows_of targets.now bytes.now) targets.now) }
+    ensures usual_within { IfOk result (λ stated. stated.usual_within
+        ≡ spec.usual_within unit (rows_of targets.now bytes.now)) }
+    ensures fault { IfErr result (IsFaultOrMemory unit targets.now bytes.now) }
 {
     let separator = separator_of(alloc, targets, bytes)?;
     let mut records = Records::of(alloc, separator, bytes);
     let mut directions = vec![in alloc; None; targets.len()]?;
-    let mut decimals = None;
+    let mut usual_within = USUAL_WITHIN;
     let mut record = ByteRecord::new(alloc);
     let mut kept = ByteRecord::new(alloc);
     let mut number: u32 = 0;
@@ -112,40 +130,27 @@ fn read_rows(alloc: Global, targets: &[Name], bytes: &[u8]) -> Result<StatedRows
         if !found {
             return Ok(StatedRows {
                 directions,
-                decimals,
+                usual_within,
             });
         }
         let row = kept_row(separator, &record, &mut kept)?;
         number += 1;
-        if begins_with_titles(number, targets, row) {
+        if begins_with_titles(number, unit, targets, row) {
             continue;
         }
-        match take_row(&mut directions, targets, row) {
-            Ok(written) => decimals = fewer(decimals, written),
+        match take_row(unit, &mut directions, targets, row) {
+            Ok(limit) => usual_within = usual_within.max(limit),
             Err(kind) => return Err(TableFault::Row(number, kind)),
         }
     }
 }
 
 /// Whether the row of this number is the first, and one of titles.
-fn begins_with_titles(number: u32, targets: &[Name], row: &ByteRecord) -> bool
+fn begins_with_titles(number: u32, unit: AngleUnit, targets: &[Name], row: &ByteRecord) -> bool
     ensures { result ≡ ((number == 1)
-        && faults.are_titles targets.now (tidy targets.now (fields_of row.now))) }
+        && faults.are_titles unit targets.now (tidy targets.now (fields_of row.now))) }
 {
-    number == 1 && are_titles(targets, row)
-}
-
-/// The fewest decimals so far, with those of one more row.
-fn fewer(so_far: Option<usize>, decimals: usize) -> Option<usize>
-    ensures { result ≡ spec.fewer so_far (spec.counted decimals) }
-{
-    if decimals == 0 {
-        return so_far;
-    }
-    match so_far {
-        None => Some(decimals),
-        Some(least) => Some(least.min(decimals)),
-    }
+    number == 1 && are_titles(unit, targets, row)
 }
 
 /// The directions of all targets, or the first that has none.

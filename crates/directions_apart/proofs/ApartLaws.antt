@@ -15,8 +15,8 @@ use Rattle.directions_apart.specs.Apart.{circle_of, difference}
 use Rattle.directions_apart.specs.Arcs.{IsArc}
 
 -- A fraction that is rounded up has some parts.
-some_parts : (d numerator w : ℕ) → numerator ≤ w * (2_000 * d)
-    → w * (2_000 * d) < numerator + 2_000 * d → 1 ≤ d
+some_parts : (d numerator w : ℕ) → numerator ≤ w * (162_000 * d)
+    → w * (162_000 * d) < numerator + 162_000 * d → 1 ≤ d
 some_parts zero numerator w a b = absurd (omega (arith, a, b))
 some_parts (suc d) numerator w a b = omega arith
 
@@ -38,9 +38,10 @@ once : (z : ℤ) → pos 1 *ℤ z ≡ z
 once z = same_value (num (pos 1) ⊗ num z) (num z) (omega arith)
 
 -- An angle in an arc is within half its width of the middle.
-in_middle : (w d spread : ℕ) (x start : ℤ) → spread ≤ w * (2_000 * d)
+in_middle : (w d spread : ℕ) (x start : ℤ) → spread ≤ w * (162_000 * d)
     → start ≤ℤ (pos 1 *ℤ x) → (pos 1 *ℤ x) ≤ℤ (start +ℤ pos spread)
-    → IsWithin (pos (2_000 * w * (d * 2))) (pos 2 *ℤ (pos 2 *ℤ x -ℤ (pos 2 *ℤ start +ℤ pos spread)))
+    → IsWithin (pos (162_000 * w * (d * 2))) (pos 2 *ℤ
+    (pos 2 *ℤ x -ℤ (pos 2 *ℤ start +ℤ pos spread)))
 in_middle w d spread x start wide low high =
     let e = once x in
     record {
@@ -68,13 +69,13 @@ around_high m q x p h =
     omega (arith, ints, e, high)
 
 -- Half a spread that is so narrow is not rounded up beyond it.
-no_more : (d q n w spread : ℕ) → 1 ≤ q → 2 * q * spread ≤ 2 * (2_000 * n * (d * q))
-    → w * (2_000 * d) < spread + 2_000 * d → ¬ (n < w)
+no_more : (d q n w spread : ℕ) → 1 ≤ q → 2 * q * spread ≤ 2 * (162_000 * n * (d * q))
+    → w * (162_000 * d) < spread + 162_000 * d → ¬ (n < w)
 no_more d q n w spread some short least fewer =
-    let h : q * spread ≤ q * (2_000 * n * d) = omega (arith, short) in
-    let narrow : spread ≤ 2_000 * n * d = le_of_mul-le-mul_left h some in
-    let more : 2_000 * d * (n + 1) ≤ 2_000 * d * w =
-    mul-le-mul_left (2_000 * d) (omega (arith, fewer)) in
+    let h : q * spread ≤ q * (162_000 * n * d) = omega (arith, short) in
+    let narrow : spread ≤ 162_000 * n * d = le_of_mul-le-mul_left h some in
+    let more : 162_000 * d * (n + 1) ≤ 162_000 * d * w =
+    mul-le-mul_left (162_000 * d) (omega (arith, fewer)) in
     omega (arith, narrow, more, least)
 
 module _ (targets : ℕ) (c : Choice) (stated : ℕ → ℤ) (apart : ℕ)
@@ -116,7 +117,7 @@ module _ (targets : ℕ) (c : Choice) (stated : ℕ → ℤ) (apart : ℕ)
   half_spread_is_apart = record {
     brought = brought;
     no_nearer = λ n fewer b. no_more c.denominator b.parts n apart is.spread b.positive
-        (narrowest (2_000 * n) b) is.rounded_up.least fewer;
+        (narrowest (162_000 * n) b) is.rounded_up.least fewer;
   }
 
 -- How far directions are apart is one number.
@@ -144,8 +145,10 @@ turned_round : (d e : ℕ) (a b t : ℤ)
 turned_round d e a b t =
     (λ i. pos d *ℤ b -ℤ pos e *ℤ (a -ℤ pos (d * 80_000_000) *ℤ minus i))
     ∙ same_value
-    (num (pos d) ⊗ num b ⊖ num (pos e) ⊗ (num a ⊖ num (pos (d * 80_000_000)) ⊗ (num (pos 0) ⊖ num t)))
-    (num (pos 0) ⊖ (num (pos e) ⊗ num a ⊖ num (pos d) ⊗ (num b ⊖ num (pos (e * 80_000_000)) ⊗ num t)))
+    (num (pos d) ⊗ num b ⊖ num (pos e) ⊗ (num a ⊖ num (pos (d * 80_000_000)) ⊗
+    (num (pos 0) ⊖ num t)))
+    (num (pos 0) ⊖ (num (pos e) ⊗ num a ⊖ num (pos d) ⊗
+    (num b ⊖ num (pos (e * 80_000_000)) ⊗ num t)))
     (omega arith)
   where
     minus : neg_ℤ t ≡ pos 0 -ℤ t
@@ -162,19 +165,23 @@ turned_back targets c other s = record {
 
 -- Twice what a rotated difference from the other choice is, by that from the one.
 from_other : (d e q : ℕ) (a b s k t p r : ℤ)
-    → pos 2 *ℤ (pos (q * d) *ℤ ((pos e *ℤ s -ℤ pos 5_000 *ℤ b) +ℤ pos (e * 400_000_000_000) *ℤ (k +ℤ t))
-    -ℤ (pos e *ℤ p +ℤ pos (5_000 * q) *ℤ r))
-    ≡ pos e *ℤ (pos 2 *ℤ (pos q *ℤ ((pos d *ℤ s -ℤ pos 5_000 *ℤ a) +ℤ pos (d * 400_000_000_000) *ℤ k) -ℤ p))
-    +ℤ pos (10_000 * q) *ℤ ((pos e *ℤ a -ℤ pos d *ℤ (b -ℤ pos (e * 80_000_000) *ℤ t)) -ℤ r)
+    → pos 2 *ℤ (pos (q * d) *ℤ ((pos e *ℤ s -ℤ pos 405_000 *ℤ b) +ℤ pos (e * 32_400_000_000_000) *ℤ
+    (k +ℤ t))
+    -ℤ (pos e *ℤ p +ℤ pos (405_000 * q) *ℤ r))
+    ≡ pos e *ℤ (pos 2 *ℤ (pos q *ℤ ((pos d *ℤ s -ℤ pos 405_000 *ℤ a) +ℤ pos
+    (d * 32_400_000_000_000) *ℤ k) -ℤ p))
+    +ℤ pos (810_000 * q) *ℤ ((pos e *ℤ a -ℤ pos d *ℤ (b -ℤ pos (e * 80_000_000) *ℤ t)) -ℤ r)
 from_other d e q a b s k t p r =
     let d' = num (pos d) in
     let e' = num (pos e) in
     same_value
-    (num (pos 2) ⊗ (num (pos (q * d)) ⊗ ((e' ⊗ num s ⊖ num (pos 5_000) ⊗ num b)
-    ⊕ num (pos (e * 400_000_000_000)) ⊗ (num k ⊕ num t)) ⊖ (e' ⊗ num p ⊕ num (pos (5_000 * q)) ⊗ num r)))
-    (e' ⊗ (num (pos 2) ⊗ (num (pos q) ⊗ ((d' ⊗ num s ⊖ num (pos 5_000) ⊗ num a)
-    ⊕ num (pos (d * 400_000_000_000)) ⊗ num k) ⊖ num p))
-    ⊕ num (pos (10_000 * q)) ⊗ ((e' ⊗ num a ⊖ d' ⊗ (num b ⊖ num (pos (e * 80_000_000)) ⊗ num t)) ⊖ num r))
+    (num (pos 2) ⊗ (num (pos (q * d)) ⊗ ((e' ⊗ num s ⊖ num (pos 405_000) ⊗ num b)
+    ⊕ num (pos (e * 32_400_000_000_000)) ⊗ (num k ⊕ num t)) ⊖
+    (e' ⊗ num p ⊕ num (pos (405_000 * q)) ⊗ num r)))
+    (e' ⊗ (num (pos 2) ⊗ (num (pos q) ⊗ ((d' ⊗ num s ⊖ num (pos 405_000) ⊗ num a)
+    ⊕ num (pos (d * 32_400_000_000_000)) ⊗ num k) ⊖ num p))
+    ⊕ num (pos (810_000 * q)) ⊗ ((e' ⊗ num a ⊖ d' ⊗ (num b ⊖ num (pos (e * 80_000_000)) ⊗ num t)) ⊖
+    num r))
     (omega arith)
 
 nothing_left : (m : ℕ) (x y z r : ℤ) → x ≡ y +ℤ pos m *ℤ (z -ℤ r) → z ≡ r → x ≡ y
@@ -195,11 +202,11 @@ as_near targets c other stated most some s b =
     record {
       parts = q * d;
       positive = mul-le-mul b.positive some;
-      rotation = pos e *ℤ b.rotation +ℤ pos (5_000 * q) *ℤ s.rotation;
+      rotation = pos e *ℤ b.rotation +ℤ pos (405_000 * q) *ℤ s.rotation;
       circles = λ t. b.circles t +ℤ s.turns t;
       each = λ t h.
           (let bound : e * (most * (d * q)) ≡ most * (e * (q * d)) = omega arith in
-          let same = nothing_left (10_000 * q) _ _ _ s.rotation
+          let same = nothing_left (810_000 * q) _ _ _ s.rotation
           (from_other d e q (c.direction t) (other.direction t) (stated t) (b.circles t) (s.turns t)
           b.rotation s.rotation) (s.directions t h) in
           subst (λ z. IsWithin (pos (most * (e * (q * d)))) z) (sym same)
@@ -213,7 +220,7 @@ pub as_far_apart : (targets : ℕ) (c other : Choice) (stated : ℕ → ℤ) (ap
     → 1 ≤ other.denominator → AreTurned targets c other → IsApart targets c stated apart
     → IsApart targets other stated apart
 as_far_apart targets c other stated apart some others s is = record {
-  brought = as_near targets c other stated (2_000 * apart) some s is.brought;
+  brought = as_near targets c other stated (162_000 * apart) some s is.brought;
   no_nearer = λ n fewer b. is.no_nearer n fewer
-      (as_near targets other c stated (2_000 * n) others (turned_back targets c other s) b);
+      (as_near targets other c stated (162_000 * n) others (turned_back targets c other s) b);
 }

@@ -138,23 +138,23 @@ way_between circle a b from to way f t w =
     }
 
 -- The way round from a direction to a stated one on the circle is their difference on the circle.
-pub difference_is : (d x on way : ℕ) (a s : ℤ) → pos x ≡ pos 5_000 *ℤ a
-    → IsWayRound 400_000_000_000 (pos 0) s on
-    → IsWayRound (d * 400_000_000_000) (pos x) (pos (d * on)) way
-    → IsWayRound (d * 400_000_000_000) (pos 0) (pos d *ℤ s -ℤ pos 5_000 *ℤ a) way
+pub difference_is : (d x on way : ℕ) (a s : ℤ) → pos x ≡ pos 405_000 *ℤ a
+    → IsWayRound 32_400_000_000_000 (pos 0) s on
+    → IsWayRound (d * 32_400_000_000_000) (pos x) (pos (d * on)) way
+    → IsWayRound (d * 32_400_000_000_000) (pos 0) (pos d *ℤ s -ℤ pos 405_000 *ℤ a) way
 difference_is d x on way a s is o w =
     let p = o.there in
     let there = w.there in
-    let on_is : pos on ≡ s +ℤ pos 400_000_000_000 *ℤ o.turns = omega (arith, ints, p) in
-    let here : pos (d * on) ≡ pos d *ℤ (s +ℤ pos 400_000_000_000 *ℤ o.turns) =
+    let on_is : pos on ≡ s +ℤ pos 32_400_000_000_000 *ℤ o.turns = omega (arith, ints, p) in
+    let here : pos (d * on) ≡ pos d *ℤ (s +ℤ pos 32_400_000_000_000 *ℤ o.turns) =
     same_value (num (pos (d * on))) (num (pos d) ⊗ num (pos on)) (omega arith)
     ∙ ap (λ z. pos d *ℤ z) on_is in
-    let all : pos d *ℤ (s +ℤ pos 400_000_000_000 *ℤ o.turns)
-    +ℤ pos (d * 400_000_000_000) *ℤ w.turns
-    ≡ pos d *ℤ s +ℤ pos (d * 400_000_000_000) *ℤ (o.turns +ℤ w.turns) =
-    same_value (num (pos d) ⊗ (num s ⊕ num (pos 400_000_000_000) ⊗ num o.turns)
-    ⊕ num (pos (d * 400_000_000_000)) ⊗ num w.turns)
-    (num (pos d) ⊗ num s ⊕ num (pos (d * 400_000_000_000)) ⊗ (num o.turns ⊕ num w.turns))
+    let all : pos d *ℤ (s +ℤ pos 32_400_000_000_000 *ℤ o.turns)
+    +ℤ pos (d * 32_400_000_000_000) *ℤ w.turns
+    ≡ pos d *ℤ s +ℤ pos (d * 32_400_000_000_000) *ℤ (o.turns +ℤ w.turns) =
+    same_value (num (pos d) ⊗ (num s ⊕ num (pos 32_400_000_000_000) ⊗ num o.turns)
+    ⊕ num (pos (d * 32_400_000_000_000)) ⊗ num w.turns)
+    (num (pos d) ⊗ num s ⊕ num (pos (d * 32_400_000_000_000)) ⊗ (num o.turns ⊕ num w.turns))
     (omega arith) in
     record {
       turns = o.turns +ℤ w.turns;

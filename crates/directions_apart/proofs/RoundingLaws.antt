@@ -13,7 +13,7 @@ use Rattle.directions_apart.specs.Apart.{AreBroughtNear, IsApart, circle_of, dif
 use Rattle.directions_apart.specs.Arcs.{IsWayRound}
 use Rattle.directions_apart.specs.Rounding.{IsRounded, from_first, twice_more}
 use Rattle.directions_apart.specs.declared.units.TheConstants.{CIRCLE}
-use Rattle.directions_apart.proofs.ApartLaws.{AreTurned}
+use Rattle.directions_apart.proofs.ApartLaws.{AreTurned, times_within}
 use Rattle.directions_apart.proofs.ArcLaws.{no_circle}
 
 -- What is left of whole steps after full circles is whole steps.
@@ -50,7 +50,7 @@ twice_is d step n x q left a turns is there =
 
 -- The nearest whole number of steps, less full circles, is the rounded direction.
 pub rounded_is : (c : Choice) (t step n x : ℕ) → 1 ≤ step → CIRCLE % step ≡ 0
-    → IsWayRound (circle_of c) (pos 0) (pos 5_000 *ℤ c.direction t) x
+    → IsWayRound (c.denominator * 400_000_000_000) (pos 0) (pos 5_000 *ℤ c.direction t) x
     → 2 * (n * (c.denominator * step)) ≤ 2 * x + c.denominator * step
     → 2 * x + c.denominator * step < 2 * (n * (c.denominator * step))
     + 2 * (c.denominator * step)
@@ -158,6 +158,20 @@ rounded_of_0 c t step rounded positive some whole at_0 r =
       high = omega (arith, ints, here, large);
     })
 
+-- Twice what a rounded direction is more, in parts.
+in_parts : (d s : ℕ) (a k : ℤ)
+    → pos 81 *ℤ (pos 2 *ℤ ((pos d *ℤ pos s -ℤ pos 5_000 *ℤ a) +ℤ pos (d * 400_000_000_000) *ℤ k))
+    ≡ pos 2 *ℤ (pos 1 *ℤ ((pos d *ℤ pos (81 * s) -ℤ pos 405_000 *ℤ a)
+    +ℤ pos (d * 32_400_000_000_000) *ℤ k) -ℤ pos 0)
+in_parts d s a k =
+    let d' = num (pos d) in
+    same_value
+    (num (pos 81) ⊗ (num (pos 2) ⊗ ((d' ⊗ num (pos s) ⊖ num (pos 5_000) ⊗ num a)
+    ⊕ num (pos (d * 400_000_000_000)) ⊗ num k)))
+    (num (pos 2) ⊗ (num (pos 1) ⊗ ((d' ⊗ num (pos (81 * s)) ⊖ num (pos 405_000) ⊗ num a)
+    ⊕ num (pos (d * 32_400_000_000_000)) ⊗ num k) ⊖ num (pos 0)))
+    (omega arith)
+
 module _ (targets step : ℕ) (c : Choice) (stated : ℕ → ℕ) (each : (t : ℕ) → t < targets
     → IsRounded c t step (stated t)) where
   -- The full circles of a target.
@@ -175,22 +189,21 @@ module _ (targets step : ℕ) (c : Choice) (stated : ℕ → ℕ) (each : (t : �
   within_half t h (no e) = absurd (omega (arith, h, e))
 
   once_near : (t : ℕ) → t < targets
-      → IsWithin (pos (step * (c.denominator * 1)))
-      (pos 2 *ℤ (pos 1 *ℤ (difference c (λ t. pos (stated t)) t
+      → IsWithin (pos (81 * step * (c.denominator * 1)))
+      (pos 2 *ℤ (pos 1 *ℤ (difference c (λ t. pos (81 * stated t)) t
       +ℤ pos (circle_of c) *ℤ circles_of t (dec_le (suc t) targets)) -ℤ pos 0))
   once_near t h =
-      let x = difference c (λ t. pos (stated t)) t
-      +ℤ pos (circle_of c) *ℤ circles_of t (dec_le (suc t) targets) in
-      let same : pos 2 *ℤ x ≡ pos 2 *ℤ (pos 1 *ℤ x -ℤ pos 0) =
-      same_value (num (pos 2) ⊗ num x) (num (pos 2) ⊗ (num (pos 1) ⊗ num x ⊖ num (pos 0)))
-      (omega arith) in
-      let bound : step * c.denominator ≡ step * (c.denominator * 1) = omega arith in
-      subst (λ m. IsWithin (pos m) (pos 2 *ℤ (pos 1 *ℤ x -ℤ pos 0))) bound
-      (subst (IsWithin (pos (step * c.denominator))) same
-      (within_half t h (dec_le (suc t) targets)))
+      let k = circles_of t (dec_le (suc t) targets) in
+      let same = in_parts c.denominator (stated t) (c.direction t) k in
+      let bound : 81 * (step * c.denominator) ≡ 81 * step * (c.denominator * 1) = omega arith in
+      subst (λ m. IsWithin (pos m) (pos 2 *ℤ (pos 1 *ℤ (difference c (λ t. pos (81 * stated t)) t
+      +ℤ pos (circle_of c) *ℤ k) -ℤ pos 0))) bound
+      (subst (IsWithin (pos (81 * (step * c.denominator)))) same
+      (times_within 81 (step * c.denominator) (twice_more c t (stated t) k)
+      (within_half t h (dec_le (suc t) targets))))
 
   -- Rounded directions are as near as half a step, with no rotation.
-  pub rounded_near : AreBroughtNear targets c (λ t. pos (stated t)) step
+  pub rounded_near : AreBroughtNear targets c (λ t. pos (81 * stated t)) (81 * step)
   rounded_near = record {
     parts = 1;
     positive = omega arith;
@@ -221,13 +234,14 @@ less_near targets c stated most more h b = record {
 pub rounded_agrees : (targets step most apart : ℕ) (c : Choice) (stated : ℕ → ℕ)
     → step ≤ 2_000 * most
     → ((t : ℕ) → t < targets → IsRounded c t step (stated t))
-    → IsApart targets c (λ t. pos (stated t)) apart → apart ≤ most
+    → IsApart targets c (λ t. pos (81 * stated t)) apart → apart ≤ most
 rounded_agrees targets step most apart c stated small each is = by (dec_le apart most)
   where
     by : Dec (apart ≤ most) → apart ≤ most
     by (yes h) = h
     by (no h) = absurd (is.no_nearer most (omega (arith, h))
-        (less_near targets c (λ t. pos (stated t)) step (2_000 * most) small
+        (less_near targets c (λ t. pos (81 * stated t)) (81 * step) (162_000 * most)
+        (omega (arith, small))
         (rounded_near targets step c stated each)))
 
 -- Half a step over one denominator, times the other.
@@ -313,7 +327,8 @@ nothing_left m e x y z z0 a0 r is f g at_0 =
 -- A direction rounded, where the first is 0, is the other choice's from its first, rounded.
 pub as_rounded : (targets : ℕ) (c other : Choice) (t step rounded : ℕ) → 1 ≤ c.denominator
     → 1 ≤ other.denominator → 1 ≤ step → t < targets → AreTurned targets c other
-    → c.direction 0 ≡ pos 0 → IsRounded c t step rounded → IsRounded (from_first other) t step rounded
+    → c.direction 0 ≡ pos 0 → IsRounded c t step rounded
+    → IsRounded (from_first other) t step rounded
 as_rounded targets c other t step rounded some others steps inside s at_0 r =
     let d = c.denominator in
     let e = other.denominator in

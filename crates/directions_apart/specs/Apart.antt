@@ -1,25 +1,26 @@
 -- How far stated directions are apart from those of a choice (profile). Stated directions are whole
--- numbers of 0.000000001 gon, a choice's are half units over its denominator.
+-- numbers of parts, 81 of which are 0.000000001 gon; a choice's are half units over its
+-- denominator.
 use Rattle.std.specs.Prelude.{ℕ, ◌+◌, ◌*◌, ◌≤◌, ◌<◌, List, ℤ, pos, ◌+ℤ◌, ◌-ℤ◌, ◌*ℤ◌, slice_index_or}
 use Rattle.adjust_kernel.specs.Residuals.{Choice}
 use Rattle.adjust_kernel.specs.Within.{IsWithin}
 use Rattle.directions_apart.specs.Arcs.{IsSpread}
-use Rattle.directions_apart.specs.declared.units.TheConstants.{CIRCLE, HALF_UNIT, UNIT}
+use Rattle.directions_apart.specs.declared.units.TheConstants.{CIRCLE, HALF_UNIT, PARTS, UNIT}
 
 -- the direction that a list states for a target
 abbrev pub stated_by : List ℤ → ℕ → ℤ
 stated_by stated t = slice_index_or stated t (pos 0)
 
--- the stated direction of a target less the choice's, in 0.000000001 gon times the denominator
+-- the stated direction of a target less the choice's, in parts times the denominator
 abbrev pub difference : Choice → (ℕ → ℤ) → ℕ → ℤ
-difference c stated t = pos c.denominator *ℤ stated t -ℤ pos HALF_UNIT *ℤ c.direction t
+difference c stated t = pos c.denominator *ℤ stated t -ℤ pos (PARTS * HALF_UNIT) *ℤ c.direction t
 
 -- a full circle in the same unit
 abbrev pub circle_of : Choice → ℕ
-circle_of c = c.denominator * CIRCLE
+circle_of c = c.denominator * (PARTS * CIRCLE)
 
 -- One rotation, over any denominator, and full circles bring each stated direction so near the
--- choice's: within so many halves of 0.000000001 gon.
+-- choice's: within so many halves of a part.
 pub record AreBroughtNear (targets : ℕ) (c : Choice) (stated : ℕ → ℤ) (most : ℕ) : Type 0 where
   pub parts : ℕ
   pub positive : 1 ≤ parts
@@ -32,10 +33,10 @@ pub record AreBroughtNear (targets : ℕ) (c : Choice) (stated : ℕ → ℤ) (m
 
 -- The same, within so many units of 0.000001 gon.
 abbrev pub AreBroughtWithin : ℕ → Choice → (ℕ → ℤ) → ℕ → Type 0
-AreBroughtWithin targets c stated most = AreBroughtNear targets c stated (2 * UNIT * most)
+AreBroughtWithin targets c stated most = AreBroughtNear targets c stated (2 * (PARTS * UNIT) * most)
 
--- So far apart, in units of 0.000001 gon, are stated directions from a choice's: one rotation brings
--- each within that, and none brings them nearer by a unit or more.
+-- So far apart, in units of 0.000001 gon, are stated directions from a choice's: one rotation
+-- brings each within that, and none brings them nearer by a unit or more.
 pub record IsApart (targets : ℕ) (c : Choice) (stated : ℕ → ℤ) (apart : ℕ) : Type 0 where
   pub brought : AreBroughtWithin targets c stated apart
   pub no_nearer : (nearer : ℕ) → nearer < apart → ¬ AreBroughtWithin targets c stated nearer
@@ -49,4 +50,4 @@ pub record IsRoundedUp (numerator denominator whole : ℕ) : Type 0 where
 pub record IsHalfSpread (targets : ℕ) (c : Choice) (stated : ℕ → ℤ) (apart : ℕ) : Type 0 where
   pub spread : ℕ
   pub is_spread : IsSpread (circle_of c) (difference c stated) targets spread
-  pub rounded_up : IsRoundedUp spread (2 * UNIT * c.denominator) apart
+  pub rounded_up : IsRoundedUp spread (2 * (PARTS * UNIT) * c.denominator) apart

@@ -1,13 +1,15 @@
--- Directions rounded to steps, as tables print them (profile).
+-- Directions rounded to steps, as tables print them (profile): both are whole numbers of
+-- 0.000000001 gon.
 use Rattle.std.specs.Prelude.{◌≡◌, ℕ, ◌*◌, ◌%◌, ◌<◌, ℤ, pos, neg_ℤ, ◌+ℤ◌, ◌-ℤ◌, ◌*ℤ◌, ◌≤ℤ◌, ◌<ℤ◌}
 use Rattle.adjust_kernel.specs.Residuals.{Choice}
-use Rattle.directions_apart.specs.Apart.{circle_of, difference}
-use Rattle.directions_apart.specs.declared.units.TheConstants.{CIRCLE}
+use Rattle.directions_apart.specs.declared.units.TheConstants.{CIRCLE, HALF_UNIT}
 
--- twice what a rounded direction is more than a choice's, with so many full circles
+-- twice what a rounded direction is more than a choice's, with so many full circles: in 0.000000001
+-- gon times the denominator
 abbrev pub twice_more : Choice → ℕ → ℕ → ℤ → ℤ
 twice_more c t rounded circles =
-    pos 2 *ℤ (difference c (λ _. pos rounded) t +ℤ pos (circle_of c) *ℤ circles)
+    pos 2 *ℤ ((pos c.denominator *ℤ pos rounded -ℤ pos HALF_UNIT *ℤ c.direction t)
+    +ℤ pos (c.denominator * CIRCLE) *ℤ circles)
 
 -- A direction rounded to whole steps, from 0 and below a full circle: but for full circles it is
 -- the choice's direction within half a step, and what lies in the middle of two is rounded up.

@@ -5,7 +5,7 @@ ghost use Rattle.exact_adjustment.specs.Adjustments.{choice_by};
 ghost use Rattle.wide_number.specs.Limbs.{WIDE_LIMIT};
 
 use crate::arc::spread;
-use crate::units::{CIRCLE, UNIT};
+use crate::units::{CIRCLE, PARTS, UNIT};
 use exact_adjustment::Adjustment;
 use wide_number::{Wide, quotient};
 
@@ -30,7 +30,7 @@ fn rounded_up(numerator: &Wide, denominator: &Wide) -> u32
 /// How far stated directions, one for each target, are apart from those of an adjustment, in units
 /// of 0.000001 gon: one rotation brings each within that, and none brings them nearer by a unit.
 /// That is half the spread of the differences on the circle, rounded up. Stated directions are in
-/// units of 0.000000001 gon.
+/// parts, 81 of which are 0.000000001 gon.
 ///
 /// What that says of every least-squares choice of the station, `laws::each_least` tells.
 pub fn apart_of(adjustment: &Adjustment, stated: &[i64]) -> u32
@@ -43,6 +43,6 @@ pub fn apart_of(adjustment: &Adjustment, stated: &[i64]) -> u32
 {
     rounded_up(
         &spread(adjustment, stated),
-        &adjustment.denominator().times(2 * UNIT),
+        &adjustment.denominator().times(2 * PARTS * UNIT),
     )
 }

@@ -29,8 +29,7 @@ fn extent_from(adjustment: &Adjustment, stated: &[i64], start: usize) -> Wide
     widest
 }
 
-/// The width of the narrowest arc that holds all differences, in units of 0.000000001 gon times
-/// the denominator.
+/// The width of the narrowest arc that holds all differences, in parts times the denominator.
 pub(crate) fn spread(adjustment: &Adjustment, stated: &[i64]) -> Wide
     requires { length stated.now ≡ length adjustment.now.directions }
     ensures spread { IsSpread (circle_of (choice_by adjustment.now))

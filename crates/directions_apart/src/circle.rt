@@ -1,16 +1,16 @@
 //! Angles on the circle, over a denominator.
-ghost use Rattle.std.specs.Prelude.{◌≡◌, ◌+◌, ◌<◌, pos};
+ghost use Rattle.std.specs.Prelude.{◌≡◌, ◌+◌, ◌*◌, ◌<◌, pos};
 ghost use Rattle.directions_apart.specs.Arcs.{IsWayRound};
 ghost use Rattle.wide_number.specs.Limbs.{WIDE_LIMIT};
 
-use crate::units::CIRCLE;
+use crate::units::{CIRCLE, PARTS};
 use wide_number::Wide;
 
-/// A stated direction on the circle: from 0 and below it.
+/// A stated direction on the circle: from 0 and below it, in parts.
 pub(crate) fn on_circle(stated: i64) -> u64
-    ensures { IsWayRound CIRCLE (pos 0) stated result }
+    ensures { IsWayRound (PARTS * CIRCLE) (pos 0) stated result }
 {
-    stated.rem_euclid(CIRCLE as i64) as u64
+    stated.rem_euclid((PARTS * CIRCLE) as i64) as u64
 }
 
 /// How far it is from one angle onward to another, less than a circle.

@@ -7,29 +7,30 @@ ghost use Rattle.exact_adjustment.specs.Adjustments.{IsAdjustment, choice_by};
 ghost use Rattle.wide_number.specs.Limbs.{WIDE_LIMIT};
 
 use crate::circle::{on_circle, way_round};
-use crate::units::{CIRCLE, HALF_UNIT};
+use crate::units::{CIRCLE, HALF_UNIT, PARTS};
 use exact_adjustment::Adjustment;
 use wide_number::Wide;
 
-/// A full circle over an adjustment's denominator.
+/// A full circle, in parts times an adjustment's denominator.
 pub(crate) fn circle(adjustment: &Adjustment) -> Wide
     ensures value { result ≡ spec.circle_of (choice_by adjustment.now) }
     ensures valid { IsAdjustment adjustment.now }
 {
-    adjustment.denominator().times(CIRCLE)
+    adjustment.denominator().times(PARTS * CIRCLE)
 }
 
-/// The direction of a target, in the unit of stated directions times the denominator.
-pub(crate) fn direction(adjustment: &Adjustment, target: usize) -> Wide
+/// The direction of a target, in parts times the denominator.
+fn direction(adjustment: &Adjustment, target: usize) -> Wide
     requires { target < length adjustment.now.directions }
-    ensures value { pos result ≡ (pos HALF_UNIT *ℤ (choice_by adjustment.now).direction target) }
+    ensures value { pos result
+        ≡ (pos (PARTS * HALF_UNIT) *ℤ (choice_by adjustment.now).direction target) }
     ensures below { result < spec.circle_of (choice_by adjustment.now) }
 {
-    adjustment.directions()[target].times(HALF_UNIT)
+    adjustment.directions()[target].times(PARTS * HALF_UNIT)
 }
 
-/// The stated direction of a target less the adjusted one, on the circle: in units of
-/// 0.000000001 gon times the denominator.
+/// The stated direction of a target less the adjusted one, on the circle: in parts times the
+/// denominator.
 pub(crate) fn difference(adjustment: &Adjustment, stated: &[i64], target: usize) -> Wide
     requires in_adjustment { target < length adjustment.now.directions }
     requires in_stated { target < length stated.now }

@@ -9,7 +9,8 @@ ghost use Rattle.exact_adjustment.specs.Adjustments.{AdjustmentValue, choice_by}
 ghost use Rattle.exact_adjustment.specs.Exact.{IsExact, KeepsLimit};
 ghost use Rattle.directions_apart.specs.Apart.{AreBroughtNear, IsApart};
 ghost use Rattle.directions_apart.specs.Rounding.{IsRounded, from_first};
-ghost use Rattle.directions_apart.specs.declared.units.TheConstants.{CIRCLE, HALF_UNIT, UNIT};
+ghost use Rattle.directions_apart.specs.declared.units.TheConstants.{CIRCLE, HALF_UNIT, PARTS};
+ghost use Rattle.directions_apart.specs.declared.units.TheConstants.{UNIT};
 
 /// What is said of an exact adjustment's directions is so of every least-squares choice of the
 /// station, over any denominator and with any full turns: stated directions are as far apart from
@@ -58,17 +59,18 @@ pub fn one_rounded()
 pub fn rounded()
     ensures near { (targets step : ℕ) (c : Choice) (stated : ℕ → ℕ)
         → ((t : ℕ) → t < targets → IsRounded c t step (stated t))
-        → AreBroughtNear targets c (λ t. pos (stated t)) step }
+        → AreBroughtNear targets c (λ t. pos (PARTS * stated t)) (PARTS * step) }
     ensures apart { (targets step most apart : ℕ) (c : Choice) (stated : ℕ → ℕ)
         → step ≤ 2 * UNIT * most
         → ((t : ℕ) → t < targets → IsRounded c t step (stated t))
-        → IsApart targets c (λ t. pos (stated t)) apart → apart ≤ most }
+        → IsApart targets c (λ t. pos (PARTS * stated t)) apart → apart ≤ most }
 {}
 
 /// The units in digits: a half unit, the unit of answers, and a full circle, each in units of
-/// 0.000000001 gon.
+/// 0.000000001 gon; and the parts of such a unit.
 pub fn units()
     ensures half_unit { HALF_UNIT ≡ 5_000 }
     ensures unit { UNIT ≡ 1_000 }
     ensures circle { CIRCLE ≡ 400_000_000_000 }
+    ensures parts { PARTS ≡ 81 }
 {}

@@ -1,10 +1,13 @@
-//! How far stated directions are apart from the least-squares ones of a station, and these, rounded.
+//! How far stated directions are apart from the least-squares ones of a station, and these,
+//! rounded.
 //!
-//! A program prints directions as decimals of a gon. `apart_of` tells how near one rotation brings
-//! them to the directions of an exact adjustment: exactly, in whole units of 0.000001 gon, rounded
-//! up. `rounded` answers a direction of the adjustment as tables print it, exactly rounded.
+//! A program prints directions as decimals of a gon, or in degrees. `apart_of` tells how near one
+//! rotation brings them to the directions of an exact adjustment: exactly, in whole units of
+//! 0.000001 gon, rounded up. `rounded` answers a direction of the adjustment as tables print it,
+//! exactly rounded.
 //!
-//! Stated directions are in units of 0.000000001 gon, so that 9 decimals are whole.
+//! Stated directions are in parts, 81 of which are 0.000000001 gon: so 9 decimals of a gon are
+//! whole, 9 of a degree, and 6 of a second.
 #![tactic(auto)]
 
 mod apart;
@@ -17,4 +20,4 @@ mod units;
 
 pub use apart::apart_of;
 pub use rounding::rounded;
-pub use units::{CIRCLE, HALF_UNIT, UNIT};
+pub use units::{CIRCLE, HALF_UNIT, PARTS, UNIT};

@@ -1,12 +1,11 @@
 //! Directions of an adjustment, rounded as they are printed.
-ghost use Rattle.std.specs.Prelude.{◌≡◌, ◌≤◌, ◌<◌, ◌+◌, ◌*◌, ◌%◌, length};
+ghost use Rattle.std.specs.Prelude.{◌≡◌, ◌≤◌, ◌<◌, ◌+◌, ◌*◌, ◌*ℤ◌, ◌%◌, length, pos};
 ghost use Rattle.directions_apart.specs.Rounding.{IsRounded};
 ghost use Rattle.exact_adjustment.specs.Adjustments.{choice_by};
 ghost use Rattle.exact_adjustment.specs.declared.bounds.TheConstants.{LARGEST_FACTOR};
 ghost use Rattle.wide_number.specs.Limbs.{WIDE_LIMIT};
 
-use crate::difference::direction;
-use crate::units::CIRCLE;
+use crate::units::{CIRCLE, HALF_UNIT};
 use exact_adjustment::Adjustment;
 use wide_number::{Wide, quotient};
 
@@ -26,6 +25,15 @@ fn nearest_steps(direction: &Wide, denominator: &Wide, step: u32) -> u64
     let mut twice = direction.times(2);
     twice.add_product(denominator, step);
     quotient(&twice, &denominator.times(2 * step), CIRCLE / step + 2)
+}
+
+/// The direction of a target, in units of 0.000000001 gon times the denominator.
+fn direction(adjustment: &Adjustment, target: usize) -> Wide
+    requires { target < length adjustment.now.directions }
+    ensures value { pos result ≡ (pos HALF_UNIT *ℤ (choice_by adjustment.now).direction target) }
+    ensures below { result < (choice_by adjustment.now).denominator * CIRCLE }
+{
+    adjustment.directions()[target].times(HALF_UNIT)
 }
 
 /// The direction of a target, by its place, rounded to whole steps, on the circle from 0: steps and

@@ -1,4 +1,4 @@
-//! The units of stated directions.
+//! The units of directions.
 
 use adjust_kernel::TURN;
 
@@ -10,3 +10,7 @@ pub const CIRCLE: u64 = TURN as u64 * HALF_UNIT;
 
 /// 0.000001 gon, in which differences are told, in units of 0.000000001 gon.
 pub const UNIT: u64 = 1_000;
+
+/// Parts in 0.000000001 gon. Stated directions are whole numbers of parts: with 9 decimals of a
+/// gon, with 9 decimals of a degree, and with 6 decimals of a second, which is 1/3240 gon.
+pub const PARTS: u64 = 81;

@@ -1,5 +1,6 @@
 -- From the parts of a comparison to what it answers.
-use Rattle.std.proofs.Common.{◌≡◌, ℕ, ℤ, List, Result, Ok, Err, refl, sym, subst, inl, inr, Option, Some}
+use Rattle.std.proofs.Common.{◌≡◌, ℕ, ℤ, List, Result, Ok, Err, refl, sym, subst, inl, inr, Option}
+use Rattle.std.proofs.Common.{Some}
 use Rattle.std.specs.Prelude.{MatchResult}
 use Rattle.adjust_kernel.specs.Stations.{StationValue}
 use Rattle.byte_ends.specs.Input.{Input, Ended, BrokeOff, RanPast, input_within}
@@ -28,24 +29,27 @@ use Rattle.station_compare.specs.declared.fault.CompareFault.{CompareFault}
 use Rattle.station_compare.specs.declared.fault.CompareFault.TheVariants.{File, TableRead, Table}
 use Rattle.station_compare.specs.declared.fault.CompareFault.TheVariants.{Adjust, Apart, Write}
 use Rattle.station_compare.specs.declared.fault.CompareFault.TheVariants.{Memory}
+use Rattle.direction_table.specs.declared.unit.AngleUnit.{AngleUnit}
 
 -- A table that agrees was read to its end.
-ended_by : (station : StationValue) (within : Option ℕ) (a : Agreement) (input : Input)
-    → ByInput station within input (Ok a)
-    → (bytes : List ℕ) × (input ≡ Ended bytes) × IsAgreement station bytes within a
-ended_by station within a (Ended bytes) h = (bytes, refl, h)
-ended_by station within a (BrokeOff bytes) (inl h) = cc
-ended_by station within a (BrokeOff bytes) (inr h) = cc
-ended_by station within a RanPast (inl h) = cc
-ended_by station within a RanPast (inr h) = cc
+ended_by : (unit : AngleUnit) (station : StationValue) (within : Option ℕ) (a : Agreement)
+    (input : Input)
+    → ByInput unit station within input (Ok a)
+    → (bytes : List ℕ) × (input ≡ Ended bytes) × IsAgreement unit station bytes within a
+ended_by unit station within a (Ended bytes) h = (bytes, refl, h)
+ended_by unit station within a (BrokeOff bytes) (inl h) = cc
+ended_by unit station within a (BrokeOff bytes) (inr h) = cc
+ended_by unit station within a RanPast (inl h) = cc
+ended_by unit station within a RanPast (inr h) = cc
 
-agrees_of : (limits : FaceLimits) (lines : FileAnswers) (stated : Told) (name : List ℕ)
+agrees_of : (unit : AngleUnit) (limits : FaceLimits) (lines : FileAnswers) (stated : Told)
+    (name : List ℕ)
     (within : Option ℕ) (its : SurveyedStation) (a : Agreement)
     → IsStationOfFile limits lines name its
     → (bytes : List ℕ) × (input_within LONGEST_TABLE stated ≡ Ended bytes)
-    × IsAgreement its.station bytes within a
-    → Agrees limits lines stated name within a
-agrees_of limits lines stated name within its a station ended = record {
+    × IsAgreement unit its.station bytes within a
+    → Agrees unit limits lines stated name within a
+agrees_of unit limits lines stated name within its a station ended = record {
   its = its;
   station = station;
   bytes = ended.0;
@@ -62,75 +66,81 @@ agrees_of limits lines stated name within its a station ended = record {
 }
 
 -- No fault of the field file comes of the table.
-no_file_fault : (its : SurveyedStation) (within : Option ℕ) (fault : Fault) (input : Input)
-    → ByInput its.station within input (Err (File fault)) → ⊥
-no_file_fault its within fault (Ended bytes) h = h
-no_file_fault its within fault (BrokeOff bytes) (inl h) = cc
-no_file_fault its within fault (BrokeOff bytes) (inr h) = cc
-no_file_fault its within fault RanPast (inl h) = cc
-no_file_fault its within fault RanPast (inr h) = cc
+no_file_fault : (unit : AngleUnit) (its : SurveyedStation) (within : Option ℕ) (fault : Fault)
+    (input : Input)
+    → ByInput unit its.station within input (Err (File fault)) → ⊥
+no_file_fault unit its within fault (Ended bytes) h = h
+no_file_fault unit its within fault (BrokeOff bytes) (inl h) = cc
+no_file_fault unit its within fault (BrokeOff bytes) (inr h) = cc
+no_file_fault unit its within fault RanPast (inl h) = cc
+no_file_fault unit its within fault RanPast (inr h) = cc
 
 -- What is answered, where the station was found.
-pub compares_by_table : (limits : FaceLimits) (lines : FileAnswers) (stated : Told) (name : List ℕ)
+pub compares_by_table : (unit : AngleUnit) (limits : FaceLimits) (lines : FileAnswers)
+    (stated : Told) (name : List ℕ)
     (within : Option ℕ) (its : SurveyedStation) (r : Result Agreement CompareFault)
     → IsStationOfFile limits lines name its
-    → ByInput its.station within (input_within LONGEST_TABLE stated) r
-    → Compares limits lines stated name within r
-compares_by_table limits lines stated name within its (Ok a) station h =
-    agrees_of limits lines stated name within its a station
-    (ended_by its.station within a (input_within LONGEST_TABLE stated) h)
-compares_by_table limits lines stated name within its (Err (File fault)) station h =
-    absurd (no_file_fault its within fault (input_within LONGEST_TABLE stated) h)
-compares_by_table limits lines stated name within its (Err TableRead) station h =
+    → ByInput unit its.station within (input_within LONGEST_TABLE stated) r
+    → Compares unit limits lines stated name within r
+compares_by_table unit limits lines stated name within its (Ok a) station h =
+    agrees_of unit limits lines stated name within its a station
+    (ended_by unit its.station within a (input_within LONGEST_TABLE stated) h)
+compares_by_table unit limits lines stated name within its (Err (File fault)) station h =
+    absurd (no_file_fault unit its within fault (input_within LONGEST_TABLE stated) h)
+compares_by_table unit limits lines stated name within its (Err TableRead) station h =
     record { its = its; station = station; by_input = h }
-compares_by_table limits lines stated name within its (Err (Table fault)) station h =
+compares_by_table unit limits lines stated name within its (Err (Table fault)) station h =
     record { its = its; station = station; by_input = h }
-compares_by_table limits lines stated name within its (Err (Adjust fault)) station h =
+compares_by_table unit limits lines stated name within its (Err (Adjust fault)) station h =
     record { its = its; station = station; by_input = h }
-compares_by_table limits lines stated name within its (Err (Apart apart)) station h =
+compares_by_table unit limits lines stated name within its (Err (Apart apart)) station h =
     record { its = its; station = station; by_input = h }
-compares_by_table limits lines stated name within its (Err Write) station h =
+compares_by_table unit limits lines stated name within its (Err Write) station h =
     record { its = its; station = station; by_input = h }
-compares_by_table limits lines stated name within its (Err Memory) station h = tt
+compares_by_table unit limits lines stated name within its (Err Memory) station h = tt
 
 -- What is answered of a fault of the field file.
-pub compares_by_file : (limits : FaceLimits) (lines : FileAnswers) (stated : Told) (name : List ℕ)
+pub compares_by_file : (unit : AngleUnit) (limits : FaceLimits) (lines : FileAnswers)
+    (stated : Told) (name : List ℕ)
     (within : Option ℕ) (fault : Fault) → IsOfFile fault → Surveys limits lines (Err fault)
-    → Compares limits lines stated name within (Err (of_file fault))
-compares_by_file limits lines stated name within (file.Gsi fault) o h = h
-compares_by_file limits lines stated name within (file.Book fault) o h = h
-compares_by_file limits lines stated name within file.SheetRead o h = absurd o
-compares_by_file limits lines stated name within (file.Sheet fault) o h = absurd o
-compares_by_file limits lines stated name within file.NoStation o h = absurd o
-compares_by_file limits lines stated name within (file.Means fault) o h = absurd o
-compares_by_file limits lines stated name within (file.Kernel fault) o h = absurd o
-compares_by_file limits lines stated name within file.Write o h = absurd o
-compares_by_file limits lines stated name within file.Memory o h = tt
+    → Compares unit limits lines stated name within (Err (of_file fault))
+compares_by_file unit limits lines stated name within (file.Gsi fault) o h = h
+compares_by_file unit limits lines stated name within (file.Book fault) o h = h
+compares_by_file unit limits lines stated name within file.SheetRead o h = absurd o
+compares_by_file unit limits lines stated name within (file.Sheet fault) o h = absurd o
+compares_by_file unit limits lines stated name within file.NoStation o h = absurd o
+compares_by_file unit limits lines stated name within (file.Means fault) o h = absurd o
+compares_by_file unit limits lines stated name within (file.Kernel fault) o h = absurd o
+compares_by_file unit limits lines stated name within file.Write o h = absurd o
+compares_by_file unit limits lines stated name within file.Memory o h = tt
 
 -- What a table's directions and how far they are apart say of its bytes.
-pub compared : (station : StationValue) (bytes : List ℕ) (targets : List (List ℕ))
+pub compared : (unit : AngleUnit) (station : StationValue) (bytes : List ℕ)
+    (targets : List (List ℕ))
     (directions stated : List ℤ) (apart : ℕ) → targets ≡ station.targets → stated ≡ directions
-    → IsTableText targets bytes directions → AreApart station (stated_by stated) apart
-    → IsComparedWith station bytes apart
-compared station bytes targets directions stated apart same_targets same states are_apart = record {
-  directions = directions;
-  states = subst (λ names. IsTableText names bytes directions) same_targets states;
-  are_apart = subst (λ s. AreApart station (stated_by s) apart) same are_apart;
-}
+    → IsTableText unit targets bytes directions → AreApart station (stated_by stated) apart
+    → IsComparedWith unit station bytes apart
+compared unit station bytes targets directions stated apart same_targets same states are_apart =
+    record {
+      directions = directions;
+      states = subst (λ names. IsTableText unit names bytes directions) same_targets states;
+      are_apart = subst (λ s. AreApart station (stated_by s) apart) same are_apart;
+    }
 
 -- An answer from the table on leaves the field file's reader read to its end.
-pub left_by_table : (its : SurveyedStation) (within : Option ℕ) (r : Result Agreement CompareFault)
-    (input : Input) (gsi : ReaderChange) → ByInput its.station within input r → IsReadOut gsi
+pub left_by_table : (unit : AngleUnit) (its : SurveyedStation) (within : Option ℕ)
+    (r : Result Agreement CompareFault)
+    (input : Input) (gsi : ReaderChange) → ByInput unit its.station within input r → IsReadOut gsi
     → Leaves field_file_left r gsi
-left_by_table its within (Ok a) input gsi h out = out
-left_by_table its within (Err (File fault)) input gsi h out =
-    absurd (no_file_fault its within fault input h)
-left_by_table its within (Err TableRead) input gsi h out = out
-left_by_table its within (Err (Table fault)) input gsi h out = out
-left_by_table its within (Err (Adjust fault)) input gsi h out = out
-left_by_table its within (Err (Apart apart)) input gsi h out = out
-left_by_table its within (Err Write) input gsi h out = out
-left_by_table its within (Err Memory) input gsi h out = out.unfailed
+left_by_table unit its within (Ok a) input gsi h out = out
+left_by_table unit its within (Err (File fault)) input gsi h out =
+    absurd (no_file_fault unit its within fault input h)
+left_by_table unit its within (Err TableRead) input gsi h out = out
+left_by_table unit its within (Err (Table fault)) input gsi h out = out
+left_by_table unit its within (Err (Adjust fault)) input gsi h out = out
+left_by_table unit its within (Err (Apart apart)) input gsi h out = out
+left_by_table unit its within (Err Write) input gsi h out = out
+left_by_table unit its within (Err Memory) input gsi h out = out.unfailed
 
 -- A fault of the field file leaves the table's reader as it was, and its own as it says.
 pub left_alone : (A : Type 0) (fault : Fault) (table : ReaderChange) → IsUnasked table
@@ -179,17 +189,18 @@ left_by_no_table items its count (Err Write) gsi h out = absurd h
 left_by_no_table items its count (Err Memory) gsi h out = out.unfailed
 
 -- Of two readers that tell, the answer is of what they tell.
-pub comparison_as_told : (limits : FaceLimits) (within : Option ℕ) (gsi table : ReaderChange)
+pub comparison_as_told : (unit : AngleUnit) (limits : FaceLimits) (within : Option ℕ)
+    (gsi table : ReaderChange)
     (name : List ℕ) (r : Result Agreement CompareFault)
-    → IsComparison limits within gsi table name r → (file stated : Told)
+    → IsComparison unit limits within gsi table name r → (file stated : Told)
     → gsi.told ≡ Some file → table.told ≡ Some stated
-    → Compares limits (file_answers file) stated name within r
-comparison_as_told limits within gsi table name r a file stated e f =
+    → Compares unit limits (file_answers file) stated name within r
+comparison_as_told unit limits within gsi table name r a file stated e f =
     let gsi_left = some_left gsi.told' in
     let table_left = some_left table.told' in
-    subst (λ (t : Told). Compares limits (file_answers file) t name within r)
+    subst (λ (t : Told). Compares unit limits (file_answers file) t name within r)
     (given_as_told table a.table_bytes a.table_reads stated f table_left.0 table_left.1)
-    (subst (λ (t : Told). Compares limits (file_answers t)
+    (subst (λ (t : Told). Compares unit limits (file_answers t)
     (given_then a.table_bytes table_left.0) name within r)
     (given_as_told gsi a.gsi_bytes a.gsi_reads file e gsi_left.0 gsi_left.1)
     (a.compares gsi_left.0 table_left.0 gsi_left.1 table_left.1))

@@ -32,18 +32,20 @@ use Rattle.station_compare.specs.declared.fault.CompareFault.{CompareFault}
 use Rattle.station_compare.specs.declared.fault.CompareFault.TheVariants.{File, TableRead, Table}
 use Rattle.station_compare.specs.declared.fault.CompareFault.TheVariants.{Adjust, Apart, Write}
 use Rattle.station_compare.specs.declared.fault.CompareFault.TheVariants.{Memory}
+use Rattle.direction_table.specs.declared.unit.AngleUnit.{AngleUnit}
 
-module _ (station : StationValue) (bytes : List ℕ) where
+module _ (unit : AngleUnit) (station : StationValue) (bytes : List ℕ) where
   -- How far a table is apart is one number.
-  one_apart : (a b : ℕ) → IsComparedWith station bytes a → IsComparedWith station bytes b → a ≡ b
+  one_apart : (a b : ℕ) → IsComparedWith unit station bytes a → IsComparedWith unit station bytes b
+      → a ≡ b
   one_apart a b p q =
-      let same = one_table station.targets bytes p.directions q.directions p.states q.states in
+      let same = one_table unit station.targets bytes p.directions q.directions p.states q.states in
       one_distance station (stated_by q.directions) a b
       (subst (λ ds. AreApart station (stated_by ds) a) same p.are_apart) q.are_apart
 
   -- A station that a table is compared with has no fault of its own.
   not_unadjusted : (a : ℕ) (fault : AdjustFault) → IsOfStation fault
-      → IsComparedWith station bytes a → IsUnadjusted station bytes fault → ⊥
+      → IsComparedWith unit station bytes a → IsUnadjusted unit station bytes fault → ⊥
   not_unadjusted a fault own p u =
       let has = p.are_apart.adjustable in
       adjustment.never_both station has.adjustment fault has.tied has.exact has.limited own
@@ -52,10 +54,10 @@ module _ (station : StationValue) (bytes : List ℕ) where
   module _ (within : Option ℕ) where
     -- What stands of the bytes of a table, as one case.
     abbrev Fits : Result Agreement CompareFault → Type 0
-    Fits r = ByTable station within bytes r
+    Fits r = ByTable unit station within bytes r
 
-    same_agreement : (a b : Agreement) → IsAgreement station bytes within a
-        → IsAgreement station bytes within b → a ≡ b
+    same_agreement : (a b : Agreement) → IsAgreement unit station bytes within a
+        → IsAgreement unit station bytes within b → a ≡ b
     same_agreement a b p q =
         let e = p.named ∙ sym q.named in
         let f = p.counted ∙ sym q.counted in
@@ -63,12 +65,13 @@ module _ (station : StationValue) (bytes : List ℕ) where
         λ i. record { name = e i; targets = f i; apart = g i }
 
     by_agreement : (a : Agreement) (s : Result Agreement CompareFault) → IsSettled s
-        → IsAgreement station bytes within a → Fits s → Ok a ≡ s
+        → IsAgreement unit station bytes within a → Fits s → Ok a ≡ s
     by_agreement a (Ok b) set p h = ap Ok (same_agreement a b p h)
     by_agreement a (Err (File fault)) set p h = absurd h
     by_agreement a (Err TableRead) set p h = absurd h
     by_agreement a (Err (Table fault)) set p h =
-        absurd (never_both station.targets bytes p.compared.directions fault p.compared.states h)
+        absurd (never_both unit station.targets bytes p.compared.directions fault p.compared.states
+        h)
     by_agreement a (Err (Adjust fault)) set p h =
         absurd (not_unadjusted a.apart fault set p.compared h)
     by_agreement a (Err (Apart n)) set p h =
@@ -80,26 +83,27 @@ module _ (station : StationValue) (bytes : List ℕ) where
     by_table_fault : (fault : _) (s : Result Agreement CompareFault) → IsSettled s
         → Fits (Err (Table fault)) → Fits s → Err (Table fault) ≡ s
     by_table_fault fault (Ok b) set p h =
-        absurd (never_both station.targets bytes h.compared.directions fault h.compared.states p)
+        absurd (never_both unit station.targets bytes h.compared.directions fault h.compared.states
+        p)
     by_table_fault fault (Err (File other)) set p h = absurd h
     by_table_fault fault (Err TableRead) set p h = absurd h
     by_table_fault fault (Err (Table other)) set p h =
-        ap (λ f. Err (Table f)) (one_fault station.targets bytes fault other p h)
+        ap (λ f. Err (Table f)) (one_fault unit station.targets bytes fault other p h)
     by_table_fault fault (Err (Adjust other)) set p h =
-        absurd (never_both station.targets bytes h.directions fault h.states p)
+        absurd (never_both unit station.targets bytes h.directions fault h.states p)
     by_table_fault fault (Err (Apart n)) set p h =
-        absurd (never_both station.targets bytes h.1.directions fault h.1.states p)
+        absurd (never_both unit station.targets bytes h.1.directions fault h.1.states p)
     by_table_fault fault (Err Write) set p h = absurd h
     by_table_fault fault (Err Memory) set p h = absurd set
 
     by_adjustment : (fault : AdjustFault) (s : Result Agreement CompareFault) → IsOfStation fault
-        → IsSettled s → IsUnadjusted station bytes fault → Fits s → Err (Adjust fault) ≡ s
+        → IsSettled s → IsUnadjusted unit station bytes fault → Fits s → Err (Adjust fault) ≡ s
     by_adjustment fault (Ok b) own set p h =
         absurd (not_unadjusted b.apart fault own h.compared p)
     by_adjustment fault (Err (File other)) own set p h = absurd h
     by_adjustment fault (Err TableRead) own set p h = absurd h
     by_adjustment fault (Err (Table other)) own set p h =
-        absurd (never_both station.targets bytes p.directions other p.states h)
+        absurd (never_both unit station.targets bytes p.directions other p.states h)
     by_adjustment fault (Err (Adjust other)) own set p h =
         ap (λ f. Err (Adjust f)) (adjustment.one_fault station fault other own set p.fault_stands
         h.fault_stands)
@@ -116,7 +120,7 @@ module _ (station : StationValue) (bytes : List ℕ) where
     by_distance n (Err (File other)) set p h = absurd h
     by_distance n (Err TableRead) set p h = absurd h
     by_distance n (Err (Table other)) set p h =
-        absurd (never_both station.targets bytes p.1.directions other p.1.states h)
+        absurd (never_both unit station.targets bytes p.1.directions other p.1.states h)
     by_distance n (Err (Adjust other)) set p h =
         absurd (not_unadjusted n other set p.1 h)
     by_distance n (Err (Apart m)) set p h = ap (λ k. Err (Apart k)) (one_apart n m p.1 h.1)
@@ -144,17 +148,18 @@ is_fault : (r : Result Agreement CompareFault) (fault : CompareFault) → IsSett
 is_fault r fault set (inl e) = e
 is_fault r fault set (inr e) = absurd (not_memory r set e)
 
-one_by_input : (station : StationValue) (within : Option ℕ) (input : Input)
+one_by_input : (unit : AngleUnit) (station : StationValue) (within : Option ℕ) (input : Input)
     (r s : Result Agreement CompareFault) → IsSettled r → IsSettled s
-    → ByInput station within input r → ByInput station within input s → r ≡ s
-one_by_input station within (Ended bytes) r s set also p h =
-    one_by_table station bytes within r s set also p h
-one_by_input station within (BrokeOff bytes) r s set also p h =
+    → ByInput unit station within input r → ByInput unit station within input s → r ≡ s
+one_by_input unit station within (Ended bytes) r s set also p h =
+    one_by_table unit station bytes within r s set also p h
+one_by_input unit station within (BrokeOff bytes) r s set also p h =
     is_fault r TableRead set p ∙ sym (is_fault s TableRead also h)
-one_by_input station within RanPast r s set also p h =
+one_by_input unit station within RanPast r s set also p h =
     is_fault r _ set p ∙ sym (is_fault s _ also h)
 
-module _ (limits : FaceLimits) (small : AreLimits limits) (file : FileAnswers) (stated : Told)
+module _ (unit : AngleUnit) (limits : FaceLimits) (small : AreLimits limits) (file : FileAnswers)
+    (stated : Told)
     (name : List ℕ) (within : Option ℕ) where
   -- Where an answer comes from: a fault of the file, no station of the name, or its station.
   record IsOfLines (r : Result Agreement CompareFault) : Type 0 where
@@ -169,12 +174,12 @@ module _ (limits : FaceLimits) (small : AreLimits limits) (file : FileAnswers) (
   record IsOfTable (r : Result Agreement CompareFault) : Type 0 where
     pub its : SurveyedStation
     pub station : IsStationOfFile limits file name its
-    pub by_input : ByInput its.station within (input_within LONGEST_TABLE stated) r
+    pub by_input : ByInput unit its.station within (input_within LONGEST_TABLE stated) r
 
   abbrev Stands : Result Agreement CompareFault → Type 0
   Stands r = IsOfLines r ⊎ (IsOfNone r ⊎ IsOfTable r)
 
-  by_lines : (fault : Fault) → Compares limits file stated name within (Err (File fault))
+  by_lines : (fault : Fault) → Compares unit limits file stated name within (Err (File fault))
       → Stands (Err (File fault))
   by_lines lines.NoStation h = inr (inl (record { none = h; is = refl }))
   by_lines (lines.Gsi f) h = inl (record { fault = lines.Gsi f; comes = h; is = refl })
@@ -186,11 +191,12 @@ module _ (limits : FaceLimits) (small : AreLimits limits) (file : FileAnswers) (
   by_lines lines.Write h = inl (record { fault = lines.Write; comes = h; is = refl })
   by_lines lines.Memory h = inl (record { fault = lines.Memory; comes = h; is = refl })
 
-  agreement : (a : Agreement) → Agrees limits file stated name within a → Stands (Ok a)
+  agreement : (a : Agreement) → Agrees unit limits file stated name within a → Stands (Ok a)
   agreement a h = inr (inr (record {
     its = h.its;
     station = h.station;
-    by_input = subst (λ (input : Input). ByInput h.its.station within input (Ok a)) (sym h.whole)
+    by_input = subst (λ (input : Input). ByInput unit h.its.station within input (Ok a))
+        (sym h.whole)
         (record {
           compared = record {
             directions = h.directions;
@@ -210,7 +216,7 @@ module _ (limits : FaceLimits) (small : AreLimits limits) (file : FileAnswers) (
   }))
 
   stands : (r : Result Agreement CompareFault) → IsSettled r
-      → Compares limits file stated name within r → Stands r
+      → Compares unit limits file stated name within r → Stands r
   stands (Ok a) set h = agreement a h
   stands (Err (File fault)) set h = by_lines fault h
   stands (Err TableRead) set h =
@@ -250,8 +256,8 @@ module _ (limits : FaceLimits) (small : AreLimits limits) (file : FileAnswers) (
       → IsOfTable r → IsOfTable s → r ≡ s
   two_of_table r s set also p h =
       let input = input_within LONGEST_TABLE stated in
-      one_by_input h.its.station within input r s set also
-      (subst (λ (o : SurveyedStation). ByInput o.station within input r)
+      one_by_input unit h.its.station within input r s set also
+      (subst (λ (o : SurveyedStation). ByInput unit o.station within input r)
       (same_station limits small file name p.its h.its p.station h.station) p.by_input) h.by_input
 
   both : (r s : Result Agreement CompareFault) → IsSettled r → IsSettled s → Stands r → Stands s
@@ -268,6 +274,7 @@ module _ (limits : FaceLimits) (small : AreLimits limits) (file : FileAnswers) (
 
   -- A comparison has one answer.
   pub one_answer : (r s : Result Agreement CompareFault) → IsSettled r → IsSettled s
-      → Compares limits file stated name within r → Compares limits file stated name within s
+      → Compares unit limits file stated name within r
+      → Compares unit limits file stated name within s
       → r ≡ s
   one_answer r s set also p h = both r s set also (stands r set p) (stands s also h)

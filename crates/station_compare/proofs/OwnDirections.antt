@@ -1,14 +1,14 @@
 -- A comparison of what was written as the station's own directions.
 use Rattle.std.proofs.Common.{◌≡◌, ℕ, zero, suc, ◌-◌, ◌^◌, ◌≤◌, ◌<◌, Bool, false, List, [], ◌∷◌}
 use Rattle.std.proofs.Common.{length, map, ℤ, pos, Err, arith, refl, ap, sym, subst, ◌∙◌}
-use Rattle.std.proofs.Common.{if◌then◌else◌, Option, Some, None, true, nat_lt, ◌*◌, ◌+◌}
+use Rattle.std.proofs.Common.{if◌then◌else◌, Option, Some, None, ◌*◌}
 use Rattle.std.proofs.lemmas.Bool.{le-ltb}
 use Rattle.adjust_kernel.specs.Stations.{StationValue}
 use Rattle.byte_ends.specs.Input.{Input, Ended, RanPast, input_within}
 use Rattle.byte_ends.specs.Source.{Told}
 use Rattle.direction_table.proofs.LawLemmas.{never_both, one_table}
-use Rattle.direction_table.specs.FewestDecimals.{fewest_decimals, usual_within}
 use Rattle.direction_table.specs.Separators.{rows_of}
+use Rattle.direction_table.specs.UsualLimits.{usual_within}
 use Rattle.direction_table.specs.TableTexts.{directions_of}
 use Rattle.direction_table.specs.Tables.{IsTableText}
 use Rattle.direction_table.specs.Texts.{step_of}
@@ -38,6 +38,7 @@ use Rattle.station_compare.specs.declared.fault.CompareFault.{CompareFault}
 use Rattle.station_compare.specs.declared.fault.CompareFault.TheVariants.{File, TableRead, Table}
 use Rattle.station_compare.specs.declared.fault.CompareFault.TheVariants.{Adjust, Apart, Write}
 use Rattle.station_compare.specs.declared.fault.CompareFault.TheVariants.{Memory}
+use Rattle.direction_table.specs.declared.unit.AngleUnit.TheVariants.{Gon}
 
 power_small : (k : ℕ) → k ≤ 3 → 10 ^ k ≤ 1_000
 power_small zero h = omega arith
@@ -51,18 +52,17 @@ small_step : (count : ℕ) → 6 ≤ count → step_of count ≤ 1_000
 small_step count many = power_small (9 - count) (omega (arith, many))
 
 -- The usual limit of a table is 1 or more.
-usual_some : (decimals : Option ℕ) → 1 ≤ usual_within decimals
-usual_some None = omega arith
-usual_some (Some decimals) = by (nat_lt decimals 5)
-  where
-    by : (few : Bool) → 1 ≤ (if few then 5 * 10 ^ (5 - decimals) + 1 else 10)
-    by true = omega arith
-    by false = omega arith
+usual_some : (rows : List (List (List ℕ))) → 1 ≤ usual_within Gon rows
+usual_some [] = omega arith
+usual_some (row ∷ rows) =
+    let rest = usual_some rows in
+    omega (arith, rest)
 
 -- What rows are read as are their numbers.
-read_as : (rows : List TargetDirection) → directions_of rows ≡ map pos (numbers_of rows)
+read_as : (rows : List TargetDirection)
+    → directions_of rows ≡ map (λ (n : ℕ). pos (81 * n)) (numbers_of rows)
 read_as [] = refl
-read_as (row ∷ rows) = ap (λ ds. pos row.direction ∷ ds) (read_as rows)
+read_as (row ∷ rows) = ap (λ ds. pos (81 * row.direction) ∷ ds) (read_as rows)
 
 -- Bytes that are not too many are read to their end.
 read_whole : (bytes : List ℕ) → length bytes ≤ LONGEST_TABLE
@@ -74,28 +74,29 @@ read_whole bytes short =
 module _ (count : ℕ) (text : List ℕ) (many : 6 ≤ count) where
   -- Own directions beside their station.
   module _ (station : StationValue) (own : IsDirectionsText station count text) where
-    own_apart : (directions : List ℤ) (apart : ℕ) → IsTableText station.targets text directions
+    own_apart : (directions : List ℤ) (apart : ℕ) → IsTableText Gon station.targets text directions
         → AreApart station (stated_by directions) apart → apart ≤ 1
     own_apart directions apart states is =
-        let same : directions ≡ map pos (numbers_of own.stated) =
-        one_table station.targets text directions (directions_of own.stated) states own.reads
+        let same : directions ≡ map (λ (n : ℕ). pos (81 * n)) (numbers_of own.stated) =
+        one_table Gon station.targets text directions (directions_of own.stated) states own.reads
         ∙ read_as own.stated in
         let small = small_step count many in
         rounded station (step_of count) 1 apart (numbers_of own.stated) own.rounded
         (omega (arith, small))
         (subst (λ ds. AreApart station (stated_by ds) apart) same is)
 
-    no_more : (within : Option ℕ) (apart : ℕ) → limit_in_force within station.targets text < apart
+    no_more : (within : Option ℕ) (apart : ℕ) → limit_in_force Gon within station.targets text <
+        apart
         → apart ≤ 1 → (within ≡ Some 0) × (apart ≡ 1)
     no_more (Some within) apart more few =
         (ap Some (omega (arith, more, few)), omega (arith, more, few))
     no_more None apart more few =
-        let some = usual_some (fewest_decimals (rows_of station.targets text)) in
+        let some = usual_some (rows_of station.targets text) in
         absurd (omega (arith, more, few, some))
 
     -- Whose adjustment keeps the limit is not refused for it.
     unadjusted : (within : Option ℕ) (fault : AdjustFault)
-        → ByTable station within text (Err (Adjust fault)) → MayRefuse within (Adjust fault)
+        → ByTable Gon station within text (Err (Adjust fault)) → MayRefuse within (Adjust fault)
     unadjusted within adjust.NotConnected h =
         absurd (h.fault_stands own.rounded.adjustable.tied)
     unadjusted within (adjust.Residual n) h =
@@ -104,12 +105,13 @@ module _ (count : ℕ) (text : List ℕ) (many : 6 ≤ count) where
         a.exact.rules.positive a.exact.sums a.limited)
     unadjusted within adjust.NotFound h = tt
 
-    by_table : (within : Option ℕ) (fault : CompareFault) → ByTable station within text (Err fault)
+    by_table : (within : Option ℕ) (fault : CompareFault)
+        → ByTable Gon station within text (Err fault)
         → MayRefuse within fault
     by_table within (File fault) h = h
     by_table within TableRead h = h
     by_table within (Table fault) h =
-        absurd (never_both station.targets text (directions_of own.stated) fault own.reads h)
+        absurd (never_both Gon station.targets text (directions_of own.stated) fault own.reads h)
     by_table within (Adjust fault) h = unadjusted within fault h
     by_table within (Apart apart) h =
         no_more within apart h.0 (own_apart h.1.directions apart h.1.states h.1.are_apart)
@@ -132,13 +134,14 @@ module _ (count : ℕ) (text : List ℕ) (many : 6 ≤ count) where
         (same_station limits small file name own.its other own.station s) own.directions
 
     -- Where own directions agree with their file, they are apart by 1 unit at most.
-    pub agrees_by_1 : (within : Option ℕ) (a : Agreement) → Agrees limits file whole name within a
+    pub agrees_by_1 : (within : Option ℕ) (a : Agreement)
+        → Agrees Gon limits file whole name within a
         → a.apart ≤ 1
     agrees_by_1 within a h =
         let ended : Ended text ≡ Ended h.bytes = sym read ∙ h.whole in
         let same : text ≡ h.bytes = cc in
         own_apart h.its.station (its h.its h.station) h.directions a.apart
-        (subst (λ bytes. IsTableText h.its.station.targets bytes h.directions)
+        (subst (λ bytes. IsTableText Gon h.its.station.targets bytes h.directions)
         (sym same) h.states) (record {
           adjustable = h.adjustable;
           from_each = λ c turns least. record {
@@ -148,14 +151,14 @@ module _ (count : ℕ) (text : List ℕ) (many : 6 ≤ count) where
         })
 
     refused_by_table : (within : Option ℕ) (fault : CompareFault)
-        → IsRefusedByTable limits file whole name within fault → MayRefuse within fault
+        → IsRefusedByTable Gon limits file whole name within fault → MayRefuse within fault
     refused_by_table within fault h =
         by_table h.its.station (its h.its h.station) within fault
         (subst (λ (input : Input).
-        ByInput h.its.station within input (Err fault)) read h.by_input)
+        ByInput Gon h.its.station within input (Err fault)) read h.by_input)
 
     refused_by_file : (within : Option ℕ) (fault : Fault)
-        → Compares limits file whole name within (Err (File fault)) → ⊥
+        → Compares Gon limits file whole name within (Err (File fault)) → ⊥
     refused_by_file within lines.NoStation h =
         never_none limits small file name own.its own.station h
     refused_by_file within (lines.Gsi fault) h =
@@ -177,7 +180,7 @@ module _ (count : ℕ) (text : List ℕ) (many : 6 ≤ count) where
 
     -- They are refused for being apart by 1, where 0 was asked for, for another sheet, or memory.
     pub may_refuse : (within : Option ℕ) (fault : CompareFault)
-        → Compares limits file whole name within (Err fault) → MayRefuse within fault
+        → Compares Gon limits file whole name within (Err fault) → MayRefuse within fault
     may_refuse within (File fault) h = refused_by_file within fault h
     may_refuse within TableRead h = refused_by_table within TableRead h
     may_refuse within (Table fault) h = refused_by_table within (Table fault) h

@@ -1,4 +1,5 @@
--- Each input has an answer that is not that memory ran out, where it does not rest on an adjustment.
+-- Each input has an answer that is not that memory ran out, where it does not rest on an
+-- adjustment.
 use Rattle.std.proofs.Common.{◌≡◌, ◌⊎◌, inl, inr, ℕ, Bool, List, [], ◌∷◌, map, length}
 use Rattle.std.proofs.Common.{Option, Some, None, Result, Ok, Err, ℤ, pos, refl, sym, subst, arith}
 use Rattle.std.proofs.lemmas.List.{length-map}
@@ -44,6 +45,7 @@ use Rattle.station_compare.specs.declared.agreement.Agreement.{Agreement}
 use Rattle.station_compare.specs.declared.fault.CompareFault.{CompareFault}
 use Rattle.station_compare.specs.declared.fault.CompareFault.TheVariants.{File, TableRead, Table}
 use Rattle.station_compare.specs.declared.fault.CompareFault.TheVariants.{Adjust}
+use Rattle.direction_table.specs.declared.unit.AngleUnit.{AngleUnit}
 
 -- A fault of lines is that of the file or of the book.
 abbrev IsOfALine : Fault → Type 0
@@ -114,22 +116,23 @@ tied_or_not station =
     by (inr d) = inr (λ tied. tied none count d)
 
 -- What is answered of a station and the bytes of a table.
-module _ (station : StationValue) (within : Option ℕ) where
+module _ (unit : AngleUnit) (station : StationValue) (within : Option ℕ) where
   -- The table is one of a station that is held together.
   record IsTied (input : Input) : Type 0 where
     pub tied : AreTied station
     pub bytes : List ℕ
     pub whole : input ≡ Ended bytes
     pub directions : List ℤ
-    pub states : IsTableText station.targets bytes directions
+    pub states : IsTableText unit station.targets bytes directions
 
   abbrev Answer : Input → Type 0
   Answer input =
-      ((r : Result Agreement CompareFault) × ByInput station within input r × IsNoMemory r)
+      ((r : Result Agreement CompareFault) × ByInput unit station within input r × IsNoMemory r)
       ⊎ IsTied input
 
-  by_bytes : (bytes : List ℕ) → ((directions : List ℤ) × IsTableText station.targets bytes directions)
-      ⊎ ((fault : TableFault) × IsTableFault station.targets bytes fault)
+  by_bytes : (bytes : List ℕ) → ((directions : List ℤ)
+      × IsTableText unit station.targets bytes directions)
+      ⊎ ((fault : TableFault) × IsTableFault unit station.targets bytes fault)
       → AreTied station ⊎ (AreTied station → ⊥) → Answer (Ended bytes)
   by_bytes bytes (inr h) t = inl (Err (Table h.0), h.1, tt)
   by_bytes bytes (inl h) (inl tied) = inr (record {
@@ -147,17 +150,17 @@ module _ (station : StationValue) (within : Option ℕ) where
 
   by_input : (input : Input) → Answer input
   by_input (Ended bytes) =
-      by_bytes bytes (table_or_fault station.targets bytes) (tied_or_not station)
+      by_bytes bytes (table_or_fault unit station.targets bytes) (tied_or_not station)
   by_input (BrokeOff bytes) = inl (Err TableRead, inl refl, tt)
   by_input RanPast = inl (Err (Table table.TooLong), inl refl, tt)
 
-module _ (limits : FaceLimits) (small : AreLimits limits) (file : FileAnswers) (stated : Told)
-    (name : List ℕ) (within : Option ℕ) where
+module _ (unit : AngleUnit) (limits : FaceLimits) (small : AreLimits limits) (file : FileAnswers)
+    (stated : Told) (name : List ℕ) (within : Option ℕ) where
   abbrev AnAnswer : Type 0
   AnAnswer =
-      ((r : Result Agreement CompareFault) × Compares limits file stated name within r
+      ((r : Result Agreement CompareFault) × Compares unit limits file stated name within r
       × IsNoMemory r)
-      ⊎ IsUpToAdjustment limits file stated name
+      ⊎ IsUpToAdjustment unit limits file stated name
 
   by_fault : (fault : Fault) → FileComesTo limits file (Err fault) → IsOfALine fault → AnAnswer
   by_fault (lines.Gsi fault) h of = inl (Err (File (lines.Gsi fault)), h, tt)
@@ -171,9 +174,9 @@ module _ (limits : FaceLimits) (small : AreLimits limits) (file : FileAnswers) (
   by_fault lines.Memory h of = absurd of
 
   by_its : (its : SurveyedStation) → IsStationOfFile limits file name its
-      → Answer its.station within (input_within LONGEST_TABLE stated) → AnAnswer
+      → Answer unit its.station within (input_within LONGEST_TABLE stated) → AnAnswer
   by_its its of (inl a) =
-      inl (a.0, compares_by_table limits file stated name within its a.0 of a.1, a.2)
+      inl (a.0, compares_by_table unit limits file stated name within its a.0 of a.1, a.2)
   by_its its of (inr t) = inr (record {
     its = its;
     station = of;
@@ -194,7 +197,7 @@ module _ (limits : FaceLimits) (small : AreLimits limits) (file : FileAnswers) (
   by_name stations survey (Some its) e =
       let of = (station_of_file limits file name its small).0
       (record { stations = stations; survey = survey; named = e }) in
-      by_its its of (by_input its.station within (input_within LONGEST_TABLE stated))
+      by_its its of (by_input unit its.station within (input_within LONGEST_TABLE stated))
 
   by_outcome : (came : Result History Fault) → FileComesTo limits file came → AnAnswer
   by_outcome (Err fault) h =

@@ -17,10 +17,12 @@ use Rattle.station_book.specs.Stations.{SurveyedStation}
 use Rattle.station_check.specs.StationOfFile.{IsStationOfFile}
 use Rattle.station_compare.specs.LimitInForce.{limit_in_force}
 use Rattle.station_compare.specs.declared.agreement.Agreement.{Agreement}
+use Rattle.direction_table.specs.declared.unit.AngleUnit.{AngleUnit}
 
 -- Of these lines of a field file, and of these bytes of a table and how they end, this is the
 -- agreement for the station of this name; `within` is the limit that is stated, or none.
-pub record Agrees (limits : FaceLimits) (file : FileAnswers) (stated : Told) (name : List ℕ)
+pub record Agrees (unit : AngleUnit) (limits : FaceLimits) (file : FileAnswers) (stated : Told)
+    (name : List ℕ)
     (within : Option ℕ) (a : Agreement) : Type 0 where
   -- The station of this name: its observations are exactly its two-face directions, and every face
   -- difference is within the limits.
@@ -30,7 +32,7 @@ pub record Agrees (limits : FaceLimits) (file : FileAnswers) (stated : Told) (na
   pub bytes : List ℕ
   pub whole : input_within LONGEST_TABLE stated ≡ Ended bytes
   pub directions : List ℤ
-  pub states : IsTableText its.station.targets bytes directions
+  pub states : IsTableText unit its.station.targets bytes directions
   -- The station's observations hold all sets and targets together, and its exact adjustment keeps
   -- the residual limit: so a least-squares choice of directions, orientations and full turns, over
   -- any denominator, is there.
@@ -43,8 +45,8 @@ pub record Agrees (limits : FaceLimits) (file : FileAnswers) (stated : Told) (na
   pub no_nearer : (nearer : ℕ) → nearer < a.apart → (c : Choice) (turns : List ℤ)
       → IsLeastOf its.station c turns
       → ¬ AreBroughtWithin (length its.station.targets) c (stated_by directions) nearer
-  -- That is no further than the limit in force: the stated one, or the usual one for the decimals
-  -- of the table.
-  pub agrees : a.apart ≤ limit_in_force within its.station.targets bytes
+  -- That is no further than the limit in force: the stated one, or the usual one for the steps to
+  -- which the table's rows round their directions.
+  pub agrees : a.apart ≤ limit_in_force unit within its.station.targets bytes
   pub named : a.name ≡ its.station.name
   pub counted : a.targets ≡ length its.station.targets

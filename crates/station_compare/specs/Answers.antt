@@ -19,25 +19,28 @@ use Rattle.station_compare.specs.declared.agreement.Agreement.{Agreement}
 use Rattle.station_compare.specs.declared.fault.CompareFault.{CompareFault}
 use Rattle.station_compare.specs.declared.fault.CompareFault.TheVariants.{File, TableRead, Table}
 use Rattle.station_compare.specs.declared.fault.CompareFault.TheVariants.{Adjust, Apart, Memory}
+use Rattle.direction_table.specs.declared.unit.AngleUnit.{AngleUnit}
 
 -- The file has a station of this name, and with what came of the table's reader this is the fault.
-pub record IsRefusedByTable (limits : FaceLimits) (file : FileAnswers) (stated : Told)
+pub record IsRefusedByTable (unit : AngleUnit) (limits : FaceLimits) (file : FileAnswers)
+    (stated : Told)
     (name : List ℕ) (within : Option ℕ) (fault : CompareFault) : Type 0 where
   pub its : SurveyedStation
   pub station : IsStationOfFile limits file name its
-  pub by_input : ByInput its.station within (input_within LONGEST_TABLE stated) (Err fault)
+  pub by_input : ByInput unit its.station within (input_within LONGEST_TABLE stated) (Err fault)
 
 -- What is answered, for the station of a name: that the table agrees; or the first fault that
 -- stands, in the order of the file, the station, the table, the adjustment and how far they are
 -- apart.
-abbrev pub Compares : FaceLimits → FileAnswers → Told → List ℕ → Option ℕ
+abbrev pub Compares : AngleUnit → FaceLimits → FileAnswers → Told → List ℕ → Option ℕ
     → Result Agreement CompareFault → Type 0
-Compares limits file stated name within (Ok a) = Agrees limits file stated name within a
-Compares limits file stated name within (Err (File NoStation)) = HasNoStation limits file name
-Compares limits file stated name within (Err (File fault)) = FileComesTo limits file (Err fault)
-Compares limits file stated name within (Err Memory) = ⊤
-Compares limits file stated name within (Err fault) =
-    IsRefusedByTable limits file stated name within fault
+Compares unit limits file stated name within (Ok a) = Agrees unit limits file stated name within a
+Compares unit limits file stated name within (Err (File NoStation)) = HasNoStation limits file name
+Compares unit limits file stated name within (Err (File fault)) = FileComesTo limits file
+    (Err fault)
+Compares unit limits file stated name within (Err Memory) = ⊤
+Compares unit limits file stated name within (Err fault) =
+    IsRefusedByTable unit limits file stated name within fault
 
 -- How a fault leaves the table's reader: at one of the field file, or where that has no station of
 -- the name, it was not asked; at `TableRead` a read of it failed, and it has broken off; at a fault
@@ -60,7 +63,8 @@ field_file_left Memory = Unfailed
 field_file_left fault = ReadOut
 
 -- The answer on what two readers gave, whatever they are, and how both are left.
-pub record IsComparison (limits : FaceLimits) (within : Option ℕ) (gsi table : ReaderChange)
+pub record IsComparison (unit : AngleUnit) (limits : FaceLimits) (within : Option ℕ)
+    (gsi table : ReaderChange)
     (name : List ℕ) (r : Result Agreement CompareFault) : Type 0 where
   -- The field file's reader gave these bytes, and the table's reader these.
   pub gsi_bytes : List ℕ
@@ -70,7 +74,7 @@ pub record IsComparison (limits : FaceLimits) (within : Option ℕ) (gsi table :
   -- Of these bytes, and whatever may be left in the readers after them, this is the answer.
   pub compares : (gsi_left table_left : Told) → MayGive gsi.told' gsi_left
       → MayGive table.told' table_left
-      → Compares limits (file_answers (given_then gsi_bytes gsi_left))
+      → Compares unit limits (file_answers (given_then gsi_bytes gsi_left))
       (given_then table_bytes table_left) name within r
   -- A failed read is never passed over; the table's reader is not asked where the field file has a
   -- fault or no such station; and where a table agrees both readers have ended, so that nothing is

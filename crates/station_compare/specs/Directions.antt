@@ -16,6 +16,7 @@ use Rattle.station_check.specs.StationOfFile.{IsStationOfFile}
 use Rattle.station_check.specs.declared.fault.Fault.TheVariants.{NoStation}
 use Rattle.station_compare.specs.declared.fault.CompareFault.{CompareFault}
 use Rattle.station_compare.specs.declared.fault.CompareFault.TheVariants.{File, Adjust, Memory}
+use Rattle.direction_table.specs.declared.unit.AngleUnit.TheVariants.{Gon}
 
 -- the numbers of rows: their directions, in units of 0.000000001 gon
 abbrev pub numbers_of : List TargetDirection → List ℕ
@@ -35,7 +36,7 @@ pub record IsDirectionsText (station : StationValue) (count : ℕ) (text : List 
   -- any denominator, is least.
   pub rounded : AreRounded station (step_of count) (numbers_of stated)
   -- And the text is read as the table of these very directions.
-  pub reads : IsTableText station.targets text (directions_of stated)
+  pub reads : IsTableText Gon station.targets text (directions_of stated)
 
 -- The file has a station of this name, and this is its table.
 pub record StatesDirections (limits : FaceLimits) (file : FileAnswers) (name : List ℕ) (count : ℕ)

@@ -13,6 +13,7 @@ use Rattle.station_compare.specs.FaultTexts.{agreement_line}
 use Rattle.station_compare.specs.declared.agreement.Agreement.{Agreement}
 use Rattle.station_compare.specs.declared.fault.CompareFault.{CompareFault}
 use Rattle.station_compare.specs.declared.fault.CompareFault.TheVariants.{Write}
+use Rattle.direction_table.specs.declared.unit.AngleUnit.{AngleUnit}
 
 -- A field file was read for an answer: of the lines that came this is so, and its reader is left as
 -- the answer says.
@@ -22,11 +23,11 @@ pub record ReadsFieldFile {A : Type 0} (gsi : ReaderChange) (r : Result A Compar
   pub left : Leaves field_file_left r gsi
 
 -- A run of the comparison: all that it promises of its answer, and how that was printed.
-pub record IsCompareRun {A : Type 0} (limits : FaceLimits) (within : Option ℕ)
+pub record IsCompareRun {A : Type 0} (unit : AngleUnit) (limits : FaceLimits) (within : Option ℕ)
     (gsi table : ReaderChange) (name : List ℕ) (r : Result A CompareFault) (out : WriterChange)
     : Type 0 where
   pub verdict : Result Agreement CompareFault
-  pub compares : IsComparison limits within gsi table name verdict
+  pub compares : IsComparison unit limits within gsi table name verdict
   pub printed : PrintsAnswer agreement_line Write verdict r out
 
 -- A run of the directions: all that it promises of its answer, and how the text was written.

@@ -11,7 +11,7 @@ use crate::agreement::Agreement;
 use crate::fault::CompareFault;
 use adjust_kernel::Station;
 use byte_ends::{Source, read_whole};
-use direction_table::{LONGEST_TABLE, read_stated_table, usual_within};
+use direction_table::{AngleUnit, LONGEST_TABLE, read_stated_table};
 use least_directions::apart_from_least;
 use station_book::Limits;
 use station_check::{Fault, stations_of_file};
@@ -19,7 +19,8 @@ use std::alloc::Global;
 
 /// Whether the directions that a table states agree with the least-squares directions of the
 /// station of this name, within so many units of 0.000001 gon; where no number is stated, within
-/// what is usual for the fewest decimals of the table's rows.
+/// what is usual for the steps to which the table's rows round their directions. The table states
+/// them in a unit, gon or degrees.
 ///
 /// Where they agree, one rotation brings every stated direction so near to the least-squares one,
 /// least over all directions, orientations and full turns, and none brings them nearer by a unit.
@@ -35,15 +36,16 @@ pub fn compare_bytes<R: Source, Q: Source>(
     alloc: Global,
     gsi: R,
     table: &mut Q,
+    unit: AngleUnit,
     name: &[u8],
     limits: Limits,
     within: Option<u32>,
 ) -> Result<Agreement, CompareFault>
     // All of it is said of the very bytes that the two readers gave, whatever they are.
-    ensures { UntilDropped R.told R.failed R.gave gsi (λ gsi. IsComparison limits within gsi
+    ensures { UntilDropped R.told R.failed R.gave gsi (λ gsi. IsComparison unit limits within gsi
         (reader_change Q.told Q.failed Q.gave table.old table.new) name.now result) }
 {
-    let (answer, _gsi) = compare_sources(alloc, gsi, table, name, limits, within);
+    let (answer, _gsi) = compare_sources(alloc, gsi, table, unit, name, limits, within);
     answer
 }
 
@@ -52,11 +54,12 @@ pub fn compare_sources<R: Source, Q: Source>(
     alloc: Global,
     gsi: R,
     table: &mut Q,
+    unit: AngleUnit,
     name: &[u8],
     limits: Limits,
     within: Option<u32>,
 ) -> (Result<Agreement, CompareFault>, R)
-    ensures { IsComparison limits within (reader_change R.told R.failed R.gave gsi result.1)
+    ensures { IsComparison unit limits within (reader_change R.told R.failed R.gave gsi result.1)
         (reader_change Q.told Q.failed Q.gave table.old table.new) name.now result.0 }
 {
     // The promise rests on laws of limits that were made.
@@ -69,7 +72,7 @@ pub fn compare_sources<R: Source, Q: Source>(
     let Some(surveyed) = stations.get(name) else {
         return (Err(CompareFault::File(Fault::NoStation)), gsi);
     };
-    let answer = compare_station(alloc, surveyed.station(), table, within);
+    let answer = compare_station(alloc, surveyed.station(), table, unit, within);
     (answer, gsi)
 }
 
@@ -78,15 +81,16 @@ fn compare_station<Q: Source>(
     alloc: Global,
     station: &Station,
     table: &mut Q,
+    unit: AngleUnit,
     within: Option<u32>,
 ) -> Result<Agreement, CompareFault>
     ensures compares { BytesCame (reader_change Q.told Q.failed Q.gave table.old table.new)
-        (λ stated. ByInput station.now within (input_within LONGEST_TABLE stated) result) }
+        (λ stated. ByInput unit station.now within (input_within LONGEST_TABLE stated) result) }
     ensures reader { Leaves table_left result
         (reader_change Q.told Q.failed Q.gave table.old table.new) }
 {
     let bytes = read_whole(alloc, table, LONGEST_TABLE)?;
-    compare_table(alloc, station, &bytes, within)
+    compare_table(alloc, station, &bytes, unit, within)
 }
 
 /// The same of the bytes of the table.
@@ -94,13 +98,14 @@ fn compare_table(
     alloc: Global,
     station: &Station,
     bytes: &[u8],
+    unit: AngleUnit,
     within: Option<u32>,
 ) -> Result<Agreement, CompareFault>
-    ensures { ByTable station.now within bytes.now result }
+    ensures { ByTable unit station.now within bytes.now result }
 {
-    let stated = read_stated_table(alloc, station.targets(), bytes)?;
+    let stated = read_stated_table(alloc, unit, station.targets(), bytes)?;
     let apart = apart_from_least(alloc, station, &stated.directions)?;
-    let limit = within.unwrap_or(usual_within(stated.decimals));
+    let limit = within.unwrap_or(stated.usual_within);
     if apart > limit {
         return Err(CompareFault::Apart(apart));
     }

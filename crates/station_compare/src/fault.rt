@@ -27,7 +27,7 @@ pub enum CompareFault {
     #[error("the station can't be adjusted: {0}")]
     Adjust(AdjustFault),
     /// The stated directions are so far apart from the least-squares ones, in units of 0.000001
-    /// gon, and further than the limit: the stated one, or what is usual for the table's decimals.
+    /// gon, and further than the limit: the stated one, or what is usual for the table's rows.
     #[error("the directions are {0} units of 0.000001 gon apart from the least-squares ones")]
     Apart(u32),
     /// What was to be written couldn't be written whole: see whether the output is open and has

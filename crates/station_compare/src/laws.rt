@@ -3,6 +3,8 @@
 ghost use Rattle.std.specs.Prelude.{◌≡◌, ◌≤◌, ◌⊎◌, ℕ, false, List, Option, Result, Err};
 ghost use Rattle.byte_ends.specs.Source.{Told};
 ghost use Rattle.direction_table.specs.Texts.{AreDecimals};
+ghost use Rattle.direction_table.specs.declared.unit.AngleUnit.{AngleUnit};
+ghost use Rattle.direction_table.specs.declared.unit.AngleUnit.TheVariants.{Gon};
 ghost use Rattle.gsi_file.specs.FileAnswers.{FileAnswers};
 ghost use Rattle.station_book.specs.Limits.{FaceLimits, AreLimits};
 ghost use Rattle.station_compare.specs.Agreeing.{Agrees};
@@ -14,21 +16,21 @@ ghost use Rattle.station_compare.specs.OwnDirections.{MayRefuse};
 ghost use Rattle.station_compare.specs.declared.agreement.Agreement.{Agreement};
 ghost use Rattle.station_compare.specs.declared.fault.CompareFault.{CompareFault};
 
-/// What `write_directions` writes with 6 decimals or more, `compare_bytes` finds apart by 1 unit at
-/// most, of the same lines and by the same limits, whatever is asked for. It refuses it for no
-/// fault of the lines or of the table, not as `NotConnected` or `Residual`, and as `Apart` only
-/// where 0 is stated. No contract excludes that the adjustment is not found again, or that memory
-/// runs out.
+/// What `write_directions` writes with 6 decimals or more, `compare_bytes`, in gon, finds apart by
+/// 1 unit at most, of the same lines and by the same limits, whatever is asked for. It refuses it
+/// for no fault of the lines or of the table, not as `NotConnected` or `Residual`, and as `Apart`
+/// only where 0 is stated. No contract excludes that the adjustment is not found again, or that
+/// memory runs out.
 pub fn directions_agree()
     ensures agrees { (limits : FaceLimits) (file : FileAnswers) (name text : List ℕ)
         (count : ℕ) (within : Option ℕ) (a : Agreement) → AreLimits limits
         → 6 ≤ count → StatesDirections limits file name count text
-        → Agrees limits file (record { bytes = text; fails = false }) name within a
+        → Agrees Gon limits file (record { bytes = text; fails = false }) name within a
         → a.apart ≤ 1 }
     ensures refused { (limits : FaceLimits) (file : FileAnswers) (name text : List ℕ)
         (count : ℕ) (within : Option ℕ) (fault : CompareFault) → AreLimits limits
         → 6 ≤ count → StatesDirections limits file name count text
-        → Compares limits file (record { bytes = text; fails = false }) name within (Err fault)
+        → Compares Gon limits file (record { bytes = text; fails = false }) name within (Err fault)
         → MayRefuse within fault }
 {}
 
@@ -37,11 +39,12 @@ pub fn directions_agree()
 /// apart and each printed digit. Two answers alone may stand in the place of another: out of memory
 /// in that of any, and that no adjustment was found in that of those from the adjustment on.
 pub fn one_answer()
-    ensures compare { (limits : FaceLimits) (file : FileAnswers) (stated : Told) (name : List ℕ)
-        (within : Option ℕ) (r s : Result Agreement CompareFault) → AreLimits limits
+    ensures compare { (unit : AngleUnit) (limits : FaceLimits) (file : FileAnswers)
+        (stated : Told) (name : List ℕ) (within : Option ℕ) (r s : Result Agreement CompareFault)
+        → AreLimits limits
         → IsSettled r → IsSettled s
-        → Compares limits file stated name within r → Compares limits file stated name within s
-        → r ≡ s }
+        → Compares unit limits file stated name within r
+        → Compares unit limits file stated name within s → r ≡ s }
     ensures directions { (limits : FaceLimits) (file : FileAnswers) (name : List ℕ) (count : ℕ)
         (r s : Result (List ℕ) CompareFault) → AreLimits limits → AreDecimals count
         → IsSettled r → IsSettled s
@@ -53,8 +56,9 @@ pub fn one_answer()
 /// without fault to the adjustment of a station that is held together. What the solver gives for
 /// it, no contract says.
 pub fn some_answer()
-    ensures { (limits : FaceLimits) (file : FileAnswers) (stated : Told) (name : List ℕ)
-        (within : Option ℕ) → AreLimits limits → ((r : Result Agreement CompareFault)
-        × Compares limits file stated name within r × IsNoMemory r)
-        ⊎ IsUpToAdjustment limits file stated name }
+    ensures { (unit : AngleUnit) (limits : FaceLimits) (file : FileAnswers) (stated : Told)
+        (name : List ℕ) (within : Option ℕ) → AreLimits limits
+        → ((r : Result Agreement CompareFault)
+        × Compares unit limits file stated name within r × IsNoMemory r)
+        ⊎ IsUpToAdjustment unit limits file stated name }
 {}

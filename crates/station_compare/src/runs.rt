@@ -16,19 +16,20 @@ use crate::directions::write_directions;
 use crate::fault::CompareFault;
 use crate::refused::refusal_line;
 use byte_ends::{Sink, Source};
-use direction_table::Decimals;
+use direction_table::{AngleUnit, Decimals};
 use station_book::Limits;
-use station_check::{DONE, REFUSED, write_whole};
+use station_check::{DONE, refuse_by, write_whole};
 use std::alloc::Global;
 
 /// Compares the directions that a table states with those of the station of this name, and answers
 /// the exit status: 0 where they agree within so many units of 0.000001 gon, or where no number is
-/// stated within what is usual for the table's decimals, and their line was written to `out`; else
-/// 1, with the line of a refusal on `err`. Where `err` fails, the line is lost and the status stays.
+/// stated within what is usual for the table's rows, and their line was written to `out`; else 1,
+/// with the line of a refusal on `err`. Where `err` fails, the line is lost and the status stays.
 pub fn run_compare<R: Source, Q: Source, W: Sink, E: Sink>(
     alloc: Global,
     gsi: R,
     table: &mut Q,
+    unit: AngleUnit,
     name: &[u8],
     limits: Limits,
     within: Option<u32>,
@@ -36,12 +37,12 @@ pub fn run_compare<R: Source, Q: Source, W: Sink, E: Sink>(
     err: &mut E,
 ) -> u8
     ensures { UntilDropped R.told R.failed R.gave gsi (λ gsi. Run {A = ⊤} refusal_line
-        (IsCompareRun limits within gsi
+        (IsCompareRun unit limits within gsi
         (reader_change Q.told Q.failed Q.gave table.old table.new) name.now)
         result (writer_change W.failed W.holds W.handed_on out.old out.new)
         (writer_change E.failed E.holds E.handed_on err.old err.new)) }
 {
-    let verdict = compare_bytes(alloc, gsi, table, name, limits, within);
+    let verdict = compare_bytes(alloc, gsi, table, unit, name, limits, within);
     match print_verdict(verdict, out) {
         Ok(()) => DONE,
         Err(fault) => refuse(fault, err),
@@ -90,7 +91,5 @@ pub fn refuse<E: Sink>(fault: CompareFault, err: &mut E) -> u8
     ensures line { WritesOrFails (refusal_line fault)
         (writer_change E.failed E.holds E.handed_on err.old err.new) }
 {
-    // Where `err` fails, the line is lost.
-    let _ = err.write_all(refusal_line(fault).as_slice());
-    REFUSED
+    refuse_by(refusal_line(fault).as_slice(), err)
 }

@@ -37,24 +37,27 @@ use Rattle.station_differences.specs.OfInput.{HasNoneOf, HasNoneOfInput, IsTextO
 use Rattle.station_differences.specs.Stating.{IsDifferencesText, StatesDifferences}
 use Rattle.station_differences.proofs.DifferenceLaws.{some_apart}
 use Rattle.station_differences.proofs.LeastLaws.{one_list}
+use Rattle.direction_table.specs.declared.unit.AngleUnit.{AngleUnit}
 
 -- Differences come of an input that ended.
-ended_by : (station : StationValue) (input : Input) (text : List ℕ) → IsTextOf station input text
-    → (bytes : List ℕ) × (input ≡ Ended bytes) × IsDifferencesText station bytes text
-ended_by station (Ended bytes) text h = (bytes, refl, h)
-ended_by station (BrokeOff bytes) text h = absurd h
-ended_by station RanPast text h = absurd h
+ended_by : (unit : AngleUnit) (station : StationValue) (input : Input) (text : List ℕ)
+    → IsTextOf unit station input text
+    → (bytes : List ℕ) × (input ≡ Ended bytes) × IsDifferencesText unit station bytes text
+ended_by unit station (Ended bytes) text h = (bytes, refl, h)
+ended_by unit station (BrokeOff bytes) text h = absurd h
+ended_by unit station RanPast text h = absurd h
 
 -- What is answered, where the station was found.
-pub tells_by_input : {T : Type 0} (items : T → List ℕ) (limits : FaceLimits) (file : FileAnswers)
+pub tells_by_input : (unit : AngleUnit) {T : Type 0} (items : T → List ℕ) (limits : FaceLimits)
+    (file : FileAnswers)
     (stated : Told) (name : List ℕ) (its : SurveyedStation) (r : Result T CompareFault)
     → IsStationOfFile limits file name its
-    → MatchResult r (λ t. IsTextOf its.station (input_within LONGEST_TABLE stated) (items t))
-    (HasNoneOfInput its.station (input_within LONGEST_TABLE stated))
-    → MatchResult r (λ t. StatesDifferences limits file stated name (items t))
-    (HasNoDifferences limits file stated name)
-tells_by_input items limits file stated name its (Ok t) station h =
-    let ended = ended_by its.station (input_within LONGEST_TABLE stated) (items t) h in
+    → MatchResult r (λ t. IsTextOf unit its.station (input_within LONGEST_TABLE stated) (items t))
+    (HasNoneOfInput unit its.station (input_within LONGEST_TABLE stated))
+    → MatchResult r (λ t. StatesDifferences unit limits file stated name (items t))
+    (HasNoDifferences unit limits file stated name)
+tells_by_input unit items limits file stated name its (Ok t) station h =
+    let ended = ended_by unit its.station (input_within LONGEST_TABLE stated) (items t) h in
     record {
       its = its;
       station = station;
@@ -62,28 +65,31 @@ tells_by_input items limits file stated name its (Ok t) station h =
       whole = ended.1;
       differences = ended.2;
     }
-tells_by_input items limits file stated name its (Err fault) station h =
-    λ within. compares_by_table limits file stated name within its (Err fault) station (h within)
+tells_by_input unit items limits file stated name its (Err fault) station h =
+    λ within. compares_by_table unit limits file stated name within its (Err fault) station
+    (h within)
 
 -- No fault of the field file comes of the table.
-no_file_fault : (station : StationValue) (fault : Fault) (input : Input)
-    → ByInput station None input (Err (File fault)) → ⊥
-no_file_fault station fault (Ended bytes) h = h
-no_file_fault station fault (BrokeOff bytes) (inl h) = cc
-no_file_fault station fault (BrokeOff bytes) (inr h) = cc
-no_file_fault station fault RanPast (inl h) = cc
-no_file_fault station fault RanPast (inr h) = cc
+no_file_fault : (unit : AngleUnit) (station : StationValue) (fault : Fault) (input : Input)
+    → ByInput unit station None input (Err (File fault)) → ⊥
+no_file_fault unit station fault (Ended bytes) h = h
+no_file_fault unit station fault (BrokeOff bytes) (inl h) = cc
+no_file_fault unit station fault (BrokeOff bytes) (inr h) = cc
+no_file_fault unit station fault RanPast (inl h) = cc
+no_file_fault unit station fault RanPast (inr h) = cc
 
-module _ {T : Type 0} (items : T → List ℕ) (station : StationValue) (input : Input) where
-  -- What is answered of the station.
+module _ (unit : AngleUnit) {T : Type 0} (So : T → Type 0) (station : StationValue)
+    (input : Input) where
+  -- What is answered of the station: this is so, or there is this fault.
   abbrev Comes : Result T CompareFault → Type 0
-  Comes r = MatchResult r (λ t. IsTextOf station input (items t)) (HasNoneOfInput station input)
+  Comes r = MatchResult r So (HasNoneOfInput unit station input)
 
   -- How it leaves the field file's reader, which has ended before.
   pub left_by_input : (r : Result T CompareFault) (gsi : ReaderChange) → Comes r → IsReadOut gsi
       → Leaves field_file_left r gsi
   left_by_input (Ok text) gsi h out = out
-  left_by_input (Err (File fault)) gsi h out = absurd (no_file_fault station fault input (h None))
+  left_by_input (Err (File fault)) gsi h out = absurd
+      (no_file_fault unit station fault input (h None))
   left_by_input (Err TableRead) gsi h out = out
   left_by_input (Err (Table fault)) gsi h out = out
   left_by_input (Err (Adjust fault)) gsi h out = out
@@ -92,34 +98,36 @@ module _ {T : Type 0} (items : T → List ℕ) (station : StationValue) (input :
   left_by_input (Err Memory) gsi h out = out.unfailed
 
 -- How what is answered of a table's bytes leaves its reader, which has ended.
-pub left_by_bytes : {T : Type 0} (items : T → List ℕ) (station : StationValue) (bytes : List ℕ)
-    (r : Result T CompareFault) (reader : ReaderChange)
-    → MatchResult r (λ t. IsDifferencesText station bytes (items t)) (HasNoneOf station bytes)
+pub left_by_bytes : (unit : AngleUnit) {T : Type 0} (So : T → Type 0) (station : StationValue)
+    (bytes : List ℕ) (r : Result T CompareFault) (reader : ReaderChange)
+    → MatchResult r So (HasNoneOf unit station bytes)
     → IsReadOut reader → Leaves table_left r reader
-left_by_bytes items station bytes (Ok text) reader h out = out
-left_by_bytes items station bytes (Err (File fault)) reader h out = absurd (h None)
-left_by_bytes items station bytes (Err TableRead) reader h out = absurd (h None)
-left_by_bytes items station bytes (Err (Table table.TooLong)) reader h out = out.unfailed
-left_by_bytes items station bytes (Err (Table (table.Row number kind))) reader h out = out
-left_by_bytes items station bytes (Err (Table (table.Missing target))) reader h out = out
-left_by_bytes items station bytes (Err (Table table.Memory)) reader h out = out.unfailed
-left_by_bytes items station bytes (Err (Adjust fault)) reader h out = out
-left_by_bytes items station bytes (Err (Apart apart)) reader h out = out
-left_by_bytes items station bytes (Err Write) reader h out = out.unfailed
-left_by_bytes items station bytes (Err Memory) reader h out = out.unfailed
+left_by_bytes unit So station bytes (Ok text) reader h out = out
+left_by_bytes unit So station bytes (Err (File fault)) reader h out = absurd (h None)
+left_by_bytes unit So station bytes (Err TableRead) reader h out = absurd (h None)
+left_by_bytes unit So station bytes (Err (Table table.TooLong)) reader h out = out.unfailed
+left_by_bytes unit So station bytes (Err (Table (table.Row number kind))) reader h out = out
+left_by_bytes unit So station bytes (Err (Table (table.Missing target))) reader h out = out
+left_by_bytes unit So station bytes (Err (Table table.Memory)) reader h out = out.unfailed
+left_by_bytes unit So station bytes (Err (Adjust fault)) reader h out = out
+left_by_bytes unit So station bytes (Err (Apart apart)) reader h out = out
+left_by_bytes unit So station bytes (Err Write) reader h out = out.unfailed
+left_by_bytes unit So station bytes (Err Memory) reader h out = out.unfailed
 
 -- The differences of a table's bytes from a station are one text.
-one_text : (station : StationValue) (bytes a b : List ℕ) → IsDifferencesText station bytes a
-    → IsDifferencesText station bytes b → a ≡ b
-one_text station bytes a b p q =
-    let directions = one_table station.targets bytes p.directions q.directions p.states q.states in
+one_text : (unit : AngleUnit) (station : StationValue) (bytes a b : List ℕ)
+    → IsDifferencesText unit station bytes a
+    → IsDifferencesText unit station bytes b → a ≡ b
+one_text unit station bytes a b p q =
+    let directions = one_table unit station.targets bytes p.directions q.directions p.states
+    q.states in
     p.text_is
     ∙ ap differences_text (one_list station q.directions p.rows q.rows
     (subst (λ ds. AreCompared station ds p.rows) directions p.compared) q.compared)
     ∙ sym q.text_is
 
 -- A fault that is settled is so as the answer of any call.
-settled_too : (A B : Type 0) (fault : CompareFault) → IsSettled {A = A} (Err fault)
+pub settled_too : (A B : Type 0) (fault : CompareFault) → IsSettled {A = A} (Err fault)
     → IsSettled {A = B} (Err fault)
 settled_too A B (File fault) set = tt
 settled_too A B TableRead set = tt
@@ -129,22 +137,22 @@ settled_too A B (Apart apart) set = tt
 settled_too A B Write set = tt
 settled_too A B Memory set = absurd set
 
-module _ (limits : FaceLimits) (small : AreLimits limits) (file : FileAnswers) (stated : Told)
-    (name : List ℕ) where
-  two_texts : (a b : List ℕ) → StatesDifferences limits file stated name a
-      → StatesDifferences limits file stated name b → a ≡ b
+module _ (unit : AngleUnit) (limits : FaceLimits) (small : AreLimits limits) (file : FileAnswers)
+    (stated : Told) (name : List ℕ) where
+  two_texts : (a b : List ℕ) → StatesDifferences unit limits file stated name a
+      → StatesDifferences unit limits file stated name b → a ≡ b
   two_texts a b p q =
       let its = same_station limits small file name p.its q.its p.station q.station in
       let ended : Ended p.bytes ≡ Ended q.bytes = sym p.whole ∙ q.whole in
       let bytes : p.bytes ≡ q.bytes = cc in
-      one_text q.its.station q.bytes a b
-      (subst (λ (o : SurveyedStation). IsDifferencesText o.station q.bytes a) its
-      (subst (λ (bs : List ℕ). IsDifferencesText p.its.station bs a) bytes p.differences))
+      one_text unit q.its.station q.bytes a b
+      (subst (λ (o : SurveyedStation). IsDifferencesText unit o.station q.bytes a) its
+      (subst (λ (bs : List ℕ). IsDifferencesText unit p.its.station bs a) bytes p.differences))
       q.differences
 
   -- Where there are differences, the table agrees within some limit.
-  agrees_too : (text : List ℕ) → StatesDifferences limits file stated name text
-      → (apart : ℕ) × (a : Agreement) × Agrees limits file stated name (Some apart) a
+  agrees_too : (text : List ℕ) → StatesDifferences unit limits file stated name text
+      → (apart : ℕ) × (a : Agreement) × Agrees unit limits file stated name (Some apart) a
   agrees_too text p =
       let station = p.its.station in
       let d = p.differences in
@@ -176,25 +184,27 @@ module _ (limits : FaceLimits) (small : AreLimits limits) (file : FileAnswers) (
 
   -- Differences and a fault don't stand beside each other.
   never_both : (text : List ℕ) (fault : CompareFault) → IsSettled {A = List ℕ} (Err fault)
-      → StatesDifferences limits file stated name text
-      → HasNoDifferences limits file stated name fault → ⊥
+      → StatesDifferences unit limits file stated name text
+      → HasNoDifferences unit limits file stated name fault → ⊥
   never_both text fault set p h =
       let (apart, a, agrees) = agrees_too text p in
       let e : Ok a ≡ Err fault =
-      one_comparison limits small file stated name (Some apart) (Ok a) (Err fault) tt
+      one_comparison unit limits small file stated name (Some apart) (Ok a) (Err fault) tt
       (settled_too (List ℕ) Agreement fault set) agrees (h (Some apart)) in
       cc
 
   -- A table has one answer of its differences.
   pub one_answer : (r s : Result (List ℕ) CompareFault) → IsSettled r → IsSettled s
-      → TellsDifferences limits file stated name r → TellsDifferences limits file stated name s
+      → TellsDifferences unit limits file stated name r
+      → TellsDifferences unit limits file stated name s
       → r ≡ s
   one_answer (Ok a) (Ok b) set also p h = ap Ok (two_texts a b p h)
   one_answer (Ok a) (Err fault) set also p h = absurd (never_both a fault also p h)
   one_answer (Err fault) (Ok b) set also p h = absurd (never_both b fault set h p)
   one_answer (Err fault) (Err other) set also p h =
       let e : Err fault ≡ Err other =
-      one_comparison limits small file stated name None (Err fault) (Err other)
-      (settled_too (List ℕ) Agreement fault set) (settled_too (List ℕ) Agreement other also) (p None) (h None) in
+      one_comparison unit limits small file stated name None (Err fault) (Err other)
+      (settled_too (List ℕ) Agreement fault set) (settled_too (List ℕ) Agreement other also)
+      (p None) (h None) in
       let same : fault ≡ other = cc in
       ap Err same

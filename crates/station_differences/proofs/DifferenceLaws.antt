@@ -127,19 +127,19 @@ by_angles c stated targets start spread angles differences some a best count eac
 -- The differences from another choice, by those from the one.
 from_other : (d e : ℕ) (s a b t r : ℤ)
     → pos e *ℤ a -ℤ pos d *ℤ (b -ℤ pos (e * 80_000_000) *ℤ t) ≡ r
-    → pos d *ℤ (pos e *ℤ s -ℤ pos 5_000 *ℤ b)
-    ≡ (pos e *ℤ (pos d *ℤ s -ℤ pos 5_000 *ℤ a) +ℤ pos 5_000 *ℤ r)
-    +ℤ pos (e * (d * 400_000_000_000)) *ℤ (pos 0 -ℤ t)
+    → pos d *ℤ (pos e *ℤ s -ℤ pos 405_000 *ℤ b)
+    ≡ (pos e *ℤ (pos d *ℤ s -ℤ pos 405_000 *ℤ a) +ℤ pos 405_000 *ℤ r)
+    +ℤ pos (e * (d * 32_400_000_000_000)) *ℤ (pos 0 -ℤ t)
 from_other d e s a b t r is =
     let d' = num (pos d) in
     let e' = num (pos e) in
-    same_value (d' ⊗ (e' ⊗ num s ⊖ num (pos 5_000) ⊗ num b))
-    ((e' ⊗ (d' ⊗ num s ⊖ num (pos 5_000) ⊗ num a)
-    ⊕ num (pos 5_000) ⊗ (e' ⊗ num a ⊖ d' ⊗ (num b ⊖ num (pos (e * 80_000_000)) ⊗ num t)))
-    ⊕ num (pos (e * (d * 400_000_000_000))) ⊗ (num (pos 0) ⊖ num t))
+    same_value (d' ⊗ (e' ⊗ num s ⊖ num (pos 405_000) ⊗ num b))
+    ((e' ⊗ (d' ⊗ num s ⊖ num (pos 405_000) ⊗ num a)
+    ⊕ num (pos 405_000) ⊗ (e' ⊗ num a ⊖ d' ⊗ (num b ⊖ num (pos (e * 80_000_000)) ⊗ num t)))
+    ⊕ num (pos (e * (d * 32_400_000_000_000))) ⊗ (num (pos 0) ⊖ num t))
     (omega arith)
-    ∙ ap (λ z. (pos e *ℤ (pos d *ℤ s -ℤ pos 5_000 *ℤ a) +ℤ pos 5_000 *ℤ z)
-    +ℤ pos (e * (d * 400_000_000_000)) *ℤ (pos 0 -ℤ t)) is
+    ∙ ap (λ z. (pos e *ℤ (pos d *ℤ s -ℤ pos 405_000 *ℤ a) +ℤ pos 405_000 *ℤ z)
+    +ℤ pos (e * (d * 32_400_000_000_000)) *ℤ (pos 0 -ℤ t)) is
 
 are_same : (targets : ℕ) (c other : Choice) (stated : ℕ → ℤ) → 1 ≤ c.denominator
     → 1 ≤ other.denominator → AreTurned targets c other
@@ -151,7 +151,7 @@ are_same targets c other stated some others s = record {
   positive = omega (arith, some);
   other_positive = omega (arith, others);
   circles = omega arith;
-  rotation = pos 5_000 *ℤ s.rotation;
+  rotation = pos 405_000 *ℤ s.rotation;
   turns = λ t. pos 0 -ℤ s.turns t;
   angles = λ t h. from_other c.denominator other.denominator (stated t) (c.direction t)
       (other.direction t) (s.turns t) s.rotation (s.directions t h);
@@ -221,7 +221,8 @@ module _ (targets : ℕ) (c : Choice) (stated : ℕ → ℤ) (a b : List ℤ)
   one_start spread =
       one_first (λ i. IsExtent (circle_of c) (difference c stated) targets i q.spread) targets
       p.start q.start
-      (subst (λ (n : ℕ). IsFirstWhere (λ i. IsExtent (circle_of c) (difference c stated) targets i n)
+      (subst (λ (n : ℕ). IsFirstWhere (λ i. IsExtent (circle_of c)
+      (difference c stated) targets i n)
       targets p.start) spread p.best.first) q.best.first
 
   one_difference : (t : ℕ) → t < targets → p.spread ≡ q.spread → p.start ≡ q.start
@@ -259,9 +260,10 @@ rounded_up n k some =
 -- How far the directions are apart: half the spread, rounded up.
 pub some_apart : (targets : ℕ) (c : Choice) (stated : ℕ → ℤ) (differences : List ℤ)
     → 1 ≤ c.denominator → (are : AreDifferences targets c stated differences)
-    → (apart : ℕ) × (are.spread ≤ apart * (2_000 * c.denominator)) × IsApart targets c stated apart
+    → (apart : ℕ) × (are.spread ≤ apart * (162_000 * c.denominator))
+    × IsApart targets c stated apart
 some_apart targets c stated differences some are =
-    let unit = 2_000 * c.denominator in
+    let unit = 162_000 * c.denominator in
     let most = (are.spread + (unit - 1)) / unit in
     let up : IsRoundedUp are.spread unit most = rounded_up are.spread unit (omega (arith, some)) in
     let half : IsHalfSpread targets c stated most =
@@ -279,4 +281,4 @@ no_larger targets apart c stated differences some is are t h =
     let m = are.each t h in
     within_half c.denominator m.way are.spread apart (get_or differences t (pos 0)) some
     (are.best.first.here.held t h m.way m.onward)
-    (subst (λ n. are.spread ≤ n * (2_000 * c.denominator)) same narrow) m.rounded
+    (subst (λ n. are.spread ≤ n * (162_000 * c.denominator)) same narrow) m.rounded

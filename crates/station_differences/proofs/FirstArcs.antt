@@ -6,8 +6,8 @@ use Rattle.directions_apart.proofs.SpreadLaws.{IsNarrowest, all_starts, next_sta
 use Rattle.station_differences.specs.BestArcs.{IsBestArc}
 
 module _ (circle : ℕ) (angle : ℕ → ℤ) (count : ℕ) where
-  -- Of the arcs from the first so many angles the narrowest is so wide, and begins at this angle and
-  -- at none before it. Where there is no arc yet it is the circle.
+  -- Of the arcs from the first so many angles the narrowest is so wide, and begins at this angle
+  -- and at none before it. Where there is no arc yet it is the circle.
   pub record IsFirstSoFar (starts start spread : ℕ) : Type 0 where
     pub narrowest : IsNarrowest circle angle count starts spread
     pub none_yet : starts ≡ 0 → spread ≡ circle

@@ -42,7 +42,7 @@ one_list station stated a b p q =
     let has = p.rounded.adjustable in
     let least = its_least station has in
     same_rows a b (p.named ∙ sym q.named)
-    (one_on_circle 400_000_000_000 stated (stated_of a) (stated_of b) p.stated_on q.stated_on)
+    (one_on_circle 32_400_000_000_000 stated (stated_of a) (stated_of b) p.stated_on q.stated_on)
     (one_rounding station 1_000 (least_of a) (least_of b) (omega arith) refl p.rounded q.rounded)
     (one_differences (length station.targets) (choice_by has.adjustment) (stated_by stated)
     (differences_of a) (differences_of b)

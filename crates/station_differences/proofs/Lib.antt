@@ -5,3 +5,4 @@ pub mod DifferenceLaws
 pub mod RowLaws
 pub mod LeastLaws
 pub mod AnswerLaws
+pub mod StatedTexts

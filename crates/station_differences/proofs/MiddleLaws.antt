@@ -10,29 +10,29 @@ use Rattle.adjust_kernel.specs.Within.{IsWithin}
 use Rattle.adjust_kernel.proofs.Ring.{num, ◌⊖◌, ◌⊗◌, same_value}
 use Rattle.station_differences.specs.Differences.{IsRoundedFromMiddle}
 
-units_of : (d a : ℕ) → pos 2 *ℤ (pos d *ℤ (pos 1_000 *ℤ pos a)) ≡ pos (2_000 * (d * a))
+units_of : (d a : ℕ) → pos 2 *ℤ (pos d *ℤ (pos 81_000 *ℤ pos a)) ≡ pos (162_000 * (d * a))
 units_of d a =
-    same_value (num (pos 2) ⊗ (num (pos d) ⊗ (num (pos 1_000) ⊗ num (pos a))))
-    (num (pos (2_000 * (d * a)))) (omega arith)
+    same_value (num (pos 2) ⊗ (num (pos d) ⊗ (num (pos 81_000) ⊗ num (pos a))))
+    (num (pos (162_000 * (d * a)))) (omega arith)
 
 units_below_0 : (d n : ℕ)
-    → pos 2 *ℤ (pos d *ℤ (pos 1_000 *ℤ negsuc n)) ≡ pos 0 -ℤ pos (2_000 * (d * suc n))
+    → pos 2 *ℤ (pos d *ℤ (pos 81_000 *ℤ negsuc n)) ≡ pos 0 -ℤ pos (162_000 * (d * suc n))
 units_below_0 d n =
-    same_value (num (pos 2) ⊗ (num (pos d) ⊗ (num (pos 1_000) ⊗ num (negsuc n))))
-    (num (pos 0) ⊖ num (pos (2_000 * (d * suc n)))) (omega arith)
+    same_value (num (pos 2) ⊗ (num (pos d) ⊗ (num (pos 81_000) ⊗ num (negsuc n))))
+    (num (pos 0) ⊖ num (pos (162_000 * (d * suc n)))) (omega arith)
 
 lifted_units : (d n : ℕ)
-    → pos 2 *ℤ (pos d *ℤ (pos 1_000 *ℤ (pos n -ℤ pos 200_000_000)))
-    ≡ pos (2_000 * (d * n)) -ℤ pos (400_000_000_000 * d)
+    → pos 2 *ℤ (pos d *ℤ (pos 81_000 *ℤ (pos n -ℤ pos 200_000_000)))
+    ≡ pos (162_000 * (d * n)) -ℤ pos (32_400_000_000_000 * d)
 lifted_units d n =
     same_value
-    (num (pos 2) ⊗ (num (pos d) ⊗ (num (pos 1_000) ⊗ (num (pos n) ⊖ num (pos 200_000_000)))))
-    (num (pos (2_000 * (d * n))) ⊖ num (pos (400_000_000_000 * d))) (omega arith)
+    (num (pos 2) ⊗ (num (pos d) ⊗ (num (pos 81_000) ⊗ (num (pos n) ⊖ num (pos 200_000_000)))))
+    (num (pos (162_000 * (d * n))) ⊖ num (pos (32_400_000_000_000 * d))) (omega arith)
 
 -- The quotient is the way from the middle, rounded and lifted by half a circle.
 pub rounded_is : (d way spread n twice : ℕ)
-    → twice + spread ≡ 2 * way + d * 400_000_001_000
-    → d * 2_000 * n ≤ twice → twice < d * 2_000 * (n + 1)
+    → twice + spread ≡ 2 * way + d * 32_400_000_081_000
+    → d * 162_000 * n ≤ twice → twice < d * 162_000 * (n + 1)
     → IsRoundedFromMiddle d way spread (pos n -ℤ pos 200_000_000)
 rounded_is d way spread n twice sum from to =
     let e = lifted_units d n in
@@ -40,22 +40,22 @@ rounded_is d way spread n twice sum from to =
 
 -- The same bounds in natural numbers, over the other denominator.
 high_too : (d e way its spread s a b : ℕ) → 1 ≤ d → d * its ≡ e * way → d * s ≡ e * spread
-    → 2_000 * (d * a) + spread ≤ 2 * way + 1_000 * d + 2_000 * (d * b)
-    → 2_000 * (e * a) + s ≤ 2 * its + 1_000 * e + 2_000 * (e * b)
+    → 162_000 * (d * a) + spread ≤ 2 * way + 81_000 * d + 162_000 * (d * b)
+    → 162_000 * (e * a) + s ≤ 2 * its + 81_000 * e + 162_000 * (e * b)
 high_too d e way its spread s a b some same same_spread h =
-    let more : e * (2_000 * (d * a) + spread) ≤ e * (2 * way + 1_000 * d + 2_000 * (d * b)) =
+    let more : e * (162_000 * (d * a) + spread) ≤ e * (2 * way + 81_000 * d + 162_000 * (d * b)) =
     mul-le-mul_left e h in
-    let scaled : d * (2_000 * (e * a) + s) ≤ d * (2 * its + 1_000 * e + 2_000 * (e * b)) =
+    let scaled : d * (162_000 * (e * a) + s) ≤ d * (2 * its + 81_000 * e + 162_000 * (e * b)) =
     omega (arith, more, same, same_spread) in
     le_of_mul-le-mul_left scaled some
 
 low_too : (d e way its spread s a b : ℕ) → 1 ≤ e → d * its ≡ e * way → d * s ≡ e * spread
-    → 2 * way + 2_000 * (d * b) < 2_000 * (d * a) + spread + 1_000 * d
-    → 2 * its + 2_000 * (e * b) < 2_000 * (e * a) + s + 1_000 * e
+    → 2 * way + 162_000 * (d * b) < 162_000 * (d * a) + spread + 81_000 * d
+    → 2 * its + 162_000 * (e * b) < 162_000 * (e * a) + s + 81_000 * e
 low_too d e way its spread s a b others same same_spread h =
-    let more : e * (2 * way + 2_000 * (d * b)) < e * (2_000 * (d * a) + spread + 1_000 * d) =
+    let more : e * (2 * way + 162_000 * (d * b)) < e * (162_000 * (d * a) + spread + 81_000 * d) =
     mul-lt-mul_of_pos_left h others in
-    let scaled : d * (2 * its + 2_000 * (e * b)) < d * (2_000 * (e * a) + s + 1_000 * e) =
+    let scaled : d * (2 * its + 162_000 * (e * b)) < d * (162_000 * (e * a) + s + 81_000 * e) =
     omega (arith, more, same, same_spread) in
     lt_of_mul-lt-mul_left d scaled
 
@@ -85,13 +85,13 @@ same_rounding d e way its spread s (negsuc n) some others same same_spread r =
     record { low = omega (arith, ints, q, low); high = omega (arith, ints, q, high) }
 
 units_apart : (d : ℕ) (x a b : ℤ)
-    → (pos 2 *ℤ (pos d *ℤ (pos 1_000 *ℤ a)) -ℤ x) -ℤ (pos 2 *ℤ (pos d *ℤ (pos 1_000 *ℤ b)) -ℤ x)
-    ≡ pos (2_000 * d) *ℤ (a -ℤ b)
+    → (pos 2 *ℤ (pos d *ℤ (pos 81_000 *ℤ a)) -ℤ x) -ℤ (pos 2 *ℤ (pos d *ℤ (pos 81_000 *ℤ b)) -ℤ x)
+    ≡ pos (162_000 * d) *ℤ (a -ℤ b)
 units_apart d x a b =
     same_value
-    ((num (pos 2) ⊗ (num (pos d) ⊗ (num (pos 1_000) ⊗ num a)) ⊖ num x)
-    ⊖ (num (pos 2) ⊗ (num (pos d) ⊗ (num (pos 1_000) ⊗ num b)) ⊖ num x))
-    (num (pos (2_000 * d)) ⊗ (num a ⊖ num b)) (omega arith)
+    ((num (pos 2) ⊗ (num (pos d) ⊗ (num (pos 81_000) ⊗ num a)) ⊖ num x)
+    ⊖ (num (pos 2) ⊗ (num (pos d) ⊗ (num (pos 81_000) ⊗ num b)) ⊖ num x))
+    (num (pos (162_000 * d)) ⊗ (num a ⊖ num b)) (omega arith)
 
 -- A multiple that is smaller in size than once is none.
 none_of : (w : ℕ) (z : ℤ) → (neg_ℤ (pos w)) <ℤ (pos w *ℤ z) → (pos w *ℤ z) <ℤ pos w → z ≡ pos 0
@@ -116,14 +116,14 @@ one_rounding d way spread a b p q =
     let b_low = q.low in
     let b_high = q.high in
     let none : a -ℤ b ≡ pos 0 =
-    none_of (2_000 * d) (a -ℤ b)
+    none_of (162_000 * d) (a -ℤ b)
     (omega (arith, ints, apart, a_low, b_high)) (omega (arith, ints, apart, a_high, b_low)) in
     omega (arith, ints, none)
 
 -- What is in an arc is no further from its middle than a whole number of units that half the arc is
 -- no wider than.
 pub within_half : (d way spread apart : ℕ) (units : ℤ) → 1 ≤ d → way ≤ spread
-    → spread ≤ apart * (2_000 * d) → IsRoundedFromMiddle d way spread units
+    → spread ≤ apart * (162_000 * d) → IsRoundedFromMiddle d way spread units
     → IsWithin (pos apart) units
 within_half d way spread apart (pos a) some inside narrow r = by (dec_le a apart)
   where

@@ -244,7 +244,8 @@ module _ (circle other : ℕ) (f g : ℕ → ℤ) (count d e : ℕ) (s : AreSame
             ≡ pos (parts * e) *ℤ (f i +ℤ pos circle *ℤ (s.turns i +ℤ a.circles i))
             +ℤ pos parts *ℤ s.rotation
         here i h =
-            in_parts parts d e circle other (g i) (f i) s.rotation (a.circles i) (s.turns i) s.circles
+            in_parts parts d e circle other (g i) (f i) s.rotation (a.circles i) (s.turns i)
+            s.circles
             (s.angles i h)
 
     -- So a spread of the one is one of the other, where an arc from one of the angles is as wide.

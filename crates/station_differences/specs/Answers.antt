@@ -1,5 +1,5 @@
--- What is answered of a field file and of a table of directions, and how their readers are left. The
--- faults are those of their comparison, one for one.
+-- What is answered of a field file and of a table of directions, and how their readers are left.
+-- The faults are those of their comparison, one for one.
 use Rattle.std.specs.Prelude.{ℕ, List, Option, Result, Ok, Err}
 use Rattle.byte_ends.specs.Came.{Leaves}
 use Rattle.byte_ends.specs.Source.{Told, ReaderChange, MayGive, HasGiven, given_then}
@@ -8,20 +8,23 @@ use Rattle.station_book.specs.Limits.{FaceLimits}
 use Rattle.station_compare.specs.Answers.{Compares, field_file_left, table_left}
 use Rattle.station_compare.specs.declared.fault.CompareFault.{CompareFault}
 use Rattle.station_differences.specs.Stating.{StatesDifferences}
+use Rattle.direction_table.specs.declared.unit.AngleUnit.{AngleUnit}
 
 -- Why no differences are printed: the first fault that stands, in the order of the file, the
 -- station, the table and the adjustment. It is the one that the comparison answers, whatever limit
 -- is stated; so it never is that the directions are apart.
-abbrev pub HasNoDifferences : FaceLimits → FileAnswers → Told → List ℕ → CompareFault → Type 0
-HasNoDifferences limits file stated name fault =
-    (within : Option ℕ) → Compares limits file stated name within (Err fault)
+abbrev pub HasNoDifferences : AngleUnit → FaceLimits → FileAnswers → Told → List ℕ → CompareFault
+    → Type 0
+HasNoDifferences unit limits file stated name fault =
+    (within : Option ℕ) → Compares unit limits file stated name within (Err fault)
 
 -- What is answered: the text of the differences, or why there is none.
-abbrev pub TellsDifferences : FaceLimits → FileAnswers → Told → List ℕ
+abbrev pub TellsDifferences : AngleUnit → FaceLimits → FileAnswers → Told → List ℕ
     → Result (List ℕ) CompareFault → Type 0
-TellsDifferences limits file stated name (Ok text) = StatesDifferences limits file stated name text
-TellsDifferences limits file stated name (Err fault) =
-    HasNoDifferences limits file stated name fault
+TellsDifferences unit limits file stated name
+    (Ok text) = StatesDifferences unit limits file stated name text
+TellsDifferences unit limits file stated name (Err fault) =
+    HasNoDifferences unit limits file stated name fault
 
 -- A field file and a table were read for an answer: of what both readers gave this is so, and they
 -- are left as the answer says.

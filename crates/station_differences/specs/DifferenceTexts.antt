@@ -1,19 +1,29 @@
 -- The text of the differences of a table from its station (profile).
-use Rattle.std.specs.Prelude.{ℕ, ◌%◌, ◌==◌, Bool, if◌then◌else◌, List, [], ◌∷◌, map, codes}
+use Rattle.std.specs.Prelude.{ℕ, ◌+◌, ◌*◌, ◌/◌, ◌%◌, ◌==◌, Bool, if◌then◌else◌, List, [], ◌∷◌, map}
+use Rattle.std.specs.Prelude.{codes}
 use Rattle.std.specs.List.{list_all}
 use Rattle.angle_texts.specs.MgonTexts.{mgon_text}
 use Rattle.direction_table.specs.Texts.{direction_text}
-use Rattle.directions_apart.specs.declared.units.TheConstants.{UNIT}
+use Rattle.directions_apart.specs.declared.units.TheConstants.{CIRCLE, PARTS, UNIT}
 use Rattle.sheet_format.specs.Texts.{rows_text}
 use Rattle.station_differences.specs.declared.compared.TargetDifference.{TargetDifference}
 
 -- six decimals of a gon write each stated direction of these rows exactly
 abbrev pub are_short : List TargetDifference → Bool
-are_short rows = list_all (λ row. row.stated % UNIT == 0) rows
+are_short rows = list_all (λ row. row.stated % (PARTS * UNIT) == 0) rows
 
--- A stated direction as text, in gon: with six decimals, or with nine where some row needs more.
+-- A stated direction, in parts, rounded to 0.000000001 gon: on the circle, in that unit. The middle
+-- of two is none, since the parts of that unit are odd. What is stated in gon is exact.
+abbrev pub rounded : ℕ → ℕ
+rounded direction = (2 * direction + PARTS) / (2 * PARTS) % CIRCLE
+
+-- A direction in gon as text: with six decimals, or with nine where some row needs more.
+abbrev pub gon_text : Bool → ℕ → List ℕ
+gon_text short direction = direction_text (if short then 6 else 9) direction
+
+-- A stated direction, in parts, as text.
 abbrev pub stated_text : Bool → ℕ → List ℕ
-stated_text short direction = direction_text (if short then 6 else 9) direction
+stated_text short direction = gon_text short (rounded direction)
 
 -- the titles
 abbrev pub titles : List (List ℕ)

@@ -7,23 +7,23 @@ use Rattle.adjust_kernel.specs.Residuals.{Choice}
 use Rattle.adjust_kernel.specs.Stations.{StationValue}
 use Rattle.directions_apart.specs.Apart.{circle_of, difference, stated_by}
 use Rattle.directions_apart.specs.Arcs.{IsWayRound}
-use Rattle.directions_apart.specs.declared.units.TheConstants.{CIRCLE, UNIT}
+use Rattle.directions_apart.specs.declared.units.TheConstants.{CIRCLE, PARTS, UNIT}
 use Rattle.exact_adjustment.specs.LeastOf.{IsLeastOf}
 use Rattle.least_directions.specs.LeastDirections.{AreRounded}
 use Rattle.station_differences.specs.BestArcs.{IsBestArc}
 use Rattle.station_differences.specs.declared.compared.TargetDifference.{TargetDifference}
 
--- twice what so many units of 0.001 mgon are more than a way less half a spread, in 0.000000001 gon
--- times the denominator
+-- twice what so many units of 0.001 mgon are more than a way less half a spread, in parts times the
+-- denominator
 abbrev pub twice_more : ℕ → ℕ → ℕ → ℤ → ℤ
 twice_more denominator way spread units =
-    pos 2 *ℤ (pos denominator *ℤ (pos UNIT *ℤ units)) -ℤ (pos 2 *ℤ pos way -ℤ pos spread)
+    pos 2 *ℤ (pos denominator *ℤ (pos (PARTS * UNIT) *ℤ units)) -ℤ (pos 2 *ℤ pos way -ℤ pos spread)
 
--- A way from the start of an arc, counted from the arc's middle and rounded to 0.001 mgon: the units
--- are within half of that, and what lies in the middle of two is rounded up.
+-- A way from the start of an arc, counted from the arc's middle and rounded to 0.001 mgon: the
+-- units are within half of that, and what lies in the middle of two is rounded up.
 pub record IsRoundedFromMiddle (denominator way spread : ℕ) (units : ℤ) : Type 0 where
-  pub low : neg_ℤ (pos (UNIT * denominator)) <ℤ twice_more denominator way spread units
-  pub high : twice_more denominator way spread units ≤ℤ pos (UNIT * denominator)
+  pub low : neg_ℤ (pos (PARTS * UNIT * denominator)) <ℤ twice_more denominator way spread units
+  pub high : twice_more denominator way spread units ≤ℤ pos (PARTS * UNIT * denominator)
 
 -- The angle at a place after the rotation that brings the middle of an arc to 0, in units of 0.001
 -- mgon: the way from the angle at which the arc begins onward to it, less half the spread, rounded.
@@ -50,7 +50,7 @@ pub record AreDifferences (targets : ℕ) (c : Choice) (stated : ℕ → ℤ) (d
 abbrev pub names_of : List TargetDifference → List (List ℕ)
 names_of rows = map (λ row. row.target) rows
 
--- their stated directions, in units of 0.000000001 gon
+-- their stated directions, in parts, 81 of which are 0.000000001 gon
 abbrev pub stated_of : List TargetDifference → List ℕ
 stated_of rows = map (λ row. row.stated) rows
 
@@ -69,7 +69,7 @@ pub record AreCompared (station : StationValue) (stated : List ℤ) (rows : List
   -- One for each target of the station, in their order.
   pub named : names_of rows ≡ station.targets
   -- Each has the stated direction at its place, from 0 and below a full circle.
-  pub stated_on : AllZip (IsWayRound CIRCLE (pos 0)) stated (stated_of rows)
+  pub stated_on : AllZip (IsWayRound (PARTS * CIRCLE) (pos 0)) stated (stated_of rows)
   -- Each has the least-squares direction, counted from that of the first target and rounded to
   -- 0.000001 gon, the middle of two upwards, whichever choice of directions, orientations and full
   -- turns, over any denominator, is least.

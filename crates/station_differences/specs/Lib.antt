@@ -2,11 +2,11 @@
 -- needs them.
 pub mod BestArcs
 pub mod Differences
+pub mod ByAdjustment
 pub mod DifferenceTexts
 pub mod Stating
 pub mod Answers
 pub mod Runs
 -- The inside.
 pub mod Angles
-pub mod ByAdjustment
 pub mod OfInput

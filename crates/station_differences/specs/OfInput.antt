@@ -5,17 +5,20 @@ use Rattle.byte_ends.specs.Input.{Input, Ended, BrokeOff, RanPast}
 use Rattle.station_compare.specs.Comparing.{ByInput, ByTable}
 use Rattle.station_compare.specs.declared.fault.CompareFault.{CompareFault}
 use Rattle.station_differences.specs.Stating.{IsDifferencesText}
+use Rattle.direction_table.specs.declared.unit.AngleUnit.{AngleUnit}
 
 -- The input ended, and this is the text of the differences of its bytes.
-abbrev pub IsTextOf : StationValue → Input → List ℕ → Type 0
-IsTextOf station (Ended bytes) text = IsDifferencesText station bytes text
-IsTextOf station (BrokeOff bytes) text = ⊥
-IsTextOf station RanPast text = ⊥
+abbrev pub IsTextOf : AngleUnit → StationValue → Input → List ℕ → Type 0
+IsTextOf unit station (Ended bytes) text = IsDifferencesText unit station bytes text
+IsTextOf unit station (BrokeOff bytes) text = ⊥
+IsTextOf unit station RanPast text = ⊥
 
 -- This fault is what the comparison answers of a table's bytes, whatever limit is stated.
-abbrev pub HasNoneOf : StationValue → List ℕ → CompareFault → Type 0
-HasNoneOf station bytes fault = (within : Option ℕ) → ByTable station within bytes (Err fault)
+abbrev pub HasNoneOf : AngleUnit → StationValue → List ℕ → CompareFault → Type 0
+HasNoneOf unit station bytes fault = (within : Option ℕ)
+    → ByTable unit station within bytes (Err fault)
 
 -- The same of the input.
-abbrev pub HasNoneOfInput : StationValue → Input → CompareFault → Type 0
-HasNoneOfInput station input fault = (within : Option ℕ) → ByInput station within input (Err fault)
+abbrev pub HasNoneOfInput : AngleUnit → StationValue → Input → CompareFault → Type 0
+HasNoneOfInput unit station input fault = (within : Option ℕ)
+    → ByInput unit station within input (Err fault)

@@ -17,12 +17,14 @@ use Rattle.station_check.specs.StationOfFile.{IsStationOfFile}
 use Rattle.station_differences.specs.Differences.{AreCompared}
 use Rattle.station_differences.specs.DifferenceTexts.{differences_text}
 use Rattle.station_differences.specs.declared.compared.TargetDifference.{TargetDifference}
+use Rattle.direction_table.specs.declared.unit.AngleUnit.{AngleUnit}
 
 -- This is the text of the differences of a table's bytes from a station.
-pub record IsDifferencesText (station : StationValue) (bytes text : List ℕ) : Type 0 where
+pub record IsDifferencesText (unit : AngleUnit) (station : StationValue)
+    (bytes text : List ℕ) : Type 0 where
   -- The bytes state these directions, one for each target of the station.
   pub directions : List ℤ
-  pub states : IsTableText station.targets bytes directions
+  pub states : IsTableText unit station.targets bytes directions
   -- The rows of the targets, with these directions and the least-squares ones.
   pub rows : List TargetDifference
   pub compared : AreCompared station directions rows
@@ -30,7 +32,8 @@ pub record IsDifferencesText (station : StationValue) (bytes text : List ℕ) : 
 
 -- Of these lines of a field file, and of these bytes of a table and how they end, this is the text
 -- of the differences for the station of this name.
-pub record StatesDifferences (limits : FaceLimits) (file : FileAnswers) (stated : Told)
+pub record StatesDifferences (unit : AngleUnit) (limits : FaceLimits) (file : FileAnswers)
+    (stated : Told)
     (name : List ℕ) (text : List ℕ) : Type 0 where
   -- The station of this name: its observations are exactly its two-face directions, and every face
   -- difference is within the limits.
@@ -40,4 +43,4 @@ pub record StatesDifferences (limits : FaceLimits) (file : FileAnswers) (stated 
   pub bytes : List ℕ
   pub whole : input_within LONGEST_TABLE stated ≡ Ended bytes
   -- The text of its differences.
-  pub differences : IsDifferencesText its.station bytes text
+  pub differences : IsDifferencesText unit its.station bytes text

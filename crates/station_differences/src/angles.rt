@@ -7,20 +7,20 @@ ghost use Rattle.exact_adjustment.specs.Adjustments.{choice_by};
 ghost use Rattle.station_differences.specs.Angles.{AreAngles};
 
 use crate::circle::{on_circle, onward};
-use directions_apart::HALF_UNIT;
+use directions_apart::{HALF_UNIT, PARTS};
 use exact_adjustment::Adjustment;
 use std::alloc::{AllocError, Global};
 use wide_number::Wide;
 
-/// A stated direction less that of a target of an adjustment, on the circle: in units of
-/// 0.000000001 gon times the denominator.
+/// A stated direction less that of a target of an adjustment, on the circle: in parts times
+/// the denominator.
 fn angle(adjustment: &Adjustment, circle: &Wide, stated: i64, target: usize) -> Wide
     requires target { target < length adjustment.now.directions }
     requires circle { circle.now ≡ spec.circle_of (choice_by adjustment.now) }
     ensures { IsWayRound (spec.circle_of (choice_by adjustment.now)) (pos 0)
         (spec.difference (choice_by adjustment.now) (λ _. stated) target) result }
 {
-    let direction = adjustment.directions()[target].times(HALF_UNIT);
+    let direction = adjustment.directions()[target].times(PARTS * HALF_UNIT);
     let stated = adjustment.denominator().times(on_circle(stated));
     onward(circle, &direction, &stated)
 }

@@ -35,8 +35,8 @@ fn extent_from(circle: &Wide, angles: &[Wide], start: usize) -> Wide
     widest
 }
 
-/// The narrowest arc of a circle that holds all angles; of several, the one that begins at the first
-/// of them.
+/// The narrowest arc of a circle that holds all angles; of several, the one that begins at the
+/// first of them.
 pub(crate) fn best_arc(circle: &Wide, angles: &[Wide]) -> Arc
     requires some { 1 ≤ length angles.now }
     requires angles { All (λ angle. angle < circle.now) angles.now }

@@ -1,17 +1,17 @@
 //! Angles on the circle.
-ghost use Rattle.std.specs.Prelude.{◌+◌, ◌<◌, pos};
+ghost use Rattle.std.specs.Prelude.{◌+◌, ◌*◌, ◌<◌, pos};
 ghost use Rattle.directions_apart.specs.Arcs.{IsWayRound};
-ghost use Rattle.directions_apart.specs.declared.units.TheConstants.{CIRCLE};
+ghost use Rattle.directions_apart.specs.declared.units.TheConstants.{CIRCLE, PARTS};
 ghost use Rattle.wide_number.specs.Limbs.{WIDE_LIMIT};
 
-use directions_apart::CIRCLE;
+use directions_apart::{CIRCLE, PARTS};
 use wide_number::Wide;
 
-/// A stated direction on the circle: from 0 and below it, in units of 0.000000001 gon.
+/// A stated direction on the circle: from 0 and below it, in parts.
 pub(crate) fn on_circle(stated: i64) -> u64
-    ensures { IsWayRound CIRCLE (pos 0) stated result }
+    ensures { IsWayRound (PARTS * CIRCLE) (pos 0) stated result }
 {
-    stated.rem_euclid(CIRCLE as i64) as u64
+    stated.rem_euclid((PARTS * CIRCLE) as i64) as u64
 }
 
 /// How far it is from one place on a circle onward to another: less than the circle.

@@ -10,7 +10,7 @@ use crate::arc::best_arc;
 use crate::circle::on_circle;
 use crate::difference::difference_at;
 use adjust_kernel::{Name, Station};
-use directions_apart::{CIRCLE, UNIT, rounded};
+use directions_apart::{CIRCLE, PARTS, UNIT, rounded};
 use exact_adjustment::{AdjustError, Adjustment, adjust};
 use std::alloc::{AllocError, Global};
 
@@ -19,13 +19,14 @@ use std::alloc::{AllocError, Global};
 pub struct TargetDifference {
     /// The name of the target.
     pub target: Name,
-    /// The stated direction, in units of 0.000000001 gon, from 0 and below a full circle.
+    /// The stated direction, in parts, 81 of which are 0.000000001 gon: from 0 and below a full
+    /// circle.
     pub stated: u64,
     /// The least-squares direction, counted from that of the first target and rounded to 0.000001
     /// gon: in units of 0.000000001 gon, a multiple of 1,000 and below a full circle.
     pub least: u64,
-    /// The stated direction less the least-squares one, after the rotation that makes the largest of
-    /// the differences smallest, in units of 0.001 mgon: at most 200,000,000 in size.
+    /// The stated direction less the least-squares one, after the rotation that makes the largest
+    /// of the differences smallest, in units of 0.001 mgon: at most 200,000,000 in size.
     pub difference: i32,
 }
 
@@ -35,8 +36,8 @@ pub struct TargetDifference {
 /// One rotation is taken off all differences: the one that makes the largest smallest, which brings
 /// the middle of the narrowest arc that holds them to 0; of several arcs that of which the first
 /// target's difference is the start. What is rounded is rounded from the exact fraction, the middle
-/// of two upwards. Stated directions are in units of 0.000000001 gon. No residual may be above 2,000
-/// half units (0.005 mgon each). Memory is linear in the observations.
+/// of two upwards. Stated directions are in parts, 81 of which are 0.000000001 gon. No residual may
+/// be above 2,000 half units (0.005 mgon each). Memory is linear in the observations.
 ///
 /// # Errors
 ///
@@ -51,11 +52,13 @@ pub fn target_differences(
     ensures fault { IfErr result (IsAdjustError station.now) }
 {
     let adjustment = adjust(alloc, station)?;
-    Ok(rows_by(alloc, station.targets(), &adjustment, stated)?)
+    Ok(differences_by(alloc, station.targets(), &adjustment, stated)?)
 }
 
 /// The same by an adjustment, of these targets.
-fn rows_by(
+///
+/// The only error is that memory was refused.
+pub fn differences_by(
     alloc: Global,
     targets: &[Name],
     adjustment: &Adjustment,
@@ -67,7 +70,7 @@ fn rows_by(
         rows.items) }
 {
     let denominator = adjustment.denominator();
-    let circle = denominator.times(CIRCLE);
+    let circle = denominator.times(PARTS * CIRCLE);
     let angles = angles(alloc, adjustment, &circle, stated)?;
     let arc = best_arc(&circle, &angles);
     let mut rows = Vec::with_capacity(alloc, targets.len())?;

@@ -1,6 +1,6 @@
 //! Differences after the best rotation, rounded.
 ghost use Rattle.std.specs.Prelude.{◌≡◌, ◌≤◌, ◌<◌, ◌+◌, ◌*◌, All, length, pos, ◌-ℤ◌};
-ghost use Rattle.directions_apart.specs.declared.units.TheConstants.{CIRCLE};
+ghost use Rattle.directions_apart.specs.declared.units.TheConstants.{CIRCLE, PARTS};
 ghost use Rattle.exact_adjustment.specs.declared.bounds.TheConstants.{LARGEST_FACTOR};
 ghost use Rattle.station_differences.specs.Angles.{angle_of};
 ghost use Rattle.station_differences.specs.BestArcs.{IsBestArc};
@@ -9,7 +9,7 @@ ghost use Rattle.wide_number.specs.Limbs.{WIDE_LIMIT};
 
 use crate::arc::Arc;
 use crate::circle::onward;
-use directions_apart::{CIRCLE, UNIT};
+use directions_apart::{CIRCLE, PARTS, UNIT};
 use wide_number::{Wide, quotient};
 
 /// No difference is larger than half a circle, in units of 0.001 mgon.
@@ -21,20 +21,21 @@ const LARGEST_DIFFERENCE: u64 = CIRCLE / (2 * UNIT);
 fn lifted_difference(denominator: &Wide, way: &Wide, spread: &Wide) -> u64
     requires some { 1 ≤ denominator.now }
     requires in_arc { way.now ≤ spread.now }
-    requires below { spread.now < denominator.now * CIRCLE }
+    requires below { spread.now < denominator.now * (PARTS * CIRCLE) }
     requires size { denominator.now * LARGEST_FACTOR < WIDE_LIMIT }
     ensures rounded { IsRoundedFromMiddle denominator.now way.now spread.now
         (pos result -ℤ pos LARGEST_DIFFERENCE) }
     ensures bound { result ≤ 2 * LARGEST_DIFFERENCE }
 {
     // Twice the way, less the spread, is twice as far from the middle. Half a unit more, and the
-    // quotient is the nearest whole number of units.
-    let mut twice = way.times(2);
-    twice.add_product(denominator, CIRCLE + UNIT);
+    // quotient is the nearest whole number of units. The spread is taken off first, so that no sum
+    // is above two circles and a unit.
+    let mut twice = denominator.times(PARTS * (CIRCLE + UNIT));
     twice.subtract(spread);
+    twice.add_product(way, 2);
     quotient(
         &twice,
-        &denominator.times(2 * UNIT),
+        &denominator.times(2 * PARTS * UNIT),
         2 * LARGEST_DIFFERENCE + 1,
     )
 }
@@ -50,7 +51,7 @@ pub(crate) fn difference_at(
 ) -> i32
     requires some { 1 ≤ denominator.now }
     requires size { denominator.now * LARGEST_FACTOR < WIDE_LIMIT }
-    requires circle { circle.now ≡ denominator.now * CIRCLE }
+    requires circle { circle.now ≡ denominator.now * (PARTS * CIRCLE) }
     requires angles { All (λ angle. angle < circle.now) angles.now }
     requires best { IsBestArc circle.now (angle_of angles.now) (length angles.now) arc.now.start
         arc.now.spread }

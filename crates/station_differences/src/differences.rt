@@ -15,15 +15,16 @@ use crate::compared::target_differences;
 use crate::text::text_of;
 use adjust_kernel::Station;
 use byte_ends::{Sink, Source, read_whole};
-use direction_table::{LONGEST_TABLE, read_table};
+use direction_table::{AngleUnit, LONGEST_TABLE, read_table};
 use station_book::Limits;
 use station_check::{Fault, stations_of_file, write_whole};
 use station_compare::CompareFault;
 use std::alloc::Global;
 
 /// The text of the differences of a table from the station of this name: a row of titles, and a row
-/// for each of its targets, with the stated direction, the least-squares direction, and the
-/// difference of the two.
+/// for each of its targets, with the stated direction and the least-squares direction in gon, and
+/// the difference of the two in mgon. The table states its directions in a unit, gon or degrees;
+/// what it states in degrees is rounded to 0.000000001 gon.
 ///
 /// The least-squares directions are least over all directions, orientations and full turns. One
 /// rotation is taken off the differences: the one that makes the largest smallest. No least-squares
@@ -40,6 +41,7 @@ pub fn differences_text<R: Source, Q: Source>(
     alloc: Global,
     gsi: R,
     table: &mut Q,
+    unit: AngleUnit,
     name: &[u8],
     limits: Limits,
 ) -> Result<Vec<u8>, CompareFault>
@@ -47,8 +49,8 @@ pub fn differences_text<R: Source, Q: Source>(
     ensures { UntilDropped R.told R.failed R.gave gsi (λ gsi. ReadsBoth gsi
         (reader_change Q.told Q.failed Q.gave table.old table.new) result
         (λ file stated. MatchResult result
-        (λ text. StatesDifferences limits file stated name.now text.items)
-        (HasNoDifferences limits file stated name.now))) }
+        (λ text. StatesDifferences unit limits file stated name.now text.items)
+        (HasNoDifferences unit limits file stated name.now))) }
 {
     // The promise rests on laws of limits that were made.
     limits.recall();
@@ -57,7 +59,7 @@ pub fn differences_text<R: Source, Q: Source>(
     let Some(surveyed) = stations.get(name) else {
         return Err(CompareFault::File(Fault::NoStation));
     };
-    text_of_station(alloc, surveyed.station(), table)
+    text_of_station(alloc, surveyed.station(), table, unit)
 }
 
 /// Writes that text, and flushes once.
@@ -70,15 +72,16 @@ pub fn write_differences<R: Source, Q: Source, W: Sink>(
     alloc: Global,
     gsi: R,
     table: &mut Q,
+    unit: AngleUnit,
     name: &[u8],
     limits: Limits,
     writer: &mut W,
 ) -> Result<(), CompareFault>
-    ensures { UntilDropped R.told R.failed R.gave gsi (λ gsi. IsDifferencesRun limits gsi
+    ensures { UntilDropped R.told R.failed R.gave gsi (λ gsi. IsDifferencesRun unit limits gsi
         (reader_change Q.told Q.failed Q.gave table.old table.new) name.now result
         (writer_change W.failed W.holds W.handed_on writer.old writer.new)) }
 {
-    let text = differences_text(alloc, gsi, table, name, limits)?;
+    let text = differences_text(alloc, gsi, table, unit, name, limits)?;
     write_whole(writer, &text)?;
     Ok(())
 }
@@ -88,25 +91,31 @@ fn text_of_station<Q: Source>(
     alloc: Global,
     station: &Station,
     table: &mut Q,
+    unit: AngleUnit,
 ) -> Result<Vec<u8>, CompareFault>
     ensures tells { BytesCame (reader_change Q.told Q.failed Q.gave table.old table.new)
         (λ stated. MatchResult result
-        (λ text. IsTextOf station.now (input_within LONGEST_TABLE stated) text.items)
-        (HasNoneOfInput station.now (input_within LONGEST_TABLE stated))) }
+        (λ text. IsTextOf unit station.now (input_within LONGEST_TABLE stated) text.items)
+        (HasNoneOfInput unit station.now (input_within LONGEST_TABLE stated))) }
     ensures reader { Leaves table_left result
         (reader_change Q.told Q.failed Q.gave table.old table.new) }
 {
     let bytes = read_whole(alloc, table, LONGEST_TABLE)?;
-    text_of_table(alloc, station, &bytes)
+    text_of_table(alloc, station, &bytes, unit)
 }
 
 /// The text of the bytes of a table.
-fn text_of_table(alloc: Global, station: &Station, bytes: &[u8]) -> Result<Vec<u8>, CompareFault>
+fn text_of_table(
+    alloc: Global,
+    station: &Station,
+    bytes: &[u8],
+    unit: AngleUnit,
+) -> Result<Vec<u8>, CompareFault>
     ensures { MatchResult result
-        (λ text. IsDifferencesText station.now bytes.now text.items)
-        (HasNoneOf station.now bytes.now) }
+        (λ text. IsDifferencesText unit station.now bytes.now text.items)
+        (HasNoneOf unit station.now bytes.now) }
 {
-    let stated = read_table(alloc, station.targets(), bytes)?;
+    let stated = read_table(alloc, unit, station.targets(), bytes)?;
     let rows = target_differences(alloc, station, &stated)?;
     Ok(text_of(alloc, &rows)?)
 }

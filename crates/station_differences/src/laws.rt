@@ -3,6 +3,7 @@ ghost use Rattle.std.specs.Prelude.{◌≡◌, ℕ, List, All, ℤ, pos, Result}
 ghost use Rattle.adjust_kernel.specs.Stations.{StationValue};
 ghost use Rattle.adjust_kernel.specs.Within.{IsWithin};
 ghost use Rattle.byte_ends.specs.Source.{Told};
+ghost use Rattle.direction_table.specs.declared.unit.AngleUnit.{AngleUnit};
 ghost use Rattle.directions_apart.specs.Apart.{stated_by};
 ghost use Rattle.gsi_file.specs.FileAnswers.{FileAnswers};
 ghost use Rattle.least_directions.specs.LeastDirections.{AreApart};
@@ -15,16 +16,16 @@ ghost use Rattle.station_differences.specs.declared.compared.TargetDifference.{T
 
 /// Stated directions beside a station are one list of rows. What came of two readers has one answer
 /// of `differences`: the fault that stands first is one, and so is each printed digit. Two answers
-/// alone may stand in the place of another: out of memory in that of any, and that no adjustment was
-/// found in that of those from the adjustment on.
+/// alone may stand in the place of another: out of memory in that of any, and that no adjustment
+/// was found in that of those from the adjustment on.
 pub fn one_answer()
     ensures compared { (station : StationValue) (stated : List ℤ) (a b : List TargetDifference)
         → AreCompared station stated a → AreCompared station stated b → a ≡ b }
-    ensures answer { (limits : FaceLimits) (file : FileAnswers) (stated : Told) (name : List ℕ)
-        (r s : Result (List ℕ) CompareFault) → AreLimits limits
+    ensures answer { (unit : AngleUnit) (limits : FaceLimits) (file : FileAnswers)
+        (stated : Told) (name : List ℕ) (r s : Result (List ℕ) CompareFault) → AreLimits limits
         → IsSettled r → IsSettled s
-        → TellsDifferences limits file stated name r → TellsDifferences limits file stated name s
-        → r ≡ s }
+        → TellsDifferences unit limits file stated name r
+        → TellsDifferences unit limits file stated name s → r ≡ s }
 {}
 
 /// No difference is larger in size than the directions are apart, as `compare` tells it: both in

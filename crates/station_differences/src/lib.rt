@@ -3,8 +3,8 @@
 //!
 //! `write_differences` reads a field file and a table, and writes for each target of a station what
 //! the table states, the least-squares direction, and the difference of the two after the rotation
-//! that makes the largest difference smallest: exactly rounded. `run_differences` does the same as a
-//! command: the text, the line of a refusal, and the exit status. The faults are those of the
+//! that makes the largest difference smallest: exactly rounded. `run_differences` does the same as
+//! a command: the text, the line of a refusal, and the exit status. The faults are those of the
 //! comparison, but that the directions are apart is none.
 #![tactic(auto)]
 
@@ -18,7 +18,7 @@ pub mod laws;
 mod runs;
 mod text;
 
-pub use compared::{TargetDifference, target_differences};
+pub use compared::{TargetDifference, differences_by, target_differences};
 pub use differences::{differences_text, write_differences};
 pub use runs::run_differences;
-pub use text::text_of;
+pub use text::{are_short, push_stated, text_of};

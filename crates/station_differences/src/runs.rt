@@ -9,30 +9,32 @@ ghost use Rattle.station_differences.specs.Runs.{IsDifferencesRun};
 
 use crate::differences::write_differences;
 use byte_ends::{Sink, Source};
+use direction_table::AngleUnit;
 use station_book::Limits;
 use station_check::DONE;
 use station_compare::refuse;
 use std::alloc::Global;
 
 /// Writes the differences of a table from the station of this name to `out`, and answers the exit
-/// status: 0 where all was written, however far apart the directions are, else 1, with the line of a
-/// refusal on `err`. Where `err` fails, the line is lost and the status stays.
+/// status: 0 where all was written, however far apart the directions are, else 1, with the line of
+/// a refusal on `err`. Where `err` fails, the line is lost and the status stays.
 pub fn run_differences<R: Source, Q: Source, W: Sink, E: Sink>(
     alloc: Global,
     gsi: R,
     table: &mut Q,
+    unit: AngleUnit,
     name: &[u8],
     limits: Limits,
     out: &mut W,
     err: &mut E,
 ) -> u8
     ensures { UntilDropped R.told R.failed R.gave gsi (λ gsi. Run {A = ⊤} refusal_line
-        (IsDifferencesRun limits gsi
+        (IsDifferencesRun unit limits gsi
         (reader_change Q.told Q.failed Q.gave table.old table.new) name.now)
         result (writer_change W.failed W.holds W.handed_on out.old out.new)
         (writer_change E.failed E.holds E.handed_on err.old err.new)) }
 {
-    match write_differences(alloc, gsi, table, name, limits, out) {
+    match write_differences(alloc, gsi, table, unit, name, limits, out) {
         Ok(()) => DONE,
         Err(fault) => refuse(fault, err),
     }

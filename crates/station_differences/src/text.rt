@@ -1,7 +1,8 @@
 //! The text of differences, made in memory.
 //!
 //! The rows go through `csv`'s writer, which puts quotes where a name asks for them.
-ghost use Rattle.std.specs.Prelude.{◌≡◌, ◌+◌, ◌%◌, ◌++◌, map, IfOk, OnOk};
+ghost use Rattle.std.specs.Prelude.{◌≡◌, ◌+◌, ◌%◌, ◌++◌, map, IfOk, OnOk, OnErr};
+ghost use Rattle.angle_texts.specs.Beginnings.{IsBegun};
 ghost use Rattle.csv.specs.Writing.{default_writer, row_text};
 ghost use Rattle.sheet_format.specs.Texts.{Writes, rows_text};
 ghost use Rattle.station_differences.specs.DifferenceTexts as spec;
@@ -9,7 +10,7 @@ ghost use Rattle.station_differences.specs.DifferenceTexts as spec;
 use crate::compared::TargetDifference;
 use angle_texts::{push_gon, push_mgon};
 use csv::{Writer, WriterBuilder};
-use directions_apart::UNIT;
+use directions_apart::{CIRCLE, PARTS, UNIT};
 use std::alloc::{AllocError, Global};
 use std::io::Write;
 
@@ -96,16 +97,44 @@ fn push_row<W: Write + Drop>(writer: &mut Writer<W>, fields: &[&[u8]]) -> Result
 }
 
 /// Whether six decimals of a gon write each stated direction exactly.
-fn are_short(rows: &[TargetDifference]) -> bool
+pub fn are_short(rows: &[TargetDifference]) -> bool
     ensures { result ≡ spec.are_short rows.now }
 {
-    rows.iter().all(|row| row.stated % UNIT == 0)
+    rows.iter().all(|row| row.stated % (PARTS * UNIT) == 0)
 }
 
-/// Adds a stated direction in gon: with six decimals, or with nine where these are not enough.
-fn push_stated(text: &mut Vec<u8>, short: bool, direction: u64) -> Result<(), AllocError>
-    ensures { OnOk result
+/// A stated direction, in parts, rounded to 0.000000001 gon: on the circle, in that unit.
+fn rounded(direction: u64) -> u64
+    ensures { result ≡ spec.rounded direction }
+{
+    let below = direction / PARTS;
+    let nearest = if direction % PARTS > PARTS / 2 {
+        below + 1
+    } else {
+        below
+    };
+    nearest % CIRCLE
+}
+
+/// Adds a stated direction, in parts, to a text: in gon with six decimals, or with nine where these
+/// are not enough, rounded to the ninth.
+///
+/// The only error is that memory was refused; then a beginning of it may have been added.
+pub fn push_stated(text: &mut Vec<u8>, short: bool, direction: u64) -> Result<(), AllocError>
+    ensures added { OnOk result
         (text.new.items ≡ text.old.items ++ spec.stated_text short direction) }
+    ensures begun { OnErr result
+        (IsBegun (spec.stated_text short direction) text.old.items text.new.items) }
+{
+    push_in_gon(text, short, rounded(direction))
+}
+
+/// Adds a direction in gon: with six decimals, or with nine where these are not enough.
+#[tactic(auto, using(crate::proofs::StatedTexts::of_six, crate::proofs::StatedTexts::six))]
+fn push_in_gon(text: &mut Vec<u8>, short: bool, direction: u64) -> Result<(), AllocError>
+    ensures added { OnOk result (text.new.items ≡ text.old.items ++ spec.gon_text short direction) }
+    ensures begun { OnErr result
+        (IsBegun (spec.gon_text short direction) text.old.items text.new.items) }
 {
     push_gon(text, direction)?;
     if !short {

@@ -6,8 +6,8 @@ mod printed;
 
 use adjust_kernel::{Name, Obs, Station};
 use direction_table::{
-    Decimals, LONGEST_TABLE, RowKind, TableFault, TargetDirection, push_direction,
-    read_stated_table, read_table, table_text, usual_within,
+    AngleUnit, Decimals, GON_PARTS, LONGEST_TABLE, RowKind, TableFault, TargetDirection,
+    push_direction, read_stated_table, read_table, table_text,
 };
 use std::alloc::Global;
 use std::process::Abort;
@@ -33,11 +33,28 @@ fn station_of(rt: &impl Abort, alloc: Global, names: &[&[u8]]) -> Result<Station
     Ok(Station::new(name, targets, sets, obs).expect(rt, "a station"))
 }
 
-/// The answer to these bytes as text, for targets A and B.
+/// The answer to these bytes in gon as text, for targets A and B, in units of the ninth decimal.
 fn answer_of(rt: &impl Abort, alloc: Global, bytes: &[u8]) -> Result<String, Fail> {
     let station = station_of(rt, alloc, &[b"A", b"B"])?;
-    match read_table(alloc, station.targets(), bytes) {
-        Ok(directions) => Ok(format!(in alloc; "{directions:?}")?),
+    gon_answer(rt, alloc, &station, bytes)
+}
+
+/// The same for the targets of a station.
+fn gon_answer(
+    rt: &impl Abort,
+    alloc: Global,
+    station: &Station,
+    bytes: &[u8],
+) -> Result<String, Fail> {
+    match read_table(alloc, AngleUnit::Gon, station.targets(), bytes) {
+        Ok(directions) => {
+            let mut units = Vec::new(alloc);
+            for parts in directions.iter() {
+                assert_eq!(rt; parts % GON_PARTS as i64, 0);
+                units.push(parts / GON_PARTS as i64)?;
+            }
+            Ok(format!(in alloc; "{units:?}")?)
+        }
         Err(fault) => Ok(format!(in alloc; "{fault:?}")?),
     }
 }
@@ -170,7 +187,114 @@ const ODD_NAMES: [(&str, &str); 7] = [
 fn a_name_is_read_as_it_stands_where_a_target_has_it(rt: HostRuntime) -> Result<(), Fail> {
     let station = station_of(&rt, rt.alloc(), &[b"A", b"A ", b"B;C"])?;
     for (text, expected) in ODD_NAMES {
-        let found = match read_table(rt.alloc(), station.targets(), text.as_bytes()) {
+        let found = gon_answer(&rt, rt.alloc(), &station, text.as_bytes())?;
+        assert_eq!(rt; found.as_str(), expected, "of {text}");
+    }
+    Ok(())
+}
+
+/// Tables of A and B in gon, and the limit that is usual for their coarsest row.
+const GON_LIMITS: [(&str, u32); 9] = [
+    ("A,0\nB,50\n", 10),
+    ("A,0\nB,50.00003\n", 10),
+    ("A,0.000000\nB,50.000030\n", 10),
+    ("A,0.0000\nB,50.0001\n", 51),
+    ("Name,Hz\nA,0.000\nB,50.0001\n", 501),
+    ("A;0,00\nB;50,0000\n", 5_001),
+    ("A 1.5\nB 50.00003\n", 50_001),
+    ("A,7.\nB,50.0003\n", 51),
+    ("A,0.000000000000\nB,400.0000000000\n", 10),
+];
+
+/// Tables in degrees: half a second is 154.3.. units, half of 0.1 degrees 55555.5.. units.
+const DEGREE_LIMITS: [(&str, u32); 8] = [
+    ("A,0-00-00\nB,50.00003\n", 156),
+    ("A,0-00-00.0000\nB,50-00-00\n", 156),
+    ("A,0-00-00.0\nB,50-00-00.00\n", 17),
+    ("A,0-00-00.00\nB,50-00-00.000\n", 10),
+    ("A,0\nB,50\n", 10),
+    ("A,0.0\nB,50\n", 55_557),
+    ("A,0.0000\nB,50-00-00.0\n", 57),
+    ("A,0.00000\nB,50.0000000000\n", 10),
+];
+
+#[test]
+fn the_coarsest_row_tells_the_usual_limit(rt: HostRuntime) -> Result<(), Fail> {
+    let station = station_of(&rt, rt.alloc(), &[b"A", b"B"])?;
+    let units: [(AngleUnit, &[(&str, u32)]); 2] = [
+        (AngleUnit::Gon, &GON_LIMITS),
+        (AngleUnit::Degrees, &DEGREE_LIMITS),
+    ];
+    for (unit, cases) in units {
+        for (text, within) in cases {
+            let table = read_stated_table(rt.alloc(), unit, station.targets(), text.as_bytes());
+            let table = table.expect(&rt, "a table");
+            assert_eq!(rt; table.usual_within, *within, "of {text}");
+        }
+    }
+    Ok(())
+}
+
+/// Directions of A in degrees, and what they are read as, in parts: 90,000,000,000 in a degree,
+/// 1,500,000,000 in a minute and 25,000,000 in a second.
+const DEGREES: [(&str, &str); 30] = [
+    ("59-04-09.18", "[5316229500000, 0]"),
+    ("59\u{B0}04'09.18\"", "[5316229500000, 0]"),
+    ("\"59-04-09,18\"", "[5316229500000, 0]"),
+    ("-59-04-09.18", "[-5316229500000, 0]"),
+    ("+059-04-09", "[5316225000000, 0]"),
+    ("0-00-00.000001", "[25, 0]"),
+    ("359-59-59.9999990000", "[32399999999975, 0]"),
+    ("360-00-00", "[0, 0]"),
+    ("-360", "[0, 0]"),
+    ("360-00-00.000001", "Row(1, Range)"),
+    ("360.000000001", "Row(1, Range)"),
+    ("59.069216667", "[5316229500030, 0]"),
+    ("0.000000001", "[90, 0]"),
+    ("90", "[8100000000000, 0]"),
+    ("400", "Row(1, Range)"),
+    ("59-60-00", "Row(1, Number)"),
+    ("59-00-60", "Row(1, Number)"),
+    ("59-4-09", "Row(1, Number)"),
+    ("59-04-9.5", "Row(1, Number)"),
+    ("59-04-009", "Row(1, Number)"),
+    ("59-04", "Row(1, Number)"),
+    ("59-04-", "Row(1, Number)"),
+    ("59-04-09-10", "Row(1, Number)"),
+    ("59.5-04-09", "Row(1, Number)"),
+    ("59-04-09.0000001", "Row(1, Number)"),
+    ("59\u{B0}", "Row(1, Number)"),
+    ("59\u{B0}04'09.18", "Row(1, Number)"),
+    ("59\u{B0}04-09.18", "Row(1, Number)"),
+    ("59\u{B4}04'09.18\"", "Row(1, Number)"),
+    ("0059-04-09", "Row(1, Number)"),
+];
+
+#[test]
+fn degrees_are_read_as_parts_of_the_circle(rt: HostRuntime) -> Result<(), Fail> {
+    let station = station_of(&rt, rt.alloc(), &[b"A", b"B"])?;
+    for (direction, expected) in DEGREES {
+        let text = format!(in rt.alloc(); "A,{direction}\nB,0\n")?;
+        let unit = AngleUnit::Degrees;
+        let found = match read_table(rt.alloc(), unit, station.targets(), text.as_bytes()) {
+            Ok(directions) => format!(in rt.alloc(); "{directions:?}")?,
+            Err(fault) => format!(in rt.alloc(); "{fault:?}")?,
+        };
+        assert_eq!(rt; found.as_str(), expected, "of {direction}");
+    }
+    Ok(())
+}
+
+#[test]
+fn a_decimal_comma_of_degrees_is_no_separator(rt: HostRuntime) -> Result<(), Fail> {
+    let station = station_of(&rt, rt.alloc(), &[b"A", b"B"])?;
+    let cases = [
+        ("A;0,5\nB;59-04-09,5\n", "[45000000000, 5316237500000]"),
+        ("A,0\nB,59-04-09,5\n", "Row(2, Fields)"),
+    ];
+    for (text, expected) in cases {
+        let unit = AngleUnit::Degrees;
+        let found = match read_table(rt.alloc(), unit, station.targets(), text.as_bytes()) {
             Ok(directions) => format!(in rt.alloc(); "{directions:?}")?,
             Err(fault) => format!(in rt.alloc(); "{fault:?}")?,
         };
@@ -179,34 +303,8 @@ fn a_name_is_read_as_it_stands_where_a_target_has_it(rt: HostRuntime) -> Result<
     Ok(())
 }
 
-/// Tables of A and B, their fewest decimals, and the limit that is usual for them.
-const DECIMALS: [(&str, Option<usize>, u32); 9] = [
-    ("A,0\nB,50\n", None, 10),
-    ("A,0\nB,50.00003\n", Some(5), 10),
-    ("A,0.000000\nB,50.000030\n", Some(6), 10),
-    ("A,0.0000\nB,50.0001\n", Some(4), 51),
-    ("Name,Hz\nA,0.000\nB,50.0001\n", Some(3), 501),
-    ("A;0,00\nB;50,0000\n", Some(2), 5_001),
-    ("A 1.5\nB 50.00003\n", Some(1), 50_001),
-    ("A,7.\nB,50.0003\n", Some(4), 51),
-    ("A,0.000000000000\nB,400.0000000000\n", Some(10), 10),
-];
-
-#[test]
-fn the_fewest_decimals_are_told(rt: HostRuntime) -> Result<(), Fail> {
-    let station = station_of(&rt, rt.alloc(), &[b"A", b"B"])?;
-    for (text, decimals, within) in DECIMALS {
-        let table = read_stated_table(rt.alloc(), station.targets(), text.as_bytes()).expect(
-            &rt, "a table",
-        );
-        assert_eq!(rt; table.decimals, decimals, "of {text}");
-        assert_eq!(rt; usual_within(table.decimals), within, "of {text}");
-    }
-    Ok(())
-}
-
 /// First rows, and the fault of each.
-const ROWS: [(&str, &str); 22] = [
+const ROWS: [(&str, &str); 24] = [
     ("A", "Row(1, Fields)"),
     ("A,1,2", "Row(1, Fields)"),
     ("A,,1", "Row(1, Fields)"),
@@ -220,6 +318,8 @@ const ROWS: [(&str, &str); 22] = [
     ("A,+-5", "Row(1, Number)"),
     ("A,--5", "Row(1, Number)"),
     ("A,5 gon", "Row(1, Number)"),
+    ("A,59-04-09.18", "Row(1, Number)"),
+    ("A,59\u{B0}04'09.18\"", "Row(1, Number)"),
     ("A,0.0000000001", "Row(1, Number)"),
     ("A,0.00000000010", "Row(1, Number)"),
     ("A,0001", "Row(1, Number)"),
@@ -361,10 +461,8 @@ fn stated_of(
 /// Whether these directions were read, in their order.
 fn are_read(read: &[i64], stated: &[TargetDirection]) -> bool {
     read.len() == stated.len()
-        && read
-            .iter()
-            .zip(stated)
-            .all(|(read, row)| u64::try_from(*read) == Ok(row.direction))
+        && read.iter().zip(stated).all(|(read, row)| u64::try_from(*read)
+            == Ok(row.direction.saturating_mul(GON_PARTS)))
 }
 
 /// The largest direction of each number of decimals.
@@ -387,7 +485,8 @@ fn a_table_of_each_number_of_decimals_is_read_again(rt: HostRuntime) -> Result<(
         let stated = stated_of(&rt, rt.alloc(), &NAMES, &directions)?;
         let station = station_of(&rt, rt.alloc(), &NAMES)?;
         let text = table_text(rt.alloc(), &stated, decimals)?;
-        let read = read_table(rt.alloc(), station.targets(), &text).expect(&rt, "a table");
+        let read = read_table(rt.alloc(), AngleUnit::Gon, station.targets(), &text);
+        let read = read.expect(&rt, "a table");
         assert!(rt; are_read(&read, &stated), "with {count} decimals");
     }
     Ok(())

@@ -1,6 +1,6 @@
 //! Directions worked by hand and in exact fractions.
 
-use directions_apart::{CIRCLE, apart_of, rounded};
+use directions_apart::{CIRCLE, PARTS, apart_of, rounded};
 use exact_adjustment::Adjustment;
 use std::alloc::Global;
 use std::process::Abort;
@@ -42,7 +42,22 @@ fn adjustment_of(
     Ok(adjustment.expect(rt, "an adjustment"))
 }
 
-fn apart(rt: &impl Abort, adjustment: &Adjustment, stated: &[i64]) -> u32 {
+/// How far stated directions in units of 0.000000001 gon are apart.
+fn apart(
+    rt: &impl Abort,
+    alloc: Global,
+    adjustment: &Adjustment,
+    stated: &[i64],
+) -> Result<u32, Fail> {
+    let mut parts = Vec::new(alloc);
+    for direction in stated {
+        parts.push(direction.saturating_mul(PARTS as i64))?;
+    }
+    Ok(apart_in_parts(rt, adjustment, &parts))
+}
+
+/// How far stated directions in parts are apart.
+fn apart_in_parts(rt: &impl Abort, adjustment: &Adjustment, stated: &[i64]) -> u32 {
     assert_eq!(rt; stated.len(), adjustment.directions().len());
     apart_of(adjustment, stated)
 }
@@ -70,13 +85,31 @@ fn half_the_spread_is_rounded_up(rt: HostRuntime) -> Result<(), Fail> {
         ([0, 50_000_029_999], 1),
         // half a circle apart, the most there is
         ([0, 250_000_030_000], 100_000_000),
+    ];
+    let adjustment = adjustment_of(&rt, rt.alloc(), &Wide::new(1), 0, &[(B, 0)])?;
+    for (stated, want) in cases {
+        assert_eq!(rt; apart(&rt, rt.alloc(), &adjustment, &stated)?, want);
+    }
+    Ok(())
+}
+
+#[test]
+fn a_part_of_a_stated_direction_counts(rt: HostRuntime) -> Result<(), Fail> {
+    // B's direction is 50.00003 gon, 4,050,002,430,000 parts; two units are 162,000.
+    let cases = [
+        ([0, 4_050_002_430_000], 0),
+        ([0, 4_050_002_429_999], 1),
+        ([0, 4_050_002_268_000], 1),
+        ([0, 4_050_002_267_999], 2),
+        ([0, 4_050_002_592_000], 1),
+        ([0, 4_050_002_592_001], 2),
         // the largest numbers
-        ([i64::MIN, i64::MAX], 11_854_761),
+        ([i64::MIN, i64::MAX], 34_421_561),
         ([i64::MAX, i64::MAX], 25_000_015),
     ];
     let adjustment = adjustment_of(&rt, rt.alloc(), &Wide::new(1), 0, &[(B, 0)])?;
     for (stated, want) in cases {
-        assert_eq!(rt; apart(&rt, &adjustment, &stated), want);
+        assert_eq!(rt; apart_in_parts(&rt, &adjustment, &stated), want);
     }
     Ok(())
 }
@@ -92,7 +125,7 @@ fn thirds_are_no_whole_numbers(rt: HostRuntime) -> Result<(), Fail> {
         (50_000_033_667, 2),
     ];
     for (stated, want) in cases {
-        assert_eq!(rt; apart(&rt, &adjustment, &[0, stated]), want);
+        assert_eq!(rt; apart(&rt, rt.alloc(), &adjustment, &[0, stated])?, want);
     }
     let cases = [
         (10, 50_000_031_670),
@@ -121,7 +154,7 @@ fn a_part_of_a_large_denominator_counts(rt: HostRuntime) -> Result<(), Fail> {
     ];
     for (more, addend, stated, want) in cases {
         let adjustment = adjustment_of(&rt, rt.alloc(), &base, more, &[(B, addend)])?;
-        assert_eq!(rt; apart(&rt, &adjustment, &[0, stated]), want);
+        assert_eq!(rt; apart(&rt, rt.alloc(), &adjustment, &[0, stated])?, want);
     }
     Ok(())
 }
@@ -157,6 +190,6 @@ fn a_hundred_targets_leave_the_widest_gap(rt: HostRuntime) -> Result<(), Fail> {
     for target in 0..100 {
         stated[target] = 4_000_000_000 * target as i64;
     }
-    assert_eq!(rt; apart(&rt, &adjustment, &stated), 198_000_000);
+    assert_eq!(rt; apart(&rt, rt.alloc(), &adjustment, &stated)?, 198_000_000);
     Ok(())
 }

@@ -4,7 +4,7 @@ mod ends;
 
 use adjust_kernel::Name;
 use byte_ends::{Held, Script};
-use direction_table::{RowKind, TableFault};
+use direction_table::{AngleUnit, RowKind, TableFault};
 use exact_adjustment::AdjustFault;
 use station_book::Limits;
 use station_check::Fault;
@@ -66,9 +66,22 @@ fn compared(
     table: &[u8],
     within: Option<u32>,
 ) -> Result<u32, CompareFault> {
+    compared_in(rt, alloc, AngleUnit::Gon, gsi, name, table, within)
+}
+
+/// The same of a table in a unit.
+fn compared_in(
+    rt: &impl Abort,
+    alloc: Global,
+    unit: AngleUnit,
+    gsi: &[u8],
+    name: &[u8],
+    table: &[u8],
+    within: Option<u32>,
+) -> Result<u32, CompareFault> {
     let gsi = Script::new(gsi, usize::MAX, false);
     let mut table = Script::new(table, usize::MAX, false);
-    let answer = compare_bytes(alloc, gsi, &mut table, name, limits(rt), within);
+    let answer = compare_bytes(alloc, gsi, &mut table, unit, name, limits(rt), within);
     answer.map(|agreement| agreement.apart)
 }
 
@@ -102,7 +115,7 @@ fn tables_lie_beside_the_least_directions(rt: HostRuntime) -> Result<(), Fail> {
 }
 
 #[test]
-fn where_nothing_is_stated_the_fewest_decimals_tell_the_limit(rt: HostRuntime) -> Result<(), Fail> {
+fn where_nothing_is_stated_the_coarsest_row_tells_the_limit(rt: HostRuntime) -> Result<(), Fail> {
     let cases: [(&[u8], Result<u32, CompareFault>); 11] = [
         // Five decimals or more, and whole gon alone: 10.
         (b"A,0\nB,50.00001\n", Ok(10)),
@@ -122,6 +135,46 @@ fn where_nothing_is_stated_the_fewest_decimals_tell_the_limit(rt: HostRuntime) -
     for (table, want) in cases {
         assert_eq!(rt; compared(&rt, rt.alloc(), S1, b"S1", table, None), want);
     }
+    Ok(())
+}
+
+#[test]
+fn tables_in_degrees_lie_beside_the_least_directions(rt: HostRuntime) -> Result<(), Fail> {
+    // 50.00003 gon are 45 degrees and 0.0972 seconds; a second is 308.64.. units.
+    let cases: [(&[u8], Result<u32, CompareFault>); 13] = [
+        (b"A,0-00-00.0000\nB,45-00-00.0972\n", Ok(0)),
+        (b"B;45\xC2\xB000'00,0972\"\nA;360\n", Ok(0)),
+        (b"A,0\nB,45.000027\n", Ok(0)),
+        (b"A 100.1\nB 145.100027\n", Ok(0)),
+        // Seconds without decimals: 156, in whichever row.
+        (b"A,0-00-00\nB,45-00-01\n", Ok(140)),
+        (b"A,0-00-00\nB,45-00-01.2\n", Err(CompareFault::Apart(171))),
+        (b"A,0-00-00\nB,45-00-00.15\n", Ok(9)),
+        // With one decimal 17, with more 10.
+        (b"A,0-00-00.0\nB,45-00-00.2\n", Ok(16)),
+        (b"A,0-00-00.0\nB,45-00-00.3\n", Err(CompareFault::Apart(32))),
+        (
+            b"A,0-00-00.00\nB,45-00-00.17\n",
+            Err(CompareFault::Apart(12)),
+        ),
+        // Four decimals of a degree: 57; a whole degree is taken as it stands.
+        (b"A,0\nB,45.0001\n", Ok(41)),
+        (b"A,0\nB,45\n", Err(CompareFault::Apart(15))),
+        (
+            b"A,0-00-00\nB,45-60-00\n",
+            Err(CompareFault::Table(TableFault::Row(2, RowKind::Number))),
+        ),
+    ];
+    for (table, want) in cases {
+        let found = compared_in(&rt, rt.alloc(), AngleUnit::Degrees, S1, b"S1", table, None);
+        assert_eq!(rt; found, want);
+    }
+    let table: &[u8] = b"A,0-00-00.0000\nB,45-00-00.0972\n";
+    let fault = CompareFault::Table(TableFault::Row(1, RowKind::Number));
+    assert_eq!(rt;
+        compared(&rt, rt.alloc(), S1, b"S1", table, None),
+        Err(fault)
+    );
     Ok(())
 }
 
@@ -233,7 +286,15 @@ fn a_run_prints_its_line_and_answers_its_status(rt: HostRuntime) -> Result<(), F
         let limits = limits(&rt);
         let alloc = rt.alloc();
         let answer = run_compare(
-            alloc, gsi, &mut table, b"S1", limits, None, &mut out, &mut err,
+            alloc,
+            gsi,
+            &mut table,
+            AngleUnit::Gon,
+            b"S1",
+            limits,
+            None,
+            &mut out,
+            &mut err,
         );
         assert_eq!(rt; answer, status);
         assert_eq!(rt; out.bytes(), printed);

@@ -1,9 +1,9 @@
-//! Stations worked in exact fractions, beside what is stated of their targets; and tables beside the
-//! worked station S1, through the whole.
+//! Stations worked in exact fractions, beside what is stated of their targets; and tables beside
+//! the worked station S1, through the whole.
 
 use adjust_kernel::{Name, Obs, Station};
 use byte_ends::{Held, Script};
-use direction_table::{RowKind, TableFault};
+use direction_table::{AngleUnit, GON_PARTS, RowKind, TableFault};
 use exact_adjustment::{AdjustError, AdjustFault};
 use station_book::Limits;
 use station_check::Fault;
@@ -104,13 +104,17 @@ fn text(
     station: &Station,
     stated: &[i64],
 ) -> Result<Vec<u8>, Fail> {
-    assert_eq!(rt; stated.len(), station.targets().len());
-    let rows = target_differences(alloc, station, stated).map_err(|_| "no adjustment")?;
+    let mut parts = Vec::new(alloc);
+    for direction in stated {
+        parts.push(direction.saturating_mul(GON_PARTS as i64))?;
+    }
+    assert_eq!(rt; parts.len(), station.targets().len());
+    let rows = target_differences(alloc, station, &parts).map_err(|_| "no adjustment")?;
     Ok(text_of(alloc, &rows)?)
 }
 
-/// Two targets in two sets, whose angles differ by 2 half units: that of the adjustment is 50.000025
-/// gon.
+/// Two targets in two sets, whose angles differ by 2 half units: that of the adjustment is
+/// 50.000025 gon.
 const TWO: [Observed; 4] = [
     (0, 0, 6),
     (0, 1, 10_000_010),
@@ -248,7 +252,8 @@ fn four_targets_have_one_rotation(rt: HostRuntime) -> Result<(), Fail> {
             C,0.000000,200.000000,50000.000\n\
             D,200.000000,300.000000,150000.000\n",
         ),
-        // Differences of 0, 350, 200 and 150 gon: arcs from B and from D are as wide, and B is first.
+        // Differences of 0, 350, 200 and 150 gon: arcs from B and from D are as wide, and B is
+        // first.
         (
             [0, 50 * GON, 400 * GON, 50 * GON],
             b"target,stated,least squares,difference\n\
@@ -326,11 +331,56 @@ fn a_table_has_differences_or_the_first_fault(rt: HostRuntime) -> Result<(), Fai
     for (gsi, name, table, want) in cases {
         let gsi = Script::new(gsi, usize::MAX, false);
         let mut table = Script::new(table, usize::MAX, false);
-        let answer = differences_text(rt.alloc(), gsi, &mut table, name, limits(&rt));
+        let answer = differences_text(
+            rt.alloc(),
+            gsi,
+            &mut table,
+            AngleUnit::Gon,
+            name,
+            limits(&rt),
+        );
         match (answer, want) {
             (Ok(text), Ok(want)) => assert_eq!(rt; text.as_slice(), want),
             (Err(fault), Err(want)) => assert_eq!(rt; fault, want),
             _ => assert!(rt; false),
+        }
+    }
+    Ok(())
+}
+
+#[test]
+fn what_is_stated_in_degrees_is_printed_in_gon(rt: HostRuntime) -> Result<(), Fail> {
+    let cases: [(&[u8], &[u8]); 3] = [
+        // 45 degrees and 0.0972 seconds are 50.00003 gon.
+        (
+            b"A,0-00-00.0000\nB,45-00-00.0972\n",
+            b"target,stated,least squares,difference\n\
+A,0.000000,0.000000,0.000\n\
+B,50.000030,50.000030,0.000\n",
+        ),
+        // 0.2 seconds are 0.00006172839.. gon.
+        (
+            b"B,45-00-00.20\nA,360-00-00.00\n",
+            b"target,stated,least squares,difference\n\
+A,0.000000000,0.000000,-0.016\n\
+B,50.000061728,50.000030,0.016\n",
+        ),
+        // 0.000001 seconds before 0 are 0.3 of the last decimal, up to a full circle.
+        (
+            b"A,-0-00-00.000001\nB,45.000027\n",
+            b"target,stated,least squares,difference\n\
+A,0.000000000,0.000000,0.000\n\
+B,50.000030000,50.000030,0.000\n",
+        ),
+    ];
+    for (table, want) in cases {
+        let gsi = Script::new(S1, usize::MAX, false);
+        let mut table = Script::new(table, usize::MAX, false);
+        let unit = AngleUnit::Degrees;
+        let answer = differences_text(rt.alloc(), gsi, &mut table, unit, b"S1", limits(&rt));
+        match answer {
+            Ok(text) => assert_eq!(rt; text.as_slice(), want),
+            Err(fault) => assert!(rt; false, "{fault:?}"),
         }
     }
     Ok(())
@@ -354,6 +404,7 @@ fn a_run_prints_its_text_and_answers_its_status(rt: HostRuntime) -> Result<(), F
             rt.alloc(),
             gsi,
             &mut table,
+            AngleUnit::Gon,
             name,
             limits,
             &mut out,
@@ -372,7 +423,15 @@ fn a_writer_without_room_or_whose_flush_fails_is_told(rt: HostRuntime) -> Result
         let gsi = Script::new(S1, usize::MAX, false);
         let mut table = Script::new(STATED, usize::MAX, false);
         let mut out = Held::new(rt.alloc(), room, 7, flush_fails).map_err(|_| "no memory")?;
-        let answer = write_differences(rt.alloc(), gsi, &mut table, b"S1", limits(&rt), &mut out);
+        let answer = write_differences(
+            rt.alloc(),
+            gsi,
+            &mut table,
+            AngleUnit::Gon,
+            b"S1",
+            limits(&rt),
+            &mut out,
+        );
         assert_eq!(rt; answer, Err(CompareFault::Write));
         let written = room.min(DIFFERENCES.len());
         assert_eq!(rt; out.bytes(), &DIFFERENCES[..written]);

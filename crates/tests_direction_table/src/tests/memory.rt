@@ -9,7 +9,9 @@
 
 use super::{are_read, stated_of, station_of};
 use adjust_kernel::Station;
-use direction_table::{Decimals, RowKind, TableFault, TargetDirection, read_table, table_text};
+use direction_table::{
+    AngleUnit, Decimals, RowKind, TableFault, TargetDirection, read_table, table_text,
+};
 use std::alloc::{AllocError, Global};
 use std::process::Abort;
 use std::test::Fail;
@@ -30,7 +32,7 @@ fn read_with_more(
     let mut refused = 0u32;
     for run in 0..SPARE / STEP {
         let plug = Vec::<u8>::with_capacity(alloc, SPARE.saturating_sub(STEP * run));
-        let answer = read_table(alloc, station.targets(), bytes);
+        let answer = read_table(alloc, AngleUnit::Gon, station.targets(), bytes);
         drop(plug);
         match answer {
             Err(TableFault::Memory) => refused = refused.saturating_add(1),

@@ -2,7 +2,7 @@
 
 use super::{S1, limits};
 use byte_ends::{Held, OfRead, OfWrite, Script, Sink, Source};
-use direction_table::Decimals;
+use direction_table::{AngleUnit, Decimals};
 use station_compare::{run_compare, run_directions};
 use std::alloc::Global;
 use std::process::Abort;
@@ -44,7 +44,17 @@ impl Command {
     ) -> u8 {
         let limits = limits(rt);
         match self {
-            Command::Compare => run_compare(alloc, gsi, table, b"S1", limits, None, out, err),
+            Command::Compare => run_compare(
+                alloc,
+                gsi,
+                table,
+                AngleUnit::Gon,
+                b"S1",
+                limits,
+                None,
+                out,
+                err,
+            ),
             Command::Directions => {
                 let decimals = Decimals::new(6).expect(rt, "decimals");
                 run_directions(alloc, gsi, b"S1", limits, decimals, out, err)

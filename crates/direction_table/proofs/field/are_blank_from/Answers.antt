@@ -1,7 +1,7 @@
-use Rattle.std.proofs.Common.{arith, ap, refl, sym, ◌∙◌, ◌≡◌, true, false, length}
+use Rattle.std.proofs.Common.{arith, ap, sym, ◌∙◌, ◌≡◌, true, false}
 use Rattle.csv.specs.Records.{fields_of}
 use Rattle.direction_table.specs.FieldForms.{is_blank}
-use Rattle.direction_table.proofs.FieldsAt.{at, blank-end, blank-here, blank-next}
+use Rattle.direction_table.proofs.FieldsAt.{at, blank-here, blank-next}
 use Rattle.direction_table.proofs.field.are_blank_from.Goals as goal
 
 pub returns-then-not-is_blank : goal.returns-then-not-is_blank

@@ -1,4 +1,3 @@
-use Rattle.std.proofs.Common.{arith}
 use Rattle.direction_table.proofs.Digits.{few-digits}
 use Rattle.direction_table.proofs.gon.few_digits.Goals as goal
 

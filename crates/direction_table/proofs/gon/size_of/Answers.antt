@@ -1,8 +1,4 @@
-use Rattle.std.proofs.Common.{◌≡◌, ◌+◌, arith, false, length, sym}
-use Rattle.std.specs.Prelude.{nat_le}
-use Rattle.std.proofs.lemmas.Bool.{eqb-false, eqb-true}
-use Rattle.direction_table.proofs.Sizes.{Parts, at-least, decimals-is, none-there, size-both}
-use Rattle.direction_table.proofs.Sizes.{size-no-digit, size-no-fraction, size-no-whole, size-whole}
+use Rattle.direction_table.proofs.Sizes.{size-no-fraction, size-no-whole, size-whole}
 use Rattle.direction_table.proofs.gon.size_of.Goals as goal
 
 pub returns-in_err-gon-clause-none : goal.returns-in_err-gon-clause-none

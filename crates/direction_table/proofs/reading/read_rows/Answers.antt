@@ -20,10 +20,11 @@ rows-init c =
     let items = c.in_ok-directions.ensures.items_if_clones_equal (λ y clone. search rules) in
     let unread = c.of-records.ensures.unread in (
       c.of-records.ensures.separator,
-      subst (HasRead targets all directions None 0)
+      subst (HasRead c.args.unit targets all directions 10 0)
           (all-left s targets bytes c.in_ok-separator.ensures
           ∙ ap (rows_left s targets) (sym unread))
-          (read-begin targets all directions (nothing-stated targets directions items)),
+          (read-begin c.args.unit targets all directions
+          (nothing-stated c.args.unit targets directions items)),
       omega (arith, ap (λ (xs : List ℕ). length xs) unread),
       ap length items ∙ length-replicate (length targets) None,
     )
@@ -34,8 +35,9 @@ returns-then-not-found-clause-faultless c =
     let all = rows_of targets c.args.bytes.now in
     let (own, read, left, size) = c.rows.invariant in
     let none = rw c.if-not-found.true at c.in_ok-found.ensures.next in
-    read-clean targets all c.rows.directions.items c.rows.decimals c.rows.number
-    (subst (HasRead targets all c.rows.directions.items c.rows.decimals c.rows.number)
+    read-clean c.args.unit targets all c.rows.directions.items c.rows.usual_within c.rows.number
+    (subst (HasRead c.args.unit targets all c.rows.directions.items c.rows.usual_within
+    c.rows.number)
     (ended c.in_ok-separator.separator targets c.rows.records.separator c.rows.records.unread.now
     own none) read)
 
@@ -57,12 +59,12 @@ rows-preserved-then-begins_with_titles c =
     let same = c.next.ensures.separator in
     let after = c.next.new.self.unread.now in
     let fields = fields_of c.in_ok-row.row.now in
-    let here = row-first s targets c.rows.records.separator c.next.new.self.separator
+    let here = row-first c.args.unit s targets c.rows.records.separator c.next.new.self.separator
     c.rows.records.unread.now after (fields_of c.next.new.row) fields all
-    c.rows.directions.items c.rows.decimals c.rows.number own same c.in_ok-row.ensures next
+    c.rows.directions.items c.rows.usual_within c.rows.number own same c.in_ok-row.ensures next
     read in (
       same ∙ own,
-      read-titles targets all c.rows.directions.items c.rows.decimals c.rows.number
+      read-titles c.args.unit targets all c.rows.directions.items c.rows.usual_within c.rows.number
           (tidy targets fields) (rows_left s targets after) here
           (sym c.begins_with_titles.ensures ∙ c.if-begins_with_titles.true),
       omega (arith, left, shorter),
@@ -80,22 +82,23 @@ rows-preserved c =
     let same = c.next.ensures.separator in
     let after = c.next.new.self.unread.now in
     let fields = fields_of c.in_ok-row.row.now in
-    let here = row-first s targets c.rows.records.separator c.next.new.self.separator
+    let here = row-first c.args.unit s targets c.rows.records.separator c.next.new.self.separator
     c.rows.records.unread.now after (fields_of c.next.new.row) fields all
-    c.rows.directions.items c.rows.decimals c.rows.number own same c.in_ok-row.ensures next read in
+    c.rows.directions.items c.rows.usual_within c.rows.number own same c.in_ok-row.ensures next read
+    in
     let was = c.deref_mut.ensures.value in
     let long = c.take_row.auto.directions ∙ ap length was in
     let back = written-back c.rows.directions.items c.take_row.new.directions c.rows.directions.len
     c.rows.directions.ok.0 long in
-    let taken = read-more targets all c.rows.directions.items c.take_row.new.directions
-    c.rows.decimals c.fewer-decimals.result c.rows.number c.in-Ok.written (tidy targets fields)
+    let taken = read-more c.args.unit targets all c.rows.directions.items c.take_row.new.directions
+    c.rows.usual_within c.max-usual_within.result c.rows.number c.in-Ok.limit (tidy targets fields)
     (rows_left s targets after) here
     (sym c.begins_with_titles.ensures ∙ c.if-begins_with_titles.false)
     (λ before stated. c.in-Ok.ensures.faultless before (was ∙ stated))
     (λ before stated. c.in-Ok.ensures.taken before (was ∙ stated))
-    c.in-Ok.ensures.decimals c.fewer-decimals.ensures in (
+    c.in-Ok.ensures.limit c.max-usual_within.ensures in (
       same ∙ own,
-      subst (λ ds. HasRead targets all ds c.fewer-decimals.result (c.rows.number + 1)
+      subst (λ ds. HasRead c.args.unit targets all ds c.max-usual_within.result (c.rows.number + 1)
           (rows_left s targets after)) (sym back) taken,
       omega (arith, left, shorter),
       ap length back ∙ long ∙ size,
@@ -110,16 +113,16 @@ returns-in-Err-clause-fault c =
     let next = rw c.if-not-found.false at c.in_ok-found.ensures.next in
     let after = c.next.new.self.unread.now in
     let fields = fields_of c.in_ok-row.row.now in
-    let here = row-first s targets c.rows.records.separator c.next.new.self.separator
+    let here = row-first c.args.unit s targets c.rows.records.separator c.next.new.self.separator
     c.rows.records.unread.now after (fields_of c.next.new.row) fields all
-    c.rows.directions.items c.rows.decimals c.rows.number own c.next.ensures.separator
+    c.rows.directions.items c.rows.usual_within c.rows.number own c.next.ensures.separator
     c.in_ok-row.ensures next read in
     let was = c.deref_mut.ensures.value in
     inl (
       c.requires.short,
       c.rows.number,
       refl,
-      read-fault targets all c.rows.directions.items c.rows.decimals c.rows.number
+      read-fault c.args.unit targets all c.rows.directions.items c.rows.usual_within c.rows.number
           (tidy targets fields) (rows_left s targets after) c.in-Err.kind here
           (sym c.begins_with_titles.ensures ∙ c.if-begins_with_titles.false)
           (λ before stated. c.in-Err.ensures.fault before (was ∙ stated)),

@@ -1,4 +1,4 @@
-use Rattle.std.proofs.Common.{◌≡◌, ◌≤◌, ◌+◌, ◌-◌, length}
+use Rattle.std.proofs.Common.{◌≡◌, ◌≤◌, ◌+◌, length}
 use Rattle.csv.specs.Reading.{strip_bom}
 use Rattle.direction_table.specs.Separators.{byte_of, rows_of}
 use Rattle.direction_table.proofs.RowsRead.{HasRead, rows_left}
@@ -6,7 +6,8 @@ use Rattle.direction_table.proofs.reading.read_rows.Given as goal
 
 abbrev pub invariant-rows : goal.invariant-rows
 invariant-rows l = (l.records.separator ≡ byte_of l.separator)
-    × HasRead l.targets (rows_of l.targets l.fn.bytes) l.directions.items l.decimals l.number
+    × HasRead l.fn.unit l.targets (rows_of l.targets l.fn.bytes) l.directions.items l.usual_within
+    l.number
     (rows_left l.separator l.targets l.records.unread.now)
     × (l.number + length l.records.unread.now ≤ length (strip_bom l.fn.bytes))
     × (length l.directions.items ≡ length l.targets)

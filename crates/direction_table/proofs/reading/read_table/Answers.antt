@@ -8,17 +8,19 @@ returns-in_err-table-clause-stands c directions text =
     lifted-cases c.from_residual.result _ _ _ c.from_residual.ensures
     (λ k is. elim c.in_err-table.ensures.fault [
       | inl fault ↦
-          absurd (never-both c.args.targets.now c.args.bytes.now directions
+          absurd (never-both c.args.unit c.args.targets.now c.args.bytes.now directions
           c.in_err-table.field-0.0 text fault)
       | inr memory ↦ is ∙ memory
     ])
 
 pub returns-clause-stands : goal.returns-clause-stands
 returns-clause-stands c directions text =
-    one-table c.args.targets.now c.args.bytes.now c.in_ok-table.table.directions.items directions
+    one-table c.args.unit c.args.targets.now c.args.bytes.now c.in_ok-table.table.directions.items
+    directions
     c.in_ok-table.ensures.table text
 
 pub returns-clause-refused : goal.returns-clause-refused
 returns-clause-refused c fault is =
-    absurd (never-both c.args.targets.now c.args.bytes.now c.in_ok-table.table.directions.items
+    absurd (never-both c.args.unit c.args.targets.now c.args.bytes.now
+    c.in_ok-table.table.directions.items
     fault c.in_ok-table.ensures.table is)

@@ -12,11 +12,11 @@ returns c =
     let a = choice_by c.args.adjustment.now in
     let fits : FitsSigned w64 (get_or c.args.stated.now c.args.target (pos 0)) =
     search rules in
-    let on : IsWayRound 400_000_000_000 (pos 0) (stated_by c.args.stated.now c.args.target)
+    let on : IsWayRound 32_400_000_000_000 (pos 0) (stated_by c.args.stated.now c.args.target)
     c.on_circle.result =
     rw (← to_z-of_z w64 (get_or c.args.stated.now c.args.target (pos 0)) fits)
     c.on_circle.ensures in
-    let way : IsWayRound (a.denominator * 400_000_000_000) (pos c.direction.result)
+    let way : IsWayRound (a.denominator * 32_400_000_000_000) (pos c.direction.result)
     (pos (a.denominator * c.on_circle.result)) c.way_round.result =
     rw (← c.circle.ensures.value, ← c.denominator.ensures.value, ← c.times.ensures)
     c.way_round.ensures in

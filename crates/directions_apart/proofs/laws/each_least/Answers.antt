@@ -18,4 +18,5 @@ returns-clause-near c = λ station a stated most choice turns s t e k least b.
 pub returns-clause-rounded : goal.returns-clause-rounded
 returns-clause-rounded c = λ station a target step rounded choice turns s t e k least some inside r.
     as_rounded (length station.targets) (choice_by a) choice target step rounded e.rules.positive
-    least.positive some inside (are_turned station a s t e k choice turns least) (first_is_0 a e.rules) r
+    least.positive some inside (are_turned station a s t e k choice turns least)
+    (first_is_0 a e.rules) r

@@ -20,11 +20,11 @@ below d step q x circle over some steps inside =
     omega (arith, a, b, inside)
 
 fits : (d step q circle limit : ℕ) → step * q ≤ circle
-    → 2 * circle + 4 * step ≤ 6_400_000_000_000
-    → d * 6_400_000_000_000 < limit → d * (2 * step) * (q + 2) < limit
+    → 2 * circle + 4 * step ≤ 65_000_000_000_000
+    → d * 65_000_000_000_000 < limit → d * (2 * step) * (q + 2) < limit
 fits d step q circle limit inside small short =
     let a : d * (step * q) ≤ d * circle = mul-le-mul_left d inside in
-    let b : d * (2 * circle + 4 * step) ≤ d * 6_400_000_000_000 = mul-le-mul_left d small in
+    let b : d * (2 * circle + 4 * step) ≤ d * 65_000_000_000_000 = mul-le-mul_left d small in
     omega (arith, a, b, short)
 
 low_is : (d step n x : ℕ) → d * (2 * step) * n ≤ x * 2 + d * step

@@ -1,6 +1,5 @@
 use Rattle.std.proofs.Common.{◌+◌, ◌*◌, ◌<◌, ◌≤◌, pos}
 use Rattle.std.proofs.Math.IntN.{◌*ℤ◌}
-use Rattle.directions_apart.specs.Apart.{circle_of}
 use Rattle.directions_apart.specs.Arcs.{IsWayRound}
 use Rattle.exact_adjustment.specs.Adjustments.{choice_by}
 use Rattle.directions_apart.proofs.ArcLaws.{on_circle_is}
@@ -14,8 +13,9 @@ returns c =
     let step = c.args.step in
     let x = c.direction.result in
     let n = c.nearest_steps-steps.result in
-    let way : IsWayRound (circle_of a) (pos 0) (pos 5_000 *ℤ a.direction t) x =
-    on_circle_is (circle_of a) (pos 5_000 *ℤ a.direction t) x c.direction.ensures.below
+    let way : IsWayRound (a.denominator * 400_000_000_000) (pos 0) (pos 5_000 *ℤ a.direction t) x =
+    on_circle_is (a.denominator * 400_000_000_000)
+    (pos 5_000 *ℤ a.direction t) x c.direction.ensures.below
     c.direction.ensures.value in
     let low : 2 * (n * (a.denominator * step)) ≤ 2 * x + a.denominator * step =
     rw (← c.denominator.ensures.value) c.nearest_steps-steps.ensures.low in

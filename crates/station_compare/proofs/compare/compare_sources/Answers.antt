@@ -26,7 +26,8 @@ returns g c =
     let table = reader_change g.Q.Source.told g.Q.Source.failed g.Q.Source.gave c.args.table.now
     c.compare_station-answer.new.table in
     let q = subst (λ (station : StationValue). BytesCame table
-    (λ stated. ByInput station c.args.within (input_within LONGEST_TABLE stated) answer))
+    (λ stated. ByInput c.args.unit station c.args.within
+    (input_within LONGEST_TABLE stated) answer))
     c.station.ensures c.compare_station-answer.ensures.compares in
     let left = some_left (g.Q.Source.told c.compare_station-answer.new.table) in
     let by_input = q.so left.0 left.1 in
@@ -36,13 +37,13 @@ returns g c =
       table_bytes = q.given;
       table_reads = q.by_reads;
       compares = λ gsi_left table_left gsi_may table_may.
-          compares_by_table c.args.limits _ _ c.args.name.now c.args.within its answer
+          compares_by_table c.args.unit c.args.limits _ _ c.args.name.now c.args.within its answer
           ((station_of_file c.args.limits _ c.args.name.now its c.recall.ensures).0 (record {
             stations = stations;
             survey = s.so gsi_left gsi_may;
             named = sym c.get.ensures ∙ ap option_copied c.in-Some.is;
           })) (q.so table_left table_may);
-      gsi_reader = left_by_table its c.args.within answer _ _ by_input file.left;
+      gsi_reader = left_by_table c.args.unit its c.args.within answer _ _ by_input file.left;
       table_reader = c.compare_station-answer.ensures.reader;
     }
 
@@ -72,7 +73,7 @@ returns-in-Err g c =
     let of_file_fault = rw c.in-Err.is at c.stations_of_file-surveyed.ensures.of_file in
     let s = file.came in
     let answer : of_file fault ≡ c.from.result = search rules in
-    subst (λ (f : CompareFault). IsComparison c.args.limits c.args.within
+    subst (λ (f : CompareFault). IsComparison c.args.unit c.args.limits c.args.within
     (reader_change g.R.Source.told g.R.Source.failed g.R.Source.gave c.args.gsi
     c.stations_of_file-surveyed.result.1)
     (reader_change g.Q.Source.told g.Q.Source.failed g.Q.Source.gave c.args.table.now
@@ -83,7 +84,8 @@ returns-in-Err g c =
       table_bytes = [];
       table_reads = given_none g.Q.Source.told g.Q.Source.failed g.Q.Source.gave c.args.table.now;
       compares = λ gsi_left table_left gsi_may table_may.
-          compares_by_file c.args.limits _ _ c.args.name.now c.args.within fault of_file_fault
+          compares_by_file c.args.unit c.args.limits _ _ c.args.name.now c.args.within fault
+          of_file_fault
           (s.so gsi_left gsi_may);
       gsi_reader = left_by_file {B = Agreement} c.stations_of_file-surveyed.result.0 fault
           (Err (of_file fault)) _ c.in-Err.is refl c.stations_of_file-surveyed.ensures.surveys.left;

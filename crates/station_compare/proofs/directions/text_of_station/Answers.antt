@@ -6,6 +6,7 @@ use Rattle.direction_table.proofs.LawLemmas.{table_reads_back}
 use Rattle.station_compare.proofs.TablesOf.{all_by_part}
 use Rattle.station_compare.specs.Directions.{numbers_of}
 use Rattle.station_compare.proofs.directions.text_of_station.Goals as goal
+use Rattle.direction_table.specs.declared.unit.AngleUnit.TheVariants.{Gon}
 
 pub returns : goal.returns
 returns c =
@@ -23,7 +24,7 @@ returns c =
       first = search rules;
       whole = whole;
       rounded = search rules;
-      reads = subst (λ (t : List ℕ). IsTableText station.targets t (directions_of rows))
+      reads = subst (λ (t : List ℕ). IsTableText Gon station.targets t (directions_of rows))
           (sym text_is)
           (table_reads_back station.targets count rows c.targets.ensures.valid.targets named
           (search rules) (all_by_part (IsWhole count) (λ row. row.direction) rows whole));

@@ -3,8 +3,8 @@ use Rattle.station_compare.proofs.OneText.{one_text_of_file}
 use Rattle.station_compare.proofs.laws.one_answer.Goals as goal
 
 pub returns-clause-compare : goal.returns-clause-compare
-returns-clause-compare c = λ limits file stated name within r s small set also p h.
-    one_answer limits small file stated name within r s set also p h
+returns-clause-compare c = λ unit limits file stated name within r s small set also p h.
+    one_answer unit limits small file stated name within r s set also p h
 
 pub returns-clause-directions : goal.returns-clause-directions
 returns-clause-directions c = λ limits file name count r s small decimals set also p h.

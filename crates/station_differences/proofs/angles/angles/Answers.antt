@@ -21,7 +21,7 @@ loop-target-preserved c =
     let here : IsWayRound (circle_of choice) (pos 0)
     (difference choice (stated_by c.args.stated.now) l.target) c.angle.result =
     subst (λ z. IsWayRound (circle_of choice) (pos 0)
-    (pos choice.denominator *ℤ z -ℤ pos 5_000 *ℤ choice.direction l.target) c.angle.result)
+    (pos choice.denominator *ℤ z -ℤ pos 405_000 *ℤ choice.direction l.target) c.angle.result)
     (to_z-of_z w64 stated fits) c.angle.ensures in
     let last = subst (λ (n : ℕ). IsWayRound (circle_of choice) (pos 0)
     (difference choice (stated_by c.args.stated.now) n) c.angle.result) (sym l.invariant.count)

@@ -1,10 +1,11 @@
-use Rattle.std.proofs.Common.{◌≡◌, Err, [], List, ℕ, ap, refl, rules, sym, subst, ◌∙◌, option_copied}
+use Rattle.std.proofs.Common.{◌≡◌, Err, [], List, ℕ, ap, refl, rules, sym, subst, ◌∙◌}
+use Rattle.std.proofs.Common.{option_copied}
 use Rattle.std.specs.Prelude.{MatchResult}
 use Rattle.adjust_kernel.specs.Stations.{StationValue}
 use Rattle.byte_ends.proofs.Coming.{given_none, some_left}
 use Rattle.byte_ends.specs.Came.{BytesCame}
 use Rattle.byte_ends.specs.Input.{input_within}
-use Rattle.byte_ends.specs.Source.{reader_change}
+use Rattle.byte_ends.specs.Source.{given_then, reader_change}
 use Rattle.direction_table.specs.declared.reading.TheConstants.{LONGEST_TABLE}
 use Rattle.station_check.proofs.LawLemmas.{station_of_file}
 use Rattle.station_compare.proofs.Comparisons.{compares_by_file, left_alone, left_by_file}
@@ -24,8 +25,8 @@ returns g c =
     c.text_of_station.new.table in
     let q = subst (λ (station : StationValue). BytesCame table
     (λ stated. MatchResult answer
-    (λ text. IsTextOf station (input_within LONGEST_TABLE stated) text.items)
-    (HasNoneOfInput station (input_within LONGEST_TABLE stated))))
+    (λ text. IsTextOf c.args.unit station (input_within LONGEST_TABLE stated) text.items)
+    (HasNoneOfInput c.args.unit station (input_within LONGEST_TABLE stated))))
     c.station.ensures c.text_of_station.ensures.tells in
     let left = some_left (g.Q.Source.told c.text_of_station.new.table) in
     let by_input = q.so left.0 left.1 in (
@@ -36,13 +37,17 @@ returns g c =
         table_bytes = q.given;
         table_reads = q.by_reads;
         so = λ gsi_left table_left gsi_may table_may.
-            tells_by_input (λ text. text.items) c.args.limits _ _ c.args.name.now its answer
+            tells_by_input c.args.unit (λ text. text.items) c.args.limits _ _ c.args.name.now its
+            answer
             ((station_of_file c.args.limits _ c.args.name.now its c.recall.ensures).0 (record {
               stations = stations;
               survey = s.so gsi_left gsi_may;
               named = sym c.get.ensures ∙ ap option_copied c.in-Some.is;
             })) (q.so table_left table_may);
-        gsi_reader = left_by_input (λ text. text.items) its.station _ answer _ by_input file.left;
+        gsi_reader = left_by_input c.args.unit (λ text. IsTextOf c.args.unit its.station
+            (input_within LONGEST_TABLE (given_then q.given left.0)) text.items) its.station _
+            answer _
+            by_input file.left;
         table_reader = c.text_of_station.ensures.reader;
       },
     )
@@ -86,7 +91,8 @@ returns-in_err-stations g c =
         table_reads = given_none g.Q.Source.told g.Q.Source.failed g.Q.Source.gave
             c.args.table.now;
         so = λ gsi_left table_left gsi_may table_may within.
-            compares_by_file c.args.limits _ _ c.args.name.now within fault of_file_fault
+            compares_by_file c.args.unit c.args.limits _ _ c.args.name.now within fault
+            of_file_fault
             (s.so gsi_left gsi_may);
         gsi_reader = rw is_its at left;
         table_reader = left_alone (List ℕ) fault _ (record { same = refl; unfailed = refl });

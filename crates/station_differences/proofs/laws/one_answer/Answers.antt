@@ -6,5 +6,5 @@ pub returns-clause-compared : goal.returns-clause-compared
 returns-clause-compared c = λ station stated a b p q. one_list station stated a b p q
 
 pub returns-clause-answer : goal.returns-clause-answer
-returns-clause-answer c = λ limits file stated name r s small set also p h. one_answer limits small
-    file stated name r s set also p h
+returns-clause-answer c = λ unit limits file stated name r s small set also p h.
+    one_answer unit limits small file stated name r s set also p h

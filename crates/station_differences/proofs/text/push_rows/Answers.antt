@@ -15,13 +15,13 @@ loop-row-preserved g c text h =
     let row = c.row-item.result in
     let short = are_short c.args.rows.now in
     let fits : FitsSigned w32 row.difference = search rules in
-    let stated = c.as_slice.ensures.value ∙ c.in_ok-push_stated.ensures
+    let stated = c.as_slice.ensures.value ∙ c.in_ok-push_stated.ensures.added
     ∙ ap (λ (t : List ℕ). t ++ stated_text c.are_short-short.result row.stated)
     c.clear.ensures.items
     ∙ ap (λ (b : Bool). stated_text b row.stated) c.are_short-short.ensures in
-    let least = c.as_slice-in-loop-row.ensures.value ∙ c.in_ok-push_gon.ensures
+    let least = c.as_slice-in-loop-row.ensures.value ∙ c.in_ok-push_gon.ensures.added
     ∙ ap (λ (t : List ℕ). t ++ direction_text 6 row.least) c.clear-in-loop-row.ensures.items in
-    let difference = c.as_slice-in-loop-row-2.ensures.value ∙ c.in_ok-push_mgon.ensures
+    let difference = c.as_slice-in-loop-row-2.ensures.value ∙ c.in_ok-push_mgon.ensures.added
     ∙ ap (λ (t : List ℕ). t ++ mgon_text (to_z w32 (of_z w32 row.difference)))
     c.clear-in-loop-row-2.ensures.items
     ∙ ap mgon_text (to_z-of_z w32 row.difference fits) in

@@ -15,7 +15,7 @@ use Rattle.station_differences.specs.Differences.{names_of, stated_of}
 use Rattle.station_differences.specs.declared.compared.TargetDifference.{TargetDifference}
 use Rattle.station_differences.proofs.DifferenceLaws.{by_angles}
 use Rattle.station_differences.proofs.RowLaws.{one_more, zip_more}
-use Rattle.station_differences.proofs.compared.rows_by.Goals as goal
+use Rattle.station_differences.proofs.compared.differences_by.Goals as goal
 
 pub loop-place-preserved : goal.loop-place-preserved
 loop-place-preserved c =
@@ -41,8 +41,8 @@ loop-place-preserved c =
     omega (arith, inside, c.requires.each_stated) in
     let stated = get_or c.args.stated.now l.place (pos 0) in
     let fits : FitsSigned w64 stated = search rules in
-    let here : IsWayRound 400_000_000_000 (pos 0) stated on =
-    subst (λ z. IsWayRound 400_000_000_000 (pos 0) z on) (to_z-of_z w64 stated fits)
+    let here : IsWayRound 32_400_000_000_000 (pos 0) stated on =
+    subst (λ z. IsWayRound 32_400_000_000_000 (pos 0) z on) (to_z-of_z w64 stated fits)
     c.on_circle.ensures in
     let middle : IsFromMiddle c.denominator-denominator.result.now c.times-circle.result
     (angle_of c.in_ok-angles.angles.items) c.best_arc-arc.result.start
@@ -70,9 +70,10 @@ loop-place-preserved c =
       count = ap length items ∙ length_push made row ∙ ap (λ (n : ℕ). n + 1) count;
       named = names ∙ (λ i. inv.named i ++ (c.index-targets-place.is i ∷ []))
           ∙ sym (take_more c.args.targets.now l.place target inside);
-      stated_on = subst (λ (xs : List ℕ). AllZip (IsWayRound 400_000_000_000 (pos 0))
+      stated_on = subst (λ (xs : List ℕ). AllZip (IsWayRound 32_400_000_000_000 (pos 0))
           (take (l.place + 1) c.args.stated.now) xs) (sym stateds)
-          (zip_more (IsWayRound 400_000_000_000 (pos 0)) c.args.stated.now (stated_of made) l.place
+          (zip_more (IsWayRound 32_400_000_000_000 (pos 0)) c.args.stated.now
+          (stated_of made) l.place
           (pos 0) on also inv.stated_on here);
       rounded = subst (λ (xs : List ℕ). (t : ℕ) → t < length xs
           → IsRounded choice t 1_000 (get_or xs t 0)) (sym leasts)
@@ -107,7 +108,7 @@ returns c =
     let denominator : c.denominator-denominator.result.now ≡ a.denominator =
     c.denominator-denominator.ensures.value in
     let circle : c.times-circle.result ≡ circle_of choice =
-    c.times-circle.ensures ∙ ap (λ (d : ℕ). d * 400_000_000_000) denominator in
+    c.times-circle.ensures ∙ ap (λ (d : ℕ). d * 32_400_000_000_000) denominator in
     let are : AreAngles choice stated (length targets) angles =
     subst (λ (n : ℕ). AreAngles choice stated n angles) c.requires.each_stated
     c.in_ok-angles.ensures in
@@ -124,7 +125,7 @@ returns c =
     length-map rows (λ row. row.difference) ∙ count in
     record {
       named = inv.named ∙ take_all l.place targets (omega (arith, all));
-      stated_on = subst (λ (ds : List ℤ). AllZip (IsWayRound 400_000_000_000 (pos 0)) ds
+      stated_on = subst (λ (ds : List ℤ). AllZip (IsWayRound 32_400_000_000_000 (pos 0)) ds
           (stated_of rows))
           (take_all l.place c.args.stated.now (omega (arith, all, c.requires.each_stated)))
           inv.stated_on;

@@ -1,0 +1,43 @@
+-- Beginnings of texts that have two parts.
+use Rattle.std.proofs.Common.{◌≡◌, ◌∙◌, ◌++◌, ℕ, List, length, take, drop, ap, sym, refl}
+use Rattle.std.proofs.Common.{append_assoc}
+use Rattle.std.proofs.lemmas.List.{take-append-drop, take_at}
+use Rattle.angle_texts.specs.Beginnings.{IsBegun}
+
+-- The first part is a beginning.
+pub first_part : (first rest old new : List ℕ) → new ≡ old ++ first
+    → IsBegun (first ++ rest) old new
+first_part first rest old new h = record {
+  count = length first;
+  added = h ∙ ap (λ (l : List ℕ). old ++ l) (sym (take_at first rest (length first) refl));
+}
+
+-- A beginning of the first part is one of both.
+pub of_first : (first rest old new : List ℕ) → IsBegun first old new
+    → IsBegun (first ++ rest) old new
+of_first first rest old new p =
+    let got = take p.count first in
+    let whole : first ++ rest ≡ got ++ (drop p.count first ++ rest) =
+    ap (λ (l : List ℕ). l ++ rest) (sym (take-append-drop p.count first))
+    ∙ append_assoc got (drop p.count first) rest in record {
+      count = length got;
+      added = p.added ∙ ap (λ (l : List ℕ). old ++ l)
+          (sym (ap (take (length got)) whole
+          ∙ take_at got (drop p.count first ++ rest) (length got) refl));
+    }
+
+-- The first part, and a beginning of the second.
+pub of_second : (first second old middle new : List ℕ) → middle ≡ old ++ first
+    → IsBegun second middle new → IsBegun (first ++ second) old new
+of_second first second old middle new h p =
+    let got = first ++ take p.count second in
+    let rest = drop p.count second in
+    let whole : first ++ second ≡ got ++ rest =
+    ap (λ (l : List ℕ). first ++ l) (sym (take-append-drop p.count second))
+    ∙ sym (append_assoc first (take p.count second) rest) in record {
+      count = length got;
+      added = p.added ∙ (ap (λ (l : List ℕ). l ++ take p.count second) h
+          ∙ (append_assoc old first (take p.count second)
+          ∙ ap (λ (l : List ℕ). old ++ l)
+          (sym (ap (take (length got)) whole ∙ take_at got rest (length got) refl))));
+    }

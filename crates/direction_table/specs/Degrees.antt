@@ -1,0 +1,102 @@
+-- Directions in degrees, minutes and seconds, as programs print them (profile): 59-04-09.18 with
+-- hyphens, or 59°04'09.18" with the signs. 60 seconds are a minute, 60 minutes a degree (textbook).
+use Rattle.std.specs.Prelude.{ℕ, ◌+◌, ◌-◌, ◌*◌, ◌^◌, ◌/◌, ◌%◌, Bool, ◌&&◌, ◌||◌, ◌==◌, nat_le}
+use Rattle.std.specs.Prelude.{nat_lt, if◌then◌else◌, List, [], ◌∷◌, length, take, drop, unwrap_or}
+use Rattle.std.specs.List.{list_any, position}
+use Rattle.std.specs.Str.Parse.{digits_value}
+use Rattle.direction_table.specs.Gons.{after_first, decimals_part, is_size, is_whole, size_value}
+use Rattle.direction_table.specs.Gons.{whole_part}
+use Rattle.direction_table.specs.declared.degrees.Sexagesimal.{Sexagesimal}
+use Rattle.direction_table.specs.declared.degrees.TheConstants.{DEGREE, MINUTE}
+use Rattle.direction_table.specs.declared.direction.TheConstants.{SECOND_PARTS}
+
+-- The place of the first of such bytes, or the end.
+abbrev pub place_of : ℕ → List ℕ → ℕ
+place_of mark bytes = unwrap_or (position (λ b. b == mark) bytes) (length bytes)
+
+-- What stands before the first of such bytes: all, where there is none.
+abbrev pub before : ℕ → List ℕ → List ℕ
+before mark bytes = take (place_of mark bytes) bytes
+
+-- What stands after it: nothing, where there is none.
+abbrev pub after : ℕ → List ℕ → List ℕ
+after mark bytes = after_first (drop (place_of mark bytes) bytes)
+
+-- The three numbers of a direction, as they are written.
+pub record Numbers : Type 0 where
+  pub degrees : List ℕ
+  pub minutes : List ℕ
+  pub seconds : List ℕ
+
+-- The same, of the numbers in memory.
+abbrev pub numbers_view : Sexagesimal → Numbers
+numbers_view n =
+    record { degrees = n.degrees.now; minutes = n.minutes.now; seconds = n.seconds.now }
+
+-- With a hyphen after the degrees and after the minutes.
+abbrev pub by_hyphens : List ℕ → Numbers
+by_hyphens bytes = record {
+  degrees = before 45 bytes;
+  minutes = before 45 (after 45 bytes);
+  seconds = after 45 (after 45 bytes);
+}
+
+-- The bytes after one that they begin with; none, where they begin with another.
+abbrev pub without_first : ℕ → List ℕ → List ℕ
+without_first mark [] = []
+without_first mark (b ∷ bytes) = if b == mark then bytes else []
+
+-- The bytes before one that they end with; none, where they end with another.
+abbrev pub without_last : ℕ → List ℕ → List ℕ
+without_last mark bytes =
+    if length (before mark bytes) + 1 == length bytes then before mark bytes else []
+
+-- With the sign of degrees, which is two bytes, after the degrees, that of minutes after the
+-- minutes and that of seconds at the end.
+abbrev pub by_signs : List ℕ → Numbers
+by_signs bytes = record {
+  degrees = before 194 bytes;
+  minutes = before 39 (without_first 176 (after 194 bytes));
+  seconds = without_last 34 (after 39 (without_first 176 (after 194 bytes)));
+}
+
+-- A direction has minutes where it has a hyphen or the sign of degrees.
+abbrev pub has_minutes : List ℕ → Bool
+has_minutes bytes = list_any (λ b. (b == 45) || (b == 194)) bytes
+
+-- Its numbers.
+abbrev pub numbers_of : List ℕ → Numbers
+numbers_of bytes = if list_any (λ b. b == 194) bytes then by_signs bytes else by_hyphens bytes
+
+-- Degrees: one to three digits.
+abbrev pub are_degrees : List ℕ → Bool
+are_degrees digits = nat_le 1 (length digits) && is_whole digits
+
+-- Minutes: two digits, below 60.
+abbrev pub are_minutes : List ℕ → Bool
+are_minutes digits =
+    (length digits == 2) && (is_whole digits && nat_lt (digits_value 10 digits) 60)
+
+-- Seconds: two digits and any number of decimals, below 60; those after the sixth are 0.
+abbrev pub are_seconds : List ℕ → Bool
+are_seconds bytes =
+    is_size bytes && ((length (whole_part bytes) == 2)
+    && (nat_lt (size_value bytes) 60_000_000_000 && (size_value bytes % 1_000 == 0)))
+
+-- Three such numbers.
+abbrev pub is_sexagesimal : Numbers → Bool
+is_sexagesimal n = are_degrees n.degrees && (are_minutes n.minutes && are_seconds n.seconds)
+
+-- The direction in parts. Its seconds are in units of their ninth decimal, 40 of which are a part.
+abbrev pub sexagesimal_value : Numbers → ℕ
+sexagesimal_value n =
+    DEGREE * digits_value 10 n.degrees + MINUTE * digits_value 10 n.minutes
+    + size_value n.seconds / 40
+
+-- One unit of the last of so many decimals of seconds, in parts; decimals after the sixth are 0.
+abbrev pub seconds_step : ℕ → ℕ
+seconds_step decimals = SECOND_PARTS * 10 ^ (6 - decimals)
+
+-- The step to which such a direction is rounded as it is written, in parts.
+abbrev pub sexagesimal_step : Numbers → ℕ
+sexagesimal_step n = seconds_step (length (decimals_part n.seconds))

@@ -1,0 +1,60 @@
+-- Directions as a table states them, in gon or in degrees. They are whole numbers of parts: 81
+-- parts are 0.000000001 gon, 90 are 0.000000001 degrees and 25 are 0.000001 seconds, since 400 gon
+-- are 360 degrees.
+use Rattle.std.specs.Prelude.{ℕ, ◌-◌, ◌*◌, ◌^◌, Bool, ◌==◌, nat_le, if◌then◌else◌, List, length}
+use Rattle.std.specs.Prelude.{ℤ, pos}
+use Rattle.direction_table.specs.Degrees.{has_minutes, is_sexagesimal, numbers_of}
+use Rattle.direction_table.specs.Degrees.{sexagesimal_step, sexagesimal_value}
+use Rattle.direction_table.specs.Gons.{decimals_part, is_negative, is_size, signed, size_value}
+use Rattle.direction_table.specs.Gons.{unsigned}
+use Rattle.direction_table.specs.declared.direction.TheConstants.{CIRCLE_PARTS, DEGREE_PARTS}
+use Rattle.direction_table.specs.declared.direction.TheConstants.{GON_PARTS}
+use Rattle.direction_table.specs.declared.unit.AngleUnit.{AngleUnit}
+use Rattle.direction_table.specs.declared.unit.AngleUnit.TheVariants.{Gon, Degrees}
+
+-- Bytes are a number of the unit, without a sign: of gon a decimal number, of degrees one too, or
+-- degrees with their minutes and seconds.
+abbrev pub is_angle : AngleUnit → List ℕ → Bool
+is_angle Gon bytes = is_size bytes
+is_angle Degrees bytes =
+    if has_minutes bytes then is_sexagesimal (numbers_of bytes) else is_size bytes
+
+-- Its parts.
+abbrev pub angle_value : AngleUnit → List ℕ → ℕ
+angle_value Gon bytes = GON_PARTS * size_value bytes
+angle_value Degrees bytes =
+    if has_minutes bytes then sexagesimal_value (numbers_of bytes)
+    else DEGREE_PARTS * size_value bytes
+
+-- One unit of the last of so many decimals, in units of the ninth; 0 without decimals: a whole
+-- number is taken as it stands.
+abbrev pub last_unit : ℕ → ℕ
+last_unit decimals = if decimals == 0 then 0 else 10 ^ (9 - decimals)
+
+-- The step to which a direction is rounded as it is written, in parts: one unit of its last
+-- decimal, or of its seconds where these have none; 0 for a whole number of gon or degrees.
+abbrev pub angle_step : AngleUnit → List ℕ → ℕ
+angle_step Gon bytes = GON_PARTS * last_unit (length (decimals_part bytes))
+angle_step Degrees bytes =
+    if has_minutes bytes then sexagesimal_step (numbers_of bytes)
+    else DEGREE_PARTS * last_unit (length (decimals_part bytes))
+
+-- A field is a direction: such a number, with an optional sign before it.
+abbrev pub is_direction : AngleUnit → List ℕ → Bool
+is_direction unit field = is_angle unit (unsigned field)
+
+-- A direction on the circle: a full circle, either way, is 0.
+abbrev pub on_circle : Bool → ℕ → ℤ
+on_circle negative size = if size == CIRCLE_PARTS then pos 0 else signed negative size
+
+-- The direction that a field writes, in parts.
+abbrev pub direction_value : AngleUnit → List ℕ → ℤ
+direction_value unit field = on_circle (is_negative field) (angle_value unit (unsigned field))
+
+-- A direction is a full circle at most, either way.
+abbrev pub is_on_circle : AngleUnit → List ℕ → Bool
+is_on_circle unit field = nat_le (angle_value unit (unsigned field)) CIRCLE_PARTS
+
+-- The step to which a field rounds its direction, in parts.
+abbrev pub step_in : AngleUnit → List ℕ → ℕ
+step_in unit field = angle_step unit (unsigned field)

@@ -1,0 +1,251 @@
+//! Directions in degrees, minutes and seconds as text.
+
+ghost use Rattle.std.specs.Prelude.{◌≡◌, ◌<◌, ◌≤◌, ◌==◌, ◌^◌, length, true, false, IfSome};
+ghost use Rattle.std.specs.Prelude.{IfNone, OnSome};
+ghost use Rattle.std.specs.List.{list_any, position};
+ghost use Rattle.std.specs.Str.Parse.{digits_value};
+ghost use Rattle.direction_table.specs.Degrees as spec;
+ghost use Rattle.direction_table.specs.Gons as gons;
+
+use crate::direction::{Angle, COARSEST_STEP, SECOND_PARTS};
+use crate::gon::{after_first, size_of, whole_of};
+
+/// Parts in a degree.
+pub const DEGREE: u64 = 90_000_000_000;
+
+/// Minutes in a degree, and seconds in a minute.
+const SIXTIETHS: u64 = 60;
+
+/// Parts in a minute.
+pub const MINUTE: u64 = DEGREE / SIXTIETHS;
+
+/// A second, in units of its ninth decimal.
+const SECOND: u64 = 1_000_000_000;
+
+/// A unit of the sixth decimal of a second, in units of the ninth.
+const LAST_DECIMAL: u64 = 1_000;
+
+/// A part, in units of the ninth decimal of a second.
+const PART: u64 = LAST_DECIMAL / SECOND_PARTS;
+
+/// The first byte of the sign of degrees.
+const DEGREE_SIGN: u8 = 0xC2;
+
+/// Its second byte.
+const DEGREE_SIGN_END: u8 = 0xB0;
+
+/// Digits of minutes, and of whole seconds.
+const SIXTIETHS_DIGITS: usize = 2;
+
+/// The most decimals of seconds that count.
+const MOST_SECONDS_DECIMALS: usize = 6;
+
+/// The place of the first of such bytes.
+fn first_of(bytes: &[u8], mark: u8) -> Option<usize>
+    ensures value { result ≡ position (λ b. b == mark) bytes.now }
+    ensures inside { IfSome result (λ place. place < length bytes.now) }
+{
+    bytes.iter().position(|b| *b == mark)
+}
+
+/// The place of the first of such bytes, or the end.
+fn place_of(bytes: &[u8], mark: u8) -> usize
+    ensures value { result ≡ spec.place_of mark bytes.now }
+    ensures inside { result ≤ length bytes.now }
+{
+    first_of(bytes, mark).unwrap_or(bytes.len())
+}
+
+/// What stands before the first of such bytes, and after it.
+fn cut(bytes: &[u8], mark: u8) -> (&[u8], &[u8])
+    ensures before { result.0.now ≡ spec.before mark bytes.now }
+    ensures after { result.1.now ≡ spec.after mark bytes.now }
+{
+    let (before, rest) = bytes.split_at(place_of(bytes, mark));
+    (before, after_first(rest))
+}
+
+/// The bytes after one that they begin with; none, where they begin with another.
+fn without_first(bytes: &[u8], mark: u8) -> &[u8]
+    ensures { result.now ≡ spec.without_first mark bytes.now }
+{
+    match bytes {
+        [first, rest @ ..] if *first == mark => rest,
+        _ => &[],
+    }
+}
+
+/// The bytes before one that they end with; none, where they end with another.
+fn without_last(bytes: &[u8], mark: u8) -> &[u8]
+    ensures { result.now ≡ spec.without_last mark bytes.now }
+{
+    let (before, _) = cut(bytes, mark);
+    if before.len() + 1 == bytes.len() {
+        before
+    } else {
+        &[]
+    }
+}
+
+/// Whether a direction has minutes: a hyphen or the sign of degrees.
+pub(crate) fn has_minutes(bytes: &[u8]) -> bool
+    ensures { result ≡ spec.has_minutes bytes.now }
+{
+    bytes.iter().any(|b| *b == b'-' || *b == DEGREE_SIGN)
+}
+
+/// Whether bytes have the sign of degrees.
+fn has_sign(bytes: &[u8]) -> bool
+    ensures { result ≡ list_any (λ b. b == 194) bytes.now }
+{
+    bytes.iter().any(|b| *b == DEGREE_SIGN)
+}
+
+/// The three numbers of a direction, as they are written.
+#[derive(Clone, Copy)]
+struct Sexagesimal<'a> {
+    degrees: &'a [u8],
+    minutes: &'a [u8],
+    seconds: &'a [u8],
+}
+
+/// The numbers that have a hyphen after the degrees and after the minutes.
+fn by_hyphens(bytes: &[u8]) -> Sexagesimal<'_>
+    ensures { spec.numbers_view result ≡ spec.by_hyphens bytes.now }
+{
+    let (degrees, rest) = cut(bytes, b'-');
+    let (minutes, seconds) = cut(rest, b'-');
+    Sexagesimal {
+        degrees,
+        minutes,
+        seconds,
+    }
+}
+
+/// The numbers that have their signs.
+fn by_signs(bytes: &[u8]) -> Sexagesimal<'_>
+    ensures { spec.numbers_view result ≡ spec.by_signs bytes.now }
+{
+    let (degrees, rest) = cut(bytes, DEGREE_SIGN);
+    let (minutes, rest) = cut(without_first(rest, DEGREE_SIGN_END), b'\'');
+    Sexagesimal {
+        degrees,
+        minutes,
+        seconds: without_last(rest, b'"'),
+    }
+}
+
+/// The numbers of a direction that has minutes.
+fn numbers_of(bytes: &[u8]) -> Sexagesimal<'_>
+    ensures { spec.numbers_view result ≡ spec.numbers_of bytes.now }
+{
+    if has_sign(bytes) {
+        by_signs(bytes)
+    } else {
+        by_hyphens(bytes)
+    }
+}
+
+/// Degrees of one to three digits.
+fn degrees_of(digits: &[u8]) -> Option<u64>
+    ensures value { IfSome result (λ number. number ≡ digits_value 10 digits.now) }
+    ensures bound { IfSome result (λ number. number < 10 ^ 9) }
+    ensures some { OnSome result (spec.are_degrees digits.now ≡ true) }
+    ensures none { IfNone result (spec.are_degrees digits.now ≡ false) }
+{
+    if digits.is_empty() {
+        return None;
+    }
+    whole_of(digits)
+}
+
+/// Minutes of two digits, below 60.
+fn minutes_of(digits: &[u8]) -> Option<u64>
+    ensures value { IfSome result (λ number. number ≡ digits_value 10 digits.now) }
+    ensures bound { IfSome result (λ number. number < 60) }
+    ensures some { OnSome result (spec.are_minutes digits.now ≡ true) }
+    ensures none { IfNone result (spec.are_minutes digits.now ≡ false) }
+{
+    if digits.len() != SIXTIETHS_DIGITS {
+        return None;
+    }
+    let number = whole_of(digits)?;
+    if number >= SIXTIETHS {
+        return None;
+    }
+    Some(number)
+}
+
+/// Seconds, in units of their ninth decimal, and how many decimals they are written with.
+#[derive(Clone, Copy)]
+struct Seconds {
+    value: u64,
+    decimals: usize,
+}
+
+/// Seconds of two digits and any decimals, below 60.
+fn seconds_of(bytes: &[u8]) -> Option<Seconds>
+    ensures value { IfSome result (λ seconds. seconds.value ≡ gons.size_value bytes.now) }
+    ensures decimals { IfSome result
+        (λ seconds. seconds.decimals ≡ length (gons.decimals_part bytes.now)) }
+    ensures some { OnSome result (spec.are_seconds bytes.now ≡ true) }
+    ensures none { IfNone result (spec.are_seconds bytes.now ≡ false) }
+{
+    let size = size_of(bytes)?;
+    if size.whole_digits != SIXTIETHS_DIGITS {
+        return None;
+    }
+    if size.value >= SIXTIETHS * SECOND {
+        return None;
+    }
+    if size.value % LAST_DECIMAL != 0 {
+        return None;
+    }
+    Some(Seconds {
+        value: size.value,
+        decimals: size.decimals,
+    })
+}
+
+/// The direction that bytes with minutes write.
+pub(crate) fn sexagesimal_of(bytes: &[u8]) -> Option<Angle>
+    ensures size { IfSome result
+        (λ angle. angle.size ≡ spec.sexagesimal_value (spec.numbers_of bytes.now)) }
+    ensures step { IfSome result
+        (λ angle. angle.step ≡ spec.sexagesimal_step (spec.numbers_of bytes.now)) }
+    ensures small { IfSome result (λ angle. angle.step ≤ COARSEST_STEP) }
+    ensures some { OnSome result (spec.is_sexagesimal (spec.numbers_of bytes.now) ≡ true) }
+    ensures none { IfNone result (spec.is_sexagesimal (spec.numbers_of bytes.now) ≡ false) }
+{
+    sexagesimal_by(&numbers_of(bytes))
+}
+
+/// The direction of three numbers.
+fn sexagesimal_by(numbers: &Sexagesimal<'_>) -> Option<Angle>
+    ensures size { IfSome result
+        (λ angle. angle.size ≡ spec.sexagesimal_value (spec.numbers_view numbers.now)) }
+    ensures step { IfSome result
+        (λ angle. angle.step ≡ spec.sexagesimal_step (spec.numbers_view numbers.now)) }
+    ensures small { IfSome result (λ angle. angle.step ≤ COARSEST_STEP) }
+    ensures some { OnSome result (spec.is_sexagesimal (spec.numbers_view numbers.now) ≡ true) }
+    ensures none { IfNone result (spec.is_sexagesimal (spec.numbers_view numbers.now) ≡ false) }
+{
+    let degrees = degrees_of(numbers.degrees)?;
+    let minutes = minutes_of(numbers.minutes)?;
+    let seconds = seconds_of(numbers.seconds)?;
+    let size = u128::from(DEGREE) * u128::from(degrees)
+        + u128::from(MINUTE) * u128::from(minutes)
+        + u128::from(seconds.value / PART);
+    Some(Angle {
+        size,
+        step: step_of(seconds.decimals),
+    })
+}
+
+/// The step of so many decimals of seconds, in parts.
+fn step_of(decimals: usize) -> u64
+    ensures value { result ≡ spec.seconds_step decimals }
+    ensures bound { result ≤ COARSEST_STEP }
+{
+    SECOND_PARTS * 10u64.pow(MOST_SECONDS_DECIMALS.saturating_sub(decimals) as u32)
+}
