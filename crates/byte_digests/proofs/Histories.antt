@@ -14,7 +14,8 @@ pub all_grown : {R : Type 0} (gave : R → ℕ → List ℕ → Type 0) (old new
 all_grown gave old new bytes hashed grown zero given h = hashed given h
 all_grown gave old new bytes hashed grown (suc history) given h = grown history given h
 
--- What it gave, the reader that it asks gave, and its hasher holds it, where it held nothing before.
+-- What it gave, the reader that it asks gave, and its hasher holds it, where it held nothing
+-- before.
 pub digested : {R : Type 0} (told : R → Option Told) (failed : R → Bool)
     (gave : R → ℕ → List ℕ → Type 0) (old new : Digesting R) (bytes : List ℕ)
     → Holds256 (hasher_of old) []

@@ -1,3 +1,4 @@
 pub mod Histories
 pub mod LineLengths
+pub mod Resting
 pub mod Written

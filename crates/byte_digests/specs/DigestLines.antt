@@ -4,7 +4,8 @@
 use Rattle.std.specs.Prelude.{ℕ, Bool, List, [], ◌∷◌, ◌++◌, ◌==◌, ◌||◌, if◌then◌else◌}
 use Rattle.std.specs.List.{list_any, flat_map}
 use Rattle.byte_digests.specs.declared.digest_line.TheConstants.{BACKSLASH, BLANK, LINE_FEED}
-use Rattle.byte_digests.specs.declared.digest_line.TheConstants.{CARRIAGE_RETURN, LETTER_N, LETTER_R}
+use Rattle.byte_digests.specs.declared.digest_line.TheConstants.{CARRIAGE_RETURN, LETTER_N}
+use Rattle.byte_digests.specs.declared.digest_line.TheConstants.{LETTER_R}
 use Rattle.hex.specs.Hex.{encode_lower}
 
 -- Whether a byte of a name is escaped.
@@ -22,6 +23,11 @@ escaped byte =
 -- What a line begins with.
 abbrev pub mark_of : List ℕ → List ℕ
 mark_of name = if list_any is_escaped name then BACKSLASH ∷ [] else []
+
+-- The name of a file where it stands on a line of its own text: with its bytes escaped that have to
+-- be, and then a backslash before it. So no name ends a line, and each is one text.
+abbrev pub name_text : List ℕ → List ℕ
+name_text name = mark_of name ++ flat_map escaped name
 
 -- The digits of a digest, and the blanks after them.
 abbrev pub digits_of : List ℕ → List ℕ

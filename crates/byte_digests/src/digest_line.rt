@@ -1,6 +1,6 @@
 //! The line of a file's digest, as `sha256sum` prints it.
 
-ghost use Rattle.std.specs.Prelude.{◌≡◌, ◌∷◌, [], OnOk, OnErr, IfSome, IfNone};
+ghost use Rattle.std.specs.Prelude.{◌≡◌, ◌≤◌, ◌∷◌, [], length, OnOk, OnErr, IfSome, IfNone};
 ghost use Rattle.std.specs.Io.KnownBytes.{Appends};
 ghost use Rattle.std.specs.List.{list_any, flat_map};
 ghost use Rattle.byte_digests.specs.DigestLines as spec;
@@ -60,7 +60,8 @@ fn write_mark<W: Sink>(name: &[u8], writer: &mut W) -> Result<(), Failed>
 
 /// What the line of a name begins with.
 pub(crate) fn mark_of(name: &[u8]) -> &'static [u8]
-    ensures { result.now ≡ spec.mark_of name.now }
+    ensures mark { result.now ≡ spec.mark_of name.now }
+    ensures bound { length result.now ≤ 1 }
 {
     if has_escapes(name) { &[BACKSLASH] } else { &[] }
 }

@@ -7,8 +7,11 @@
 
 mod digest_line;
 mod digesting;
+pub mod laws;
+mod name_text;
 mod put_line;
 
 pub use digest_line::write_digest_line;
 pub use digesting::Digesting;
+pub use name_text::push_name;
 pub use put_line::{MOST_BESIDE_NAME, put_digest_line};

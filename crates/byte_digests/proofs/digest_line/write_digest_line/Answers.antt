@@ -20,7 +20,8 @@ returns-in_err-write_name-clause-cut_short g c =
     in_any_case c.from_residual-in_err-write_name.result
     (then_some _ _ _ (mark_of c.args.name.now) _ c.in_ok-write_mark.ensures.ok
     (then_some _ _ _ (digits_of c.args.digest.now) _ c.in_ok-write_digits.ensures.ok
-    (some_of_longer _ _ (flat_map escaped c.args.name.now) _ c.in_err-write_name.ensures.cut_short)))
+    (some_of_longer _ _ (flat_map escaped c.args.name.now) _
+    c.in_err-write_name.ensures.cut_short)))
 
 pub returns-clause-cut_short : goal.returns-clause-cut_short
 returns-clause-cut_short g c =

@@ -1,4 +1,5 @@
-use Rattle.std.proofs.Common.{◌≡◌, ◌∙◌, ◌<◌, List, ℕ, length, false, sym, refl, subst, flat_map, rules}
+use Rattle.std.proofs.Common.{◌≡◌, ◌∙◌, ◌<◌, List, ℕ, length, false, sym, refl, subst, flat_map}
+use Rattle.std.proofs.Common.{rules}
 use Rattle.std.specs.Prelude.{OnOk, OnErr, slice_index}
 use Rattle.std.specs.Io.KnownBytes.{Appends}
 use Rattle.std.specs.List.{list_any}
