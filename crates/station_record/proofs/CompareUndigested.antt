@@ -5,6 +5,7 @@ use Rattle.byte_digests.specs.Digesting.{reader_of, hasher_of, histories}
 use Rattle.byte_digests.specs.declared.digesting.Digesting.{Digesting}
 use Rattle.byte_ends.specs.Sink.{WriterChange}
 use Rattle.byte_ends.specs.Source.{Told, ReaderChange, reader_change}
+use Rattle.direction_table.specs.declared.unit.AngleUnit.{AngleUnit}
 use Rattle.sha2.specs.Hashers.{Holds256}
 use Rattle.sha2.specs.Sha256.{sha256}
 use Rattle.station_book.specs.Limits.{FaceLimits}
@@ -20,16 +21,18 @@ use Rattle.station_record.specs.Recorded.{IsRecordedCompare, recorded_text}
 -- The promise of two digesting readers is one of the readers that they ask, of the same bytes.
 abbrev pub comparison_of : {R Q : Type 0} (told : R → Option Told) (failed : R → Bool)
     (gave : R → ℕ → List ℕ → Type 0) (told_q : Q → Option Told) (failed_q : Q → Bool)
-    (gave_q : Q → ℕ → List ℕ → Type 0) (limits : FaceLimits) (within : Option ℕ) (station : List ℕ)
+    (gave_q : Q → ℕ → List ℕ → Type 0) (unit : AngleUnit) (limits : FaceLimits) (within : Option ℕ)
+    (station : List ℕ)
     (d d' : Digesting R) (e e' : Digesting Q) (r : Result Agreement CompareFault)
     → Holds256 (hasher_of d) [] → Holds256 (hasher_of e) []
-    → IsComparison limits within (reader_change (λ d. told (reader_of d))
+    → IsComparison unit limits within (reader_change (λ d. told (reader_of d))
     (λ d. failed (reader_of d)) (histories gave) d d')
     (reader_change (λ e. told_q (reader_of e)) (λ e. failed_q (reader_of e)) (histories gave_q)
     e e') station r
-    → IsComparison limits within (reader_change told failed gave (reader_of d) (reader_of d'))
+    → IsComparison unit limits within (reader_change told failed gave (reader_of d) (reader_of d'))
     (reader_change told_q failed_q gave_q (reader_of e) (reader_of e')) station r
-comparison_of told failed gave told_q failed_q gave_q limits within station d d' e e' r none none_q a =
+comparison_of told failed gave told_q failed_q gave_q unit limits within station d d' e e' r none
+    none_q a =
     record {
       gsi_bytes = a.gsi_bytes;
       gsi_reads = (digested told failed gave d d' a.gsi_bytes none a.gsi_reads).0;
@@ -51,16 +54,17 @@ comparison_of told failed gave told_q failed_q gave_q limits within station d d'
     }
 
 -- What was printed with two digests, where they are those of the bytes that the promise speaks of.
-pub recorded : {A : Type 0} (limits : FaceLimits) (within : Option ℕ) (station : List ℕ)
+pub recorded : {A : Type 0} (unit : AngleUnit) (limits : FaceLimits) (within : Option ℕ)
+    (station : List ℕ)
     (gsi table : ReaderChange) (gsi_name table_name : List ℕ)
     (verdict : Result Agreement CompareFault)
-    (a : IsComparison limits within gsi table station verdict) (d e : List ℕ)
+    (a : IsComparison unit limits within gsi table station verdict) (d e : List ℕ)
     → d ≡ sha256 a.gsi_bytes
     → e ≡ sha256 a.table_bytes → (r : Result A CompareFault) (out : WriterChange)
     → PrintsAnswer (λ x. recorded_text (agreement_line x) d gsi_name e table_name) Write verdict r
     out
-    → IsRecordedCompare limits within station gsi gsi_name table table_name r out
-recorded limits within station gsi table gsi_name table_name verdict a d e is_d is_e r out p =
+    → IsRecordedCompare unit limits within station gsi gsi_name table table_name r out
+recorded unit limits within station gsi table gsi_name table_name verdict a d e is_d is_e r out p =
     record {
       verdict = verdict;
       compares = a;

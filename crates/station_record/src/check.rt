@@ -19,8 +19,8 @@ use station_check::{DONE, Fault, accepted_line, check_sources, refuse};
 use std::alloc::Global;
 
 /// Checks a sheet against a field file as `run_check` does, and answers its exit status. After the
-/// line of an acceptance it writes one line for the field file and one for the sheet, as `sha256sum`
-/// prints them: the digest of the bytes that were read, and the name.
+/// line of an acceptance it writes one line for the field file and one for the sheet, as
+/// `sha256sum` prints them: the digest of the bytes that were read, and the name.
 // Out of line, so that runs without it need no room for it on the stack.
 #[inline(never)]
 pub fn run_check_recorded<R: Source, Q: Source, W: Sink, E: Sink>(
@@ -28,13 +28,13 @@ pub fn run_check_recorded<R: Source, Q: Source, W: Sink, E: Sink>(
     gsi: NamedReader<'_, R>,
     sheet: NamedReader<'_, Q>,
     limits: Limits,
-    residual: Option<ResidualLimit>,
+    limit: Option<ResidualLimit>,
     out: &mut W,
     err: &mut E,
 ) -> u8
     ensures { UntilDropped R.told R.failed R.gave gsi.entry.reader (λ gsi_change.
         UntilDropped Q.told Q.failed Q.gave sheet.entry.reader (λ sheet_change.
-        Run {A = ⊤} refusal_line (IsRecordedCheck limits residual
+        Run {A = ⊤} refusal_line (IsRecordedCheck limits limit
         gsi_change gsi.entry.name.now sheet_change sheet.entry.name.now)
         result (writer_change W.failed W.holds W.handed_on out.old out.new)
         (writer_change E.failed E.holds E.handed_on err.old err.new))) }
@@ -46,7 +46,7 @@ pub fn run_check_recorded<R: Source, Q: Source, W: Sink, E: Sink>(
         digested_gsi,
         &mut digested_sheet,
         limits,
-        residual,
+        limit,
     );
     let gsi_digest = digested_gsi.digest();
     let sheet_digest = digested_sheet.digest();

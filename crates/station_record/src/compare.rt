@@ -13,6 +13,7 @@ use crate::lines::write_recorded;
 use crate::named::NamedReader;
 use byte_digests::Digesting;
 use byte_ends::{Sink, Source};
+use direction_table::AngleUnit;
 use station_book::Limits;
 use station_check::DONE;
 use station_compare::{Agreement, CompareFault, agreement_line, compare_sources, refuse};
@@ -27,6 +28,7 @@ pub fn run_compare_recorded<R: Source, Q: Source, W: Sink, E: Sink>(
     alloc: Global,
     gsi: NamedReader<'_, R>,
     table: NamedReader<'_, Q>,
+    unit: AngleUnit,
     station: &[u8],
     limits: Limits,
     within: Option<u32>,
@@ -35,7 +37,7 @@ pub fn run_compare_recorded<R: Source, Q: Source, W: Sink, E: Sink>(
 ) -> u8
     ensures { UntilDropped R.told R.failed R.gave gsi.entry.reader (λ gsi_change.
         UntilDropped Q.told Q.failed Q.gave table.entry.reader (λ table_change.
-        Run {A = ⊤} refusal_line (IsRecordedCompare limits within station.now
+        Run {A = ⊤} refusal_line (IsRecordedCompare unit limits within station.now
         gsi_change gsi.entry.name.now table_change table.entry.name.now)
         result (writer_change W.failed W.holds W.handed_on out.old out.new)
         (writer_change E.failed E.holds E.handed_on err.old err.new))) }
@@ -46,6 +48,7 @@ pub fn run_compare_recorded<R: Source, Q: Source, W: Sink, E: Sink>(
         alloc,
         digested_gsi,
         &mut digested_table,
+        unit,
         station,
         limits,
         within,
@@ -76,7 +79,7 @@ fn print_verdict<W: Sink>(
 }
 
 /// Writes the line of a refusal to `err`, and answers the exit status.
-fn report<E: Sink>(printed: Result<(), CompareFault>, err: &mut E) -> u8
+pub(crate) fn report<E: Sink>(printed: Result<(), CompareFault>, err: &mut E) -> u8
     ensures exits { result ≡ status_of printed }
     ensures reports { Reports no_notes refusal_line printed
         (writer_change E.failed E.holds E.handed_on err.old err.new) }

@@ -1,5 +1,5 @@
 -- From the report of a station to what is answered of it, and that the answer is one.
-use Rattle.std.proofs.Common.{◌≡◌, ℕ, List, Result, Ok, Err, ap, arith, sym, subst, ◌∙◌}
+use Rattle.std.proofs.Common.{◌≡◌, ℕ, List, [], Result, Ok, Err, ap, arith, sym, subst, ◌∙◌}
 use Rattle.std.specs.Prelude.{MatchResult}
 use Rattle.byte_ends.specs.Came.{IsReadOut, Leaves}
 use Rattle.byte_ends.specs.Source.{ReaderChange}
@@ -27,10 +27,11 @@ use Rattle.station_report.specs.ReportTexts.{report_text}
 use Rattle.station_report.proofs.ComputedLaws.{one_computed}
 
 -- What is answered, where the station was found.
-pub tells_by_station : {T : Type 0} (items : T → List ℕ) (path : List ℕ) (limits : FaceLimits) (file : FileAnswers)
+pub tells_by_station : {T : Type 0} (items : T → List ℕ) (path : List ℕ) (limits : FaceLimits)
+    (file : FileAnswers)
     (name : List ℕ) (its : SurveyedStation) (r : Result T CompareFault)
     → IsStationOfFile limits file name its
-    → MatchResult r (λ t. IsReportText path limits its (items t)) (HasNoTable its.station)
+    → MatchResult r (λ t. IsReportText path limits its [] (items t)) (HasNoTable its.station)
     → MatchResult r (λ t. StatesReport path limits file name (items t))
     (HasNoDirections limits file name)
 tells_by_station items path limits file name its (Ok text) station h =
@@ -48,7 +49,7 @@ tells_by_station items path limits file name its (Err Memory) station h = tt
 pub left_by_station : {T : Type 0} (items : T → List ℕ) (path : List ℕ) (limits : FaceLimits)
     (its : SurveyedStation)
     (r : Result T CompareFault) (gsi : ReaderChange)
-    → MatchResult r (λ t. IsReportText path limits its (items t)) (HasNoTable its.station)
+    → MatchResult r (λ t. IsReportText path limits its [] (items t)) (HasNoTable its.station)
     → IsReadOut gsi → Leaves field_file_left r gsi
 left_by_station items path limits its (Ok text) gsi h out = out
 left_by_station items path limits its (Err (File fault)) gsi h out = absurd h
@@ -59,30 +60,31 @@ left_by_station items path limits its (Err (Apart apart)) gsi h out = absurd h
 left_by_station items path limits its (Err Write) gsi h out = absurd h
 left_by_station items path limits its (Err Memory) gsi h out = out.unfailed
 
--- A station has one text.
-one_text : (path : List ℕ) (limits : FaceLimits) (its : SurveyedStation) (a b : List ℕ)
-    → IsReportText path limits its a → IsReportText path limits its b → a ≡ b
-one_text path limits its a b p q =
+-- A station has one text, with one section.
+pub one_text : (path : List ℕ) (limits : FaceLimits) (its : SurveyedStation) (section a b : List ℕ)
+    → IsReportText path limits its section a → IsReportText path limits its section b → a ≡ b
+one_text path limits its section a b p q =
     let one = one_computed its.station p.directions q.directions p.rows q.rows p.greatest q.greatest
     p.deviation q.deviation p.computed q.computed in
     p.text_is
-    ∙ (λ i. report_text path limits its (one.0 i) (one.1 i) (one.2 i) (one.3 i))
+    ∙ (λ i. report_text path limits its (one.0 i) section (one.1 i) (one.2 i) (one.3 i))
     ∙ sym q.text_is
 
 -- A station that has a report has no fault of its own.
 no_fault : (path : List ℕ) (limits : FaceLimits) (its : SurveyedStation) (text : List ℕ)
-    (fault : AdjustFault) → IsOfStation fault → IsReportText path limits its text
+    (fault : AdjustFault) → IsOfStation fault → IsReportText path limits its [] text
     → IsAdjustFault its.station fault → ⊥
 no_fault path limits its text fault own p h =
     let has = p.computed.adjusted.adjustable in
     never_both its.station has.adjustment fault has.tied has.exact has.limited own h
 
-module _ (path : List ℕ) (limits : FaceLimits) (small : AreLimits limits) (file : FileAnswers) (name : List ℕ) where
+module _ (path : List ℕ) (limits : FaceLimits) (small : AreLimits limits) (file : FileAnswers)
+    (name : List ℕ) where
   two_texts : (a b : List ℕ) → StatesReport path limits file name a
       → StatesReport path limits file name b → a ≡ b
   two_texts a b p q =
-      one_text path limits q.its a b
-      (subst (λ (o : SurveyedStation). IsReportText path limits o a)
+      one_text path limits q.its [] a b
+      (subst (λ (o : SurveyedStation). IsReportText path limits o [] a)
       (same_station limits small file name p.its q.its p.station q.station) p.report)
       q.report
 
@@ -92,8 +94,8 @@ module _ (path : List ℕ) (limits : FaceLimits) (small : AreLimits limits) (fil
       → IsWithoutTable limits file name (Adjust fault) → ⊥
   text_and_adjust text fault own p h = no_fault path limits h.its text fault own here h.none
     where
-      here : IsReportText path limits h.its text
-      here = subst (λ (o : SurveyedStation). IsReportText path limits o text)
+      here : IsReportText path limits h.its [] text
+      here = subst (λ (o : SurveyedStation). IsReportText path limits o [] text)
           (same_station limits small file name p.its h.its p.station h.station) p.report
 
   text_and_lines : (text : List ℕ) (fault : Fault) → StatesReport path limits file name text

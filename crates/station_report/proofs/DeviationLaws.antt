@@ -169,9 +169,9 @@ below_most d f n squares some free few =
     omega (arith, some, few, times)
 
 pub fits_most : (d f n wide : ℕ) → 1 ≤ f → f ≤ 4_000 → n ≤ 4_000
-    → d * 6_400_000_000_000 < wide → d * f * (400_000_000 * n / f + 1) < wide
+    → d * 65_000_000_000_000 < wide → d * f * (400_000_000 * n / f + 1) < wide
 fits_most d f n wide free few_free few short =
     let q = 400_000_000 * n / f in
-    let less : f * (q + 1) ≤ 6_400_000_000_000 = omega (arith, few_free, few) in
-    let times : d * (f * (q + 1)) ≤ d * 6_400_000_000_000 = mul-le-mul_left d less in
+    let less : f * (q + 1) ≤ 65_000_000_000_000 = omega (arith, few_free, few) in
+    let times : d * (f * (q + 1)) ≤ d * 65_000_000_000_000 = mul-le-mul_left d less in
     omega (arith, times, short)

@@ -2,5 +2,6 @@ pub mod SquareLaws
 pub mod DeviationLaws
 pub mod PlaceLaws
 pub mod FaceLaws
+pub mod FrontLaws
 pub mod ComputedLaws
 pub mod AnswerLaws

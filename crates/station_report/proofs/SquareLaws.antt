@@ -212,7 +212,8 @@ factor_is_small a o turn t s p q limited =
     near_is_small a.denominator (get_or a.directions o.target 0) (get_or a.orientations o.set 0) t s
     (residual (choice_by a) (turned_by o turn)) (unrolled (turned_by o turn))
     (pos t -ℤ pos s -ℤ unrolled (turned_by o turn))
-    (some_of a.denominator (t + 1) (get_or a.directions o.target 0) p.high) p.low p.high q.low q.high
+    (some_of a.denominator (t + 1) (get_or a.directions o.target 0) p.high) p.low p.high q.low
+    q.high
     (residual_is a o turn) limited.low limited.high refl
 
 -- A number is not negative if a multiple is not.
@@ -253,7 +254,8 @@ module _ (station : StationValue) (s : IsStation station) (a : AdjustmentValue)
   pub squares_are : (n : ℕ) → pos n ≡ products
       → pos (a.denominator * n) ≡ sum_of_squares (choice_by a) (observed_by station a)
   squares_are n is =
-      same_value (num (pos (a.denominator * n))) (num (pos a.denominator) ⊗ num (pos n)) (omega arith)
+      same_value (num (pos (a.denominator * n))) (num (pos a.denominator) ⊗ num (pos n))
+      (omega arith)
       ∙ ap (λ z. pos a.denominator *ℤ z) is ∙ times_denominator
 
   -- And bounded.

@@ -20,9 +20,9 @@ abbrev pub square_below : ℕ → ℕ
 square_below units = (2 * units - 1) * (2 * units - 1)
 
 -- This is the root of a sum of squares, in half units times the denominator, over the degrees of
--- freedom, rounded to 0.001 mgon: within half of that, and what lies in the middle of two is rounded
--- up. A half unit (0.005 mgon) is 5 units of 0.001 mgon: so the sum has 100 quarters of the square
--- of one.
+-- freedom, rounded to 0.001 mgon: within half of that, and what lies in the middle of two is
+-- rounded up. A half unit (0.005 mgon) is 5 units of 0.001 mgon: so the sum has 100 quarters of the
+-- square of one.
 pub record IsRootOf (denominator degrees : ℕ) (squares : ℤ) (units : ℕ) : Type 0 where
   pub low : pos (degrees * (denominator * denominator) * square_below units)
       ≤ℤ (pos 100 *ℤ squares)

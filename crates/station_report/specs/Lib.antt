@@ -9,4 +9,5 @@ pub mod Answers
 pub mod Runs
 -- The inside.
 pub mod Factors
+pub mod Fronts
 pub mod Computing

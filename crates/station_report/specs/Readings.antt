@@ -53,8 +53,8 @@ reading_two value two_c =
 abbrev pub first_of : StationValue → ℕ → Option ℕ
 first_of station set = position (λ (o : Obs). o.set == set) station.obs
 
--- The two-face direction of an observation, less that of the first of its set: in half units, from 0
--- and below a full circle.
+-- The two-face direction of an observation, less that of the first of its set: in half units, from
+-- 0 and below a full circle.
 abbrev pub reduced : StationValue → ℕ → ℕ
 reduced station place =
     (value_at station place

@@ -7,6 +7,7 @@ use Rattle.std.specs.Option.{option_map_or}
 use Rattle.adjust_kernel.specs.Stations.{StationValue}
 use Rattle.adjust_kernel.specs.declared.obs.Obs.{Obs}
 use Rattle.angle_texts.specs.MgonTexts.{mgon_text, short_mgon_text}
+use Rattle.byte_digests.specs.DigestLines.{name_text}
 use Rattle.direction_table.specs.Texts.{direction_text}
 use Rattle.directions_apart.specs.declared.units.TheConstants.{HALF_UNIT}
 use Rattle.station_book.specs.Limits.{FaceLimits}
@@ -29,11 +30,16 @@ mean_text half_units = direction_text 6 (HALF_UNIT * half_units)
 abbrev pub entry_text : List ℕ → List ℕ → List ℕ
 entry_text name text = left_text 22 name ++ (text ++ codes "\n")
 
+-- A line that names a file: the path, in which a line feed, a carriage return and a backslash are
+-- escaped as `sha256sum` escapes them, so that no path makes lines of its own.
+abbrev pub file_text : List ℕ → List ℕ → List ℕ
+file_text name path = entry_text name (name_text path)
+
 -- the program and its version, the field file, and the station
 abbrev pub named_text : List ℕ → StationValue → List ℕ
 named_text path station =
     codes "station_check 1.0.0: report of the sets of a station\n\n"
-    ++ (entry_text (codes "Field file") path ++ entry_text (codes "Station") station.name)
+    ++ (file_text (codes "Field file") path ++ entry_text (codes "Station") station.name)
 
 -- how much was measured
 abbrev pub counts_text : StationValue → List ℕ
@@ -192,12 +198,13 @@ end_text station rows greatest deviation =
     ++ (entry_text (codes "Degrees of freedom") (decimal (degrees_of station))
     ++ entry_text (codes "Standard deviation") (deviation_text deviation)))
 
--- The report.
-abbrev pub report_text : List ℕ → FaceLimits → SurveyedStation → List ℕ → List AdjustedObs → ℕ
-    → Option ℕ → List ℕ
-report_text path limits its directions rows greatest deviation =
+-- The report, with a section after the adjusted directions: that of a table beside them, or none.
+abbrev pub report_text : List ℕ → FaceLimits → SurveyedStation → List ℕ → List ℕ
+    → List AdjustedObs → ℕ → Option ℕ → List ℕ
+report_text path limits its directions section rows greatest deviation =
     head_text path limits its.station
     ++ (readings_text its
     ++ (directions_text its.station directions
+    ++ (section
     ++ (residuals_text its.station rows
-    ++ end_text its.station rows greatest deviation)))
+    ++ end_text its.station rows greatest deviation))))

@@ -1,9 +1,9 @@
--- What a printed report says, in the order of the sentence: of the station of this name in the field
--- file, whose observations are its two-face directions within the limits, the text has the readings
--- and the face differences, the adjusted directions, the residuals, the greatest residual, and the
--- standard deviation of one two-face direction: least over all directions, orientations and full
--- turns, each number rounded once.
-use Rattle.std.specs.Prelude.{◌≡◌, ℕ, ◌≤◌, ◌<◌, List, Option, length, unsigned_abs}
+-- What a printed report says, in the order of the sentence: of the station of this name in the
+-- field file, whose observations are its two-face directions within the limits, the text has the
+-- readings and the face differences, the adjusted directions, the residuals, the greatest residual,
+-- and the standard deviation of one two-face direction: least over all directions, orientations and
+-- full turns, each number rounded once.
+use Rattle.std.specs.Prelude.{◌≡◌, ℕ, ◌≤◌, ◌<◌, List, [], Option, length, unsigned_abs}
 use Rattle.adjust_kernel.specs.Stations.{StationValue}
 use Rattle.directions_apart.specs.declared.units.TheConstants.{UNIT}
 use Rattle.gsi_file.specs.FileAnswers.{FileAnswers}
@@ -41,15 +41,15 @@ pub record IsComputed (station : StationValue) (directions : List ℕ) (rows : L
   -- The standard deviation of one two-face direction, rounded to 0.001 mgon.
   pub is_deviation : IsDeviation station deviation
 
--- This is the text of the report of a station.
+-- This is the text of the report of a station, with this section after its adjusted directions.
 pub record IsReportText (path : List ℕ) (limits : FaceLimits) (its : SurveyedStation)
-    (text : List ℕ) : Type 0 where
+    (section text : List ℕ) : Type 0 where
   pub directions : List ℕ
   pub rows : List AdjustedObs
   pub greatest : ℕ
   pub deviation : Option ℕ
   pub computed : IsComputed its.station directions rows greatest deviation
-  pub text_is : text ≡ report_text path limits its directions rows greatest deviation
+  pub text_is : text ≡ report_text path limits its directions section rows greatest deviation
 
 -- Of these lines of a field file, this is the text of the report of the station of this name.
 pub record StatesReport (path : List ℕ) (limits : FaceLimits) (file : FileAnswers)
@@ -59,4 +59,4 @@ pub record StatesReport (path : List ℕ) (limits : FaceLimits) (file : FileAnsw
   pub its : SurveyedStation
   pub station : IsStationOfFile limits file name its
   -- The text of its report.
-  pub report : IsReportText path limits its text
+  pub report : IsReportText path limits its [] text

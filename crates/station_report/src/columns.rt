@@ -16,7 +16,7 @@ fn push_blanks(text: &mut Vec<u8>, count: usize) -> Result<(), AllocError>
 }
 
 /// Adds a field to a text, in a column that begins with it.
-pub(crate) fn push_left(text: &mut Vec<u8>, width: usize, field: &[u8]) -> Result<(), AllocError>
+pub fn push_left(text: &mut Vec<u8>, width: usize, field: &[u8]) -> Result<(), AllocError>
     ensures { OnOk result (text.new.items ≡ text.old.items ++ spec.left_text width field.now) }
 {
     text.extend_from_slice(field)?;
@@ -25,7 +25,7 @@ pub(crate) fn push_left(text: &mut Vec<u8>, width: usize, field: &[u8]) -> Resul
 }
 
 /// Adds a field to a text, in a column that ends with it.
-pub(crate) fn push_right(text: &mut Vec<u8>, width: usize, field: &[u8]) -> Result<(), AllocError>
+pub fn push_right(text: &mut Vec<u8>, width: usize, field: &[u8]) -> Result<(), AllocError>
     ensures { OnOk result (text.new.items ≡ text.old.items ++ spec.right_text width field.now) }
 {
     push_blanks(text, width.saturating_sub(field.len()))?;
@@ -48,7 +48,7 @@ pub(crate) fn push_right_number(
 }
 
 /// Adds a count to a text.
-pub(crate) fn push_count(text: &mut Vec<u8>, count: usize) -> Result<(), AllocError>
+pub fn push_count(text: &mut Vec<u8>, count: usize) -> Result<(), AllocError>
     ensures { OnOk result (text.new.items ≡ text.old.items ++ decimal count) }
 {
     let mut digits = Buffer::new();

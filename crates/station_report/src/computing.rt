@@ -34,7 +34,7 @@ pub fn computed_of(alloc: Global, station: &Station) -> Result<Computed, AdjustE
 }
 
 /// The same by an adjustment of the station.
-fn computed_by(
+pub(crate) fn computed_by(
     alloc: Global,
     station: &Station,
     adjustment: &Adjustment,

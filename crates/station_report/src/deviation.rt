@@ -20,8 +20,8 @@ const QUARTERS: u64 = 100;
 /// The square of the largest residual, in half units.
 const LARGEST_SQUARE: u64 = LARGEST_RESIDUAL_LIMIT as u64 * LARGEST_RESIDUAL_LIMIT as u64;
 
-/// The degrees of freedom of a station's adjustment: its observations less its targets and its sets,
-/// and one more.
+/// The degrees of freedom of a station's adjustment: its observations less its targets and its
+/// sets, and one more.
 pub fn degrees_of(station: &Station) -> u64
     ensures value { result ≡ spec.degrees_of station.now }
     ensures bound { result ≤ 4_000 }

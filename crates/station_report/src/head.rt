@@ -7,17 +7,18 @@ ghost use Rattle.station_report.specs.ReportTexts as spec;
 use crate::columns::{push_count, push_left};
 use adjust_kernel::Station;
 use angle_texts::push_short_mgon;
+use byte_digests::push_name;
 use station_book::{LARGEST_LIMIT, Limits};
 use std::alloc::AllocError;
 
-/// The width of the column of names.
-const NAMES: usize = 22;
+/// The width of the column of names, in lines that say what something is.
+pub const ENTRY_NAMES: usize = 22;
 
 /// Adds a line that says what something is.
 pub(crate) fn push_entry(text: &mut Vec<u8>, name: &[u8], entry: &[u8]) -> Result<(), AllocError>
     ensures { OnOk result (text.new.items ≡ text.old.items ++ spec.entry_text name.now entry.now) }
 {
-    push_left(text, NAMES, name)?;
+    push_left(text, ENTRY_NAMES, name)?;
     text.extend_from_slice(entry)?;
     text.push(b'\n')?;
     Ok(())
@@ -28,7 +29,7 @@ pub(crate) fn push_counted(text: &mut Vec<u8>, name: &[u8], count: usize) -> Res
     ensures { OnOk result
         (text.new.items ≡ text.old.items ++ spec.entry_text name.now (decimal count)) }
 {
-    push_left(text, NAMES, name)?;
+    push_left(text, ENTRY_NAMES, name)?;
     push_count(text, count)?;
     text.push(b'\n')?;
     Ok(())
@@ -40,9 +41,19 @@ fn push_limit(text: &mut Vec<u8>, name: &[u8], limit: u32) -> Result<(), AllocEr
     ensures { OnOk result (text.new.items ≡ text.old.items
         ++ spec.entry_text name.now (short_mgon_text (pos limit) ++ codes " mgon")) }
 {
-    push_left(text, NAMES, name)?;
+    push_left(text, ENTRY_NAMES, name)?;
     push_short_mgon(text, limit as i32)?;
     text.extend_from_slice(b" mgon\n")?;
+    Ok(())
+}
+
+/// Adds a line that names a file.
+pub fn push_file(text: &mut Vec<u8>, name: &[u8], path: &[u8]) -> Result<(), AllocError>
+    ensures { OnOk result (text.new.items ≡ text.old.items ++ spec.file_text name.now path.now) }
+{
+    push_left(text, ENTRY_NAMES, name)?;
+    push_name(text, path)?;
+    text.push(b'\n')?;
     Ok(())
 }
 
@@ -52,7 +63,7 @@ fn push_named(text: &mut Vec<u8>, path: &[u8], station: &Station) -> Result<(), 
         (text.new.items ≡ text.old.items ++ spec.named_text path.now station.now) }
 {
     text.extend_from_slice(b"station_check 1.0.0: report of the sets of a station\n\n")?;
-    push_entry(text, b"Field file", path)?;
+    push_file(text, b"Field file", path)?;
     push_entry(text, b"Station", station.name().bytes())?;
     Ok(())
 }

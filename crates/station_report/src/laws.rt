@@ -25,9 +25,9 @@ pub fn readings()
 {}
 
 /// What a report computes of a station is one, each number of it. What came of a reader has one
-/// answer of `report`: the fault that stands first is one, and so is each printed digit. Two answers
-/// alone may stand in the place of another: out of memory in that of any, and that no adjustment was
-/// found in that of those from the adjustment on.
+/// answer of `report`: the fault that stands first is one, and so is each printed digit. Two
+/// answers alone may stand in the place of another: out of memory in that of any, and that no
+/// adjustment was found in that of those from the adjustment on.
 pub fn one_answer()
     ensures computed { (station : StationValue) (ds es : List ℕ) (rs ss : List AdjustedObs)
         (m n : ℕ) (d e : Option ℕ)

@@ -1,10 +1,10 @@
 //! The report of a station: what a survey office prints and files of its sets.
 //!
 //! `report_text` reads a field file and answers, for a station, a text of fixed columns: by set and
-//! target the readings of both faces, their mean, 2c and 2i; the adjusted directions; the residuals;
-//! the greatest of them; and the standard deviation of one two-face direction. `run_report` writes
-//! it as a command: the text, the line of a refusal, and the exit status. The faults are those of
-//! the directions.
+//! target the readings of both faces, their mean, 2c and 2i; the adjusted directions; the
+//! residuals; the greatest of them; and the standard deviation of one two-face direction.
+//! `run_report` writes it as a command: the text, the line of a refusal, and the exit status. The
+//! faults are those of the directions.
 #![tactic(auto)]
 
 mod columns;
@@ -16,6 +16,7 @@ mod ending;
 mod greatest;
 mod head;
 pub mod laws;
+mod place_of;
 mod places;
 mod readings;
 mod report;
@@ -25,8 +26,11 @@ mod runs;
 mod squares;
 mod text;
 
+pub use columns::{push_count, push_left, push_right};
 pub use computed::Computed;
 pub use computing::computed_of;
 pub use deviation::{degrees_of, deviation_by};
-pub use report::{report_text, write_report};
+pub use head::{ENTRY_NAMES, push_file};
+pub use readings::{READ_UNIT, reading_one, reading_two};
+pub use report::{report_of_source, report_text, text_by, write_report};
 pub use runs::run_report;

@@ -17,13 +17,13 @@ use station_book::{CIRCLE, HALF_CIRCLE, Surveyed};
 use std::alloc::{AllocError, Global};
 
 /// Units of 0.000000001 gon in 0.00001 gon, in which is read.
-const READ_UNIT: u64 = 10_000;
+pub const READ_UNIT: u64 = 10_000;
 
 /// The decimals of a gon with which is read.
 const READ_DECIMALS: u32 = 5;
 
 /// The direction that was read in face I, in units of 0.00001 gon.
-fn reading_one(value: u32, two_c: i32) -> u32
+pub fn reading_one(value: u32, two_c: i32) -> u32
     ensures value { result ≡ reading.reading_one value two_c }
     ensures bound { result < CIRCLE }
 {
@@ -32,7 +32,7 @@ fn reading_one(value: u32, two_c: i32) -> u32
 }
 
 /// The direction that was read in face II, in units of 0.00001 gon.
-fn reading_two(value: u32, two_c: i32) -> u32
+pub fn reading_two(value: u32, two_c: i32) -> u32
     ensures value { result ≡ reading.reading_two value two_c }
     ensures bound { result < CIRCLE }
 {
@@ -62,7 +62,8 @@ fn first_value(station: &Station, set: u32) -> u32
 
 /// Adds a field that was read, in units of 0.00001 gon.
 fn push_read(text: &mut Vec<u8>, field: &mut Vec<u8>, units: u32) -> Result<(), AllocError>
-    ensures { OnOk result (text.new.items ≡ text.old.items ++ right_text 12 (spec.read_text units)) }
+    ensures { OnOk result
+        (text.new.items ≡ text.old.items ++ right_text 12 (spec.read_text units)) }
 {
     field.clear();
     let decimals = Decimals::new(READ_DECIMALS).unwrap();

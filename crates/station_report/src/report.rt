@@ -1,19 +1,23 @@
 //! The report of a station of a field file.
-ghost use Rattle.std.specs.Prelude.{MatchResult};
+ghost use Rattle.std.specs.Prelude.{[], IfOk, MatchResult};
+ghost use Rattle.adjust_kernel.specs.declared.bounds.TheConstants.{LARGEST_RESIDUAL_LIMIT};
 ghost use Rattle.byte_ends.specs.Sink.{writer_change};
-ghost use Rattle.byte_ends.specs.Source.{UntilDropped};
+ghost use Rattle.byte_ends.specs.Source.{reader_change, UntilDropped};
+ghost use Rattle.exact_adjustment.specs.Exact.{IsExact, KeepsLimit};
+ghost use Rattle.exact_adjustment.specs.LeastOf.{AreTied};
 ghost use Rattle.station_compare.specs.Directions.{HasNoDirections, HasNoTable};
 ghost use Rattle.station_compare.specs.Runs.{ReadsFieldFile};
 ghost use Rattle.station_report.specs.Runs.{IsReportRun};
 ghost use Rattle.station_report.specs.Stating.{IsReportText, StatesReport};
 
-use crate::computing::computed_of;
+use crate::computing::computed_by;
 use crate::text::text_of;
 use byte_ends::{Sink, Source};
+use exact_adjustment::{Adjustment, adjust};
 use station_book::{Limits, Surveyed};
 use station_check::{Fault, stations_of_file, write_whole};
 use station_compare::CompareFault;
-use std::alloc::Global;
+use std::alloc::{AllocError, Global};
 
 /// The text of the report of the station of this name: its readings and face differences, adjusted
 /// directions, residuals, the greatest of them, and the standard deviation of one two-face
@@ -38,14 +42,35 @@ pub fn report_text<R: Source>(
         (λ text. StatesReport path.now limits file name.now text.items)
         (HasNoDirections limits file name.now))) }
 {
+    let (answer, _gsi) = report_of_source(alloc, gsi, path, name, limits);
+    answer
+}
+
+/// The same as [`report_text`] gives, and the field file's reader, which is given back.
+pub fn report_of_source<R: Source>(
+    alloc: Global,
+    gsi: R,
+    path: &[u8],
+    name: &[u8],
+    limits: Limits,
+) -> (Result<Vec<u8>, CompareFault>, R)
+    ensures { ReadsFieldFile (reader_change R.told R.failed R.gave gsi result.1) result.0
+        (λ file. MatchResult result.0
+        (λ text. StatesReport path.now limits file name.now text.items)
+        (HasNoDirections limits file name.now)) }
+{
     // The promise rests on laws of limits that were made.
     limits.recall();
-    let (surveyed, _gsi) = stations_of_file(alloc, gsi, limits);
-    let stations = surveyed?;
-    let Some(surveyed) = stations.get(name) else {
-        return Err(CompareFault::File(Fault::NoStation));
+    let (surveyed, gsi) = stations_of_file(alloc, gsi, limits);
+    let stations = match surveyed {
+        Ok(stations) => stations,
+        Err(fault) => return (Err(CompareFault::from(fault)), gsi),
     };
-    text_of_surveyed(alloc, path, limits, surveyed)
+    let Some(surveyed) = stations.get(name) else {
+        return (Err(CompareFault::File(Fault::NoStation)), gsi);
+    };
+    let answer = text_of_surveyed(alloc, path, limits, surveyed);
+    (answer, gsi)
 }
 
 /// Writes that text, and flushes once.
@@ -79,9 +104,31 @@ fn text_of_surveyed(
     surveyed: &Surveyed,
 ) -> Result<Vec<u8>, CompareFault>
     ensures { MatchResult result
-        (λ text. IsReportText path.now limits surveyed.now text.items)
+        (λ text. IsReportText path.now limits surveyed.now [] text.items)
         (HasNoTable surveyed.now.station) }
 {
-    let computed = computed_of(alloc, surveyed.station())?;
-    Ok(text_of(alloc, path, limits, surveyed, &computed)?)
+    let adjustment = adjust(alloc, surveyed.station())?;
+    Ok(text_by(alloc, path, limits, surveyed, &adjustment, &[])?)
+}
+
+/// The text of the report of a station, by an adjustment of it, with a section after its adjusted
+/// directions: that of a table beside them, or none.
+///
+/// The only error is that memory was refused.
+pub fn text_by(
+    alloc: Global,
+    path: &[u8],
+    limits: Limits,
+    surveyed: &Surveyed,
+    adjustment: &Adjustment,
+    section: &[u8],
+) -> Result<Vec<u8>, AllocError>
+    requires exact { IsExact surveyed.now.station adjustment.now }
+    requires limited { KeepsLimit surveyed.now.station adjustment.now LARGEST_RESIDUAL_LIMIT }
+    requires tied { AreTied surveyed.now.station }
+    ensures { IfOk result (λ text.
+        IsReportText path.now limits surveyed.now section.now text.items) }
+{
+    let computed = computed_by(alloc, surveyed.station(), adjustment)?;
+    text_of(alloc, path, limits, surveyed, section, &computed)
 }

@@ -5,6 +5,7 @@ ghost use Rattle.station_report.specs.Readings as reading;
 ghost use Rattle.station_report.specs.ReportTexts as spec;
 
 use crate::columns::{push_left, push_right, push_right_number};
+use crate::place_of::place_of;
 use crate::places::{name_of, number_of, residual_at};
 use adjust_kernel::{LONGEST_NAME, Station};
 use angle_texts::push_mgon;
@@ -16,16 +17,6 @@ const GROUP: usize = 10;
 
 /// The width of a set's column.
 const WIDTH: usize = 8;
-
-/// The place of the observation of a set and a target, if there is one.
-fn place_of(station: &Station, set: usize, target: usize) -> Option<usize>
-    ensures { result ≡ spec.place_of station.now set target }
-{
-    station
-        .obs()
-        .iter()
-        .position(|o| o.set as usize == set && o.target as usize == target)
-}
 
 /// Adds the residual of a set and a target; a dash where there is none.
 fn push_residual(

@@ -15,8 +15,8 @@ use station_compare::refuse;
 use std::alloc::Global;
 
 /// Writes the report of the station of this name to `out`, and answers the exit status: 0 where all
-/// was written, else 1, with the line of a refusal on `err`. Where `err` fails, the line is lost and
-/// the status stays.
+/// was written, else 1, with the line of a refusal on `err`. Where `err` fails, the line is lost
+/// and the status stays.
 pub fn run_report<R: Source, W: Sink, E: Sink>(
     alloc: Global,
     gsi: R,

@@ -1,8 +1,8 @@
 //! The sum of the squares of an adjustment's residuals.
 //!
 //! It has the square of the denominator in it, and so twice the bits that a [`Wide`] holds. But the
-//! residuals of each target add to 0, and those of each set: so in their squares' sum one factor may
-//! be any number that differs from the residual by one of its target and one of its set. With a
+//! residuals of each target add to 0, and those of each set: so in their squares' sum one factor
+//! may be any number that differs from the residual by one of its target and one of its set. With a
 //! whole number times the denominator as that factor, the denominator can be taken out of the sum.
 ghost use Rattle.std.specs.Prelude.{◌≡◌, ◌≤◌, ◌<◌, ◌+◌, ◌*◌, ℕ, pos, ◌+ℤ◌, ◌-ℤ◌, length, IfOk};
 ghost use Rattle.std.specs.Prelude.{slice_index_or};

@@ -11,7 +11,8 @@ use crate::residual_columns::push_residuals;
 use station_book::{Limits, Surveyed};
 use std::alloc::{AllocError, Global};
 
-/// The text of the report of a station, of the field file that was named so.
+/// The text of the report of a station, of the field file that was named so, with a section after
+/// the adjusted directions.
 ///
 /// The only error is that memory was refused.
 pub(crate) fn text_of(
@@ -19,6 +20,7 @@ pub(crate) fn text_of(
     path: &[u8],
     limits: Limits,
     surveyed: &Surveyed,
+    section: &[u8],
     computed: &Computed,
 ) -> Result<Vec<u8>, AllocError>
     requires each_target { length computed.now.directions.items
@@ -26,7 +28,7 @@ pub(crate) fn text_of(
     requires each { length computed.now.rows.items ≡ length surveyed.now.station.obs }
     requires inside { computed.now.greatest < length surveyed.now.station.obs }
     ensures { IfOk result (λ text. text.items ≡ spec.report_text path.now limits surveyed.now
-        computed.now.directions.items computed.now.rows.items computed.now.greatest
+        computed.now.directions.items section.now computed.now.rows.items computed.now.greatest
         computed.now.deviation) }
 {
     let station = surveyed.station();
@@ -34,6 +36,7 @@ pub(crate) fn text_of(
     push_head(&mut text, path, limits, station)?;
     push_readings(alloc, &mut text, surveyed)?;
     push_directions(alloc, &mut text, station, &computed.directions)?;
+    text.extend_from_slice(section)?;
     push_residuals(alloc, &mut text, station, &computed.rows)?;
     push_end(
         alloc,

@@ -1,8 +1,9 @@
-//! The worked station S1 with its sheet and a table of its directions, given in pieces: the lines of
-//! digests, and refusals, which have none. The digests are those that `sha256sum` prints.
+//! The worked station S1 with its sheet and a table of its directions, given in pieces: the lines
+//! of digests, and refusals, which have none. The digests are those that `sha256sum` prints.
 
 use adjust_kernel::ResidualLimit;
 use byte_ends::{Held, Script};
+use direction_table::AngleUnit;
 use station_book::Limits;
 use station_record::{NamedReader, run_check_recorded, run_compare_recorded};
 use std::alloc::Global;
@@ -112,12 +113,12 @@ fn checked(
     alloc: Global,
     gsi: File<'_>,
     sheet: File<'_>,
-    residual: Option<ResidualLimit>,
+    limit: Option<ResidualLimit>,
     room: usize,
 ) -> Result<Printed, Fail> {
     let (mut out, mut err) = (held(alloc, room)?, held(alloc, AMPLE)?);
     let (gsi, sheet) = (gsi.reader(), sheet.reader());
-    let status = run_check_recorded(alloc, gsi, sheet, limits(rt), residual, &mut out, &mut err);
+    let status = run_check_recorded(alloc, gsi, sheet, limits(rt), limit, &mut out, &mut err);
     Ok(Printed { status, out, err })
 }
 
@@ -133,7 +134,17 @@ fn compared(
     let (mut out, mut err) = (held(alloc, room)?, held(alloc, AMPLE)?);
     let (gsi, table, within) = (gsi.reader(), table.reader(), Some(within));
     let limits = limits(rt);
-    let status = run_compare_recorded(alloc, gsi, table, b"S1", limits, within, &mut out, &mut err);
+    let status = run_compare_recorded(
+        alloc,
+        gsi,
+        table,
+        AngleUnit::Gon,
+        b"S1",
+        limits,
+        within,
+        &mut out,
+        &mut err,
+    );
     Ok(Printed { status, out, err })
 }
 
@@ -206,8 +217,8 @@ fn a_refused_check_prints_no_digest(rt: HostRuntime) -> Result<(), Fail> {
             (gsi, short, None, b"refused: sheet row 3: Fields\n"),
             (sheet, gsi, None, b"refused: block 1: Word 1\n"),
         ];
-        for (gsi, sheet, residual, line) in cases {
-            let printed = checked(&rt, alloc, gsi, sheet, residual, AMPLE)?;
+        for (gsi, sheet, limit, line) in cases {
+            let printed = checked(&rt, alloc, gsi, sheet, limit, AMPLE)?;
             expect_refusal(&rt, &printed, line);
         }
     }

@@ -100,8 +100,8 @@ fn text(alloc: Global, station: &Station) -> Result<Vec<u8>, Fail> {
     Ok(text_of(alloc, &rows)?)
 }
 
-/// Two targets in two sets, whose angles differ by 2 half units: each residual is half of one, which
-/// is 2.5 units.
+/// Two targets in two sets, whose angles differ by 2 half units: each residual is half of one,
+/// which is 2.5 units.
 const HALVES: [Observed; 4] = [
     (0, 0, 6),
     (0, 1, 10_000_010),

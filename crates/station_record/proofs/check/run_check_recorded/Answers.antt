@@ -19,23 +19,23 @@ returns g c =
     c.print_verdict-printed.new.out in
     let printed = c.print_verdict-printed.result in
     let answers = answer_of g.R.Source.told g.R.Source.failed g.R.Source.gave g.Q.Source.told
-    g.Q.Source.failed g.Q.Source.gave c.args.limits c.args.residual gsi gsi' sheet sheet' verdict
+    g.Q.Source.failed g.Q.Source.gave c.args.limits c.args.limit gsi gsi' sheet sheet' verdict
     c.new-digested_gsi.ensures.nothing c.new-digested_sheet.ensures.nothing a in
     let gsi_held = (digested g.R.Source.told g.R.Source.failed g.R.Source.gave gsi gsi'
     a.gsi_bytes c.new-digested_gsi.ensures.nothing a.gsi_reads).1 in
     let sheet_held = (digested g.Q.Source.told g.Q.Source.failed g.Q.Source.gave sheet sheet'
     a.sheet_bytes c.new-digested_sheet.ensures.nothing a.sheet_reads).1 in
-    let run = recorded c.args.limits c.args.residual _ _ c.args.gsi.name.now
+    let run = recorded c.args.limits c.args.limit _ _ c.args.gsi.name.now
     c.args.sheet.name.now verdict answers c.digest-gsi_digest.result c.digest-sheet_digest.result
     (c.digest-gsi_digest.ensures a.gsi_bytes gsi_held)
     (c.digest-sheet_digest.ensures a.sheet_bytes sheet_held) printed out
     c.print_verdict-printed.ensures in
-    let of_gsi = subst (λ (r : _). IsRecordedCheck c.args.limits c.args.residual
+    let of_gsi = subst (λ (r : _). IsRecordedCheck c.args.limits c.args.limit
     (reader_change g.R.Source.told g.R.Source.failed g.R.Source.gave r (reader_of gsi'))
     c.args.gsi.name.now (reader_change g.Q.Source.told g.Q.Source.failed g.Q.Source.gave
     (reader_of sheet) (reader_of sheet')) c.args.sheet.name.now printed out)
     c.new-digested_gsi.ensures.reader run in
-    let of_both = subst (λ (q : _). IsRecordedCheck c.args.limits c.args.residual
+    let of_both = subst (λ (q : _). IsRecordedCheck c.args.limits c.args.limit
     (reader_change g.R.Source.told g.R.Source.failed g.R.Source.gave c.args.gsi.reader
     (reader_of gsi'))
     c.args.gsi.name.now (reader_change g.Q.Source.told g.Q.Source.failed g.Q.Source.gave q

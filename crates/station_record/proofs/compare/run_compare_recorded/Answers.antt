@@ -19,23 +19,27 @@ returns g c =
     c.print_verdict-printed.new.out in
     let printed = c.print_verdict-printed.result in
     let answers = comparison_of g.R.Source.told g.R.Source.failed g.R.Source.gave g.Q.Source.told
-    g.Q.Source.failed g.Q.Source.gave c.args.limits c.args.within c.args.station.now gsi gsi' table table' verdict
+    g.Q.Source.failed g.Q.Source.gave c.args.unit c.args.limits c.args.within c.args.station.now gsi
+    gsi' table table' verdict
     c.new-digested_gsi.ensures.nothing c.new-digested_table.ensures.nothing a in
     let gsi_held = (digested g.R.Source.told g.R.Source.failed g.R.Source.gave gsi gsi'
     a.gsi_bytes c.new-digested_gsi.ensures.nothing a.gsi_reads).1 in
     let table_held = (digested g.Q.Source.told g.Q.Source.failed g.Q.Source.gave table table'
     a.table_bytes c.new-digested_table.ensures.nothing a.table_reads).1 in
-    let run = recorded c.args.limits c.args.within c.args.station.now _ _ c.args.gsi.name.now
+    let run = recorded c.args.unit c.args.limits c.args.within c.args.station.now _ _
+    c.args.gsi.name.now
     c.args.table.name.now verdict answers c.digest-gsi_digest.result c.digest-table_digest.result
     (c.digest-gsi_digest.ensures a.gsi_bytes gsi_held)
     (c.digest-table_digest.ensures a.table_bytes table_held) printed out
     c.print_verdict-printed.ensures in
-    let of_gsi = subst (λ (r : _). IsRecordedCompare c.args.limits c.args.within c.args.station.now
+    let of_gsi = subst (λ (r : _). IsRecordedCompare c.args.unit c.args.limits c.args.within
+    c.args.station.now
     (reader_change g.R.Source.told g.R.Source.failed g.R.Source.gave r (reader_of gsi'))
     c.args.gsi.name.now (reader_change g.Q.Source.told g.Q.Source.failed g.Q.Source.gave
     (reader_of table) (reader_of table')) c.args.table.name.now printed out)
     c.new-digested_gsi.ensures.reader run in
-    let of_both = subst (λ (q : _). IsRecordedCompare c.args.limits c.args.within c.args.station.now
+    let of_both = subst (λ (q : _). IsRecordedCompare c.args.unit c.args.limits c.args.within
+    c.args.station.now
     (reader_change g.R.Source.told g.R.Source.failed g.R.Source.gave c.args.gsi.reader
     (reader_of gsi'))
     c.args.gsi.name.now (reader_change g.Q.Source.told g.Q.Source.failed g.Q.Source.gave q

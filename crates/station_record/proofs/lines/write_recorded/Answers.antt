@@ -1,4 +1,4 @@
-use Rattle.std.proofs.Common.{◌≡◌, List, ℕ, Option, sym, subst}
+use Rattle.std.proofs.Common.{List, ℕ, Option, sym, subst}
 use Rattle.std.specs.Io.KnownBytes.{Appends}
 use Rattle.std.proofs.KnownBytes.{Appends-trans}
 use Rattle.byte_digests.proofs.Written.{in_any_case, some_of_longer, then_some}

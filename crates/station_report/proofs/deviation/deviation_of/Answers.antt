@@ -47,6 +47,7 @@ returns-clause-rounded c = λ s is.
       c.denominator-denominator.ensures.value,
       c.degrees_of-degrees.ensures.value,
     ) at c.quotient-square.ensures.high in
-    let both = rounded_by_quotient d f c.args.squares.now c.quotient-square.result c.half_root.result
+    let both = rounded_by_quotient d f c.args.squares.now c.quotient-square.result
+    c.half_root.result
     s some is low high c.half_root.ensures.low c.half_root.ensures.high in
     record { low = both.0; high = both.1 }

@@ -5,4 +5,5 @@ use Rattle.station_report.proofs.directions.push_targets.Given as goal
 
 abbrev pub invariant-loop-target : goal.invariant-loop-target
 invariant-loop-target l =
-    l.text.items ≡ l.fn.text.items ++ each_place l.target (direction_line l.fn.station l.fn.directions)
+    l.text.items ≡ l.fn.text.items
+    ++ each_place l.target (direction_line l.fn.station l.fn.directions)

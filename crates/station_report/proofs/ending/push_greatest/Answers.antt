@@ -15,5 +15,5 @@ returns c =
     three c.args.text.now.items c.push_mgon.new.text.items c.extend_from_slice.new.self.items
     c.push_place.new.text.items (mgon_text (residual_at c.args.rows.now c.args.place))
     (codes " mgon, set ") (place_text c.args.station.now c.args.place)
-    (rw units at c.in_ok-push_mgon.ensures) c.in_ok-extend_from_slice.ensures.items
+    (rw units at c.in_ok-push_mgon.ensures.added) c.in_ok-extend_from_slice.ensures.items
     c.in_ok-push_place.ensures

@@ -7,7 +7,8 @@ use Rattle.station_report.proofs.readings.push_lines.Goals as goal
 pub loop-place-preserved : goal.loop-place-preserved
 loop-place-preserved c =
     push_place c.args.text.now.items c.loop-place.text.items c.push_line_of.new.text.items
-    c.loop-place.place (line_of c.args.surveyed.now c.args.set) c.loop-place.invariant c.in_ok-push_line_of.ensures
+    c.loop-place.place (line_of c.args.surveyed.now c.args.set) c.loop-place.invariant
+    c.in_ok-push_line_of.ensures
 
 pub returns : goal.returns
 returns c =
@@ -16,4 +17,5 @@ returns c =
     let count : c.loop-place.place ≡ length c.args.surveyed.now.station.obs =
     omega (arith, counted, c.loop-place-test.false, c.loop-place.auto.place-end) in
     all_places c.args.text.now.items c.loop-place.text.items c.loop-place.place
-    (length c.args.surveyed.now.station.obs) (line_of c.args.surveyed.now c.args.set) count c.loop-place.invariant
+    (length c.args.surveyed.now.station.obs) (line_of c.args.surveyed.now c.args.set) count
+    c.loop-place.invariant

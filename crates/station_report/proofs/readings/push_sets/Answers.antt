@@ -16,4 +16,5 @@ returns c =
     let count : c.loop-set.set ≡ length c.args.surveyed.now.station.sets =
     omega (arith, counted, c.loop-set-test.false, c.loop-set.auto.set-end) in
     all_places c.args.text.now.items c.loop-set.text.items c.loop-set.set
-    (length c.args.surveyed.now.station.sets) (set_text c.args.surveyed.now) count c.loop-set.invariant
+    (length c.args.surveyed.now.station.sets) (set_text c.args.surveyed.now) count
+    c.loop-set.invariant

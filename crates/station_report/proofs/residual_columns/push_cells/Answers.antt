@@ -6,7 +6,9 @@ use Rattle.station_report.proofs.residual_columns.push_cells.Goals as goal
 pub loop-set-preserved : goal.loop-set-preserved
 loop-set-preserved c =
     push_place c.args.text.now.items c.loop-set.text.items c.push_cell.new.text.items
-    c.loop-set.set (λ set. column_text c.args.start set (cell_text c.args.station.now c.args.rows.now c.args.target set)) c.loop-set.invariant c.in_ok-push_cell.ensures
+    c.loop-set.set (λ set. column_text c.args.start set
+    (cell_text c.args.station.now c.args.rows.now c.args.target set)) c.loop-set.invariant
+    c.in_ok-push_cell.ensures
 
 pub returns : goal.returns
 returns c =
@@ -14,4 +16,7 @@ returns c =
     let count : c.loop-set.set ≡ length c.args.station.now.sets =
     omega (arith, counted, c.loop-set-test.false, c.loop-set.auto.set-end) in
     all_places c.args.text.now.items c.loop-set.text.items c.loop-set.set
-    (length c.args.station.now.sets) (λ set. column_text c.args.start set (cell_text c.args.station.now c.args.rows.now c.args.target set)) count c.loop-set.invariant
+    (length c.args.station.now.sets)
+    (λ set. column_text c.args.start set
+    (cell_text c.args.station.now c.args.rows.now c.args.target set)) count
+    c.loop-set.invariant

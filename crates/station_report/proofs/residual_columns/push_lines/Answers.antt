@@ -6,7 +6,8 @@ use Rattle.station_report.proofs.residual_columns.push_lines.Goals as goal
 pub loop-target-preserved : goal.loop-target-preserved
 loop-target-preserved c =
     push_place c.args.text.now.items c.loop-target.text.items c.push_line.new.text.items
-    c.loop-target.target (residuals_line c.args.station.now c.args.rows.now c.args.start) c.loop-target.invariant c.in_ok-push_line.ensures
+    c.loop-target.target (residuals_line c.args.station.now c.args.rows.now c.args.start)
+    c.loop-target.invariant c.in_ok-push_line.ensures
 
 pub returns : goal.returns
 returns c =
@@ -14,4 +15,6 @@ returns c =
     let count : c.loop-target.target ≡ length c.args.station.now.targets =
     omega (arith, counted, c.loop-target-test.false, c.loop-target.auto.target-end) in
     all_places c.args.text.now.items c.loop-target.text.items c.loop-target.target
-    (length c.args.station.now.targets) (residuals_line c.args.station.now c.args.rows.now c.args.start) count c.loop-target.invariant
+    (length c.args.station.now.targets)
+    (residuals_line c.args.station.now c.args.rows.now c.args.start) count
+    c.loop-target.invariant

@@ -5,4 +5,5 @@ use Rattle.station_report.proofs.residual_columns.push_lines.Given as goal
 
 abbrev pub invariant-loop-target : goal.invariant-loop-target
 invariant-loop-target l =
-    l.text.items ≡ l.fn.text.items ++ each_place l.target (residuals_line l.fn.station l.fn.rows l.fn.start)
+    l.text.items ≡ l.fn.text.items
+    ++ each_place l.target (residuals_line l.fn.station l.fn.rows l.fn.start)

@@ -8,7 +8,9 @@ use Rattle.station_report.proofs.residual_columns.push_number_columns.Goals as g
 pub loop-set-preserved : goal.loop-set-preserved
 loop-set-preserved c =
     push_place c.args.text.now.items c.loop-set.text.items c.push_number.new.text.items
-    c.loop-set.set (λ set. column_text c.args.start set (decimal (number_of c.args.station.now set))) c.loop-set.invariant c.in_ok-push_number.ensures
+    c.loop-set.set (λ set. column_text c.args.start set
+    (decimal (number_of c.args.station.now set))) c.loop-set.invariant
+    c.in_ok-push_number.ensures
 
 pub returns : goal.returns
 returns c =
@@ -16,4 +18,6 @@ returns c =
     let count : c.loop-set.set ≡ length c.args.station.now.sets =
     omega (arith, counted, c.loop-set-test.false, c.loop-set.auto.set-end) in
     all_places c.args.text.now.items c.loop-set.text.items c.loop-set.set
-    (length c.args.station.now.sets) (λ set. column_text c.args.start set (decimal (number_of c.args.station.now set))) count c.loop-set.invariant
+    (length c.args.station.now.sets)
+    (λ set. column_text c.args.start set (decimal (number_of c.args.station.now set))) count
+    c.loop-set.invariant

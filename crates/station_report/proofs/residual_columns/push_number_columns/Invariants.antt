@@ -7,4 +7,6 @@ use Rattle.station_report.proofs.residual_columns.push_number_columns.Given as g
 
 abbrev pub invariant-loop-set : goal.invariant-loop-set
 invariant-loop-set l =
-    l.text.items ≡ l.fn.text.items ++ each_place l.set (λ set. column_text l.fn.start set (decimal (number_of l.fn.station set)))
+    l.text.items ≡ l.fn.text.items
+    ++ each_place l.set (λ set. column_text l.fn.start set
+    (decimal (number_of l.fn.station set)))

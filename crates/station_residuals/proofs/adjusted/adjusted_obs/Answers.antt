@@ -1,4 +1,5 @@
-use Rattle.std.proofs.Common.{◌≡◌, ◌∙◌, pos, arith, ap, refl, sym, subst, FitsSigned, w8, w32, to_z, of_z}
+use Rattle.std.proofs.Common.{◌≡◌, ◌∙◌, pos, arith, ap, refl, sym, subst, FitsSigned, w8, w32, to_z}
+use Rattle.std.proofs.Common.{of_z}
 use Rattle.std.proofs.Math.IntN.{◌-ℤ◌}
 use Rattle.std.proofs.lemmas.Int.{ints, to_z-of_z}
 use Rattle.adjust_kernel.specs.Pairs.{turned_by}

@@ -15,12 +15,12 @@ loop-row-preserved g c text h =
     let row = c.row-item.result in
     let fits : FitsSigned w32 row.residual = search rules in
     let number = c.as_bytes.ensures.value ∙ c.format.ensures.text in
-    let direction = c.as_slice.ensures.value ∙ c.in_ok-push_gon.ensures
+    let direction = c.as_slice.ensures.value ∙ c.in_ok-push_gon.ensures.added
     ∙ ap (λ (t : List ℕ). t ++ direction_text 6 (5_000 * c.from.result)) c.clear.ensures.items
     ∙ ap (λ (n : ℕ). direction_text 6 (5_000 * n)) c.from.ensures in
-    let adjusted = c.as_slice-in-loop-row.ensures.value ∙ c.in_ok-push_gon-2.ensures
+    let adjusted = c.as_slice-in-loop-row.ensures.value ∙ c.in_ok-push_gon-2.ensures.added
     ∙ ap (λ (t : List ℕ). t ++ direction_text 6 row.adjusted) c.clear-in-loop-row.ensures.items in
-    let residual = c.as_slice-in-loop-row-2.ensures.value ∙ c.in_ok-push_mgon.ensures
+    let residual = c.as_slice-in-loop-row-2.ensures.value ∙ c.in_ok-push_mgon.ensures.added
     ∙ ap (λ (t : List ℕ). t ++ mgon_text (to_z w32 (of_z w32 row.residual)))
     c.clear-in-loop-row-2.ensures.items
     ∙ ap mgon_text (to_z-of_z w32 row.residual fits) in

@@ -1,0 +1,6 @@
+-- The public definitions, which public contracts and laws cite, in the order in which a reader
+-- needs them.
+pub mod RowTexts
+pub mod Stating
+pub mod Answers
+pub mod Runs

@@ -1,0 +1,37 @@
+//! The command `report --csv`, over a source of bytes and sinks: it makes its call, and answers the
+//! exit status.
+ghost use Rattle.std.specs.Prelude.{⊤};
+ghost use Rattle.byte_ends.specs.Sink.{writer_change};
+ghost use Rattle.byte_ends.specs.Source.{UntilDropped};
+ghost use Rattle.report_rows.specs.Runs.{IsReportRowsRun};
+ghost use Rattle.station_check.specs.RunEndings.{Run};
+ghost use Rattle.station_compare.specs.FaultTexts.{refusal_line};
+
+use crate::rows::write_report_rows;
+use byte_ends::{Sink, Source};
+use station_book::Limits;
+use station_check::DONE;
+use station_compare::refuse;
+use std::alloc::Global;
+
+/// Writes the rows of the report of the station of this name to `out`, and answers the exit status:
+/// 0 where all was written, else 1, with the line of a refusal on `err`. Where `err` fails, the
+/// line is lost and the status stays.
+pub fn run_report_rows<R: Source, W: Sink, E: Sink>(
+    alloc: Global,
+    gsi: R,
+    name: &[u8],
+    limits: Limits,
+    out: &mut W,
+    err: &mut E,
+) -> u8
+    ensures { UntilDropped R.told R.failed R.gave gsi (λ gsi. Run {A = ⊤} refusal_line
+        (IsReportRowsRun limits gsi name.now)
+        result (writer_change W.failed W.holds W.handed_on out.old out.new)
+        (writer_change E.failed E.holds E.handed_on err.old err.new)) }
+{
+    match write_report_rows(alloc, gsi, name, limits, out) {
+        Ok(()) => DONE,
+        Err(fault) => refuse(fault, err),
+    }
+}

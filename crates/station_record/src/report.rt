@@ -1,0 +1,60 @@
+//! The report, with the digest of what was read.
+
+ghost use Rattle.std.specs.Prelude.{◌≡◌, ⊤};
+ghost use Rattle.byte_ends.specs.Sink.{writer_change};
+ghost use Rattle.byte_ends.specs.Source.{UntilDropped};
+ghost use Rattle.station_check.specs.RunEndings.{PrintsAnswer, Run};
+ghost use Rattle.station_compare.specs.FaultTexts.{refusal_line};
+ghost use Rattle.station_compare.specs.declared.fault.CompareFault.TheVariants.{Write};
+ghost use Rattle.station_record.specs.Recorded.{IsRecordedReport, recorded_report_text};
+
+use crate::compare::report;
+use crate::lines::write_recorded_report;
+use crate::named::NamedReader;
+use byte_digests::Digesting;
+use byte_ends::{Sink, Source};
+use station_book::Limits;
+use station_compare::CompareFault;
+use station_report::report_of_source;
+use std::alloc::Global;
+
+/// Writes the report of a station as `run_report` does, and answers its exit status. After the text
+/// it writes a line for the field file, as `sha256sum` prints it: the digest of the bytes that were
+/// read, and the name.
+// Out of line, so that runs without it need no room for it on the stack.
+#[inline(never)]
+pub fn run_report_recorded<R: Source, W: Sink, E: Sink>(
+    alloc: Global,
+    gsi: NamedReader<'_, R>,
+    station: &[u8],
+    limits: Limits,
+    out: &mut W,
+    err: &mut E,
+) -> u8
+    ensures { UntilDropped R.told R.failed R.gave gsi.entry.reader (λ gsi_change.
+        Run {A = ⊤} refusal_line
+        (IsRecordedReport gsi.entry.name.now limits gsi_change station.now)
+        result (writer_change W.failed W.holds W.handed_on out.old out.new)
+        (writer_change E.failed E.holds E.handed_on err.old err.new)) }
+{
+    let digested = Digesting::new(gsi.reader);
+    let (answer, digested) = report_of_source(alloc, digested, gsi.name, station, limits);
+    let digest = digested.digest();
+    let printed = print_report(answer, digest, gsi.name, out);
+    report(printed, err)
+}
+
+/// Prints a report and the digest of its field file, and hands on a refusal.
+fn print_report<W: Sink>(
+    answer: Result<Vec<u8>, CompareFault>,
+    gsi: [u8; 32],
+    gsi_name: &[u8],
+    out: &mut W,
+) -> Result<(), CompareFault>
+    ensures { PrintsAnswer (λ text. recorded_report_text text.items gsi gsi_name.now) Write answer
+        result (writer_change W.failed W.holds W.handed_on out.old out.new) }
+{
+    let text = answer?;
+    write_recorded_report(&text, &gsi, gsi_name, out)?;
+    Ok(())
+}

@@ -1,0 +1,77 @@
+//! The report with a table, with the digests of what was read.
+
+ghost use Rattle.std.specs.Prelude.{⊤};
+ghost use Rattle.byte_ends.specs.Sink.{writer_change};
+ghost use Rattle.byte_ends.specs.Source.{UntilDropped};
+ghost use Rattle.station_check.specs.RunEndings.{Run};
+ghost use Rattle.station_compare.specs.FaultTexts.{refusal_line};
+ghost use Rattle.station_record.specs.Recorded.{IsRecordedTableReport, recorded_both_text};
+ghost use Rattle.table_report.specs.Runs.{PrintsReport};
+ghost use Rattle.table_report.specs.Values.{asked_of};
+
+use crate::compare::report;
+use crate::lines::write_recorded_both;
+use byte_digests::Digesting;
+use byte_ends::{Sink, Source};
+use station_compare::CompareFault;
+use std::alloc::Global;
+use table_report::{Asked, TableReport, table_report_of_sources, verdict};
+
+/// Writes the report of a station with a table as `run_table_report` does, and answers its exit
+/// status. After the text it writes one line for the field file and one for the table, as
+/// `sha256sum` prints them: the digest of the bytes that were read, and the name.
+// Out of line, so that runs without it need no room for it on the stack.
+#[inline(never)]
+pub fn run_table_report_recorded<R: Source, Q: Source, W: Sink, E: Sink>(
+    alloc: Global,
+    gsi: R,
+    table: Q,
+    asked: &Asked<'_>,
+    out: &mut W,
+    err: &mut E,
+) -> u8
+    ensures { UntilDropped R.told R.failed R.gave gsi (λ gsi_change.
+        UntilDropped Q.told Q.failed Q.gave table (λ table_change.
+        Run {A = ⊤} refusal_line
+        (IsRecordedTableReport (asked_of asked.now) gsi_change table_change)
+        result (writer_change W.failed W.holds W.handed_on out.old out.new)
+        (writer_change E.failed E.holds E.handed_on err.old err.new))) }
+{
+    let digested_gsi = Digesting::new(gsi);
+    let mut digested_table = Digesting::new(table);
+    let (answer, digested_gsi) = table_report_of_sources(
+        alloc,
+        digested_gsi,
+        &mut digested_table,
+        asked,
+    );
+    let gsi_digest = digested_gsi.digest();
+    let table_digest = digested_table.digest();
+    let printed = print_report(answer, gsi_digest, table_digest, asked, out);
+    report(printed, err)
+}
+
+/// Prints a report and the digests of its two files, and answers its verdict; or hands on a
+/// refusal.
+fn print_report<W: Sink>(
+    answer: Result<TableReport, CompareFault>,
+    gsi: [u8; 32],
+    table: [u8; 32],
+    asked: &Asked<'_>,
+    out: &mut W,
+) -> Result<(), CompareFault>
+    ensures { PrintsReport (λ report. recorded_both_text report.text.items gsi asked.now.path.now
+        table asked.now.table_path.now) (λ report. report.beyond) answer result
+        (writer_change W.failed W.holds W.handed_on out.old out.new) }
+{
+    let report = answer?;
+    write_recorded_both(
+        &report.text,
+        &gsi,
+        asked.path,
+        &table,
+        asked.table_path,
+        out,
+    )?;
+    verdict(report.beyond)
+}

@@ -1,0 +1,30 @@
+use Rattle.directions_apart.specs.Apart.{stated_by}
+use Rattle.least_directions.proofs.LeastLaws.{are_apart}
+use Rattle.station_differences.proofs.LeastLaws.{are_compared}
+use Rattle.table_report.proofs.beside.report_by.Goals as goal
+
+pub returns : goal.returns
+returns c =
+    let its = c.args.surveyed.now in
+    let a = c.args.adjustment.now in
+    let stated = c.args.stated.now in
+    let exact = c.requires.exact in
+    let limited = c.requires.limited in
+    let tied = c.requires.tied in
+    let rows = c.in_ok-rows.rows.items in
+    let valid = rw c.station-station.ensures at c.targets.ensures.valid in
+    record {
+      section = c.in_ok-section.section.items;
+      is_section = record {
+        rows = rows;
+        compared = are_compared its.station a stated rows valid tied exact limited
+            (rw (c.targets.ensures.value, c.station-station.ensures) at c.in_ok-rows.ensures);
+        apart = c.apart_of-apart.result;
+        are_apart = are_apart its.station valid a tied exact limited (stated_by stated)
+            c.apart_of-apart.result (rw c.requires.each at c.apart_of-apart.ensures.apart);
+        section_is = rw (c.station-station.ensures, c.deref.ensures.value) at
+            c.in_ok-section.ensures;
+        beyond_is = c.beyond.ensures;
+      };
+      is_report = rw c.deref-2.ensures.value at c.in_ok-text.ensures;
+    }

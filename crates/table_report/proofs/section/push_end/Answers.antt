@@ -1,0 +1,20 @@
+use Rattle.std.proofs.Common.{◌++◌, codes}
+use Rattle.station_report.specs.Columns.{left_text}
+use Rattle.station_report.specs.ReportTexts.{file_text}
+use Rattle.station_report.proofs.PlaceLaws.{three}
+use Rattle.table_report.specs.Sections.{limit_text, verdict_line}
+use Rattle.table_report.proofs.section.push_end.Goals as goal
+
+pub returns : goal.returns
+returns c =
+    let table = file_text (codes "Table") c.args.path.now in
+    let limit = limit_text c.args.limit in
+    let comparison = left_text 22 (codes "Comparison") in
+    let verdict = verdict_line c.args.station.now c.args.apart c.args.limit in
+    let whole = c.push_verdict.new.text.items in
+    let last = three c.push_file.new.text.items c.push_limit.new.text.items
+    c.push_left.new.text.items whole limit comparison verdict c.in_ok-push_limit.ensures
+    c.in_ok-push_left.ensures c.in_ok-push_verdict.ensures in
+    three c.args.text.now.items c.push.new.self.items c.push_file.new.text.items whole (codes "\n")
+    table (limit ++ (comparison ++ verdict)) c.in_ok-push.ensures.items c.in_ok-push_file.ensures
+    last

@@ -1,0 +1,9 @@
+-- The public definitions, which public contracts and laws cite, in the order in which a reader
+-- needs them.
+pub mod Sections
+pub mod Stating
+pub mod Values
+pub mod Answers
+pub mod Runs
+-- The inside.
+pub mod OfInput

@@ -1,0 +1,22 @@
+//! What is asked of a report with a table.
+
+use direction_table::AngleUnit;
+use station_book::Limits;
+
+/// What is asked of a report with a table.
+#[derive(Clone, Copy, Debug)]
+pub struct Asked<'a> {
+    /// The path of the field file, as the report names it.
+    pub path: &'a [u8],
+    /// The path of the table, as the report names it.
+    pub table_path: &'a [u8],
+    /// The unit in which the table states its directions.
+    pub unit: AngleUnit,
+    /// The name of the station.
+    pub station: &'a [u8],
+    /// The limits of face differences.
+    pub limits: Limits,
+    /// Within how many units of 0.000001 gon the table agrees; where none is stated, what is usual
+    /// for the steps to which its rows round.
+    pub within: Option<u32>,
+}

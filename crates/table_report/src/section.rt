@@ -1,0 +1,135 @@
+//! The section of a table, made in memory.
+ghost use Rattle.std.specs.Prelude.{◌≡◌, ◌++◌, IfOk, OnOk};
+ghost use Rattle.table_report.specs.Sections as spec;
+
+use adjust_kernel::{LONGEST_NAME, Station};
+use angle_texts::{push_mgon, push_thousandths};
+use station_compare::{Agreement, agreement_line};
+use station_differences::{TargetDifference, are_short, push_stated};
+use station_report::{ENTRY_NAMES, push_count, push_file, push_left, push_right};
+use std::alloc::{AllocError, Global};
+
+/// The section of a table of this path, whose directions are so far apart, with this limit.
+///
+/// The only error is that memory was refused.
+pub(crate) fn section_text(
+    alloc: Global,
+    path: &[u8],
+    station: &Station,
+    rows: &[TargetDifference],
+    apart: u32,
+    limit: u32,
+) -> Result<Vec<u8>, AllocError>
+    ensures { IfOk result (λ text. text.items
+        ≡ spec.section_text path.now station.now rows.now apart limit) }
+{
+    let mut text = Vec::new(alloc);
+    text.extend_from_slice(
+        b"\nStated directions in gon, differences in mgon: stated less adjusted, after the best rotation\n\n",
+    )?;
+    text.extend_from_slice(b"  Target                      Stated    Difference\n\n")?;
+    push_targets(alloc, &mut text, rows)?;
+    push_end(&mut text, path, station, apart, limit)?;
+    Ok(text)
+}
+
+/// Adds the lines of all targets.
+fn push_targets(
+    alloc: Global,
+    text: &mut Vec<u8>,
+    rows: &[TargetDifference],
+) -> Result<(), AllocError>
+    ensures { OnOk result (text.new.items ≡ text.old.items ++ spec.target_lines rows.now) }
+{
+    let short = are_short(rows);
+    let mut field = Vec::new(alloc);
+    for row in rows {
+        push_target(text, &mut field, short, row)?;
+    }
+    Ok(())
+}
+
+/// Adds the line of a target. Six decimals write its direction exactly, where it is short.
+fn push_target(
+    text: &mut Vec<u8>,
+    field: &mut Vec<u8>,
+    short: bool,
+    row: &TargetDifference,
+) -> Result<(), AllocError>
+    ensures { OnOk result (text.new.items ≡ text.old.items ++ spec.target_line short row.now) }
+{
+    text.extend_from_slice(b"  ")?;
+    push_left(text, LONGEST_NAME, row.target.bytes())?;
+    field.clear();
+    push_stated(field, short, row.stated)?;
+    push_right(text, 18, field)?;
+    field.clear();
+    push_mgon(field, row.difference)?;
+    push_right(text, 14, field)?;
+    text.push(b'\n')?;
+    Ok(())
+}
+
+/// Adds the path of the table, the limit and the verdict.
+fn push_end(
+    text: &mut Vec<u8>,
+    path: &[u8],
+    station: &Station,
+    apart: u32,
+    limit: u32,
+) -> Result<(), AllocError>
+    ensures { OnOk result (text.new.items ≡ text.old.items
+        ++ spec.verdict_text path.now station.now apart limit) }
+{
+    text.push(b'\n')?;
+    push_file(text, b"Table", path)?;
+    push_limit(text, limit)?;
+    push_left(text, ENTRY_NAMES, b"Comparison")?;
+    push_verdict(text, station, apart, limit)?;
+    Ok(())
+}
+
+/// Adds the line of the limit.
+fn push_limit(text: &mut Vec<u8>, limit: u32) -> Result<(), AllocError>
+    ensures { OnOk result (text.new.items ≡ text.old.items ++ spec.limit_text limit) }
+{
+    push_left(text, ENTRY_NAMES, b"Limit of differences")?;
+    push_thousandths(text, limit)?;
+    text.extend_from_slice(b" mgon\n")?;
+    Ok(())
+}
+
+/// Adds the line of the verdict.
+fn push_verdict(
+    text: &mut Vec<u8>,
+    station: &Station,
+    apart: u32,
+    limit: u32,
+) -> Result<(), AllocError>
+    ensures { OnOk result (text.new.items ≡ text.old.items
+        ++ spec.verdict_line station.now apart limit) }
+{
+    if apart <= limit {
+        let agreement = Agreement {
+            name: station.name(),
+            targets: station.targets().len() as u32,
+            apart,
+        };
+        return text.extend_from_slice(agreement_line(agreement).as_slice());
+    }
+    push_apart(text, station, apart)
+}
+
+/// Adds the line of a table that does not agree.
+fn push_apart(text: &mut Vec<u8>, station: &Station, apart: u32) -> Result<(), AllocError>
+    ensures { OnOk result (text.new.items ≡ text.old.items ++ spec.apart_line station.now apart) }
+{
+    text.extend_from_slice(b"apart ")?;
+    text.extend_from_slice(station.name().bytes())?;
+    text.extend_from_slice(b": ")?;
+    push_count(text, station.targets().len())?;
+    text.extend_from_slice(b" targets, by ")?;
+    push_count(text, apart as usize)?;
+    text.push(b'\n')?;
+    Ok(())
+}
