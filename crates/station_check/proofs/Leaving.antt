@@ -15,7 +15,8 @@ use Rattle.sheet_means.specs.declared.fault.MeansFault.{MeansFault}
 use Rattle.sheet_means.specs.declared.fault.MeansFault.TheVariants as means
 use Rattle.station_check.specs.Answerable.{IsOfFile, IsOfSheet, IsByStation, file_left, words_left}
 use Rattle.station_check.specs.Words.{MemoryWritesNothing}
-use Rattle.station_check.specs.Answerable.{of_means, of_write, FailsAtWrite, IsUnwritten, IsOfList, IsOfMeans}
+use Rattle.station_check.specs.Answerable.{of_means, of_write, FailsAtWrite, IsUnwritten, IsOfList}
+use Rattle.station_check.specs.Answerable.{IsOfMeans}
 use Rattle.station_check.specs.SheetInput.{sheet_left}
 
 -- A fault of the field file leaves the sheet's reader as it was.

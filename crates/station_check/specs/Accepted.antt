@@ -24,14 +24,14 @@ use Rattle.station_book.specs.Recorded.{IsRecorded, IsRecordedWith}
 use Rattle.station_book.specs.Stations.{SurveyedStation, AreStations}
 
 -- A source gives bytes, no more than a sheet may have, and then ends; and they state this sheet.
-pub record StatesSheet (stated : Told) (sheet : SheetValue) : Type 0 where
+pub record StatesSheet (source : Told) (sheet : SheetValue) : Type 0 where
   pub bytes : List ℕ
-  pub whole : input_within LONGEST_SHEET stated ≡ Ended bytes
+  pub whole : input_within LONGEST_SHEET source ≡ Ended bytes
   pub states : IsSheetText bytes sheet
 
 -- Of these lines and the end after them, and of these bytes of a sheet and how they end, this is
--- the acceptance; `most` is the residual limit in half units, where one is stated.
-pub record IsAccepted (limits : FaceLimits) (most : Option ℕ) (file : FileAnswers) (stated : Told)
+-- the acceptance; `limit` is the residual limit in half units, where one is stated.
+pub record IsAccepted (limits : FaceLimits) (limit : Option ℕ) (file : FileAnswers) (source : Told)
     (a : Accepted) : Type 0 where
   -- The field file was read to its end, and its numbered lines are these blocks, the newest first.
   pub blocks : History
@@ -42,7 +42,7 @@ pub record IsAccepted (limits : FaceLimits) (most : Option ℕ) (file : FileAnsw
   pub closed : fault_at_end blocks ≡ None
   -- The sheet was read to its end, and its bytes state this sheet.
   pub sheet : SheetValue
-  pub states : StatesSheet stated sheet
+  pub states : StatesSheet source sheet
   -- Its station: of the stations of these blocks the one that has the sheet's name.
   pub stations : List SurveyedStation
   pub surveyed : AreStations limits blocks stations
@@ -64,8 +64,8 @@ pub record IsAccepted (limits : FaceLimits) (most : Option ℕ) (file : FileAnsw
   pub unique : IsUnique (length its.station.sets) (length its.station.targets)
       (choice_stated_by sheet) (observations its.station sheet)
   -- Where a residual limit is stated, no residual is above it, and no other full turns do better.
-  pub limited : IfSome most (KeepsLimit its.station sheet)
-  pub over_turns : IfSome most (λ n.
+  pub limited : IfSome limit (KeepsLimit its.station sheet)
+  pub over_turns : IfSome limit (λ n.
       IsAdjustedOverTurns (choice_stated_by sheet) (observations its.station sheet))
   -- What is answered: its name and numbers, its greatest residual and its denominator.
   pub says : IsAcceptance its.station sheet a

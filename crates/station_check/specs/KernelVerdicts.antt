@@ -17,20 +17,20 @@ use Rattle.station_check.specs.Verdicts.{BySheet}
 
 -- Of these stations the one of the sheet's name was found, and the kernel gave this verdict, which
 -- tells of least squares what the kernel's verdicts tell.
-pub record IsJudged (stations : List SurveyedStation) (most : Option ℕ) (sheet : SheetValue)
+pub record IsJudged (stations : List SurveyedStation) (limit : Option ℕ) (sheet : SheetValue)
     (v : Result Accepted KernelFault) : Type 0 where
   pub its : SurveyedStation
   pub named : station_named sheet.name stations ≡ Some its
-  pub verdict : IsVerdict its.station sheet most v
+  pub verdict : IsVerdict its.station sheet limit v
   pub matches : OnOk v (Matches its.station sheet)
-  pub squares : TellsOfSquares its.station sheet most v
+  pub squares : TellsOfSquares its.station sheet limit v
 
 -- The sheet was read to its end, its bytes state this sheet, and it was judged so.
-pub record IsJudgedSheet (stations : List SurveyedStation) (most : Option ℕ) (stated : Told)
+pub record IsJudgedSheet (stations : List SurveyedStation) (limit : Option ℕ) (source : Told)
     (v : Result Accepted KernelFault) : Type 0 where
   pub sheet : SheetValue
-  pub states : StatesSheet stated sheet
-  pub judged : IsJudged stations most sheet v
+  pub states : StatesSheet source sheet
+  pub judged : IsJudged stations limit sheet v
 
 -- what P says of the kernel's verdict, where the answer is one
 abbrev pub IfKernels : (Result Accepted KernelFault → Type 0) → Result Accepted Fault → Type 0
@@ -40,7 +40,7 @@ IfKernels P (Err fault) = ⊤
 
 -- The answer on a sheet of these bytes, by these stations: its verdict, or that there was no
 -- memory; and a verdict of the kernel came about as it must.
-pub record IsChecked (stations : List SurveyedStation) (most : Option ℕ) (stated : Told)
+pub record IsChecked (stations : List SurveyedStation) (limit : Option ℕ) (source : Told)
     (r : Result Accepted Fault) : Type 0 where
-  pub verdict : (r ≡ Err Memory) ⊎ BySheet stations most (input_within LONGEST_SHEET stated) r
-  pub judged : IfKernels (IsJudgedSheet stations most stated) r
+  pub verdict : (r ≡ Err Memory) ⊎ BySheet stations limit (input_within LONGEST_SHEET source) r
+  pub judged : IfKernels (IsJudgedSheet stations limit source) r

@@ -12,21 +12,21 @@ use Rattle.station_check.specs.Refused.{TellsOfRefusal, IsFileFirst}
 use Rattle.station_check.specs.SheetInput.{sheet_left}
 use Rattle.station_check.specs.Verdicts.{AnswersVerdict, IsOnlyVerdict}
 
--- The answer on a field file of these lines, and a sheet of these bytes. `most` is the residual
+-- The answer on a field file of these lines, and a sheet of these bytes. `limit` is the residual
 -- limit in half units, where one is stated.
-pub record KeepsPromise (limits : FaceLimits) (most : Option ℕ) (file : FileAnswers)
-    (stated : Told) (r : Result Accepted Fault) : Type 0 where
+pub record KeepsPromise (limits : FaceLimits) (limit : Option ℕ) (file : FileAnswers)
+    (source : Told) (r : Result Accepted Fault) : Type 0 where
   -- What an acceptance says, and what each refusal says.
-  pub accepted : IfOk r (IsAccepted limits most file stated)
-  pub refused : IfErr r (TellsOfRefusal limits most file stated)
+  pub accepted : IfOk r (IsAccepted limits limit file source)
+  pub refused : IfErr r (TellsOfRefusal limits limit file source)
   -- The answer is the whole verdict, and no other verdict stands, unless memory runs out.
-  pub verdict : AnswersVerdict limits most file stated r
-  pub no_other : IsOnlyVerdict limits most file stated r
+  pub verdict : AnswersVerdict limits limit file source r
+  pub no_other : IsOnlyVerdict limits limit file source r
   -- Where the field file comes to a fault, that is the answer, whatever the sheet is.
   pub file_first : IsFileFirst limits file r
 
 -- The answer on what two readers gave, whatever they are, and how both are left.
-pub record IsAnswer (limits : FaceLimits) (most : Option ℕ) (gsi sheet : ReaderChange)
+pub record IsAnswer (limits : FaceLimits) (limit : Option ℕ) (gsi sheet : ReaderChange)
     (r : Result Accepted Fault) : Type 0 where
   -- The field file's reader gave these bytes, and the sheet's reader these.
   pub gsi_bytes : List ℕ
@@ -36,7 +36,7 @@ pub record IsAnswer (limits : FaceLimits) (most : Option ℕ) (gsi sheet : Reade
   -- Of these bytes, and whatever may be left in the readers after them, the whole promise is kept.
   pub promise : (gsi_left sheet_left : Told) → MayGive gsi.told' gsi_left
       → MayGive sheet.told' sheet_left
-      → KeepsPromise limits most (file_answers (given_then gsi_bytes gsi_left))
+      → KeepsPromise limits limit (file_answers (given_then gsi_bytes gsi_left))
       (given_then sheet_bytes sheet_left) r
   -- The kernel is never given a sheet for another station.
   pub of_check : IfErr r IsOfCheck

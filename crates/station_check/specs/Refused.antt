@@ -38,7 +38,7 @@ IsFileFirst limits file r =
 
 -- The sheet's reader gave these bytes, no more than a sheet may have, and then failed.
 abbrev pub SheetBreaksOff : Told → Type 0
-SheetBreaksOff stated = (bytes : List ℕ) × (input_within LONGEST_SHEET stated ≡ BrokeOff bytes)
+SheetBreaksOff source = (bytes : List ℕ) × (input_within LONGEST_SHEET source ≡ BrokeOff bytes)
 
 -- This is the first fault of what came of the sheet's reader: there are too many bytes, or it is
 -- that of the bytes.
@@ -48,58 +48,58 @@ IsFaultOfInput (BrokeOff bytes) fault = ⊥
 IsFaultOfInput RanPast fault = fault ≡ sheet.TooLong
 
 -- A read of the sheet failed.
-pub record IsRefusedByRead (limits : FaceLimits) (file : FileAnswers) (stated : Told) : Type 0 where
+pub record IsRefusedByRead (limits : FaceLimits) (file : FileAnswers) (source : Told) : Type 0 where
   -- The field file ended without a fault, and has these stations.
   pub stations : List SurveyedStation
   pub survey : IsSurvey limits file stations
-  pub broke_off : SheetBreaksOff stated
+  pub broke_off : SheetBreaksOff source
 
 -- The sheet's bytes have this first fault.
-pub record IsRefusedByText (limits : FaceLimits) (file : FileAnswers) (stated : Told)
+pub record IsRefusedByText (limits : FaceLimits) (file : FileAnswers) (source : Told)
     (fault : SheetFault)
     : Type 0 where
   -- The field file ended without a fault, and has these stations.
   pub stations : List SurveyedStation
   pub survey : IsSurvey limits file stations
-  pub first : IsFaultOfInput (input_within LONGEST_SHEET stated) fault
+  pub first : IsFaultOfInput (input_within LONGEST_SHEET source) fault
 
 -- The field file has no station of the sheet's name.
-pub record IsRefusedByName (limits : FaceLimits) (file : FileAnswers) (stated : Told) : Type 0 where
+pub record IsRefusedByName (limits : FaceLimits) (file : FileAnswers) (source : Told) : Type 0 where
   -- The field file ended without a fault, and has these stations.
   pub stations : List SurveyedStation
   pub survey : IsSurvey limits file stations
   -- The sheet was read to its end, and its bytes state this sheet.
   pub sheet : SheetValue
-  pub states : StatesSheet stated sheet
+  pub states : StatesSheet source sheet
   -- None of the stations has its name.
   pub absent : (other : SurveyedStation) → Contains stations other
       → other.station.name ≢ sheet.name
 
 -- The kernel refuses the sheet with this fault.
-pub record IsRefusedByKernel (limits : FaceLimits) (most : Option ℕ) (file : FileAnswers)
-    (stated : Told) (fault : KernelFault) : Type 0 where
+pub record IsRefusedByKernel (limits : FaceLimits) (limit : Option ℕ) (file : FileAnswers)
+    (source : Told) (fault : KernelFault) : Type 0 where
   -- The field file ended without a fault, and has these stations.
   pub stations : List SurveyedStation
   pub survey : IsSurvey limits file stations
   -- The sheet was read to its end, and its bytes state this sheet.
   pub sheet : SheetValue
-  pub states : StatesSheet stated sheet
+  pub states : StatesSheet source sheet
   -- The fault is the first that stands of the sheet and the station of its name.
   pub its : SurveyedStation
   pub named : station_named sheet.name stations ≡ Some its
-  pub first : IsVerdict its.station sheet most (Err fault)
+  pub first : IsVerdict its.station sheet limit (Err fault)
   -- Where a sum is not 0, some other choice of directions and orientations has a smaller sum of
   -- squares; where nothing holds the sets and targets together, another has the same.
-  pub squares : TellsOfSquares its.station sheet most (Err fault)
+  pub squares : TellsOfSquares its.station sheet limit (Err fault)
 
 -- What a refusal tells, fault by fault.
 abbrev pub TellsOfRefusal : FaceLimits → Option ℕ → FileAnswers → Told → Fault → Type 0
-TellsOfRefusal limits most file stated (Gsi fault) = TellsOfFile limits file (Gsi fault)
-TellsOfRefusal limits most file stated (Book fault) = TellsOfFile limits file (Book fault)
-TellsOfRefusal limits most file stated SheetRead = IsRefusedByRead limits file stated
-TellsOfRefusal limits most file stated (Sheet fault) = IsRefusedByText limits file stated fault
-TellsOfRefusal limits most file stated NoStation = IsRefusedByName limits file stated
-TellsOfRefusal limits most file stated (Kernel fault) =
-    IsRefusedByKernel limits most file stated fault
-TellsOfRefusal limits most file stated Memory = ⊤
-TellsOfRefusal limits most file stated fault = ⊥
+TellsOfRefusal limits limit file source (Gsi fault) = TellsOfFile limits file (Gsi fault)
+TellsOfRefusal limits limit file source (Book fault) = TellsOfFile limits file (Book fault)
+TellsOfRefusal limits limit file source SheetRead = IsRefusedByRead limits file source
+TellsOfRefusal limits limit file source (Sheet fault) = IsRefusedByText limits file source fault
+TellsOfRefusal limits limit file source NoStation = IsRefusedByName limits file source
+TellsOfRefusal limits limit file source (Kernel fault) =
+    IsRefusedByKernel limits limit file source fault
+TellsOfRefusal limits limit file source Memory = ⊤
+TellsOfRefusal limits limit file source fault = ⊥

@@ -60,7 +60,9 @@ pub use refused::{
     LONGEST_CARRIED, LONGEST_PLACE, add_carried, add_number, add_numbered_place, add_place,
     refusal_line,
 };
-pub use runs::{DONE, REFUSED, note_unchecked, refuse, run_check, run_list, run_means, run_words};
+pub use runs::{
+    DONE, REFUSED, note_unchecked, refuse, refuse_by, run_check, run_list, run_means, run_words,
+};
 pub use survey::stations_of_file;
 pub use verdict_line::{
     LONGEST_U32, LONGEST_U64, LONGEST_VERDICT_LINE, VerdictLine, add, add_numbered,

@@ -4,12 +4,12 @@ use Rattle.station_check.proofs.check.check_sheet.Goals as goal
 
 pub returns-in_err-bytes-clause-checks : goal.returns-in_err-bytes-clause-checks
 returns-in_err-bytes-clause-checks g c =
-    came_so _ _ _ c.in_err-bytes.ensures.came (λ stated came. search rules)
+    came_so _ _ _ c.in_err-bytes.ensures.came (λ source came. search rules)
 
-pub returns-in_err-stated-clause-checks : goal.returns-in_err-stated-clause-checks
-returns-in_err-stated-clause-checks g c =
-    came_so _ _ _ c.in_ok-bytes.ensures.came (λ stated came. search rules)
+pub returns-in_err-sheet-clause-checks : goal.returns-in_err-sheet-clause-checks
+returns-in_err-sheet-clause-checks g c =
+    came_so _ _ _ c.in_ok-bytes.ensures.came (λ source came. search rules)
 
 pub returns-clause-checks : goal.returns-clause-checks
 returns-clause-checks g c =
-    came_so _ _ _ c.in_ok-bytes.ensures.came (λ stated came. search rules)
+    came_so _ _ _ c.in_ok-bytes.ensures.came (λ source came. search rules)

@@ -33,7 +33,8 @@ returns-in-Ok-clause-surveys g c =
             blocks = s.blocks;
             file = s.file;
             stations_are = s.stations_are;
-            unchecked_is = c.unchecked-unchecked.ensures c.args.limits s.blocks s.stations_are s.counted;
+            unchecked_is = c.unchecked-unchecked.ensures c.args.limits s.blocks s.stations_are
+                s.counted;
           });
       left = read.left;
     }

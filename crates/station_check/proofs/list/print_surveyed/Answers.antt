@@ -16,7 +16,8 @@ returns-in_err-make_room-clause-cut_short g c =
 pub returns-in_err-make_room-2-clause-cut_short : goal.returns-in_err-make_room-2-clause-cut_short
 returns-in_err-make_room-2-clause-cut_short g c =
     in_any_case c.from_residual-in_err-make_room-2.result
-    (partway_some _ _ _ _ _ _ _ c.observations.invariant.text c.in_err-make_room-2.ensures.cut_short)
+    (partway_some _ _ _ _ _ _ _ c.observations.invariant.text
+    c.in_err-make_room-2.ensures.cut_short)
 
 pub observations-preserved : goal.observations-preserved
 observations-preserved g c =

@@ -43,7 +43,8 @@ returns g c =
                   stations = _;
                   stations_are = s.stations_are;
                   text_is = refl;
-                  unchecked_is = c.unchecked.ensures c.args.limits s.blocks s.stations_are s.counted;
+                  unchecked_is = c.unchecked.ensures c.args.limits s.blocks s.stations_are
+                      s.counted;
                 },
                 c.in_ok-write_stations.ensures.ok,
               ));
